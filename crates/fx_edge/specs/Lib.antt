@@ -1,0 +1,6 @@
+pub mod Outside
+pub mod Held
+pub mod Calls
+pub mod Sinks
+pub mod Files
+pub mod Folders

@@ -1,0 +1,130 @@
+// The real outside. It tells no content: that a disk holds what was written to it is no clause of this crate.
+ghost use Rattle.std.specs.Prelude.{None, IfOk, ◌≤◌, ◌<◌, length};
+ghost use Rattle.std.specs.Io.{ReadsAtMost};
+ghost use Rattle.fx_edge.specs.Outside.{HasCause};
+
+use crate::outside::count_failure;
+use crate::{Failed, Folder, Sink};
+use std::fs::OpenOptions;
+use std::io::{ErrorKind, Read, Seek, SeekFrom, Write};
+use std::rt::Files;
+use std::{fs, io};
+
+// How often an interrupted call is tried again.
+const TRIES: u32 = 1000;
+
+// One read, tried again where a signal interrupts it. Each error counts.
+fn read_some<R: Read>(reader: &mut R, buf: &mut [u8], faults: &mut u64) -> Result<usize, Failed>
+    ensures bound { ReadsAtMost result buf.new }
+    ensures cause { HasCause faults.old faults.new result }
+{
+    'tries: for _ in 0..TRIES {
+        match reader.read(buf) {
+            Ok(count) => return Ok(count),
+            Err(error) if error.kind() == ErrorKind::Interrupted => {
+                *faults = faults.saturating_add(1);
+            }
+            Err(_) => return count_failure(faults),
+        }
+    }
+    count_failure(faults)
+}
+
+// One write, tried again in the same way. A writer that takes nothing of a piece that isn't empty fails.
+fn write_some<W: Write>(writer: &mut W, piece: &[u8], faults: &mut u64) -> Result<usize, Failed>
+    ensures bound { IfOk result (λ n. n ≤ length piece.now) }
+    ensures some { IfOk result (λ n. 0 < length piece.now → 0 < n) }
+    ensures cause { HasCause faults.old faults.new result }
+{
+    if piece.is_empty() {
+        return Ok(0);
+    }
+    'tries: for _ in 0..TRIES {
+        match writer.write(piece) {
+            Ok(count) if count > 0 => return Ok(count),
+            Err(error) if error.kind() == ErrorKind::Interrupted => {
+                *faults = faults.saturating_add(1);
+            }
+            _ => return count_failure(faults),
+        }
+    }
+    count_failure(faults)
+}
+
+fn open_at<R: Files>(rt: &R, name: &str, at: u64) -> io::Result<R::File> {
+    let mut file = fs::open(rt, name)?;
+    file.seek(SeekFrom::Start(at))?;
+    Ok(file)
+}
+
+/// The files of the folder that the program runs in. Each call opens its file.
+#[derive(Drop)]
+pub struct DiskFolder<R: Files + Clone + Drop> {
+    rt: R,
+    read_faults: u64,
+    write_faults: u64,
+}
+
+impl<R: Files + Clone + Drop> DiskFolder<R> {
+    /// A folder with no faults yet.
+    pub fn new(rt: R) -> DiskFolder<R> {
+        DiskFolder {
+            rt,
+            read_faults: 0,
+            write_faults: 0,
+        }
+    }
+}
+
+impl<R: Files + Clone + Drop> Folder for DiskFolder<R> {
+    ghost told = { λ d name. None };
+
+    ghost read_faults = { λ d. d.read_faults };
+
+    ghost write_faults = { λ d. d.write_faults };
+
+    fn read(&mut self, name: &str, at: u64, buf: &mut [u8]) -> Result<usize, Failed> {
+        match open_at(&self.rt, name, at) {
+            Ok(mut file) => read_some(&mut file, buf, &mut self.read_faults),
+            Err(_) => count_failure(&mut self.read_faults),
+        }
+    }
+
+    fn fresh(&mut self, name: &str) -> Result<(), Failed> {
+        match fs::create(&self.rt, name) {
+            Ok(_) => Ok(()),
+            Err(_) => count_failure(&mut self.write_faults),
+        }
+    }
+
+    fn append(&mut self, name: &str, piece: &[u8]) -> Result<usize, Failed> {
+        match OpenOptions::new().append(true).open(&self.rt, name) {
+            Ok(mut file) => write_some(&mut file, piece, &mut self.write_faults),
+            Err(_) => count_failure(&mut self.write_faults),
+        }
+    }
+}
+
+/// A sink over any writer.
+#[derive(Drop)]
+pub struct StdSink<W: Write + Drop> {
+    inner: W,
+    faults: u64,
+}
+
+impl<W: Write + Drop> StdSink<W> {
+    /// A sink with no faults yet.
+    pub fn new(inner: W) -> StdSink<W> {
+        StdSink { inner, faults: 0 }
+    }
+}
+
+impl<W: Write + Drop> Sink for StdSink<W> {
+    ghost taken = { λ s. None };
+
+    ghost faults = { λ s. s.faults };
+
+    fn put(&mut self, piece: &[u8]) -> Result<usize, Failed> {
+        write_some(&mut self.inner, piece, &mut self.faults)
+    }
+}

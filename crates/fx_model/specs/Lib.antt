@@ -1,0 +1,8 @@
+pub mod Fraction
+pub mod Powers
+pub mod Grid
+pub mod Cut
+pub mod Rounded
+pub mod Enclosure
+pub mod Expression
+pub mod Examples
