@@ -1,0 +1,6 @@
+pub mod CutLemmas
+pub mod GridLemmas
+pub mod NumberLemmas
+pub mod OrderLemmas
+pub mod ProductLemmas
+pub mod SumLemmas

@@ -1,0 +1,141 @@
+-- How numbers compare, by their mantissas at one place.
+use Rattle.std.proofs.Common.{◌≡◌, ◌⊎◌, ℕ, ℤ, pos, negsuc, ◌+ℤ◌, ◌*ℤ◌, ◌≤ℤ◌, ◌<ℤ◌, ◌<◌, ◌≤◌, ◌*◌, ◌+◌, ◌^◌, min, Bool, true, false, cond, arith, ap, sym, subst, ◌∙◌, refl, ⊎_elim, inl, inr, lit≤, lit<}
+use mir.Syntax.{w128}
+use Rattle.std.specs.Int.RustNames.{unsigned_abs, int_lt, FitsSigned}
+use Rattle.std.proofs.lemmas.Int.{ints, by_lt_z, fits_signed_mul}
+use Rattle.std.proofs.lemmas.Bool.{cases_lt}
+use Rattle.std.proofs.Math.Nat.{pow-le-pow_right, mul-le-mul_right}
+use Rattle.std.specs.declared.cmp.Ordering.{Ordering}
+use Rattle.std.specs.declared.cmp.Ordering.TheVariants.{Less, Equal, Greater}
+use Rattle.std.specs.Ordering.{int_cmp, is_eq, is_lt, is_le, ordering_reverse, eq_by_cmp, ord_min, ord_max}
+use Rattle.std.specs.Bool.{Decides, one_answer}
+use Rattle.std.specs.Cmp.{tied_itself}
+use borrow.Author.Differences.{product_is}
+use Rattle.fx_model.specs.Fraction.{Fraction, le_ℚ, ◌≤ℚ◌, ◌<ℚ◌, le_refl}
+use Rattle.fx_model.specs.Powers.{scaled, scaled-le, scaled-lt, scaled-shift}
+use Rattle.fx_model.specs.Grid.{Binary, value_of}
+use Rattle.dyadic.specs.Canonical.{IsCanonical}
+use Rattle.dyadic.proofs.GridLemmas.{same_scaled, canonical_same}
+use Rattle.fx_model.specs.Enclosure.{BoundLe}
+use Rattle.dyadic.specs.declared.number.End.{End}
+use Rattle.dyadic.specs.Ends.{bound_of}
+use Rattle.dyadic.specs.Order.{cmp_by, value_cmp, value_cmp-equal, end_cmp, end_cmp_total, end_cmp-le}
+
+pub int_less : (m n : ℤ) → m <ℤ n → int_cmp m n ≡ Less
+int_less m n h = let e : int_lt m n ≡ true = grind (arith, ints) in rw e
+
+pub int_greater : (m n : ℤ) → n <ℤ m → int_cmp m n ≡ Greater
+int_greater m n h = let e : int_lt n m ≡ true = grind (arith, ints) in let f : int_lt m n ≡ false = grind (arith, ints) in rw (e, f)
+
+pub int_equal : (m n : ℤ) → m ≡ n → int_cmp m n ≡ Equal
+int_equal m n h = let e : int_lt n m ≡ false = grind (arith, ints) in let f : int_lt m n ≡ false = grind (arith, ints) in rw (e, f)
+
+value_less : (x y : Fraction) → x <ℚ y → x ≤ℚ y → cmp_by le_ℚ x y ≡ Less
+value_less x y l h = rw (h.le, l.lt)
+
+value_greater : (x y : Fraction) → y <ℚ x → cmp_by le_ℚ x y ≡ Greater
+value_greater x y l = rw l.lt
+
+value_equal : (x y : Fraction) → x ≡ y → cmp_by le_ℚ x y ≡ Equal
+value_equal x y e = ap (cmp_by le_ℚ x) (sym e) ∙ rw (le_refl x).le
+
+-- at one place the mantissas decide
+scaled_cmp : (m n e : ℤ) → cmp_by le_ℚ (scaled m e) (scaled n e) ≡ int_cmp m n
+scaled_cmp m n e = by_lt_z m n
+    (λ l. value_less (scaled m e) (scaled n e) (scaled-lt m n e l) (scaled-le m n e (omega (arith, ints))) ∙ sym (int_less m n l))
+    (λ l. by_lt_z n m
+    (λ k. value_greater (scaled m e) (scaled n e) (scaled-lt n m e k) ∙ sym (int_greater m n k))
+    (λ k. let h : m ≡ n = omega (arith, ints) in value_equal (scaled m e) (scaled n e) (ap (λ m. scaled m e) h) ∙ sym (int_equal m n h)))
+
+pub value_cmp_at : (a b : Binary) (gap : ℕ) → a.exponent ≡ b.exponent +ℤ pos gap → value_cmp a b ≡ int_cmp (a.mantissa *ℤ pos (2 ^ gap)) b.mantissa
+value_cmp_at a b gap e = ap (λ x. cmp_by le_ℚ x (value_of b)) (ap (scaled a.mantissa) e ∙ scaled-shift a.mantissa b.exponent gap) ∙ scaled_cmp (a.mantissa *ℤ pos (2 ^ gap)) b.mantissa b.exponent
+
+-- ---- past 60 places the sign of the higher decides
+far_up : (h l : ℤ) (p : ℕ) → pos 0 <ℤ h → unsigned_abs l < 1152921504606846976 → 1152921504606846976 ≤ p → l <ℤ (h *ℤ pos p)
+far_up (pos h) l p s f k = let q : 1 * p ≤ h * p = mul-le-mul_right {m = 1} p (omega (arith, ints)) in omega (arith, ints)
+far_up (negsuc h) l p s f k = absurd (omega (arith, ints))
+
+far_down : (h l : ℤ) (p : ℕ) → h <ℤ pos 0 → unsigned_abs l < 1152921504606846976 → 1152921504606846976 ≤ p → (h *ℤ pos p) <ℤ l
+far_down (pos h) l p s f k = absurd (omega (arith, ints))
+far_down (negsuc h) l p s f k = let q : 1 * p ≤ (h + 1) * p = mul-le-mul_right {m = 1} p (omega arith) in omega (arith, ints, product_is (negsuc h) (pos p))
+
+far_cmp : (h l : ℤ) (p q : ℕ) → unsigned_abs l < 1152921504606846976 → 1152921504606846976 ≤ p → 1152921504606846976 ≤ q → int_cmp (h *ℤ pos p) l ≡ int_cmp (h *ℤ pos q) l
+far_cmp h l p q f i j = by_lt_z h (pos 0)
+    (λ s. int_less (h *ℤ pos p) l (far_down h l p s f i) ∙ sym (int_less (h *ℤ pos q) l (far_down h l q s f j)))
+    (λ s. by_lt_z (pos 0) h
+    (λ t. int_greater (h *ℤ pos p) l (far_up h l p t f i) ∙ sym (int_greater (h *ℤ pos q) l (far_up h l q t f j)))
+    (λ t. let z : h ≡ pos 0 = omega (arith, ints) in let e : (pos 0 *ℤ pos p) ≡ (pos 0 *ℤ pos q) = omega (arith, ints) in
+    ap (λ h. int_cmp (h *ℤ pos p) l) z ∙ ap (λ n. int_cmp n l) e ∙ ap (λ h. int_cmp (h *ℤ pos q) l) (sym z)))
+
+pub compare_far : (h l : ℤ) (gap : ℕ) → unsigned_abs l < 1152921504606846976 → int_cmp (h *ℤ pos (2 ^ min gap 60)) l ≡ int_cmp (h *ℤ pos (2 ^ gap)) l
+compare_far h l gap f = ⊎_elim
+    (λ k. let e : min gap 60 ≡ 60 = omega arith in
+    let p : 2 ^ 60 ≤ 2 ^ gap = pow-le-pow_right {n = 2} (lit≤ tt) {i = 60} {j = gap} (omega arith) in
+    ap (λ n. int_cmp (h *ℤ pos (2 ^ n)) l) e ∙ far_cmp h l (2 ^ 60) (2 ^ gap) f (omega arith) p)
+    (λ k. let e : min gap 60 ≡ gap = omega arith in ap (λ n. int_cmp (h *ℤ pos (2 ^ n)) l) e)
+    (cases_lt 60 gap)
+
+-- ---- the test of equal values
+tied : (r : Ordering) → is_eq r ≡ true → r ≡ Equal
+tied Less e = cc
+tied Equal e = refl
+tied Greater e = cc
+
+pub same_test : (a b : Binary) (s : Bool) → Decides s (value_of a ≡ value_of b) → s ≡ eq_by_cmp value_cmp a b
+same_test a b s d = one_answer s (eq_by_cmp value_cmp a b) d (
+  λ e. value_cmp-equal a b (tied (value_cmp a b) e),
+  λ e. ap is_eq (value_equal (value_of a) (value_of b) e),
+)
+
+-- ---- one value, by mantissas and exponents as they are kept
+module _ (a b : Binary) (m e n f : ℤ) (u : record { mantissa = m; exponent = e } ≡ a) (v : record { mantissa = n; exponent = f } ≡ b) where
+  pub value_in : m ≡ n → e ≡ f → value_of a ≡ value_of b
+  value_in p q = ap value_of (sym u) ∙ same_scaled n f m e p q ∙ ap value_of v
+
+  pub value_out : IsCanonical m e → IsCanonical n f → value_of a ≡ value_of b → (m ≡ n) × (e ≡ f)
+  value_out c d h = canonical_same m e n f c d (ap value_of u ∙ h ∙ ap value_of (sym v))
+
+  pub number_out : IsCanonical m e → IsCanonical n f → value_of a ≡ value_of b → a ≡ b
+  number_out c d h = let s = value_out c d h in sym u ∙ (λ i. record { mantissa = s.0 i; exponent = s.1 i }) ∙ v
+
+-- ---- the steps of the code, by the numbers that they compute
+pub compared : (a b : Binary) (h l : ℤ) (gap : ℕ) (r : Ordering) → h ≡ a.mantissa → l ≡ b.mantissa → a.exponent ≡ b.exponent +ℤ pos gap → r ≡ int_cmp (h *ℤ pos (2 ^ gap)) l → r ≡ value_cmp a b
+compared a b h l gap r p q e f = f ∙ ap (λ h. int_cmp (h *ℤ pos (2 ^ gap)) l) p ∙ ap (int_cmp (a.mantissa *ℤ pos (2 ^ gap))) q ∙ sym (value_cmp_at a b gap e)
+
+pub product_fits : (h h' p : ℤ) (k : ℕ) → h' ≡ h → unsigned_abs h < 1152921504606846976 → p ≡ pos (2 ^ k) → k ≤ 60 → FitsSigned w128 (h' *ℤ p)
+product_fits h h' p k e f g l =
+    let q : 2 ^ k ≤ 2 ^ 60 = pow-le-pow_right {n = 2} (lit≤ tt) {i = k} {j = 60} l in
+    fits_signed_mul w128 h' p (2 ^ 60) (2 ^ 60) (omega (arith, ints)) (omega (arith, ints)) (lit< tt)
+
+pub compared_far : (h h' p x l l' : ℤ) (gap k : ℕ) (r : Ordering) → h' ≡ h → p ≡ pos (2 ^ k) → k ≡ min gap 60 → x ≡ (h' *ℤ p) → l' ≡ l → unsigned_abs l < 1152921504606846976 → r ≡ int_cmp x l' → r ≡ int_cmp (h *ℤ pos (2 ^ gap)) l
+compared_far h h' p x l l' gap k r a b d e f small g =
+    g ∙ ap (λ x. int_cmp x l') (e ∙ (λ i. a i *ℤ (b ∙ ap (λ k. pos (2 ^ k)) d) i)) ∙ ap (int_cmp (h *ℤ pos (2 ^ min gap 60))) f ∙ compare_far h l gap small
+
+-- ---- the lesser and the greater of two ends
+lt_le_test : (r : Ordering) → is_lt r ≡ true → is_le r ≡ true
+lt_le_test Less e = refl
+lt_le_test Equal e = cc
+lt_le_test Greater e = cc
+
+not_lt_test : (r : Ordering) → is_lt (ordering_reverse r) ≡ false → is_le r ≡ true
+not_lt_test Less e = refl
+not_lt_test Equal e = refl
+not_lt_test Greater e = cc
+
+module _ (a b : End) where
+  below : is_lt (end_cmp b a) ≡ true → BoundLe (bound_of b) (bound_of a)
+  below e = end_cmp-le b a (lt_le_test (end_cmp b a) e)
+
+  above : is_lt (end_cmp b a) ≡ false → BoundLe (bound_of a) (bound_of b)
+  above e = end_cmp-le a b (not_lt_test (end_cmp a b) (ap is_lt (sym (end_cmp_total.antisymm b a)) ∙ e))
+
+  itself : (c : End) → BoundLe (bound_of c) (bound_of c)
+  itself c = end_cmp-le c c (ap is_le (tied_itself end_cmp_total c))
+
+  pub lesser_by : (s : Bool) → is_lt (end_cmp b a) ≡ s → ((cond s b a ≡ a) ⊎ (cond s b a ≡ b)) × BoundLe (bound_of (cond s b a)) (bound_of a) × BoundLe (bound_of (cond s b a)) (bound_of b)
+  lesser_by true e = (inr refl, below e, itself b)
+  lesser_by false e = (inl refl, itself a, above e)
+
+  pub greater_by : (s : Bool) → is_lt (end_cmp b a) ≡ s → ((cond s a b ≡ a) ⊎ (cond s a b ≡ b)) × BoundLe (bound_of a) (bound_of (cond s a b)) × BoundLe (bound_of b) (bound_of (cond s a b))
+  greater_by true e = (inl refl, itself a, below e)
+  greater_by false e = (inr refl, above e, itself b)

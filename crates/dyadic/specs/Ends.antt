@@ -1,0 +1,16 @@
+-- What an `End` stands for.
+use Rattle.std.specs.Prelude.{Option, Some, None}
+use Rattle.fx_model.specs.Grid as grid
+use Rattle.fx_model.specs.Grid.{Binary, Bound, value_of}
+use Rattle.dyadic.specs.declared.number.End.{End}
+use Rattle.dyadic.specs.declared.number.End.TheVariants.{Low, At, High}
+
+abbrev pub bound_of : End → Bound
+bound_of Low = grid.Below
+bound_of (At d) = grid.At (value_of d)
+bound_of High = grid.Above
+
+-- a rounding up, where none is too large for the grid
+abbrev pub upper : Option Binary → Bound
+upper None = grid.Above
+upper (Some d) = grid.At (value_of d)

@@ -1,0 +1,5 @@
+pub mod Canonical
+pub mod Cut
+pub mod Ends
+pub mod Order
+pub mod Texts

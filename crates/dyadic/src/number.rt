@@ -1,0 +1,263 @@
+ghost use Rattle.std.specs.Prelude.{◌≡◌, ◌⊎◌, ◌↔◌, ◌≤◌, ◌<◌, ◌*◌, ◌%◌, ◌^◌, ◌≤ℤ◌, ◌+ℤ◌, pos, negsuc, IsTrue, MatchOption};
+ghost use Rattle.std.specs.Int.RustNames.{unsigned_abs, int_lt};
+ghost use Rattle.fx_model.specs.Fraction.{Fraction, neg_ℚ};
+ghost use Rattle.fx_model.specs.Powers.{scaled};
+ghost use Rattle.fx_model.specs.Grid.{IsOnGrid, value_of, IsDown, IsUp, signed};
+ghost use Rattle.fx_model.specs.Grid as grid;
+ghost use Rattle.fx_model.specs.Cut.{Cuts};
+ghost use Rattle.dyadic.specs.Ends.{bound_of, upper};
+
+use crate::cut::Cut;
+use std::marker::Model;
+
+/// A number of the grid, mantissa * 2^exponent, with an odd mantissa or 0 * 2^0.
+#[derive(Clone, Copy, Debug)]
+pub struct Dyadic {
+    mantissa: i64,
+    exponent: i32,
+}
+
+impl Model for Dyadic {
+    ghost use Rattle.fx_model.specs.Grid.{Binary};
+    ghost use Rattle.dyadic.specs.Canonical.{IsCanonical};
+
+    ghost Value = { Binary };
+
+    ghost view = { λ d. record { mantissa = d.mantissa; exponent = d.exponent } };
+
+    ghost invariant = { λ d. IsCanonical d.mantissa d.exponent };
+
+    ghost inverse = { λ b. record { mantissa = b.mantissa; exponent = b.exponent } };
+}
+
+/// An end of an interval: minus infinity, a number of the grid, or plus infinity.
+#[derive(Clone, Copy, Debug)]
+pub enum End {
+    Low,
+    At(Dyadic),
+    High,
+}
+
+fn is_negative(m: i64) -> bool
+    ensures { result ≡ int_lt m (pos 0) }
+{
+    m < 0
+}
+
+// A size as odd * 2^shift.
+#[derive(Clone, Copy)]
+struct OddPart {
+    odd: u64,
+    shift: u32,
+}
+
+fn odd_part(size: u64) -> OddPart
+    requires { 0 < size }
+    ensures odd { result.odd % 2 ≡ 1 }
+    ensures value { result.odd * 2 ^ result.shift ≡ size }
+    ensures shift { result.shift < 64 }
+{
+    let shift = size.trailing_zeros();
+    OddPart {
+        odd: size >> shift,
+        shift,
+    }
+}
+
+impl OddPart {
+    // Whether odd * 2^(two + shift) is on the grid. Where its place is above 512, it has fewer than 60 digits.
+    fn is_on_grid(self, two: i32) -> bool
+        requires odd { self.odd % 2 ≡ 1 }
+        requires shift { self.shift < 64 }
+        ensures { IsTrue result ↔ IsOnGrid (scaled (pos self.odd) (two +ℤ pos self.shift)) }
+    {
+        let place = two as i64 + self.shift as i64;
+        if place < -512 {
+            false
+        } else if place > 571 {
+            false
+        } else {
+            self.odd >> room_at(place) == 0
+        }
+    }
+}
+
+// How many digits a grid number may have that ends at a place.
+fn room_at(place: i64) -> u32
+    requires low { negsuc 511 ≤ℤ place }
+    requires high { place ≤ℤ pos 571 }
+    ensures most { result ≤ 60 }
+    ensures top { (place +ℤ pos result) ≤ℤ pos 572 }
+    ensures tight { (result ≡ 60) ⊎ ((place +ℤ pos result) ≡ pos 572) }
+{
+    if place > 512 {
+        (572 - place) as u32
+    } else {
+        60
+    }
+}
+
+impl Dyadic {
+    /// The number m * 2^e. None exactly where that is off the grid.
+    pub fn new(m: i64, e: i32) -> Option<Dyadic>
+        ensures { MatchOption result (¬ (IsOnGrid (scaled m e))) (λ d. value_of d ≡ scaled m e) }
+    {
+        match Dyadic::from_size(m.unsigned_abs(), e) {
+            Some(size) => Some(if is_negative(m) { size.neg() } else { size }),
+            None => None,
+        }
+    }
+
+    /// Odd, or 0; below 2^60 in size.
+    pub fn mantissa(self) -> i64
+        ensures value { result ≡ self.mantissa }
+        ensures size { unsigned_abs result < 1152921504606846976 }
+    {
+        self.mantissa
+    }
+
+    /// From -512 to 571; 0 where the mantissa is 0.
+    pub fn exponent(self) -> i32
+        ensures value { result ≡ self.exponent }
+        ensures low { negsuc 511 ≤ℤ result }
+        ensures high { result ≤ℤ pos 571 }
+    {
+        self.exponent
+    }
+
+    /// Nothing is done. The clause tells a caller that each number is on the grid.
+    pub fn on_grid(self)
+        ensures { IsOnGrid (value_of self) }
+    {
+        let _ = &self.mantissa;
+    }
+
+    /// Whether the two have one value.
+    pub fn is_same(self, other: Dyadic) -> bool
+        ensures { IsTrue result ↔ (value_of self ≡ value_of other) }
+    {
+        self.mantissa == other.mantissa && self.exponent == other.exponent
+    }
+
+    /// The number with the other sign.
+    pub fn neg(self) -> Dyadic
+        ensures { value_of result ≡ neg_ℚ (value_of self) }
+    {
+        Dyadic {
+            mantissa: -self.mantissa,
+            exponent: self.exponent,
+        }
+    }
+
+    // The number size * 2^e, unless that is off the grid.
+    fn from_size(size: u64, e: i32) -> Option<Dyadic>
+        ensures { MatchOption result (¬ (IsOnGrid (scaled (pos size) e))) (λ d. value_of d ≡ scaled (pos size) e) }
+    {
+        if size == 0 {
+            return Some(Dyadic::canonical(0, e));
+        }
+        if odd_part(size).is_on_grid(e) {
+            Some(Dyadic::canonical(size, e))
+        } else {
+            None
+        }
+    }
+
+    // The number digits * 2^two in its canonical form.
+    fn canonical(digits: u64, two: i32) -> Dyadic
+        requires { IsOnGrid (scaled (pos digits) two) }
+        ensures { value_of result ≡ scaled (pos digits) two }
+    {
+        if digits == 0 {
+            return Dyadic {
+                mantissa: 0,
+                exponent: 0,
+            };
+        }
+        let part = odd_part(digits);
+        Dyadic {
+            mantissa: part.odd as i64,
+            exponent: two + part.shift as i32,
+        }
+    }
+
+    // The greatest grid number that is at most the value of a cut.
+    fn toward_zero(cut: Cut) -> Dyadic
+        requires long { (576460752303423488 ≤ cut.digits) ⊎ (cut.two ≤ℤ negsuc 511) }
+        requires low { negsuc 2999 ≤ℤ cut.two }
+        requires high { cut.two ≤ℤ pos 3000 }
+        ensures { (x : Fraction) → Cuts x cut.digits cut.two cut.inexact → IsDown x (grid.At (value_of result)) }
+    {
+        let cut = cut.narrowed();
+        if cut.two > 512 {
+            Dyadic::canonical(1152921504606846975, 512)
+        } else {
+            Dyadic::canonical(cut.digits as u64, cut.two)
+        }
+    }
+
+    // The least grid number that is at least the value of a cut.
+    fn from_zero(cut: Cut) -> Option<Dyadic>
+        requires long { (576460752303423488 ≤ cut.digits) ⊎ (cut.two ≤ℤ negsuc 511) }
+        requires low { negsuc 2999 ≤ℤ cut.two }
+        requires high { cut.two ≤ℤ pos 3000 }
+        ensures { (x : Fraction) → Cuts x cut.digits cut.two cut.inexact → IsUp x (upper result) }
+    {
+        let cut = cut.narrowed();
+        if cut.two > 512 {
+            return None;
+        }
+        let digits = cut.digits as u64;
+        if cut.inexact {
+            if digits == 1152921504606846975 && cut.two == 512 {
+                return None;
+            }
+            Some(Dyadic::canonical(digits + 1, cut.two))
+        } else {
+            Some(Dyadic::canonical(digits, cut.two))
+        }
+    }
+}
+
+/// Nothing is done. The clause tells a caller that equal values are of one and the same number.
+pub fn same_number(a: Dyadic, b: Dyadic)
+    requires { value_of a ≡ value_of b }
+    ensures { a ≡ b }
+{
+    let _ = &a.mantissa;
+    let _ = &b.mantissa;
+}
+
+// The rounding down of a cut value with a sign.
+pub fn round_down(negative: bool, cut: Cut) -> End
+    requires long { (576460752303423488 ≤ cut.digits) ⊎ (cut.two ≤ℤ negsuc 511) }
+    requires low { negsuc 2999 ≤ℤ cut.two }
+    requires high { cut.two ≤ℤ pos 3000 }
+    ensures { (x : Fraction) → Cuts (signed negative x) cut.digits cut.two cut.inexact → IsDown x (bound_of result) }
+{
+    if negative {
+        match Dyadic::from_zero(cut) {
+            Some(size) => End::At(size.neg()),
+            None => End::Low,
+        }
+    } else {
+        End::At(Dyadic::toward_zero(cut))
+    }
+}
+
+// The rounding up of a cut value with a sign.
+pub fn round_up(negative: bool, cut: Cut) -> End
+    requires long { (576460752303423488 ≤ cut.digits) ⊎ (cut.two ≤ℤ negsuc 511) }
+    requires low { negsuc 2999 ≤ℤ cut.two }
+    requires high { cut.two ≤ℤ pos 3000 }
+    ensures { (x : Fraction) → Cuts (signed negative x) cut.digits cut.two cut.inexact → IsUp x (bound_of result) }
+{
+    if negative {
+        End::At(Dyadic::toward_zero(cut).neg())
+    } else {
+        match Dyadic::from_zero(cut) {
+            Some(size) => End::At(size),
+            None => End::High,
+        }
+    }
+}

@@ -1,0 +1,189 @@
+// The order of numbers and of ends, by their values.
+ghost use Rattle.std.specs.Prelude.{◌≡◌, ◌⊎◌, ◌↔◌, ◌≤◌, ◌<◌, ◌*◌, ◌^◌, ◌≤ℤ◌, ◌+ℤ◌, ◌*ℤ◌, pos, negsuc, IsTrue};
+ghost use Rattle.std.specs.Int.RustNames.{unsigned_abs};
+ghost use Rattle.std.proofs.Common.{rules};
+ghost use Rattle.std.specs.Cmp.{partial_order_from_own_ties, eq_by_cmp_equiv, on_total};
+ghost use Rattle.std.specs.Cmp.Rules.{comparing};
+ghost use Rattle.std.specs.Ordering.{as_partial_cmp, eq_by_cmp, int_cmp, on};
+ghost use Rattle.fx_model.specs.Fraction.{◌≤ℚ◌};
+ghost use Rattle.fx_model.specs.Grid.{value_of};
+ghost use Rattle.fx_model.specs.Enclosure.{BoundLe};
+ghost use Rattle.dyadic.specs.Ends.{bound_of};
+ghost use Rattle.dyadic.specs.Order.{value_cmp, value_cmp_total, end_cmp, end_cmp_total};
+
+use crate::number::{Dyadic, End};
+use std::cmp::Ordering;
+
+// How high * 2^gap compares with low.
+fn compare_at(high: i64, gap: u32, low: i64) -> Ordering
+    requires high_small { unsigned_abs high < 1152921504606846976 }
+    requires low_small { unsigned_abs low < 1152921504606846976 }
+    ensures { result ≡ int_cmp (high *ℤ pos (2 ^ gap)) low }
+{
+    // From 60 places on the sign of the higher decides.
+    (high as i128 * power_of_two(gap.min(60))).cmp(&(low as i128))
+}
+
+fn power_of_two(places: u32) -> i128
+    requires { places ≤ 60 }
+    ensures { result ≡ pos (2 ^ places) }
+{
+    1i128 << places
+}
+
+// How much the first place is above the second.
+fn places_above(high: i32, low: i32) -> u32
+    requires low { negsuc 511 ≤ℤ low }
+    requires high { high ≤ℤ pos 571 }
+    requires ordered { low ≤ℤ high }
+    ensures { high ≡ low +ℤ pos result }
+{
+    (high - low) as u32
+}
+
+fn compare(a: Dyadic, b: Dyadic) -> Ordering
+    ensures { result ≡ value_cmp a b }
+{
+    if b.exponent() <= a.exponent() {
+        compare_at(
+            a.mantissa(),
+            places_above(a.exponent(), b.exponent()),
+            b.mantissa(),
+        )
+    } else {
+        compare_at(
+            b.mantissa(),
+            places_above(b.exponent(), a.exponent()),
+            a.mantissa(),
+        )
+        .reverse()
+    }
+}
+
+impl Dyadic {
+    /// Whether the number is at most the other.
+    pub fn is_at_most(self, other: Dyadic) -> bool
+        ensures { IsTrue result ↔ value_of self ≤ℚ value_of other }
+    {
+        self <= other
+    }
+}
+
+impl PartialEq for Dyadic {
+    ghost eq = { eq_by_cmp value_cmp };
+
+    ghost laws = { Prim.search (comparing, value_cmp_total, rules) };
+
+    fn eq(&self, other: &Dyadic) -> bool {
+        self.is_same(*other)
+    }
+}
+
+impl Eq for Dyadic {
+    ghost laws = { eq_by_cmp_equiv value_cmp_total };
+}
+
+impl Ord for Dyadic {
+    ghost cmp = { value_cmp };
+
+    ghost total = { value_cmp_total };
+
+    ghost matches_partial_cmp = { Prim.search (comparing, rules) };
+
+    ghost matches_eq = { Prim.search (comparing, rules) };
+
+    fn cmp(&self, other: &Dyadic) -> Ordering {
+        compare(*self, *other)
+    }
+}
+
+impl PartialOrd for Dyadic {
+    ghost partial_cmp = { as_partial_cmp value_cmp };
+
+    ghost laws = { partial_order_from_own_ties (Prim.search (comparing, value_cmp_total, rules))
+        (Prim.search (comparing, rules)) };
+
+    fn partial_cmp(&self, other: &Dyadic) -> Option<Ordering> {
+        Some(self.cmp(other))
+    }
+}
+
+impl End {
+    /// Whether the end is at most the other.
+    pub fn is_at_most(self, other: End) -> bool
+        ensures { IsTrue result ↔ BoundLe (bound_of self) (bound_of other) }
+    {
+        self <= other
+    }
+}
+
+impl PartialEq for End {
+    ghost eq = { eq_by_cmp end_cmp };
+
+    ghost laws = { Prim.search (comparing, end_cmp_total, rules) };
+
+    fn eq(&self, other: &End) -> bool {
+        self.cmp(other) == Ordering::Equal
+    }
+}
+
+impl Eq for End {
+    ghost laws = { eq_by_cmp_equiv end_cmp_total };
+}
+
+impl Ord for End {
+    ghost cmp = { end_cmp };
+
+    ghost total = { end_cmp_total };
+
+    ghost matches_partial_cmp = { Prim.search (comparing, rules) };
+
+    ghost matches_eq = { Prim.search (comparing, rules) };
+
+    fn cmp(&self, other: &End) -> Ordering {
+        match self {
+            End::Low => match other {
+                End::Low => Ordering::Equal,
+                _ => Ordering::Less,
+            },
+            End::At(a) => match other {
+                End::Low => Ordering::Greater,
+                End::At(b) => a.cmp(b),
+                End::High => Ordering::Less,
+            },
+            End::High => match other {
+                End::High => Ordering::Equal,
+                _ => Ordering::Greater,
+            },
+        }
+    }
+}
+
+impl PartialOrd for End {
+    ghost partial_cmp = { as_partial_cmp end_cmp };
+
+    ghost laws = { partial_order_from_own_ties (Prim.search (comparing, end_cmp_total, rules))
+        (Prim.search (comparing, rules)) };
+
+    fn partial_cmp(&self, other: &End) -> Option<Ordering> {
+        Some(self.cmp(other))
+    }
+}
+
+/// The lesser of two ends.
+pub fn lesser(a: End, b: End) -> End
+    ensures one { (result ≡ a) ⊎ (result ≡ b) }
+    ensures first { BoundLe (bound_of result) (bound_of a) }
+    ensures second { BoundLe (bound_of result) (bound_of b) }
+{
+    a.min(b)
+}
+
+/// The greater of two ends.
+pub fn greater(a: End, b: End) -> End
+    ensures one { (result ≡ a) ⊎ (result ≡ b) }
+    ensures first { BoundLe (bound_of a) (bound_of result) }
+    ensures second { BoundLe (bound_of b) (bound_of result) }
+{
+    a.max(b)
+}

@@ -1,0 +1,240 @@
+// Sums, whose parts may lie far apart.
+ghost use Rattle.std.specs.Prelude.{◌≡◌, ◌≢◌, ◌⊎◌, ◌+◌, ◌-◌, ◌*◌, ◌^◌, ◌≤◌, ◌<◌, ◌≤ℤ◌, ◌+ℤ◌, pos, negsuc, true, false, not};
+ghost use Rattle.std.specs.Int.RustNames.{unsigned_abs, int_lt};
+ghost use Rattle.fx_model.specs.Fraction.{Fraction, ◌+ℚ◌};
+ghost use Rattle.fx_model.specs.Powers.{scaled};
+ghost use Rattle.fx_model.specs.Grid.{value_of, IsDown, IsUp, signed};
+ghost use Rattle.fx_model.specs.Cut.{Cuts};
+ghost use Rattle.dyadic.specs.Ends.{bound_of};
+
+use crate::cut::Cut;
+use crate::number::{Dyadic, End, round_down, round_up};
+use crate::products::Signed;
+
+// m * 2^e, with a mantissa of up to 66 bits.
+#[derive(Clone, Copy)]
+pub struct Term {
+    pub mantissa: i128,
+    pub exponent: i32,
+}
+
+impl Term {
+    fn is_negative(self) -> bool
+        ensures { result ≡ int_lt self.mantissa (pos 0) }
+    {
+        self.mantissa < 0
+    }
+
+    fn size(self) -> u128
+        ensures { result ≡ unsigned_abs self.mantissa }
+    {
+        self.mantissa.unsigned_abs()
+    }
+
+    // How much the exponent is above the other's.
+    fn above(self, other: Term) -> u32
+        requires low { negsuc 511 ≤ℤ other.exponent }
+        requires high { self.exponent ≤ℤ pos 572 }
+        requires ordered { other.exponent ≤ℤ self.exponent }
+        ensures value { self.exponent ≡ other.exponent +ℤ pos result }
+        ensures small { result ≤ 1084 }
+    {
+        (self.exponent - other.exponent) as u32
+    }
+}
+
+// The sum of two terms. What lies far below the first digits is only known to be there.
+pub fn sum(a: Term, b: Term) -> Signed
+    requires a_small { unsigned_abs a.mantissa < 73786976294838206464 }
+    requires b_small { unsigned_abs b.mantissa < 73786976294838206464 }
+    requires a_low { negsuc 511 ≤ℤ a.exponent }
+    requires a_high { a.exponent ≤ℤ pos 572 }
+    requires b_low { negsuc 511 ≤ℤ b.exponent }
+    requires b_high { b.exponent ≤ℤ pos 572 }
+    ensures cuts { Cuts (signed result.negative (scaled a.mantissa a.exponent +ℚ scaled b.mantissa b.exponent)) result.size.digits result.size.two result.size.inexact }
+    ensures long { result.size.inexact ≡ true → 21267647932558653966460912964485513216 ≤ result.size.digits }
+    ensures low { negsuc 511 ≤ℤ result.size.two }
+    ensures high { result.size.two ≤ℤ pos 2600 }
+{
+    if a.mantissa == 0 {
+        alone(b)
+    } else if b.mantissa == 0 {
+        alone(a)
+    } else if b.exponent <= a.exponent {
+        ordered_sum(a, b)
+    } else {
+        ordered_sum(b, a)
+    }
+}
+
+// A term as its sign and size.
+fn alone(a: Term) -> Signed
+    ensures size { signed result.negative (scaled a.mantissa a.exponent) ≡ scaled (pos result.size.digits) result.size.two }
+    ensures exact { result.size.inexact ≡ false }
+    ensures two { result.size.two ≡ a.exponent }
+{
+    Signed {
+        negative: a.is_negative(),
+        size: Cut::exact(a.size(), a.exponent),
+    }
+}
+
+// The sum where the first term isn't 0 and has the greater exponent.
+fn ordered_sum(a: Term, b: Term) -> Signed
+    requires a_small { unsigned_abs a.mantissa < 73786976294838206464 }
+    requires b_small { unsigned_abs b.mantissa < 73786976294838206464 }
+    requires a_low { negsuc 511 ≤ℤ a.exponent }
+    requires a_high { a.exponent ≤ℤ pos 572 }
+    requires b_low { negsuc 511 ≤ℤ b.exponent }
+    requires b_high { b.exponent ≤ℤ pos 572 }
+    requires a_some { 0 < unsigned_abs a.mantissa }
+    requires ordered { b.exponent ≤ℤ a.exponent }
+    ensures cuts { Cuts (signed result.negative (scaled a.mantissa a.exponent +ℚ scaled b.mantissa b.exponent)) result.size.digits result.size.two result.size.inexact }
+    ensures long { result.size.inexact ≡ true → 21267647932558653966460912964485513216 ≤ result.size.digits }
+    ensures low { negsuc 511 ≤ℤ result.size.two }
+    ensures high { result.size.two ≤ℤ pos 2600 }
+{
+    let gap = a.above(b);
+    let size = a.size();
+    let low = b.size();
+    let negative = a.is_negative();
+    let minus = negative ^ b.is_negative();
+    let room = room_above(size);
+    if gap > room {
+        Signed {
+            negative,
+            size: far_sum(size << room, low, gap - room, minus, b.exponent),
+        }
+    } else {
+        near_sum(negative, minus, size << gap, low, b.exponent)
+    }
+}
+
+// How far a number of up to 66 bits can be shifted to have 126 bits.
+fn room_above(size: u128) -> u32
+    requires some { 0 < size }
+    requires small { size < 73786976294838206464 }
+    ensures long { 42535295865117307932921825928971026432 ≤ size * 2 ^ result }
+    ensures small { size * 2 ^ result < 85070591730234615865843651857942052864 }
+    ensures range { result ≤ 125 }
+{
+    size.leading_zeros() - 2
+}
+
+// The sum of two sizes with their signs, which are equal where `minus` is false.
+fn near_sum(negative: bool, minus: bool, high: u128, low: u128, base: i32) -> Signed
+    requires high_small { high < 85070591730234615865843651857942052864 }
+    requires low_small { low < 73786976294838206464 }
+    ensures plus { minus ≡ false → (result.negative ≡ negative) × (result.size.digits ≡ high + low) }
+    ensures minus { minus ≡ true → low ≤ high → (result.negative ≡ negative) × (result.size.digits ≡ high - low) }
+    ensures swapped { minus ≡ true → high < low → (result.negative ≡ not negative) × (result.size.digits ≡ low - high) }
+    ensures exact { result.size.inexact ≡ false }
+    ensures two { result.size.two ≡ base }
+{
+    if !minus {
+        Signed {
+            negative,
+            size: Cut::exact(high + low, base),
+        }
+    } else if low <= high {
+        Signed {
+            negative,
+            size: Cut::exact(high - low, base),
+        }
+    } else {
+        Signed {
+            negative: !negative,
+            size: Cut::exact(low - high, base),
+        }
+    }
+}
+
+// `top * 2^lost` with `low` added or taken away, all at 2^base, down to the place of `top`.
+fn far_sum(top: u128, low: u128, lost: u32, minus: bool, base: i32) -> Cut
+    requires top_long { 42535295865117307932921825928971026432 ≤ top }
+    requires top_small { top < 85070591730234615865843651857942052864 }
+    requires low_small { low < 73786976294838206464 }
+    requires lost_small { lost ≤ 2000 }
+    requires lost_some { 0 < lost }
+    requires base_low { negsuc 511 ≤ℤ base }
+    requires base_high { base ≤ℤ pos 572 }
+    ensures plus { minus ≡ false → (x : Fraction) → x ≡ scaled (pos (top * 2 ^ lost + low)) base → Cuts x result.digits result.two result.inexact }
+    ensures minus { minus ≡ true → (x : Fraction) → x ≡ scaled (pos (top * 2 ^ lost - low)) base → Cuts x result.digits result.two result.inexact }
+    ensures long { 21267647932558653966460912964485513216 ≤ result.digits }
+    ensures two { result.two ≡ base +ℤ pos lost }
+{
+    let parts = split(low, lost);
+    let kept = parts.kept;
+    let rest = parts.rest;
+    let two = base + lost as i32;
+    if !minus {
+        return Cut {
+            digits: top + kept,
+            two,
+            inexact: 0 < rest,
+        };
+    }
+    if rest == 0 {
+        return Cut::exact(top - kept, two);
+    }
+    Cut {
+        digits: top - kept - 1,
+        two,
+        inexact: true,
+    }
+}
+
+// A number above and below its bit `lost`.
+#[derive(Clone, Copy)]
+struct Parts {
+    kept: u128,
+    rest: u128,
+}
+
+fn split(number: u128, lost: u32) -> Parts
+    requires { 0 < lost }
+    ensures whole { result.kept * 2 ^ lost + result.rest ≡ number }
+    ensures rest { result.rest < 2 ^ lost }
+    ensures kept { result.kept ≤ number }
+{
+    if lost > 127 {
+        Parts {
+            kept: 0,
+            rest: number,
+        }
+    } else {
+        Parts {
+            kept: number >> lost,
+            rest: number % (1 << lost),
+        }
+    }
+}
+
+fn term_of(a: Dyadic) -> Term
+    ensures mantissa { result.mantissa ≡ a.mantissa }
+    ensures exponent { result.exponent ≡ a.exponent }
+    ensures size { unsigned_abs result.mantissa < 1152921504606846976 }
+    ensures low { negsuc 511 ≤ℤ result.exponent }
+    ensures high { result.exponent ≤ℤ pos 572 }
+{
+    Term {
+        mantissa: a.mantissa() as i128,
+        exponent: a.exponent(),
+    }
+}
+
+/// The greatest grid number that is at most the sum.
+pub fn add_down(a: Dyadic, b: Dyadic) -> End
+    ensures { IsDown (value_of a +ℚ value_of b) (bound_of result) }
+{
+    let total = sum(term_of(a), term_of(b));
+    round_down(total.negative, total.size.divided(1))
+}
+
+/// The least grid number that is at least the sum.
+pub fn add_up(a: Dyadic, b: Dyadic) -> End
+    ensures { IsUp (value_of a +ℚ value_of b) (bound_of result) }
+{
+    let total = sum(term_of(a), term_of(b));
+    round_up(total.negative, total.size.divided(1))
+}

@@ -1,0 +1,76 @@
+-- The order of fractions and ends.
+use Rattle.std.specs.Prelude.{◌≡◌, ℤ, pos, ◌≤ℤ◌, Bool, true, false, IsTrue}
+use Rattle.std.proofs.Common.{refl, sym, subst, ap, ◌∙◌, ⊎_elim}
+use Rattle.fx_model.specs.Fraction.{Fraction, ◌*ℚ◌, ◌≤ℚ◌, zero_ℚ, neg_ℚ, le_trans, le_antisymm, le_or_lt, lt_le, mul-le, mul_comm, neg-le, neg-neg, neg-mul, add-neg, zero-add}
+use Rattle.fx_model.specs.Powers.{scaled, scaled-le, scaled-zero, scaled-le_out}
+use Rattle.fx_model.specs.Grid.{Bound, Below, At, Above, IsDown}
+use Rattle.fx_model.specs.Enclosure.{BoundLe, IsFrom, IsUpTo, within_in}
+
+-- ---- factors
+pub times_up : (x u v : Fraction) → x ≤ℚ u → zero_ℚ ≤ℚ v → (x *ℚ v) ≤ℚ (u *ℚ v)
+times_up x u v h p = rw (mul_comm x v, mul_comm u v) (mul-le v x u p h)
+
+pub neg_zero : neg_ℚ zero_ℚ ≡ zero_ℚ
+neg_zero = sym (zero-add (neg_ℚ zero_ℚ)) ∙ add-neg zero_ℚ
+
+pub neg_up : (v : Fraction) → v ≤ℚ zero_ℚ → zero_ℚ ≤ℚ neg_ℚ v
+neg_up v h = subst (λ z. z ≤ℚ neg_ℚ v) neg_zero (neg-le v zero_ℚ h)
+
+pub neg_down : (v : Fraction) → zero_ℚ ≤ℚ v → neg_ℚ v ≤ℚ zero_ℚ
+neg_down v h = subst (λ z. neg_ℚ v ≤ℚ z) neg_zero (neg-le zero_ℚ v h)
+
+pub neg-le_out : (x y : Fraction) → neg_ℚ x ≤ℚ neg_ℚ y → y ≤ℚ x
+neg-le_out x y h = subst (λ z. z ≤ℚ x) (neg-neg y) (subst (λ z. neg_ℚ (neg_ℚ y) ≤ℚ z) (neg-neg x) (neg-le (neg_ℚ x) (neg_ℚ y) h))
+
+pub mul-neg : (x y : Fraction) → x *ℚ neg_ℚ y ≡ neg_ℚ (x *ℚ y)
+mul-neg x y = mul_comm x (neg_ℚ y) ∙ neg-mul y x ∙ ap neg_ℚ (mul_comm y x)
+
+pub times_down : (x u v : Fraction) → x ≤ℚ u → v ≤ℚ zero_ℚ → (u *ℚ v) ≤ℚ (x *ℚ v)
+times_down x u v h p = neg-le_out (x *ℚ v) (u *ℚ v) (rw (← mul-neg x v, ← mul-neg u v) (times_up x u (neg_ℚ v) h (neg_up v p)))
+
+pub factor_down : (z x u : Fraction) → z ≤ℚ zero_ℚ → x ≤ℚ u → (z *ℚ u) ≤ℚ (z *ℚ x)
+factor_down z x u p h = rw (mul_comm z u, mul_comm z x) (times_down x u z h p)
+
+-- ---- signs of written numbers
+pub scaled_up : (m e : ℤ) → pos 0 ≤ℤ m → zero_ℚ ≤ℚ scaled m e
+scaled_up m e h = subst (λ z. z ≤ℚ scaled m e) (scaled-zero e) (scaled-le (pos 0) m e h)
+
+pub scaled_down : (m e : ℤ) → m ≤ℤ pos 0 → scaled m e ≤ℚ zero_ℚ
+scaled_down m e h = subst (λ z. scaled m e ≤ℚ z) (scaled-zero e) (scaled-le m (pos 0) e h)
+
+pub scaled_up_out : (m e : ℤ) → zero_ℚ ≤ℚ scaled m e → pos 0 ≤ℤ m
+scaled_up_out m e h = scaled-le_out (pos 0) m e (subst (λ z. z ≤ℚ scaled m e) (sym (scaled-zero e)) h)
+
+pub scaled_down_out : (m e : ℤ) → scaled m e ≤ℚ zero_ℚ → m ≤ℤ pos 0
+scaled_down_out m e h = scaled-le_out m (pos 0) e (subst (λ z. scaled m e ≤ℚ z) (sym (scaled-zero e)) h)
+
+-- ---- ends
+pub bound_antisymm : (b c : Bound) → BoundLe b c → BoundLe c b → b ≡ c
+bound_antisymm Below Below h k = refl
+bound_antisymm Below (At g) h k = absurd k
+bound_antisymm Below Above h k = absurd k
+bound_antisymm (At g) Below h k = absurd h
+bound_antisymm (At g) (At i) h k = ap At (le_antisymm g i h k)
+bound_antisymm (At g) Above h k = absurd k
+bound_antisymm Above Below h k = absurd h
+bound_antisymm Above (At g) h k = absurd h
+bound_antisymm Above Above h k = refl
+
+-- rounding keeps the order
+pub down-le : (x y : Fraction) (b c : Bound) → x ≤ℚ y → IsDown x b → IsDown y c → BoundLe b c
+down-le x y Below c l d e = tt
+down-le x y (At g) Below l d e = absurd (e g d.0 (le_trans g x y d.1 l))
+down-le x y (At g) (At h) l d e = e.2 g d.0 (le_trans g x y d.1 l)
+down-le x y (At g) Above l d e = tt
+down-le x y Above c l d e = absurd d
+
+-- ---- what a test that failed says
+pub below_by : (x y : Fraction) (b : Bool) → (x ≤ℚ y → IsTrue b) → b ≡ false → y ≤ℚ x
+below_by x y b f e = ⊎_elim (λ l. let t = f l in absurd (let n : true ≡ false = sym t ∙ e in cc)) (λ l. lt_le y x l) (le_or_lt x y)
+
+-- ---- ends further out hold more
+pub from-le : (b c : Bound) (x : Fraction) → BoundLe b c → IsFrom c x → IsFrom b x
+from-le b c x l f = (within_in (record { low = c; high = Above }) (record { low = b; high = Above }) x (l, tt) (f, tt)).0
+
+pub up_to-le : (b c : Bound) (x : Fraction) → BoundLe b c → IsUpTo b x → IsUpTo c x
+up_to-le b c x l f = (within_in (record { low = Below; high = b }) (record { low = Below; high = c }) x (tt, l) (tt, f)).1

@@ -1,0 +1,6 @@
+pub mod Inequalities
+pub mod Enclosures
+pub mod Corners
+pub mod Sums
+pub mod Pairs
+pub mod Unique

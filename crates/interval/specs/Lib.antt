@@ -1,0 +1,5 @@
+pub mod Ends
+pub mod Intervals
+pub mod Spans
+pub mod Pairs
+pub mod Unique

@@ -1,0 +1,168 @@
+ghost use Rattle.std.specs.Prelude.{◌≡◌, ◌↔◌, IsTrue, IsNone, IfSome};
+ghost use Rattle.interval.specs.Ends.{AreEnds, AreEnds-prop, IsGridEnd};
+
+use crate::ends::{finite, high_sum, low_sum, opposite};
+use crate::laws::same_end;
+use crate::order::in_order;
+use crate::products::{high_product, low_product};
+use crate::span::Span;
+use dyadic::{Dyadic, End, greater, lesser};
+
+/// An interval of fractions, whose ends are numbers of the grid or infinite.
+#[derive(Clone, Copy, PartialEq, Eq, Debug)]
+pub struct Interval {
+    lo: End,
+    hi: End,
+    pub ghost ordered: { AreEnds lo hi } by { AreEnds-prop lo hi },
+}
+
+impl Interval {
+    ghost use Rattle.fx_model.specs.Enclosure.{IsNegation, IsSum, IsDifference, IsProduct, whole_line, Within, Lies};
+    ghost use Rattle.interval.specs.Intervals.{range_of};
+    ghost use Rattle.interval.specs.Spans.{IsSpan};
+    ghost use Rattle.interval.specs.Pairs.{AreApart, IsCommon, IsHull};
+    ghost use Rattle.fx_model.specs.Grid.{value_of};
+    ghost use Rattle.dyadic.specs.Ends.{bound_of};
+
+    /// The interval with these ends. None where the lower end is plus infinity, the upper is
+    /// minus infinity, or they are out of order.
+    pub fn new(lo: End, hi: End) -> Option<Interval>
+        ensures refused { IsNone result ↔ (¬ AreEnds lo hi) }
+        ensures ends { IfSome result (λ made. (made.lo ≡ lo) × (made.hi ≡ hi)) }
+    {
+        if in_order(&lo, &hi) {
+            Some(Interval { lo, hi })
+        } else {
+            None
+        }
+    }
+
+    /// The lower end, a number or minus infinity.
+    pub fn lo(self) -> End
+        ensures { result ≡ self.lo }
+    {
+        self.lo
+    }
+
+    /// The upper end, a number or plus infinity.
+    pub fn hi(self) -> End
+        ensures { result ≡ self.hi }
+    {
+        self.hi
+    }
+
+    // The numbers from minus to plus infinity.
+    fn whole() -> Interval
+        ensures { range_of result ≡ whole_line }
+    {
+        Interval {
+            lo: End::Low,
+            hi: End::High,
+        }
+    }
+
+    // The two ends, where they are finite.
+    fn span(self) -> Option<Span>
+        ensures { IsSpan self result }
+    {
+        let low = finite(self.lo)?;
+        let high = finite(self.hi)?;
+        Some(Span { low, high })
+    }
+
+    /// The negatives.
+    pub fn neg(self) -> Interval
+        ensures { IsNegation (range_of self) (range_of result) }
+    {
+        Interval {
+            lo: opposite(self.hi),
+            hi: opposite(self.lo),
+        }
+    }
+
+    /// The least interval that holds every sum.
+    pub fn add(self, other: Interval) -> Interval
+        ensures { IsSum (range_of self) (range_of other) (range_of result) }
+    {
+        Interval {
+            lo: low_sum(self.lo, other.lo),
+            hi: high_sum(self.hi, other.hi),
+        }
+    }
+
+    /// The least interval that holds every difference.
+    pub fn sub(self, other: Interval) -> Interval
+        ensures { IsDifference (range_of self) (range_of other) (range_of result) }
+    {
+        Interval {
+            lo: low_sum(self.lo, opposite(other.hi)),
+            hi: high_sum(self.hi, opposite(other.lo)),
+        }
+    }
+
+    /// The least interval that holds every product, or the whole line where an end is infinite.
+    pub fn mul(self, other: Interval) -> Interval
+        ensures { IsProduct (range_of self) (range_of other) (range_of result) }
+    {
+        let Some(x) = self.span() else {
+            return Interval::whole();
+        };
+        let Some(y) = other.span() else {
+            return Interval::whole();
+        };
+        Interval {
+            lo: low_product(&x, &y),
+            hi: high_product(&x, &y),
+        }
+    }
+
+    /// Nothing is done. The clauses tell a caller that an end is on the grid where it is finite.
+    pub fn on_grid(self)
+        ensures low { IsGridEnd (bound_of self.lo) }
+        ensures high { IsGridEnd (bound_of self.hi) }
+    {
+        let _ = &self.lo;
+        let _ = &self.hi;
+    }
+
+    /// Whether each number of this interval lies in the other.
+    pub fn inside(self, other: Interval) -> bool
+        ensures { IsTrue result ↔ Within (range_of self) (range_of other) }
+    {
+        other.lo.is_at_most(self.lo) && self.hi.is_at_most(other.hi)
+    }
+
+    /// Whether the number lies in the interval.
+    pub fn has(self, x: Dyadic) -> bool
+        ensures { IsTrue result ↔ Lies (range_of self) (value_of x) }
+    {
+        self.lo.is_at_most(End::At(x)) && End::At(x).is_at_most(self.hi)
+    }
+
+    /// What lies in both. None where nothing does.
+    pub fn meet(self, other: Interval) -> Option<Interval>
+        ensures apart { IsNone result ↔ AreApart (range_of self) (range_of other) }
+        ensures common { IfSome result (λ both. IsCommon (range_of self) (range_of other) (range_of both)) }
+    {
+        Interval::new(greater(self.lo, other.lo), lesser(self.hi, other.hi))
+    }
+
+    /// The least interval that holds both.
+    pub fn hull(self, other: Interval) -> Interval
+        ensures { IsHull (range_of self) (range_of other) (range_of result) }
+    {
+        Interval {
+            lo: lesser(self.lo, other.lo),
+            hi: greater(self.hi, other.hi),
+        }
+    }
+
+    /// Nothing is done. The clause tells a caller that intervals with the same ends are the same.
+    pub fn same(self, other: Interval)
+        requires { range_of self ≡ range_of other }
+        ensures { self ≡ other }
+    {
+        same_end(&self.lo, &other.lo);
+        same_end(&self.hi, &other.hi);
+    }
+}

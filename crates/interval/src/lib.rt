@@ -1,0 +1,14 @@
+//! Outward intervals: the least interval with grid ends that holds every result.
+#![tactic(auto)]
+
+mod ends;
+mod interval;
+mod laws;
+mod order;
+mod products;
+mod span;
+#[cfg(test)]
+mod tests;
+
+pub use interval::Interval;
+pub use laws::one_result;

@@ -1,0 +1,39 @@
+// Signs, and ends that make an interval.
+ghost use Rattle.std.specs.Prelude.{◌≡◌, ◌↔◌, IsTrue};
+ghost use Rattle.fx_model.specs.Fraction.{◌≤ℚ◌, zero_ℚ};
+ghost use Rattle.fx_model.specs.Grid.{value_of};
+ghost use Rattle.interval.specs.Ends.{AreEnds};
+
+use dyadic::{Dyadic, End};
+
+// Whether a number is 0 or above.
+pub fn not_negative(a: Dyadic) -> bool
+    ensures { IsTrue result ↔ zero_ℚ ≤ℚ value_of a }
+{
+    a.mantissa() >= 0
+}
+
+// Whether a number is 0 or below.
+pub fn not_positive(a: Dyadic) -> bool
+    ensures { IsTrue result ↔ value_of a ≤ℚ zero_ℚ }
+{
+    a.mantissa() <= 0
+}
+
+// Whether two ends make an interval.
+pub fn in_order(lo: &End, hi: &End) -> bool
+    ensures { IsTrue result ↔ AreEnds lo.now hi.now }
+{
+    match lo {
+        End::Low => match hi {
+            End::Low => false,
+            _ => true,
+        },
+        End::At(lo) => match hi {
+            End::Low => false,
+            End::At(hi) => (*lo).is_at_most(*hi),
+            End::High => true,
+        },
+        End::High => false,
+    }
+}

@@ -1,0 +1,28 @@
+ghost use Rattle.std.specs.Prelude.{◌≡◌};
+ghost use Rattle.fx_model.specs.Fraction.{◌≤ℚ◌, Le-prop};
+ghost use Rattle.fx_model.specs.Grid.{value_of};
+
+use dyadic::Dyadic;
+
+// An interval with two finite ends.
+#[derive(Clone, Copy)]
+pub struct Span {
+    pub low: Dyadic,
+    pub high: Dyadic,
+    pub ghost ordered: { value_of low ≤ℚ value_of high } by { Le-prop (value_of low) (value_of high) },
+}
+
+impl Span {
+    ghost use Rattle.interval.specs.Spans.{span_of};
+    ghost use Rattle.interval.specs.Ends.{mirror};
+
+    // The negatives of its numbers.
+    pub fn neg(self) -> Span
+        ensures { span_of result ≡ mirror (span_of self) }
+    {
+        Span {
+            low: self.high.neg(),
+            high: self.low.neg(),
+        }
+    }
+}
