@@ -1,6 +1,5 @@
 -- The folders in memory, as their callers see them.
-use Rattle.std.specs.Prelude.{ℕ, List, [], Option, Result, unwrap_or}
-use Rattle.std.specs.Option.{option_map}
+use Rattle.std.specs.Prelude.{ℕ, List, Option, Result}
 use Rattle.fx_edge.specs.declared.folder.SureFolder.{SureFolder}
 use Rattle.fx_edge.specs.declared.folder.MemFolder.{MemFolder}
 use Rattle.fx_edge.specs.Outside.{count_after}
@@ -11,10 +10,6 @@ use Rattle.fx_edge.specs.Files.{file_at}
 -- the file of a name, where it is there
 abbrev pub sure_file : SureFolder → List ℕ → Option Held
 sure_file d name = file_at d.files name
-
--- the bytes of a name, none where it isn't there
-abbrev pub sure_bytes : SureFolder → List ℕ → List ℕ
-sure_bytes d name = unwrap_or (option_map (λ f. f.bytes) (sure_file d name)) []
 
 -- how many writes failed
 abbrev pub sure_faults : SureFolder → ℕ
@@ -30,9 +25,13 @@ pub record Tally : Type 0 where
   pub read_faults : ℕ
   pub write_faults : ℕ
 
+-- how the calls of a folder are numbered
+abbrev pub calls_of : MemFolder → Numbered
+calls_of d = d.calls
+
 -- the tally of a folder
 abbrev pub tally : MemFolder → Tally
-tally d = record { numbered = d.calls; read_faults = d.read_faults; write_faults = d.write_faults }
+tally d = record { numbered = calls_of d; read_faults = d.read_faults; write_faults = d.write_faults }
 
 -- before the first call
 abbrev pub new_tally : List ℕ → ℕ → Tally
@@ -40,8 +39,10 @@ new_tally failing most = record { numbered = no_calls failing most; read_faults 
 
 -- after a read with this result
 abbrev pub after_read : {T E : Type 0} → Result T E → Tally → Tally
-after_read result t = record t { numbered = next_call t.numbered; read_faults = count_after result t.read_faults }
+after_read result t =
+    record t { numbered = next_call t.numbered; read_faults = count_after result t.read_faults }
 
 -- after a write with this result
 abbrev pub after_write : {T E : Type 0} → Result T E → Tally → Tally
-after_write result t = record t { numbered = next_call t.numbered; write_faults = count_after result t.write_faults }
+after_write result t =
+    record t { numbered = next_call t.numbered; write_faults = count_after result t.write_faults }

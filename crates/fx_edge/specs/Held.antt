@@ -1,5 +1,5 @@
 -- Bytes with room for so many: a file in memory, and what a sink in memory took.
-use Rattle.std.specs.Prelude.{◌≡◌, ◌<◌, ◌-◌, ◌++◌, ℕ, List, [], length, take, min, max, ⊤, Option, None, Some}
+use Rattle.std.specs.Prelude.{◌≡◌, ◌<◌, ◌-◌, ◌++◌, ℕ, List, [], length, take, drop, min, max}
 
 -- bytes, and how many there may be
 pub record Held : Type 0 where
@@ -34,7 +34,6 @@ emptied held = record held { bytes = [] }
 abbrev pub readable : List ℕ → ℕ → ℕ → ℕ
 readable all at len = min (length all - at) len
 
--- nothing of the piece can be added: there is no file, or nothing of a piece fits that isn't empty
-abbrev pub CannotAdd : Option Held → List ℕ → Type 0
-CannotAdd None piece = ⊤
-CannotAdd (Some file) piece = IsFullFor file piece
+-- a buffer whose first n bytes are now those that stand from `at`
+abbrev pub filled : List ℕ → ℕ → ℕ → List ℕ → List ℕ
+filled all at n buf = take n (drop at all) ++ drop n buf

@@ -20,4 +20,5 @@ pub record MemSinkState : Type 0 where
 
 -- a sink that was just made
 abbrev pub new_mem_sink : List ℕ → ℕ → ℕ → MemSinkState
-new_mem_sink failing room most = record { held = empty_held room; faults = 0; numbered = no_calls failing most }
+new_mem_sink failing room most =
+    record { held = empty_held room; faults = 0; numbered = no_calls failing most }

@@ -1,6 +1,7 @@
 // Bytes with room for so many, for which memory is found when they are made.
-ghost use Rattle.std.specs.Prelude.{◌≡◌, ◌≤◌, ◌++◌, ◌↔◌, [], take, drop, length, min, Some, IfOk, IfSome, IsNone};
-ghost use Rattle.fx_edge.specs.Held.{fitting, IsFullFor, with_front, emptied, readable, new_held};
+ghost use Rattle.std.specs.Prelude.{◌≡◌, ◌≤◌, ◌↔◌, length, min, IfOk, IfSome, IsNone};
+ghost use Rattle.fx_edge.specs.Held.{new_held, fitting, IsFullFor, with_front, emptied};
+ghost use Rattle.fx_edge.specs.Held.{readable, filled};
 
 use std::alloc::AllocError;
 use std::marker::Model;
@@ -67,7 +68,7 @@ impl Buffer {
     /// most `most`.
     pub fn copy_from(&self, at: u64, buf: &mut [u8], most: usize) -> usize
         ensures count { result ≡ min (readable self.now.bytes at (length buf.old)) most }
-        ensures bytes { buf.new ≡ take result (drop at self.now.bytes) ++ drop result buf.old }
+        ensures bytes { buf.new ≡ filled self.now.bytes at result buf.old }
     {
         let start = if at < self.bytes.len() as u64 {
             at as usize

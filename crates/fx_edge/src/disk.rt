@@ -1,5 +1,5 @@
 // The real outside. It tells no content: that a disk holds what was written to it is no clause of this crate.
-ghost use Rattle.std.specs.Prelude.{None, IfOk, ◌≤◌, ◌<◌, length};
+ghost use Rattle.std.specs.Prelude.{◌≡◌, None, IfOk, ◌≤◌, ◌<◌, length};
 ghost use Rattle.std.specs.Io.{ReadsAtMost};
 ghost use Rattle.fx_edge.specs.Outside.{HasCause};
 
@@ -67,7 +67,10 @@ pub struct DiskFolder<R: Files + Clone + Drop> {
 
 impl<R: Files + Clone + Drop> DiskFolder<R> {
     /// A folder with no faults yet.
-    pub fn new(rt: R) -> DiskFolder<R> {
+    pub fn new(rt: R) -> DiskFolder<R>
+        ensures reads { ⟦<DiskFolder<R> as Folder>⟧.read_faults result ≡ 0 }
+        ensures writes { ⟦<DiskFolder<R> as Folder>⟧.write_faults result ≡ 0 }
+    {
         DiskFolder {
             rt,
             read_faults: 0,
@@ -114,7 +117,9 @@ pub struct StdSink<W: Write + Drop> {
 
 impl<W: Write + Drop> StdSink<W> {
     /// A sink with no faults yet.
-    pub fn new(inner: W) -> StdSink<W> {
+    pub fn new(inner: W) -> StdSink<W>
+        ensures { ⟦<StdSink<W> as Sink>⟧.faults result ≡ 0 }
+    {
         StdSink { inner, faults: 0 }
     }
 }

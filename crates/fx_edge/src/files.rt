@@ -1,9 +1,10 @@
 // Files in memory, by name. A name that is to be written stands among them from the start, so that no call
 // takes memory.
-ghost use Rattle.std.specs.Prelude.{◌≡◌, ◌↔◌, ◌++◌, ℕ, List, length, min, take, drop, IsNone, IsSome, IsTrue, IfOk, IfSome};
+ghost use Rattle.std.specs.Prelude.{◌≡◌, ◌↔◌, ℕ, List, Some, length, min, IsNone, IsSome, IsTrue, IfOk, IfSome};
 ghost use Rattle.std.specs.Option.{option_map};
-ghost use Rattle.fx_edge.specs.Held.{emptied, fitting, with_front, CannotAdd, readable};
-ghost use Rattle.fx_edge.specs.Files.{file_at, last_file, KeepsOthers};
+ghost use Rattle.fx_edge.specs.Held.{emptied, readable, filled};
+ghost use Rattle.fx_edge.specs.Files.{file_at, last_file, bytes_there, bytes_or_none};
+ghost use Rattle.fx_edge.specs.Files.{fitting_into, CannotAdd, grown, SameElsewhere};
 
 use crate::buffer::Buffer;
 use std::alloc::{AllocError, Global};
@@ -21,7 +22,8 @@ impl Files {
         files: Vec<(String, Vec<u8>)>,
         room: usize,
     ) -> Result<Files, AllocError>
-        ensures { IfOk result (λ made. (name : List ℕ) → file_at made name ≡ last_file room files.items name) }
+        ensures { IfOk result (λ made.
+            (name : List ℕ) → file_at made name ≡ last_file room files.items name) }
     {
         let mut by_name = BTreeMap::new(alloc);
         for (name, bytes) in files {
@@ -33,7 +35,7 @@ impl Files {
     /// The bytes of a name, where it is there.
     pub fn bytes(&self, name: &str) -> Option<&[u8]>
         ensures absent { IsNone result ↔ IsNone (file_at self.now name.now) }
-        ensures bytes { IfSome result (λ bytes. option_map (λ f. f.bytes) (file_at self.now name.now) ≡ Some bytes.now) }
+        ensures bytes { IfSome result (λ b. bytes_there (file_at self.now name.now) ≡ Some b.now) }
     {
         match self.by_name.get(name) {
             Some(file) => Some(file.bytes()),
@@ -44,8 +46,10 @@ impl Files {
     /// Copies the bytes that stand from `at`, at most `most`; `None` where the name isn't there.
     pub fn read(&self, name: &str, at: u64, buf: &mut [u8], most: usize) -> Option<usize>
         ensures absent { IsNone result ↔ IsNone (file_at self.now name.now) }
-        ensures count { IfSome result (λ n. IfSome (file_at self.now name.now) (λ f. n ≡ min (readable f.bytes at (length buf.old)) most)) }
-        ensures bytes { IfSome result (λ n. IfSome (file_at self.now name.now) (λ f. buf.new ≡ take n (drop at f.bytes) ++ drop n buf.old)) }
+        ensures count { IfSome result (λ n.
+            n ≡ min (readable (bytes_or_none (file_at self.now name.now)) at (length buf.old)) most) }
+        ensures bytes { IfSome result (λ n.
+            buf.new ≡ filled (bytes_or_none (file_at self.now name.now)) at n buf.old) }
         ensures kept { IsNone result → buf.new ≡ buf.old }
     {
         match self.by_name.get(name) {
@@ -59,7 +63,7 @@ impl Files {
     pub fn clear(&mut self, name: &str) -> bool
         ensures there { IsTrue result ↔ IsSome (file_at self.old name.now) }
         ensures cleared { file_at self.new name.now ≡ option_map emptied (file_at self.old name.now) }
-        ensures others { KeepsOthers name.now self.old self.new }
+        ensures others { SameElsewhere name.now (file_at self.old) (file_at self.new) }
     {
         if let Some(file) = self.by_name.get_mut(name) {
             file.clear();
@@ -74,9 +78,10 @@ impl Files {
     pub fn add(&mut self, name: &str, piece: &[u8]) -> Option<usize>
         ensures refused { IsNone result ↔ CannotAdd (file_at self.old name.now) piece.now }
         ensures kept { IsNone result → file_at self.new name.now ≡ file_at self.old name.now }
-        ensures count { IfSome result (λ n. IfSome (file_at self.old name.now) (λ f. n ≡ fitting f piece.now)) }
-        ensures added { IfSome result (λ n. file_at self.new name.now ≡ option_map (λ f. with_front f n piece.now) (file_at self.old name.now)) }
-        ensures others { KeepsOthers name.now self.old self.new }
+        ensures count { IfSome result (λ n. n ≡ fitting_into (file_at self.old name.now) piece.now) }
+        ensures added { IfSome result (λ n.
+            file_at self.new name.now ≡ grown (file_at self.old name.now) n piece.now) }
+        ensures others { SameElsewhere name.now (file_at self.old) (file_at self.new) }
     {
         match self.by_name.get_mut(name) {
             Some(file) => file.add(piece),

@@ -1,12 +1,12 @@
 // Folders in memory.
-ghost use Rattle.std.specs.Prelude.{◌≡◌, ◌≢◌, ◌<◌, ◌≤◌, ◌⊎◌, ◌↔◌, ◌++◌, ℕ, List, [], Some, length, take, drop, min, IfOk, IfSome, IsErr, IsOk, IsOkAnd, IsNone, IsSome, OnOk, OnErr};
-ghost use Rattle.std.specs.Io.{ReadsAtMost};
-ghost use Rattle.std.specs.Io.KnownBytes.{WriteAppends};
+ghost use Rattle.std.specs.Prelude.{◌≡◌, ◌≤◌, ◌<◌, ◌⊎◌, ◌↔◌, ℕ, List, Some, length, min};
+ghost use Rattle.std.specs.Prelude.{IfOk, IfSome, IsErr, IsOk, IsOkAnd, IsNone, IsSome, OnOk, OnErr};
 ghost use Rattle.std.specs.Option.{option_map};
 ghost use Rattle.fx_edge.specs.Outside.{HasCause, ReadsFrom, count_after};
-ghost use Rattle.fx_edge.specs.Calls.{no_calls, next_call, FailsNext};
-ghost use Rattle.fx_edge.specs.Held.{emptied, fitting, with_front, CannotAdd, readable};
-ghost use Rattle.fx_edge.specs.Files.{last_file};
+ghost use Rattle.fx_edge.specs.Calls.{FailsNext};
+ghost use Rattle.fx_edge.specs.Held.{emptied, readable, filled};
+ghost use Rattle.fx_edge.specs.Files.{last_file, bytes_there, bytes_or_none};
+ghost use Rattle.fx_edge.specs.Files.{fitting_into, CannotAdd, grown, SameElsewhere};
 
 use crate::calls::Calls;
 use crate::files::Files;
@@ -32,7 +32,8 @@ impl SureFolder {
         files: Vec<(String, Vec<u8>)>,
         room: usize,
     ) -> Result<SureFolder, AllocError>
-        ensures files { IfOk result (λ d. (name : List ℕ) → sure_file d name ≡ last_file room files.items name) }
+        ensures files { IfOk result (λ d.
+            (name : List ℕ) → sure_file d name ≡ last_file room files.items name) }
         ensures faults { IfOk result (λ d. sure_faults d ≡ 0) }
     {
         Ok(SureFolder {
@@ -44,24 +45,26 @@ impl SureFolder {
     /// The bytes of a name, where it is there.
     pub fn bytes(&self, name: &str) -> Option<&[u8]>
         ensures absent { IsNone result ↔ IsNone (sure_file self.now name.now) }
-        ensures bytes { IfSome result (λ bytes. option_map (λ f. f.bytes) (sure_file self.now name.now) ≡ Some bytes.now) }
+        ensures bytes { IfSome result (λ b. bytes_there (sure_file self.now name.now) ≡ Some b.now) }
     {
         self.files.bytes(name)
     }
 }
 
 impl Folder for SureFolder {
-    ghost use Rattle.fx_edge.specs.Folders.{sure_file, sure_bytes, sure_faults};
+    ghost use Rattle.fx_edge.specs.Folders.{sure_file, sure_faults};
 
-    ghost told = { λ d name. Some (sure_bytes d name) };
+    ghost told = { λ d name. Some (bytes_or_none (sure_file d name)) };
 
     ghost read_faults = { λ d. 0 };
 
     ghost write_faults = { sure_faults };
 
     fn read(&mut self, name: &str, at: u64, buf: &mut [u8]) -> Result<usize, Failed>
-        ensures count { IsOkAnd result (λ n. n ≡ readable (sure_bytes self.old name.now) at (length buf.old)) }
-        ensures bytes { IfOk result (λ n. buf.new ≡ take n (drop at (sure_bytes self.old name.now)) ++ drop n buf.old) }
+        ensures count { IsOkAnd result (λ n.
+            n ≡ readable (bytes_or_none (sure_file self.old name.now)) at (length buf.old)) }
+        ensures bytes { IfOk result (λ n.
+            buf.new ≡ filled (bytes_or_none (sure_file self.old name.now)) at n buf.old) }
         ensures same { self.new ≡ self.old }
     {
         let most = buf.len();
@@ -74,7 +77,7 @@ impl Folder for SureFolder {
     fn fresh(&mut self, name: &str) -> Result<(), Failed>
         ensures there { IsOk result ↔ IsSome (sure_file self.old name.now) }
         ensures emptied { sure_file self.new name.now ≡ option_map emptied (sure_file self.old name.now) }
-        ensures others { (other : List ℕ) → other ≢ name.now → sure_file self.new other ≡ sure_file self.old other }
+        ensures others { SameElsewhere name.now (sure_file self.old) (sure_file self.new) }
         ensures counts { sure_faults self.new ≡ count_after result (sure_faults self.old) }
         ensures cause { HasCause (sure_faults self.old) (sure_faults self.new) result }
     {
@@ -86,10 +89,11 @@ impl Folder for SureFolder {
 
     fn append(&mut self, name: &str, piece: &[u8]) -> Result<usize, Failed>
         ensures fails { IsErr result ↔ CannotAdd (sure_file self.old name.now) piece.now }
-        ensures count { IfOk result (λ n. IfSome (sure_file self.old name.now) (λ f. n ≡ fitting f piece.now)) }
-        ensures added { IfOk result (λ n. sure_file self.new name.now ≡ option_map (λ f. with_front f n piece.now) (sure_file self.old name.now)) }
+        ensures count { IfOk result (λ n. n ≡ fitting_into (sure_file self.old name.now) piece.now) }
+        ensures added { IfOk result (λ n.
+            sure_file self.new name.now ≡ grown (sure_file self.old name.now) n piece.now) }
         ensures kept { OnErr result (sure_file self.new name.now ≡ sure_file self.old name.now) }
-        ensures others { (other : List ℕ) → other ≢ name.now → sure_file self.new other ≡ sure_file self.old other }
+        ensures others { SameElsewhere name.now (sure_file self.old) (sure_file self.new) }
         ensures counts { sure_faults self.new ≡ count_after result (sure_faults self.old) }
         ensures cause { HasCause (sure_faults self.old) (sure_faults self.new) result }
     {
@@ -123,7 +127,8 @@ impl MemFolder {
         most: usize,
     ) -> Result<MemFolder, AllocError>
         requires { 1 ≤ most }
-        ensures files { IfOk result (λ d. (name : List ℕ) → mem_file d name ≡ last_file room files.items name) }
+        ensures files { IfOk result (λ d.
+            (name : List ℕ) → mem_file d name ≡ last_file room files.items name) }
         ensures tally { IfOk result (λ d. tally d ≡ new_tally failing.items most) }
     {
         Ok(MemFolder {
@@ -137,26 +142,31 @@ impl MemFolder {
     /// The bytes of a name, where it is there.
     pub fn bytes(&self, name: &str) -> Option<&[u8]>
         ensures absent { IsNone result ↔ IsNone (mem_file self.now name.now) }
-        ensures bytes { IfSome result (λ bytes. option_map (λ f. f.bytes) (mem_file self.now name.now) ≡ Some bytes.now) }
+        ensures bytes { IfSome result (λ b. bytes_there (mem_file self.now name.now) ≡ Some b.now) }
     {
         self.files.bytes(name)
     }
 }
 
 impl Folder for MemFolder {
-    ghost use Rattle.fx_edge.specs.Folders.{mem_file, tally, after_read, after_write};
+    ghost use Rattle.fx_edge.specs.Folders.{mem_file, calls_of, tally, after_read, after_write};
 
-    ghost told = { λ d name. option_map (λ f. f.bytes) (mem_file d name) };
+    ghost told = { λ d name. bytes_there (mem_file d name) };
 
     ghost read_faults = { λ d. (tally d).read_faults };
 
     ghost write_faults = { λ d. (tally d).write_faults };
 
     fn read(&mut self, name: &str, at: u64, buf: &mut [u8]) -> Result<usize, Failed>
-        ensures fails { IsErr result ↔ (FailsNext (tally self.old).numbered ⊎ IsNone (mem_file self.old name.now)) }
-        ensures count { IfOk result (λ n. IfSome (mem_file self.old name.now) (λ f. n ≡ min (readable f.bytes at (length buf.old)) (tally self.old).numbered.most)) }
-        ensures bytes { IfOk result (λ n. IfSome (mem_file self.old name.now) (λ f. buf.new ≡ take n (drop at f.bytes) ++ drop n buf.old)) }
-        ensures piece { ReadsFrom (option_map (λ f. f.bytes) (mem_file self.old name.now)) at result buf.new }
+        ensures fails { IsErr result
+            ↔ (FailsNext (calls_of self.old) ⊎ IsNone (mem_file self.old name.now)) }
+        ensures count { IfOk result (λ n.
+            n ≡ min (readable (bytes_or_none (mem_file self.old name.now)) at (length buf.old))
+            (calls_of self.old).most) }
+        ensures bytes { IfOk result (λ n.
+            buf.new ≡ filled (bytes_or_none (mem_file self.old name.now)) at n buf.old) }
+        ensures piece { ReadsFrom (bytes_there (mem_file self.old name.now)) at result buf.new }
+        ensures kept { OnErr result (buf.new ≡ buf.old) }
         ensures same { (other : List ℕ) → mem_file self.new other ≡ mem_file self.old other }
         ensures counts { tally self.new ≡ after_read result (tally self.old) }
         ensures cause { HasCause (tally self.old).read_faults (tally self.new).read_faults result }
@@ -171,10 +181,12 @@ impl Folder for MemFolder {
     }
 
     fn fresh(&mut self, name: &str) -> Result<(), Failed>
-        ensures fails { IsErr result ↔ (FailsNext (tally self.old).numbered ⊎ IsNone (mem_file self.old name.now)) }
-        ensures emptied { OnOk result (mem_file self.new name.now ≡ option_map emptied (mem_file self.old name.now)) }
+        ensures fails { IsErr result
+            ↔ (FailsNext (calls_of self.old) ⊎ IsNone (mem_file self.old name.now)) }
+        ensures emptied { OnOk result
+            (mem_file self.new name.now ≡ option_map emptied (mem_file self.old name.now)) }
         ensures kept { OnErr result (mem_file self.new name.now ≡ mem_file self.old name.now) }
-        ensures others { (other : List ℕ) → other ≢ name.now → mem_file self.new other ≡ mem_file self.old other }
+        ensures others { SameElsewhere name.now (mem_file self.old) (mem_file self.new) }
         ensures counts { tally self.new ≡ after_write result (tally self.old) }
         ensures cause { HasCause (tally self.old).write_faults (tally self.new).write_faults result }
     {
@@ -185,12 +197,15 @@ impl Folder for MemFolder {
     }
 
     fn append(&mut self, name: &str, piece: &[u8]) -> Result<usize, Failed>
-        ensures fails { IsErr result ↔ (FailsNext (tally self.old).numbered ⊎ CannotAdd (mem_file self.old name.now) piece.now) }
-        ensures count { IfOk result (λ n. IfSome (mem_file self.old name.now) (λ f. n ≡ min (fitting f piece.now) (tally self.old).numbered.most)) }
+        ensures fails { IsErr result
+            ↔ (FailsNext (calls_of self.old) ⊎ CannotAdd (mem_file self.old name.now) piece.now) }
+        ensures count { IfOk result (λ n.
+            n ≡ min (fitting_into (mem_file self.old name.now) piece.now) (calls_of self.old).most) }
         ensures some { IfOk result (λ n. 0 < length piece.now → 0 < n) }
-        ensures added { IfOk result (λ n. mem_file self.new name.now ≡ option_map (λ f. with_front f n piece.now) (mem_file self.old name.now)) }
+        ensures added { IfOk result (λ n.
+            mem_file self.new name.now ≡ grown (mem_file self.old name.now) n piece.now) }
         ensures kept { OnErr result (mem_file self.new name.now ≡ mem_file self.old name.now) }
-        ensures others { (other : List ℕ) → other ≢ name.now → mem_file self.new other ≡ mem_file self.old other }
+        ensures others { SameElsewhere name.now (mem_file self.old) (mem_file self.new) }
         ensures counts { tally self.new ≡ after_write result (tally self.old) }
         ensures cause { HasCause (tally self.old).write_faults (tally self.new).write_faults result }
     {

@@ -1,5 +1,6 @@
 // The outside, as the prover sees it: files by name, and a place for printed text.
-ghost use Rattle.std.specs.Prelude.{◌≡◌, ◌≢◌, ◌<◌, ◌≤◌, ◌⊎◌, ℕ, List, [], Option, length, IfOk, IsErr, OnOk, OnErr};
+ghost use Rattle.std.specs.Prelude.{◌≡◌, ◌≢◌, ◌<◌, ◌≤◌, ◌⊎◌, ℕ, List, [], Option, length};
+ghost use Rattle.std.specs.Prelude.{IfOk, IsErr, OnOk, OnErr};
 ghost use Rattle.std.specs.Io.{ReadsAtMost};
 ghost use Rattle.std.specs.Io.KnownBytes.{WriteAppends};
 ghost use Rattle.fx_edge.specs.Outside.{HasCause, ReadsFrom, Empties, next_count};
@@ -40,7 +41,8 @@ pub trait Folder {
     /// Leaves the name with no bytes. After a failure its bytes are the old ones or none.
     fn fresh(&mut self, name: &str) -> Result<(), Failed>
         ensures ok { OnOk result (Empties (told self.old name.now) (told self.new name.now)) }
-        ensures err { OnErr result ((told self.new name.now ≡ told self.old name.now) ⊎ (told self.new name.now ≡ Some [])) }
+        ensures err { OnErr result
+            ((told self.new name.now ≡ told self.old name.now) ⊎ (told self.new name.now ≡ Some [])) }
         ensures others { (other : List ℕ) → other ≢ name.now → told self.new other ≡ told self.old other }
         ensures cause { HasCause (write_faults self.old) (write_faults self.new) result }
         ensures quiet { read_faults self.new ≡ read_faults self.old };

@@ -1,6 +1,5 @@
 // Sinks in memory.
-ghost use Rattle.std.specs.Prelude.{◌≡◌, ◌≤◌, ◌+◌, ◌⊎◌, ◌↔◌, [], Some, IfOk, IsErr, OnErr, OnOk, length, min, take, ◌<◌};
-ghost use Rattle.std.specs.Io.KnownBytes.{WriteAppends};
+ghost use Rattle.std.specs.Prelude.{◌≡◌, ◌≤◌, ◌<◌, ◌⊎◌, ◌↔◌, Some, IfOk, IsErr, OnErr, length, min};
 ghost use Rattle.fx_edge.specs.Outside.{HasCause, count_after};
 ghost use Rattle.fx_edge.specs.Calls.{FailsNext, next_call};
 ghost use Rattle.fx_edge.specs.Held.{fitting, IsFullFor, with_front};
@@ -123,8 +122,10 @@ impl Sink for MemSink {
     ghost faults = { λ s. s.faults };
 
     fn put(&mut self, piece: &[u8]) -> Result<usize, Failed>
-        ensures fails { IsErr result ↔ (FailsNext self.old.numbered ⊎ IsFullFor self.old.held piece.now) }
-        ensures count { IfOk result (λ n. n ≡ min (fitting self.old.held piece.now) self.old.numbered.most) }
+        ensures fails { IsErr result
+            ↔ (FailsNext self.old.numbered ⊎ IsFullFor self.old.held piece.now) }
+        ensures count { IfOk result (λ n.
+            n ≡ min (fitting self.old.held piece.now) self.old.numbered.most) }
         ensures some { IfOk result (λ n. 0 < length piece.now → 0 < n) }
         ensures added { IfOk result (λ n. self.new.held ≡ with_front self.old.held n piece.now) }
         ensures kept { OnErr result (self.new.held ≡ self.old.held) }
