@@ -1,0 +1,9 @@
+pub mod Regroup
+pub mod Parts
+pub mod Stack
+pub mod Checked
+pub mod DrivesAs
+pub mod RoleLaws
+pub mod Completions
+pub mod ShapeLaws
+pub mod Shaped

@@ -1,0 +1,39 @@
+-- The grammar of the formula: ranges, propositions, and the signs between them.
+use Rattle.std.specs.Prelude.{List, [], ◌∷◌, ◌++◌}
+use Rattle.script_words.specs.Words.{Word, sign}
+use Rattle.script_words.specs.declared.class.Spelled.TheVariants as spelled
+use Rattle.script_words.specs.declared.class.Sign.TheVariants as s
+use Rattle.script_shape.specs.Expressions.{Special, special_words, Whole, whole_words, Bound, bound_words, Expr, expr_words}
+
+pub data Range : Type 0 where
+  asked : Range
+  between : Bound → Bound → Range
+
+abbrev pub range_words : Range → List Word
+range_words asked = sign s.Ask ∷ []
+range_words (between a b) = sign s.OpenBracket ∷ (bound_words a ++ (sign s.Comma ∷ (bound_words b ++ (sign s.CloseBracket ∷ []))))
+
+pub data Prop : Type 0 where
+  lies_in : Expr → Range → Prop
+  relative_in : Expr → Expr → Range → Prop
+  at_most : Expr → Bound → Prop
+  at_least : Expr → Bound → Prop
+  multiple : Special → Expr → Whole → Prop
+
+abbrev pub prop_words : Prop → List Word
+prop_words (lies_in e r) = expr_words e ++ (sign s.In ∷ range_words r)
+prop_words (relative_in a b r) = expr_words a ++ (sign s.Against ∷ (expr_words b ++ (sign s.In ∷ range_words r)))
+prop_words (at_most e b) = expr_words e ++ (sign s.LessEqual ∷ bound_words b)
+prop_words (at_least e b) = expr_words e ++ (sign s.GreaterEqual ∷ bound_words b)
+prop_words (multiple f e k) = sign s.At ∷ (special_words spelled.Fix f ++ (sign s.OpenParen ∷ (expr_words e ++ (sign s.Comma ∷ (whole_words k ++ (sign s.CloseParen ∷ []))))))
+
+-- one or more propositions with a sign between: `/\` joins, `->` begins a new part
+pub data Formula : Type 0 where
+  single : Prop → Formula
+  and : Formula → Prop → Formula
+  implies : Formula → Prop → Formula
+
+abbrev pub formula_words : Formula → List Word
+formula_words (single p) = prop_words p
+formula_words (and f p) = formula_words f ++ (sign s.And ∷ prop_words p)
+formula_words (implies f p) = formula_words f ++ (sign s.Arrow ∷ prop_words p)

@@ -1,0 +1,5 @@
+pub mod Literals
+pub mod Signs
+pub mod Lex
+pub mod Words
+pub mod Named

@@ -1,0 +1,20 @@
+-- A text as a list of words: its tokens without blanks, comments and places.
+use Rattle.std.specs.Prelude.{ℕ, List}
+use Rattle.script_words.specs.declared.class.Sign.{Sign}
+use Rattle.script_words.specs.declared.class.Spelled.{Spelled}
+use Rattle.script_words.specs.declared.class.Number.{Number}
+use Rattle.script_words.specs.declared.class.Class.{Class}
+use Rattle.script_words.specs.declared.class.Class.TheVariants as class
+
+-- A name is `rounding` where it names a rounding operator that was defined before it.
+pub data Word : Type 0 where
+  name : Spelled → (text : List ℕ) → Word
+  rounding : Spelled → (text : List ℕ) → Word
+  literal : Number → (text : List ℕ) → Word
+  sign : Sign → Word
+
+abbrev pub class_of : Word → Class
+class_of (name k text) = class.Name k
+class_of (rounding k text) = class.Rounding k
+class_of (literal k text) = class.Literal k
+class_of (sign s) = class.Sign s

@@ -1,0 +1,320 @@
+//! Bytes to tokens.
+
+ghost use Rattle.std.specs.Prelude.{◌≡◌, ◌≤◌, ◌<◌, ◌^◌, All, length, drop, false, IfSome, IfOk};
+ghost use Rattle.script_words.specs.Literals as literals;
+ghost use Rattle.script_words.specs.Signs as signs;
+ghost use Rattle.script_words.specs.Lex as spec;
+ghost use Rattle.script_words.specs.Lex.{IsWithin, Lexes, LexesOnce};
+
+use crate::class::Sign;
+use std::alloc::{AllocError, Global};
+
+/// What a token is, to the reader of a script.
+#[derive(Clone, Copy, Debug, PartialEq, Eq)]
+pub enum TokenKind {
+    Name,
+    Literal,
+    /// A sign or a reserved word.
+    Sign(Sign),
+}
+
+/// A token. Its text is that part of the source.
+#[derive(Clone, Copy, Debug, PartialEq, Eq)]
+pub struct Token {
+    pub kind: TokenKind,
+    pub start: u32,
+    pub end: u32,
+}
+
+/// A set of bytes, to find a run of them.
+#[derive(Clone, Copy)]
+enum Run {
+    Word,
+    Digit,
+    HexDigit,
+}
+
+fn is_word(b: u8) -> bool
+    ensures { result ≡ literals.is_word b }
+{
+    b.is_ascii_alphanumeric() || b == b'_'
+}
+
+fn is_in(run: Run, b: u8) -> bool
+    ensures { result ≡ literals.is_in run b }
+{
+    match run {
+        Run::Word => is_word(b),
+        Run::Digit => b.is_ascii_digit(),
+        Run::HexDigit => b.is_ascii_hexdigit(),
+    }
+}
+
+/// How many bytes at the front are of the set.
+fn run_len(run: Run, text: &[u8]) -> usize
+    ensures len { result ≡ literals.run_len run text.now }
+    ensures within { result ≤ length text.now }
+{
+    text.iter().take_while(|b| is_in(run, **b)).count()
+}
+
+fn part_len(mark: u8, run: Run, text: &[u8]) -> usize
+    ensures len { result ≡ literals.part_len mark run text.now }
+    ensures within { result ≤ length text.now }
+{
+    let [first, rest @ ..] = text else { return 0 };
+    let digits = run_len(run, rest);
+    if *first == mark && digits > 0 {
+        1 + digits
+    } else {
+        0
+    }
+}
+
+fn signed_len(text: &[u8]) -> usize
+    ensures len { result ≡ literals.signed_len text.now }
+    ensures within { result ≤ length text.now }
+{
+    let [first, rest @ ..] = text else { return 0 };
+    if *first != b'+' && *first != b'-' {
+        return run_len(Run::Digit, text);
+    }
+    let digits = run_len(Run::Digit, rest);
+    if digits > 0 { 1 + digits } else { 0 }
+}
+
+fn exponent_len(mark: u8, text: &[u8]) -> usize
+    ensures len { result ≡ literals.exponent_len mark text.now }
+    ensures within { result ≤ length text.now }
+{
+    let [first, rest @ ..] = text else { return 0 };
+    let digits = signed_len(rest);
+    if *first == mark && digits > 0 {
+        1 + digits
+    } else {
+        0
+    }
+}
+
+#[tactic(auto, unfolding(crate::specs::Literals::scaled_len))]
+fn scaled_len(run: Run, mark: u8, text: &[u8]) -> usize
+    ensures len { result ≡ literals.scaled_len run mark text.now }
+    ensures within { result ≤ length text.now }
+{
+    let whole = run_len(run, text);
+    let point = part_len(b'.', run, &text[whole..]);
+    whole + point + exponent_len(mark, &text[whole + point..])
+}
+
+fn is_hex(text: &[u8]) -> bool
+    ensures { result ≡ literals.is_hex text.now }
+{
+    match text {
+        [b'0', b'x', rest @ ..] => run_len(Run::HexDigit, rest) > 0,
+        _ => false,
+    }
+}
+
+/// The length of the longest literal at the front, which begins with a digit.
+#[tactic(auto, unfolding(crate::specs::Literals::literal_len))]
+fn literal_len(text: &[u8]) -> usize
+    ensures len { result ≡ literals.literal_len text.now }
+    ensures within { result ≤ length text.now }
+{
+    if is_hex(text) {
+        return 2 + scaled_len(Run::HexDigit, b'p', &text[2..]);
+    }
+    let whole = run_len(Run::Digit, text);
+    let exponent = exponent_len(b'b', &text[whole..]);
+    if exponent > 0 {
+        whole + exponent
+    } else {
+        scaled_len(Run::Digit, b'e', text)
+    }
+}
+
+/// How many bytes at the front are blank or in a comment.
+fn blank_len(text: &[u8]) -> usize
+    ensures len { result ≡ spec.blank_len false text.now }
+    ensures within { result ≤ length text.now }
+{
+    let mut inside = false;
+    for (i, b) in text.iter().enumerate() {
+        if inside {
+            inside = *b != b'\n';
+        } else if *b == b'#' {
+            inside = true;
+        } else if !matches!(*b, b' ' | b'\t' | b'\n' | b'\r') {
+            return i;
+        }
+    }
+    text.len()
+}
+
+/// The sign of one byte.
+fn single_sign(b: u8) -> Option<Sign>
+    ensures { result ≡ signs.single_sign b }
+{
+    match b {
+        b'{' => Some(Sign::OpenBrace),
+        b'}' => Some(Sign::CloseBrace),
+        b'(' => Some(Sign::OpenParen),
+        b')' => Some(Sign::CloseParen),
+        b'[' => Some(Sign::OpenBracket),
+        b']' => Some(Sign::CloseBracket),
+        b',' => Some(Sign::Comma),
+        b';' => Some(Sign::Semicolon),
+        b'=' => Some(Sign::Equal),
+        b'+' => Some(Sign::Plus),
+        b'-' => Some(Sign::Minus),
+        b'*' => Some(Sign::Star),
+        b'/' => Some(Sign::Slash),
+        b'|' => Some(Sign::Bar),
+        b'<' => Some(Sign::Less),
+        b'>' => Some(Sign::Greater),
+        b'?' => Some(Sign::Ask),
+        b'$' => Some(Sign::Dollar),
+        b'~' => Some(Sign::Tilde),
+        b'@' => Some(Sign::At),
+        _ => None,
+    }
+}
+
+/// The sign of two bytes.
+fn double_sign(a: u8, b: u8) -> Option<Sign>
+    ensures { result ≡ signs.double_sign a b }
+{
+    match (a, b) {
+        (b'<', b'=') => Some(Sign::LessEqual),
+        (b'>', b'=') => Some(Sign::GreaterEqual),
+        (b'<', b'>') => Some(Sign::Unequal),
+        (b'-', b'>') => Some(Sign::Arrow),
+        (b'-', b'/') => Some(Sign::Against),
+        (b'/', b'\\') => Some(Sign::And),
+        (b'\\', b'/') => Some(Sign::Or),
+        _ => None,
+    }
+}
+
+/// The longest sign at the front, with its length.
+fn sign_at(text: &[u8]) -> Option<(Sign, usize)>
+    ensures sign { result ≡ signs.sign_at text.now }
+    ensures within { IfSome result (λ found. (0 < found.1) × (found.1 ≤ length text.now)) }
+{
+    let [first, rest @ ..] = text else {
+        return None;
+    };
+    if let [second, ..] = rest {
+        if let Some(sign) = double_sign(*first, *second) {
+            return Some((sign, 2));
+        }
+    }
+    match single_sign(*first) {
+        Some(sign) => Some((sign, 1)),
+        None => None,
+    }
+}
+
+fn reserved_word(word: &[u8]) -> Option<Sign>
+    ensures { result ≡ signs.reserved_word word.now }
+{
+    if word == b"in".as_slice() {
+        Some(Sign::In)
+    } else if word == b"not".as_slice() {
+        Some(Sign::Not)
+    } else if word == b"fixed".as_slice() {
+        Some(Sign::Fixed)
+    } else if word == b"int".as_slice() {
+        Some(Sign::Int)
+    } else if word == b"fma".as_slice() {
+        Some(Sign::Fma)
+    } else if word == b"float".as_slice() {
+        Some(Sign::Float)
+    } else if word == b"sqrt".as_slice() {
+        Some(Sign::Sqrt)
+    } else {
+        None
+    }
+}
+
+fn word_kind(word: &[u8]) -> TokenKind
+    ensures { result ≡ spec.word_kind (signs.reserved_word word.now) }
+{
+    match reserved_word(word) {
+        Some(sign) => TokenKind::Sign(sign),
+        None => TokenKind::Name,
+    }
+}
+
+/// The token at the front, with its length.
+#[tactic(auto, unfolding(crate::specs::Lex::front))]
+fn front(text: &[u8]) -> Option<(TokenKind, usize)>
+    ensures token { result ≡ spec.front text.now }
+    ensures within { IfSome result (λ found. (0 < found.1) × (found.1 ≤ length text.now)) }
+{
+    if run_len(Run::Digit, text) > 0 {
+        let len = literal_len(text);
+        return if run_len(Run::Word, &text[len..]) > 0 {
+            None
+        } else {
+            Some((TokenKind::Literal, len))
+        };
+    }
+    let word = run_len(Run::Word, text);
+    if word > 0 {
+        return Some((word_kind(&text[..word]), word));
+    }
+    match sign_at(text) {
+        Some((sign, len)) => Some((TokenKind::Sign(sign), len)),
+        None => None,
+    }
+}
+
+/// The tokens of a text, up to the first byte outside of blanks and comments that begins none.
+#[derive(Drop)]
+pub struct Lexed {
+    pub tokens: Vec<Token>,
+    pub bad: Option<u32>,
+}
+
+/// The text from a place on.
+fn rest_at(text: &[u8], at: usize) -> &[u8]
+    requires { at ≤ length text.now }
+    ensures { result.now ≡ drop at text.now }
+{
+    &text[at..]
+}
+
+/// The tokens of a text. `Err` only where memory runs out.
+pub fn lex(alloc: Global, text: &[u8]) -> Result<Lexed, AllocError>
+    requires { length text.now < 2 ^ 32 }
+    ensures tokens { IfOk result (λ lexed. Lexes 0 text.now lexed.tokens.items lexed.bad) }
+    ensures within { IfOk result (λ lexed. All (IsWithin text.now) lexed.tokens.items) }
+{
+    let mut tokens = Vec::new(alloc);
+    let mut at = 0;
+    while at < text.len() {
+        let start = at + blank_len(rest_at(text, at));
+        if start == text.len() {
+            return Ok(Lexed { tokens, bad: None });
+        }
+        let Some((kind, len)) = front(rest_at(text, start)) else {
+            return Ok(Lexed {
+                tokens,
+                bad: Some(start as u32),
+            });
+        };
+        tokens.push(Token {
+            kind,
+            start: start as u32,
+            end: (start + len) as u32,
+        })?;
+        at = start + len;
+    }
+    Ok(Lexed { tokens, bad: None })
+}
+
+/// A text has one list of tokens, and one byte at most that begins none.
+pub fn lexed_once()
+    ensures { LexesOnce }
+{}

@@ -1,0 +1,8 @@
+//! Reads the text of a script as tokens and words.
+#![tactic(auto)]
+
+pub mod class;
+pub mod lex;
+#[cfg(test)]
+mod tests;
+pub mod words;

@@ -1,0 +1,10 @@
+pub mod Options
+pub mod Digits
+pub mod Repeats
+pub mod Respelled
+pub mod Readings
+pub mod Lists
+pub mod Grouped
+pub mod Trees
+pub mod Names
+pub mod Laws
