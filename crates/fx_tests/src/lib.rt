@@ -1,0 +1,7 @@
+//! Runs of the program over folders and sinks in memory.
+#![tactic(auto)]
+
+#[cfg(test)]
+mod rows;
+#[cfg(test)]
+mod runs;

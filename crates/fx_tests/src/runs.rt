@@ -1,0 +1,71 @@
+// One run over memory forms, and what it has to answer.
+use fx_edge::{MemFolder, MemSink, SureFolder, SureSink};
+use fx_top::{Status, fx_run};
+use std::alloc::{AllocError, Global};
+use std::process::Abort;
+use std::test::Fail;
+
+/// A run of `prove a`, where the file `a` has this text.
+#[derive(Clone, Copy)]
+pub struct Run<'a> {
+    pub text: &'a [u8],
+    /// The numbers of the folder's calls that fail.
+    pub failing_reads: &'a [u64],
+    /// The numbers of the sink's calls that fail.
+    pub failing_puts: &'a [u64],
+    /// The most bytes that a call moves.
+    pub most: usize,
+}
+
+fn words_of(alloc: Global, words: &[&str]) -> Result<Vec<String>, AllocError> {
+    let mut all = Vec::new(alloc);
+    for word in words {
+        all.push(String::from_str(alloc, *word)?)?;
+    }
+    Ok(all)
+}
+
+fn files_with(alloc: Global, text: &[u8]) -> Result<Vec<(String, Vec<u8>)>, AllocError> {
+    let mut files = Vec::new(alloc);
+    files.push((String::from_str(alloc, "a")?, text.to_vec(alloc)?))?;
+    Ok(files)
+}
+
+/// The run ends with this status and line.
+pub fn ends(
+    rt: &impl Abort,
+    alloc: Global,
+    run: &Run<'_>,
+    status: Status,
+    printed: &str,
+) -> Result<(), Fail> {
+    assert!(rt; run.most >= 1);
+    let files = files_with(alloc, run.text)?;
+    let failing = run.failing_reads.to_vec(alloc)?;
+    let mut folder = MemFolder::new(alloc, files, failing, 4096, run.most)?;
+    let failing = run.failing_puts.to_vec(alloc)?;
+    let mut out = MemSink::new(alloc, failing, 4096, run.most)?;
+    let words = words_of(alloc, &["prove", "a"])?;
+    let ended = fx_run(alloc, &words, &mut folder, &mut out);
+    assert_eq!(rt; ended, status, "{}", printed);
+    assert_eq!(rt; out.bytes(), printed.as_bytes(), "{}", printed);
+    Ok(())
+}
+
+/// The words over a sure folder with the file `a` and a sure sink end with this status and line.
+pub fn words_end(
+    rt: &impl Abort,
+    alloc: Global,
+    words: &[&str],
+    text: &[u8],
+    status: Status,
+    printed: &str,
+) -> Result<(), Fail> {
+    let mut folder = SureFolder::new(alloc, files_with(alloc, text)?, 4096)?;
+    let mut out = SureSink::new(alloc, 4096)?;
+    let words = words_of(alloc, words)?;
+    let ended = fx_run(alloc, &words, &mut folder, &mut out);
+    assert_eq!(rt; ended, status, "{}", printed);
+    assert_eq!(rt; out.bytes(), printed.as_bytes(), "{}", printed);
+    Ok(())
+}

@@ -1,0 +1,10 @@
+//! The top call of the prover: reads a script, encloses its goal and prints the answer.
+#![tactic(auto)]
+
+mod answer;
+mod enclosure;
+mod outside;
+mod run;
+mod words;
+
+pub use run::{Status, fx_run};
