@@ -1,13 +1,13 @@
 -- Odd mantissas, and which of them are on the grid.
-use Rattle.std.proofs.Common.{◌≡◌, ◌⊎◌, ◌↔◌, ℕ, zero, suc, ℤ, pos, negsuc, ◌+ℤ◌, ◌-ℤ◌, ◌*ℤ◌, ◌≤ℤ◌, ◌<ℤ◌, ◌<◌, ◌≤◌, ◌*◌, ◌+◌, ◌-◌, ◌/◌, ◌%◌, ◌^◌, arith, ap, sym, subst, ◌∙◌, refl, Bool, true, false, inl, inr, ⊎_elim, lit≤, lit<}
+use Rattle.std.proofs.Common.{◌≡◌, ◌⊎◌, ℕ, zero, suc, ℤ, pos, negsuc, ◌+ℤ◌, ◌*ℤ◌, ◌≤ℤ◌, ◌<ℤ◌, ◌<◌, ◌≤◌, ◌*◌, ◌+◌, ◌-◌, ◌/◌, ◌%◌, ◌^◌, arith, ap, sym, subst, ◌∙◌, refl, Bool, true, false, inl, inr, ⊎_elim, lit≤}
 use Rattle.std.specs.Int.RustNames.{unsigned_abs, int_lt}
 use Rattle.std.specs.Int.{bit_at}
 use Rattle.std.proofs.lemmas.Int.{ints, by_lt_z, unsigned_abs-mul}
-use Rattle.std.proofs.lemmas.Nat.{pow-add, pow_pos, pow_below, mod-pow-add, shr_split, mod_below}
+use Rattle.std.proofs.lemmas.Nat.{pow-add, pow_pos, mod-pow-add, shr_split, mod_below}
 use Rattle.std.proofs.lemmas.Bool.{cases_lt}
 use Rattle.std.proofs.Math.Nat.{mul-le-mul_left, mul-le-mul_right, pow-le-pow_right}
 use borrow.Author.Differences.{up, down}
-use Rattle.fx_model.specs.Fraction.{Fraction, ◌≤ℚ◌, le_refl}
+use Rattle.fx_model.specs.Fraction.{Fraction, zero_ℚ, ◌≤ℚ◌, le_refl}
 use Rattle.fx_model.specs.Powers.{scaled, scaled-shift, scaled-le_out, scaled-zero}
 use Rattle.fx_model.specs.Grid.{IsOnGrid, IsOnGrid-neg, Binary, value_of, signed, signed-size, signed-signed}
 use Rattle.fx_model.specs.Cut.{on_grid}
@@ -157,3 +157,10 @@ abs_grid m e size e' p q g = subst IsOnGrid (signed-size m e (int_lt m (pos 0)) 
 -- x is m * 2^e where y is |m| * 2^e, and x is y, or -y where m is negative
 pub by_size : (m e : ℤ) (size : ℕ) (m' e' : ℤ) (s : Bool) (x : Fraction) → size ≡ unsigned_abs m → m' ≡ m → e' ≡ e → s ≡ int_lt m' (pos 0) → signed s x ≡ scaled (pos size) e' → x ≡ scaled m e
 by_size m e size m' e' s x p n q r h = sym (signed-signed s x) ∙ ap (signed s) (h ∙ same_scaled (pos (unsigned_abs m)) e (pos size) e' (ap pos p) q ∙ sym (signed-size m e s (r ∙ ap (λ m. int_lt m (pos 0)) n))) ∙ signed-signed s (scaled m e)
+
+-- ---- zero is the number with the mantissa 0
+pub zero_in : (m e : ℤ) → m ≡ pos 0 → scaled m e ≡ zero_ℚ
+zero_in m e h = ap (λ m. scaled m e) h ∙ scaled-zero e
+
+pub zero_out : (m e : ℤ) → scaled m e ≡ zero_ℚ → m ≡ pos 0
+zero_out m e h = scaled-same m (pos 0) e (h ∙ sym (scaled-zero e))

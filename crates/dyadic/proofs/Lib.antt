@@ -1,6 +1,10 @@
 pub mod CutLemmas
 pub mod GridLemmas
+pub mod MiddleLemmas
 pub mod NumberLemmas
 pub mod OrderLemmas
 pub mod ProductLemmas
+pub mod QuotientLemmas
+pub mod RisingLemmas
+pub mod ShiftLemmas
 pub mod SumLemmas

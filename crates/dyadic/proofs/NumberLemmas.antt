@@ -1,14 +1,11 @@
 -- Numbers in canonical form.
-use Rattle.std.proofs.Common.{◌≡◌, ◌⊎◌, ℕ, ℤ, pos, negsuc, ◌+ℤ◌, ◌-ℤ◌, ◌*ℤ◌, ◌≤ℤ◌, ◌<ℤ◌, ◌<◌, ◌≤◌, ◌*◌, ◌+◌, ◌-◌, ◌/◌, ◌%◌, ◌^◌, arith, ap, sym, subst, ◌∙◌, refl, Bool, true, false, inl, inr, ⊎_elim, lit≤}
+use Rattle.std.proofs.Common.{◌≡◌, ℕ, ℤ, pos, negsuc, ◌+ℤ◌, ◌≤ℤ◌, ◌<◌, ◌*◌, ◌+◌, ◌%◌, ◌^◌, arith, ap, sym, subst, ◌∙◌, refl, Bool, true, false, inl, inr, ⊎_elim}
 use Rattle.std.specs.Int.RustNames.{unsigned_abs}
 use Rattle.std.proofs.lemmas.Int.{ints}
-use Rattle.std.proofs.lemmas.Nat.{pow-add, pow_pos, pow_below}
-use Rattle.std.proofs.lemmas.Bool.{cases_lt}
-use Rattle.std.proofs.Math.Nat.{mul-le-mul_left, mul-le-mul_right, one-mul}
 use lib.IntN.{neg_ℤ}
 use Rattle.fx_model.specs.Fraction.{Fraction, neg_ℚ, neg-neg}
 use Rattle.fx_model.specs.Powers.{scaled, scaled-shift, scaled-zero}
-use Rattle.fx_model.specs.Grid.{IsOnGrid, IsOnGrid-neg, scaled-neg, Bound, Below, At, Above, IsDown, IsUp, IsDown-neg, IsUp-neg, signed}
+use Rattle.fx_model.specs.Grid.{IsOnGrid, IsOnGrid-neg, scaled-neg, Below, At, Above, IsDown, IsUp, IsDown-neg, IsUp-neg, signed}
 use Rattle.fx_model.specs.Cut.{Cuts, Full, on_grid, down_is, up_is, up_is_exact}
 use Rattle.dyadic.specs.Canonical.{IsCanonical}
 

@@ -1,13 +1,12 @@
 -- How numbers compare, by their mantissas at one place.
-use Rattle.std.proofs.Common.{◌≡◌, ◌⊎◌, ℕ, ℤ, pos, negsuc, ◌+ℤ◌, ◌*ℤ◌, ◌≤ℤ◌, ◌<ℤ◌, ◌<◌, ◌≤◌, ◌*◌, ◌+◌, ◌^◌, min, Bool, true, false, cond, arith, ap, sym, subst, ◌∙◌, refl, ⊎_elim, inl, inr, lit≤, lit<}
-use mir.Syntax.{w128}
-use Rattle.std.specs.Int.RustNames.{unsigned_abs, int_lt, FitsSigned}
-use Rattle.std.proofs.lemmas.Int.{ints, by_lt_z, fits_signed_mul}
+use Rattle.std.proofs.Common.{◌≡◌, ◌⊎◌, ℕ, ℤ, pos, negsuc, ◌+ℤ◌, ◌*ℤ◌, ◌<ℤ◌, ◌<◌, ◌≤◌, ◌*◌, ◌+◌, ◌^◌, min, Bool, true, false, cond, arith, ap, sym, ◌∙◌, refl, ⊎_elim, inl, inr, lit≤}
+use Rattle.std.specs.Int.RustNames.{unsigned_abs, int_lt}
+use Rattle.std.proofs.lemmas.Int.{ints, by_lt_z}
 use Rattle.std.proofs.lemmas.Bool.{cases_lt}
 use Rattle.std.proofs.Math.Nat.{pow-le-pow_right, mul-le-mul_right}
 use Rattle.std.specs.declared.cmp.Ordering.{Ordering}
 use Rattle.std.specs.declared.cmp.Ordering.TheVariants.{Less, Equal, Greater}
-use Rattle.std.specs.Ordering.{int_cmp, is_eq, is_lt, is_le, ordering_reverse, eq_by_cmp, ord_min, ord_max}
+use Rattle.std.specs.Ordering.{int_cmp, is_eq, is_lt, is_le, ordering_reverse, eq_by_cmp}
 use Rattle.std.specs.Bool.{Decides, one_answer}
 use Rattle.std.specs.Cmp.{tied_itself}
 use borrow.Author.Differences.{product_is}
@@ -19,7 +18,8 @@ use Rattle.dyadic.proofs.GridLemmas.{same_scaled, canonical_same}
 use Rattle.fx_model.specs.Enclosure.{BoundLe}
 use Rattle.dyadic.specs.declared.number.End.{End}
 use Rattle.dyadic.specs.Ends.{bound_of}
-use Rattle.dyadic.specs.Order.{cmp_by, value_cmp, value_cmp-equal, end_cmp, end_cmp_total, end_cmp-le}
+use Rattle.dyadic.specs.Compared.{value_cmp-equal, end_cmp-le}
+use Rattle.dyadic.specs.Order.{cmp_by, value_cmp, end_cmp, end_cmp_total}
 
 pub int_less : (m n : ℤ) → m <ℤ n → int_cmp m n ≡ Less
 int_less m n h = let e : int_lt m n ≡ true = grind (arith, ints) in rw e
@@ -102,14 +102,9 @@ module _ (a b : Binary) (m e n f : ℤ) (u : record { mantissa = m; exponent = e
 pub compared : (a b : Binary) (h l : ℤ) (gap : ℕ) (r : Ordering) → h ≡ a.mantissa → l ≡ b.mantissa → a.exponent ≡ b.exponent +ℤ pos gap → r ≡ int_cmp (h *ℤ pos (2 ^ gap)) l → r ≡ value_cmp a b
 compared a b h l gap r p q e f = f ∙ ap (λ h. int_cmp (h *ℤ pos (2 ^ gap)) l) p ∙ ap (int_cmp (a.mantissa *ℤ pos (2 ^ gap))) q ∙ sym (value_cmp_at a b gap e)
 
-pub product_fits : (h h' p : ℤ) (k : ℕ) → h' ≡ h → unsigned_abs h < 1152921504606846976 → p ≡ pos (2 ^ k) → k ≤ 60 → FitsSigned w128 (h' *ℤ p)
-product_fits h h' p k e f g l =
-    let q : 2 ^ k ≤ 2 ^ 60 = pow-le-pow_right {n = 2} (lit≤ tt) {i = k} {j = 60} l in
-    fits_signed_mul w128 h' p (2 ^ 60) (2 ^ 60) (omega (arith, ints)) (omega (arith, ints)) (lit< tt)
-
-pub compared_far : (h h' p x l l' : ℤ) (gap k : ℕ) (r : Ordering) → h' ≡ h → p ≡ pos (2 ^ k) → k ≡ min gap 60 → x ≡ (h' *ℤ p) → l' ≡ l → unsigned_abs l < 1152921504606846976 → r ≡ int_cmp x l' → r ≡ int_cmp (h *ℤ pos (2 ^ gap)) l
-compared_far h h' p x l l' gap k r a b d e f small g =
-    g ∙ ap (λ x. int_cmp x l') (e ∙ (λ i. a i *ℤ (b ∙ ap (λ k. pos (2 ^ k)) d) i)) ∙ ap (int_cmp (h *ℤ pos (2 ^ min gap 60))) f ∙ compare_far h l gap small
+pub compared_far : (h h' x l l' : ℤ) (gap k : ℕ) (r : Ordering) → x ≡ (h' *ℤ pos (2 ^ k)) → h' ≡ h → k ≡ min gap 60 → l' ≡ l → unsigned_abs l < 1152921504606846976 → r ≡ int_cmp x l' → r ≡ int_cmp (h *ℤ pos (2 ^ gap)) l
+compared_far h h' x l l' gap k r e a d f small g =
+    g ∙ ap (λ x. int_cmp x l') (e ∙ (λ i. a i *ℤ pos (2 ^ d i))) ∙ ap (int_cmp (h *ℤ pos (2 ^ min gap 60))) f ∙ compare_far h l gap small
 
 -- ---- the lesser and the greater of two ends
 lt_le_test : (r : Ordering) → is_lt r ≡ true → is_le r ≡ true

@@ -1,10 +1,9 @@
 -- Sizes and signs of products and quotients.
-use Rattle.std.proofs.Common.{◌≡◌, ℕ, ℤ, pos, ◌+ℤ◌, ◌*ℤ◌, ◌*◌, Bool, true, false, not, arith, ap, sym, subst, ◌∙◌, refl}
+use Rattle.std.proofs.Common.{◌≡◌, ℕ, ℤ, pos, ◌+ℤ◌, ◌*◌, Bool, true, false, not, ap, sym, subst, ◌∙◌, refl}
 use Rattle.std.specs.Int.RustNames.{int_lt, unsigned_abs}
-use Rattle.std.proofs.lemmas.Int.{ints}
 use mathlib.Core.Bool.{beq, xor}
-use Rattle.fx_model.specs.Fraction.{Fraction, ◌*ℚ◌, one_ℚ, one-mul}
-use Rattle.fx_model.specs.Powers.{whole, scaled, one-whole}
+use Rattle.fx_model.specs.Fraction.{Fraction, ◌*ℚ◌}
+use Rattle.fx_model.specs.Powers.{whole, scaled}
 use Rattle.fx_model.specs.Grid.{Binary, value_of, signed, signed-mul, signed-size, scaled-mul}
 use Rattle.fx_model.specs.Cut.{Cuts}
 
@@ -16,9 +15,8 @@ product_size a b s t digits two p q f g = signed-mul s t (value_of a) (value_of 
     ∙ scaled-mul (pos (unsigned_abs a.mantissa)) a.exponent (pos (unsigned_abs b.mantissa)) b.exponent
     ∙ ap (λ n. scaled (pos n) (a.exponent +ℤ b.exponent)) (sym f) ∙ ap (scaled (pos digits)) (sym g)
 
--- an exact value as the quotient by 1
-pub whole_cut : (y : Fraction) (digits : ℕ) (two : ℤ) (i : Bool) → i ≡ false → y ≡ scaled (pos digits) two → Cuts (whole (pos 1) *ℚ y) digits two i
-whole_cut y digits two i e p = subst (λ i. Cuts (whole (pos 1) *ℚ y) digits two i) (sym e) (ap (λ x. x *ℚ y) (sym one-whole) ∙ one-mul y ∙ p)
+pub exact_cut : (y : Fraction) (digits : ℕ) (two : ℤ) (i : Bool) → i ≡ false → y ≡ scaled (pos digits) two → Cuts y digits two i
+exact_cut y digits two i e p = subst (λ i. Cuts y digits two i) (sym e) p
 
 pub mul-signed : (n : Bool) (x y : Fraction) → x *ℚ signed n y ≡ signed n (x *ℚ y)
 unfolding xor
@@ -29,6 +27,3 @@ mul-signed false x y = refl
 pub ratio_cut : (n : ℤ) (s : Bool) (d : ℕ) (two : ℤ) (x : Fraction) (q : ℕ) (e : ℤ) (i : Bool) → s ≡ int_lt n (pos 0) → whole (pos d) *ℚ x ≡ scaled n two → q ≡ unsigned_abs n → e ≡ two → i ≡ false → Cuts (whole (pos d) *ℚ signed s x) q e i
 ratio_cut n s d two x q e i h p f g j = subst (λ i. Cuts (whole (pos d) *ℚ signed s x) q e i) (sym j)
     (mul-signed s (whole (pos d)) x ∙ ap (signed s) p ∙ signed-size n two s h ∙ ap (λ n. scaled (pos n) two) (sym f) ∙ ap (scaled (pos q)) (sym g))
-
-pub cut_whole : (y : Fraction) (digits : ℕ) (two : ℤ) (i : Bool) → Cuts y digits two i → Cuts (whole (pos 1) *ℚ y) digits two i
-cut_whole y digits two i c = subst (λ y. Cuts y digits two i) (sym (ap (λ x. x *ℚ y) (sym one-whole) ∙ one-mul y)) c

@@ -1,6 +1,6 @@
 -- Sums whose parts lie far apart.
-use Rattle.std.proofs.Common.{◌≡◌, ℕ, ℤ, pos, ◌+ℤ◌, ◌*◌, ◌+◌, ◌-◌, ◌^◌, ◌<◌, ◌≤◌, Bool, true, false, nat_lt, ◌||◌, arith, ap, sym, subst, ◌∙◌, refl}
-use Rattle.std.proofs.Common.{negsuc, ◌≤ℤ◌, ◌<ℤ◌, not}
+use Rattle.std.proofs.Common.{◌≡◌, ℕ, ℤ, pos, ◌+ℤ◌, ◌*ℤ◌, ◌*◌, ◌+◌, ◌-◌, ◌^◌, ◌<◌, ◌≤◌, Bool, true, false, nat_lt, arith, ap, sym, subst, ◌∙◌, refl}
+use Rattle.std.proofs.Common.{not}
 use Rattle.std.specs.Int.RustNames.{int_lt, unsigned_abs}
 use Rattle.std.proofs.lemmas.Int.{ints}
 use mathlib.Core.Bool.{beq}
@@ -42,7 +42,7 @@ pub signed-add : (n : Bool) (x y : Fraction) → signed n (x +ℚ y) ≡ signed 
 signed-add true x y = neg-add x y
 signed-add false x y = refl
 
-scaled-add : (m n e : ℤ) → scaled m e +ℚ scaled n e ≡ scaled (m +ℤ n) e
+pub scaled-add : (m n e : ℤ) → scaled m e +ℚ scaled n e ≡ scaled (m +ℤ n) e
 scaled-add m n e = sym (ap (λ y. y *ℚ two_to e) (whole-add m n) ∙ mul_comm (whole m +ℚ whole n) (two_to e) ∙ mul-add (two_to e) (whole m) (whole n)
     ∙ ap (λ y. y +ℚ (two_to e *ℚ whole n)) (mul_comm (two_to e) (whole m)) ∙ ap (λ y. scaled m e +ℚ y) (mul_comm (two_to e) (whole n)))
 
@@ -137,3 +137,8 @@ module _ (am ae bm be : ℤ) (s t : Bool) (gap : ℕ) (p : s ≡ int_lt am (pos 
 
 pub terms_are : (a b : Binary) (am ae bm be : ℤ) → am ≡ a.mantissa → ae ≡ a.exponent → bm ≡ b.mantissa → be ≡ b.exponent → scaled am ae +ℚ scaled bm be ≡ value_of a +ℚ value_of b
 terms_are a b am ae bm be p q r s = cc
+
+-- at one place the mantissas add up
+pub near_sum_is : (am am' ae bm be s m e : ℤ) (k : ℕ) → ae ≡ be +ℤ pos k → s ≡ (am' *ℤ pos (2 ^ k)) → am' ≡ am → m ≡ s +ℤ bm → e ≡ be → scaled m e ≡ scaled am ae +ℚ scaled bm be
+near_sum_is am am' ae bm be s m e k p v w q r = (λ i. scaled (q i) (r i)) ∙ sym (scaled-add s bm be)
+    ∙ ap (λ y. y +ℚ scaled bm be) (ap (λ s. scaled s be) (v ∙ ap (λ m. m *ℤ pos (2 ^ k)) w) ∙ sym (ap (scaled am) p ∙ scaled-shift am be k))

@@ -1,5 +1,5 @@
 -- What is kept of every `Dyadic`.
-use Rattle.std.specs.Prelude.{◌≡◌, ◌⊎◌, ℕ, ℤ, pos, negsuc, ◌≤ℤ◌, ◌<◌, ◌%◌}
+use Rattle.std.specs.Prelude.{◌≡◌, ◌⊎◌, ℤ, pos, negsuc, ◌≤ℤ◌, ◌<◌, ◌%◌}
 use Rattle.std.specs.Int.RustNames.{unsigned_abs}
 use Rattle.fx_model.specs.Grid.{IsOnGrid}
 use Rattle.fx_model.specs.Powers.{scaled}

@@ -1,13 +1,12 @@
 -- The order of numbers and of ends, by what they stand for.
-use Rattle.std.specs.Prelude.{◌≡◌, ◌⊎◌, Bool, true, false, cond, refl}
-use Rattle.std.proofs.Common.{sym, ap, ◌∙◌, subst}
+use Rattle.std.specs.Prelude.{◌≡◌, Bool, true, false, cond, refl}
+use Rattle.std.proofs.Common.{sym, ◌∙◌}
 use Rattle.std.specs.declared.cmp.Ordering.{Ordering}
 use Rattle.std.specs.declared.cmp.Ordering.TheVariants.{Less, Equal, Greater}
-use Rattle.std.specs.Ordering.{ordering_reverse, eq_by_cmp, is_le}
+use Rattle.std.specs.Ordering.{ordering_reverse}
 use Rattle.std.specs.Cmp.{IsTotalOrder, both_ways, on_total}
-use Rattle.fx_model.specs.Fraction.{Fraction, le_ℚ, ◌≤ℚ◌, ◌<ℚ◌, le_total, le_trans, le_antisymm}
+use Rattle.fx_model.specs.Fraction.{Fraction, le_ℚ, le_total, le_trans}
 use Rattle.fx_model.specs.Grid.{Binary, value_of, Bound, Below, At, Above}
-use Rattle.fx_model.specs.Enclosure.{BoundLe}
 use Rattle.dyadic.specs.declared.number.End.{End}
 use Rattle.dyadic.specs.Ends.{bound_of}
 
@@ -40,12 +39,12 @@ turned true false f = refl
 turned false true f = refl
 turned false false f = let e = f refl in cc
 
-less_out : (s t : Bool) → cond s (cond t Equal Less) Greater ≡ Less → (s ≡ true) × (t ≡ false)
+pub less_out : (s t : Bool) → cond s (cond t Equal Less) Greater ≡ Less → (s ≡ true) × (t ≡ false)
 less_out true true e = cc
 less_out true false e = (refl, refl)
 less_out false t e = cc
 
-equal_out : (s t : Bool) → cond s (cond t Equal Less) Greater ≡ Equal → (s ≡ true) × (t ≡ true)
+pub equal_out : (s t : Bool) → cond s (cond t Equal Less) Greater ≡ Equal → (s ≡ true) × (t ≡ true)
 equal_out true true e = (refl, refl)
 equal_out true false e = cc
 equal_out false t e = cc
@@ -108,46 +107,3 @@ bound_trans Above Above d p q = q
 
 pub end_cmp_total : IsTotalOrder end_cmp
 end_cmp_total = on_total bound_of (cmp_by_total le_bound bound_total bound_trans)
-
-pub BoundLe_in : (b c : Bound) → le_bound b c ≡ true → BoundLe b c
-BoundLe_in Below c e = tt
-BoundLe_in (At g) Below e = cc
-BoundLe_in (At g) (At h) e = record { le = e }
-BoundLe_in (At g) Above e = tt
-BoundLe_in Above Below e = cc
-BoundLe_in Above (At h) e = cc
-BoundLe_in Above Above e = tt
-
-pub BoundLe_out : (b c : Bound) → BoundLe b c → le_bound b c ≡ true
-BoundLe_out Below c l = refl
-BoundLe_out (At g) Below l = absurd l
-BoundLe_out (At g) (At h) l = l.le
-BoundLe_out (At g) Above l = refl
-BoundLe_out Above Below l = absurd l
-BoundLe_out Above (At h) l = absurd l
-BoundLe_out Above Above l = refl
-
--- ---- from `a <= b`, `a.cmp(&b)` and `a == b` to the values, and back
-le_test : (s t : Bool) → is_le (cond s (cond t Equal Less) Greater) ≡ s
-le_test true true = refl
-le_test true false = refl
-le_test false t = refl
-
-pub value_cmp-le : (a b : Binary) → is_le (value_cmp a b) ≡ true → value_of a ≤ℚ value_of b
-value_cmp-le a b e = record { le = sym (le_test (le_ℚ (value_of a) (value_of b)) (le_ℚ (value_of b) (value_of a))) ∙ e }
-
-pub le-value_cmp : (a b : Binary) → value_of a ≤ℚ value_of b → is_le (value_cmp a b) ≡ true
-le-value_cmp a b l = le_test (le_ℚ (value_of a) (value_of b)) (le_ℚ (value_of b) (value_of a)) ∙ l.le
-
-pub value_cmp-less : (a b : Binary) → value_cmp a b ≡ Less → value_of a <ℚ value_of b
-value_cmp-less a b e = record { lt = (less_out (le_ℚ (value_of a) (value_of b)) (le_ℚ (value_of b) (value_of a)) e).1 }
-
-pub value_cmp-equal : (a b : Binary) → value_cmp a b ≡ Equal → value_of a ≡ value_of b
-value_cmp-equal a b e = let p = equal_out (le_ℚ (value_of a) (value_of b)) (le_ℚ (value_of b) (value_of a)) e in
-    le_antisymm (value_of a) (value_of b) (record { le = p.0 }) (record { le = p.1 })
-
-pub end_cmp-le : (a b : End) → is_le (end_cmp a b) ≡ true → BoundLe (bound_of a) (bound_of b)
-end_cmp-le a b e = BoundLe_in (bound_of a) (bound_of b) (sym (le_test (le_bound (bound_of a) (bound_of b)) (le_bound (bound_of b) (bound_of a))) ∙ e)
-
-pub le-end_cmp : (a b : End) → BoundLe (bound_of a) (bound_of b) → is_le (end_cmp a b) ≡ true
-le-end_cmp a b l = le_test (le_bound (bound_of a) (bound_of b)) (le_bound (bound_of b) (bound_of a)) ∙ BoundLe_out (bound_of a) (bound_of b) l

@@ -3,16 +3,22 @@
 
 mod cut;
 mod law;
+mod middle;
 mod number;
 mod order;
+mod points;
 mod products;
+mod rounding;
+mod shift;
 mod sums;
 #[cfg(test)]
 mod tests;
 mod text;
 
 pub use law::{canonical_form_is_unique, has_canonical_form};
+pub use middle::{halve_between, part_down};
 pub use number::{Dyadic, End, same_number};
 pub use order::{greater, lesser};
-pub use products::{mul_down, mul_up, ratio_down, ratio_up};
+pub use points::Points;
+pub use products::{div_down, div_up, mul_down, mul_up, ratio_down, ratio_up};
 pub use sums::{add_down, add_up};

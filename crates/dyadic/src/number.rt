@@ -1,13 +1,9 @@
 ghost use Rattle.std.specs.Prelude.{◌≡◌, ◌⊎◌, ◌↔◌, ◌≤◌, ◌<◌, ◌*◌, ◌%◌, ◌^◌, ◌≤ℤ◌, ◌+ℤ◌, pos, negsuc, IsTrue, MatchOption};
 ghost use Rattle.std.specs.Int.RustNames.{unsigned_abs, int_lt};
-ghost use Rattle.fx_model.specs.Fraction.{Fraction, neg_ℚ};
+ghost use Rattle.fx_model.specs.Fraction.{neg_ℚ, zero_ℚ};
 ghost use Rattle.fx_model.specs.Powers.{scaled};
-ghost use Rattle.fx_model.specs.Grid.{IsOnGrid, value_of, IsDown, IsUp, signed};
-ghost use Rattle.fx_model.specs.Grid as grid;
-ghost use Rattle.fx_model.specs.Cut.{Cuts};
-ghost use Rattle.dyadic.specs.Ends.{bound_of, upper};
+ghost use Rattle.fx_model.specs.Grid.{IsOnGrid, value_of};
 
-use crate::cut::Cut;
 use std::marker::Model;
 
 /// A number of the grid, mantissa * 2^exponent, with an odd mantissa or 0 * 2^0.
@@ -139,6 +135,13 @@ impl Dyadic {
         self.mantissa == other.mantissa && self.exponent == other.exponent
     }
 
+    /// Whether the number is 0.
+    pub fn is_zero(self) -> bool
+        ensures { IsTrue result ↔ (value_of self ≡ zero_ℚ) }
+    {
+        self.mantissa == 0
+    }
+
     /// The number with the other sign.
     pub fn neg(self) -> Dyadic
         ensures { value_of result ≡ neg_ℚ (value_of self) }
@@ -154,68 +157,38 @@ impl Dyadic {
         ensures { MatchOption result (¬ (IsOnGrid (scaled (pos size) e))) (λ d. value_of d ≡ scaled (pos size) e) }
     {
         if size == 0 {
-            return Some(Dyadic::canonical(0, e));
+            return Some(canonical(0, e));
         }
         if odd_part(size).is_on_grid(e) {
-            Some(Dyadic::canonical(size, e))
+            Some(canonical(size, e))
         } else {
             None
         }
     }
+}
 
-    // The number digits * 2^two in its canonical form.
-    fn canonical(digits: u64, two: i32) -> Dyadic
-        requires { IsOnGrid (scaled (pos digits) two) }
-        ensures { value_of result ≡ scaled (pos digits) two }
-    {
-        if digits == 0 {
-            return Dyadic {
-                mantissa: 0,
-                exponent: 0,
-            };
-        }
-        let part = odd_part(digits);
-        Dyadic {
-            mantissa: part.odd as i64,
-            exponent: two + part.shift as i32,
-        }
+// The number 0.
+pub fn zero() -> Dyadic
+    ensures { result ≡ record { mantissa = pos 0; exponent = pos 0 } }
+{
+    Dyadic {
+        mantissa: 0,
+        exponent: 0,
     }
+}
 
-    // The greatest grid number that is at most the value of a cut.
-    fn toward_zero(cut: Cut) -> Dyadic
-        requires long { (576460752303423488 ≤ cut.digits) ⊎ (cut.two ≤ℤ negsuc 511) }
-        requires low { negsuc 2999 ≤ℤ cut.two }
-        requires high { cut.two ≤ℤ pos 3000 }
-        ensures { (x : Fraction) → Cuts x cut.digits cut.two cut.inexact → IsDown x (grid.At (value_of result)) }
-    {
-        let cut = cut.narrowed();
-        if cut.two > 512 {
-            Dyadic::canonical(1152921504606846975, 512)
-        } else {
-            Dyadic::canonical(cut.digits as u64, cut.two)
-        }
+// The number digits * 2^two in its canonical form.
+pub fn canonical(digits: u64, two: i32) -> Dyadic
+    requires { IsOnGrid (scaled (pos digits) two) }
+    ensures { value_of result ≡ scaled (pos digits) two }
+{
+    if digits == 0 {
+        return zero();
     }
-
-    // The least grid number that is at least the value of a cut.
-    fn from_zero(cut: Cut) -> Option<Dyadic>
-        requires long { (576460752303423488 ≤ cut.digits) ⊎ (cut.two ≤ℤ negsuc 511) }
-        requires low { negsuc 2999 ≤ℤ cut.two }
-        requires high { cut.two ≤ℤ pos 3000 }
-        ensures { (x : Fraction) → Cuts x cut.digits cut.two cut.inexact → IsUp x (upper result) }
-    {
-        let cut = cut.narrowed();
-        if cut.two > 512 {
-            return None;
-        }
-        let digits = cut.digits as u64;
-        if cut.inexact {
-            if digits == 1152921504606846975 && cut.two == 512 {
-                return None;
-            }
-            Some(Dyadic::canonical(digits + 1, cut.two))
-        } else {
-            Some(Dyadic::canonical(digits, cut.two))
-        }
+    let part = odd_part(digits);
+    Dyadic {
+        mantissa: part.odd as i64,
+        exponent: two + part.shift as i32,
     }
 }
 
@@ -226,38 +199,4 @@ pub fn same_number(a: Dyadic, b: Dyadic)
 {
     let _ = &a.mantissa;
     let _ = &b.mantissa;
-}
-
-// The rounding down of a cut value with a sign.
-pub fn round_down(negative: bool, cut: Cut) -> End
-    requires long { (576460752303423488 ≤ cut.digits) ⊎ (cut.two ≤ℤ negsuc 511) }
-    requires low { negsuc 2999 ≤ℤ cut.two }
-    requires high { cut.two ≤ℤ pos 3000 }
-    ensures { (x : Fraction) → Cuts (signed negative x) cut.digits cut.two cut.inexact → IsDown x (bound_of result) }
-{
-    if negative {
-        match Dyadic::from_zero(cut) {
-            Some(size) => End::At(size.neg()),
-            None => End::Low,
-        }
-    } else {
-        End::At(Dyadic::toward_zero(cut))
-    }
-}
-
-// The rounding up of a cut value with a sign.
-pub fn round_up(negative: bool, cut: Cut) -> End
-    requires long { (576460752303423488 ≤ cut.digits) ⊎ (cut.two ≤ℤ negsuc 511) }
-    requires low { negsuc 2999 ≤ℤ cut.two }
-    requires high { cut.two ≤ℤ pos 3000 }
-    ensures { (x : Fraction) → Cuts (signed negative x) cut.digits cut.two cut.inexact → IsUp x (bound_of result) }
-{
-    if negative {
-        End::At(Dyadic::toward_zero(cut).neg())
-    } else {
-        match Dyadic::from_zero(cut) {
-            Some(size) => End::At(size),
-            None => End::High,
-        }
-    }
 }

@@ -5,13 +5,14 @@ ghost use Rattle.std.proofs.Common.{rules};
 ghost use Rattle.std.specs.Cmp.{partial_order_from_own_ties, eq_by_cmp_equiv, on_total};
 ghost use Rattle.std.specs.Cmp.Rules.{comparing};
 ghost use Rattle.std.specs.Ordering.{as_partial_cmp, eq_by_cmp, int_cmp, on};
-ghost use Rattle.fx_model.specs.Fraction.{◌≤ℚ◌};
+ghost use Rattle.fx_model.specs.Fraction.{◌≤ℚ◌, ◌<ℚ◌};
 ghost use Rattle.fx_model.specs.Grid.{value_of};
 ghost use Rattle.fx_model.specs.Enclosure.{BoundLe};
 ghost use Rattle.dyadic.specs.Ends.{bound_of};
 ghost use Rattle.dyadic.specs.Order.{value_cmp, value_cmp_total, end_cmp, end_cmp_total};
 
 use crate::number::{Dyadic, End};
+use crate::shift::shifted;
 use std::cmp::Ordering;
 
 // How high * 2^gap compares with low.
@@ -21,14 +22,7 @@ fn compare_at(high: i64, gap: u32, low: i64) -> Ordering
     ensures { result ≡ int_cmp (high *ℤ pos (2 ^ gap)) low }
 {
     // From 60 places on the sign of the higher decides.
-    (high as i128 * power_of_two(gap.min(60))).cmp(&(low as i128))
-}
-
-fn power_of_two(places: u32) -> i128
-    requires { places ≤ 60 }
-    ensures { result ≡ pos (2 ^ places) }
-{
-    1i128 << places
+    shifted(high as i128, gap.min(60)).cmp(&(low as i128))
 }
 
 // How much the first place is above the second.
@@ -66,6 +60,13 @@ impl Dyadic {
         ensures { IsTrue result ↔ value_of self ≤ℚ value_of other }
     {
         self <= other
+    }
+
+    /// Whether the number is below the other.
+    pub fn is_below(self, other: Dyadic) -> bool
+        ensures { IsTrue result ↔ value_of self <ℚ value_of other }
+    {
+        self < other
     }
 }
 

@@ -1,14 +1,15 @@
 // Products and quotients.
-ghost use Rattle.std.specs.Prelude.{◌≡◌, ◌≢◌, ◌≤◌, ◌<◌, ◌≤ℤ◌, pos, negsuc, false};
-ghost use Rattle.std.specs.Int.RustNames.{unsigned_abs};
-ghost use Rattle.fx_model.specs.Fraction.{Fraction, ◌*ℚ◌};
+ghost use Rattle.std.specs.Prelude.{◌≡◌, ◌≢◌, ◌⊎◌, ◌≤◌, ◌<◌, ◌≤ℤ◌, pos, negsuc, false};
+ghost use Rattle.std.specs.Int.RustNames.{unsigned_abs, int_lt};
+ghost use Rattle.fx_model.specs.Fraction.{Fraction, ◌*ℚ◌, ◌/ℚ◌, zero_ℚ};
 ghost use Rattle.fx_model.specs.Powers.{whole, scaled};
-ghost use Rattle.fx_model.specs.Grid.{value_of, IsDown, IsUp, signed};
-ghost use Rattle.fx_model.specs.Cut.{Cuts};
+ghost use Rattle.fx_model.specs.Grid.{value_of, IsDown, IsUp};
+ghost use Rattle.dyadic.specs.Cut.{IsLong, IsSigned};
 ghost use Rattle.dyadic.specs.Ends.{bound_of};
 
 use crate::cut::Cut;
-use crate::number::{Dyadic, End, round_down, round_up};
+use crate::number::{Dyadic, End};
+use crate::rounding::{round_down, round_up};
 
 // A value as its sign and its size.
 #[derive(Clone, Copy)]
@@ -17,16 +18,42 @@ pub struct Signed {
     pub size: Cut,
 }
 
+fn is_negative(a: Dyadic) -> bool
+    ensures { result ≡ int_lt a.mantissa (pos 0) }
+{
+    a.mantissa() < 0
+}
+
+fn size_of(a: Dyadic) -> u128
+    ensures value { result ≡ unsigned_abs a.mantissa }
+    ensures small { result < 1152921504606846976 }
+{
+    a.mantissa().unsigned_abs() as u128
+}
+
 fn product(a: Dyadic, b: Dyadic) -> Signed
     ensures exact { result.size.inexact ≡ false }
-    ensures size { signed result.negative (value_of a *ℚ value_of b) ≡ scaled (pos result.size.digits) result.size.two }
+    ensures cuts { IsSigned result (value_of a *ℚ value_of b) }
     ensures low { negsuc 1023 ≤ℤ result.size.two }
     ensures high { result.size.two ≤ℤ pos 1144 }
 {
-    let size = a.mantissa().unsigned_abs() as u128 * b.mantissa().unsigned_abs() as u128;
     Signed {
-        negative: (a.mantissa() < 0) ^ (b.mantissa() < 0),
-        size: Cut::exact(size, a.exponent() + b.exponent()),
+        negative: is_negative(a) ^ is_negative(b),
+        size: Cut::exact(size_of(a) * size_of(b), a.exponent() + b.exponent()),
+    }
+}
+
+// The quotient, with enough digits to be rounded.
+fn quotient(a: Dyadic, b: Dyadic) -> Signed
+    requires { value_of b ≢ zero_ℚ }
+    ensures cuts { IsSigned result (value_of a /ℚ value_of b) }
+    ensures long { IsLong result.size }
+    ensures low { negsuc 2999 ≤ℤ result.size.two }
+    ensures high { result.size.two ≤ℤ pos 3000 }
+{
+    Signed {
+        negative: is_negative(a) ^ is_negative(b),
+        size: Cut::exact(size_of(a), a.exponent() - b.exponent()).divided(size_of(b)),
     }
 }
 
@@ -35,7 +62,7 @@ pub fn mul_down(a: Dyadic, b: Dyadic) -> End
     ensures { IsDown (value_of a *ℚ value_of b) (bound_of result) }
 {
     let product = product(a, b);
-    round_down(product.negative, product.size.divided(1))
+    round_down(product.negative, product.size.long())
 }
 
 /// The least grid number that is at least the product.
@@ -43,7 +70,25 @@ pub fn mul_up(a: Dyadic, b: Dyadic) -> End
     ensures { IsUp (value_of a *ℚ value_of b) (bound_of result) }
 {
     let product = product(a, b);
-    round_up(product.negative, product.size.divided(1))
+    round_up(product.negative, product.size.long())
+}
+
+/// The greatest grid number that is at most the quotient.
+pub fn div_down(a: Dyadic, b: Dyadic) -> End
+    requires { value_of b ≢ zero_ℚ }
+    ensures { IsDown (value_of a /ℚ value_of b) (bound_of result) }
+{
+    let quotient = quotient(a, b);
+    round_down(quotient.negative, quotient.size)
+}
+
+/// The least grid number that is at least the quotient.
+pub fn div_up(a: Dyadic, b: Dyadic) -> End
+    requires { value_of b ≢ zero_ℚ }
+    ensures { IsUp (value_of a /ℚ value_of b) (bound_of result) }
+{
+    let quotient = quotient(a, b);
+    round_up(quotient.negative, quotient.size)
 }
 
 /// The greatest grid number that is at most `n * 2^two / d`.

@@ -4,12 +4,14 @@ ghost use Rattle.std.specs.Int.RustNames.{unsigned_abs, int_lt};
 ghost use Rattle.fx_model.specs.Fraction.{Fraction, ◌+ℚ◌};
 ghost use Rattle.fx_model.specs.Powers.{scaled};
 ghost use Rattle.fx_model.specs.Grid.{value_of, IsDown, IsUp, signed};
-ghost use Rattle.fx_model.specs.Cut.{Cuts};
+ghost use Rattle.dyadic.specs.Cut.{IsPlenty, IsSigned, IsSize, term_value};
 ghost use Rattle.dyadic.specs.Ends.{bound_of};
 
-use crate::cut::Cut;
-use crate::number::{Dyadic, End, round_down, round_up};
+use crate::cut::{Cut, split};
+use crate::number::{Dyadic, End};
 use crate::products::Signed;
+use crate::rounding::{round_down, round_up};
+use crate::shift::shifted;
 
 // m * 2^e, with a mantissa of up to 66 bits.
 #[derive(Clone, Copy)]
@@ -51,8 +53,8 @@ pub fn sum(a: Term, b: Term) -> Signed
     requires a_high { a.exponent ≤ℤ pos 572 }
     requires b_low { negsuc 511 ≤ℤ b.exponent }
     requires b_high { b.exponent ≤ℤ pos 572 }
-    ensures cuts { Cuts (signed result.negative (scaled a.mantissa a.exponent +ℚ scaled b.mantissa b.exponent)) result.size.digits result.size.two result.size.inexact }
-    ensures long { result.size.inexact ≡ true → 21267647932558653966460912964485513216 ≤ result.size.digits }
+    ensures cuts { IsSigned result (term_value a +ℚ term_value b) }
+    ensures long { IsPlenty result.size }
     ensures low { negsuc 511 ≤ℤ result.size.two }
     ensures high { result.size.two ≤ℤ pos 2600 }
 {
@@ -69,7 +71,7 @@ pub fn sum(a: Term, b: Term) -> Signed
 
 // A term as its sign and size.
 fn alone(a: Term) -> Signed
-    ensures size { signed result.negative (scaled a.mantissa a.exponent) ≡ scaled (pos result.size.digits) result.size.two }
+    ensures size { signed result.negative (term_value a) ≡ scaled (pos result.size.digits) result.size.two }
     ensures exact { result.size.inexact ≡ false }
     ensures two { result.size.two ≡ a.exponent }
 {
@@ -89,12 +91,15 @@ fn ordered_sum(a: Term, b: Term) -> Signed
     requires b_high { b.exponent ≤ℤ pos 572 }
     requires a_some { 0 < unsigned_abs a.mantissa }
     requires ordered { b.exponent ≤ℤ a.exponent }
-    ensures cuts { Cuts (signed result.negative (scaled a.mantissa a.exponent +ℚ scaled b.mantissa b.exponent)) result.size.digits result.size.two result.size.inexact }
-    ensures long { result.size.inexact ≡ true → 21267647932558653966460912964485513216 ≤ result.size.digits }
+    ensures cuts { IsSigned result (term_value a +ℚ term_value b) }
+    ensures long { IsPlenty result.size }
     ensures low { negsuc 511 ≤ℤ result.size.two }
     ensures high { result.size.two ≤ℤ pos 2600 }
 {
     let gap = a.above(b);
+    if gap <= 60 {
+        return alone(near_term(a, b, gap));
+    }
     let size = a.size();
     let low = b.size();
     let negative = a.is_negative();
@@ -107,6 +112,21 @@ fn ordered_sum(a: Term, b: Term) -> Signed
         }
     } else {
         near_sum(negative, minus, size << gap, low, b.exponent)
+    }
+}
+
+// The sum of two terms whose places are near, as one term.
+fn near_term(a: Term, b: Term, gap: u32) -> Term
+    requires a_small { unsigned_abs a.mantissa < 73786976294838206464 }
+    requires b_small { unsigned_abs b.mantissa < 73786976294838206464 }
+    requires few { gap ≤ 60 }
+    requires places { a.exponent ≡ b.exponent +ℤ pos gap }
+    ensures value { term_value result ≡ term_value a +ℚ term_value b }
+    ensures exponent { result.exponent ≡ b.exponent }
+{
+    Term {
+        mantissa: shifted(a.mantissa, gap) + b.mantissa,
+        exponent: b.exponent,
     }
 }
 
@@ -126,8 +146,10 @@ fn near_sum(negative: bool, minus: bool, high: u128, low: u128, base: i32) -> Si
     requires high_small { high < 85070591730234615865843651857942052864 }
     requires low_small { low < 73786976294838206464 }
     ensures plus { minus ≡ false → (result.negative ≡ negative) × (result.size.digits ≡ high + low) }
-    ensures minus { minus ≡ true → low ≤ high → (result.negative ≡ negative) × (result.size.digits ≡ high - low) }
-    ensures swapped { minus ≡ true → high < low → (result.negative ≡ not negative) × (result.size.digits ≡ low - high) }
+    ensures minus { minus ≡ true → low ≤ high
+        → (result.negative ≡ negative) × (result.size.digits ≡ high - low) }
+    ensures swapped { minus ≡ true → high < low
+        → (result.negative ≡ not negative) × (result.size.digits ≡ low - high) }
     ensures exact { result.size.inexact ≡ false }
     ensures two { result.size.two ≡ base }
 {
@@ -158,8 +180,10 @@ fn far_sum(top: u128, low: u128, lost: u32, minus: bool, base: i32) -> Cut
     requires lost_some { 0 < lost }
     requires base_low { negsuc 511 ≤ℤ base }
     requires base_high { base ≤ℤ pos 572 }
-    ensures plus { minus ≡ false → (x : Fraction) → x ≡ scaled (pos (top * 2 ^ lost + low)) base → Cuts x result.digits result.two result.inexact }
-    ensures minus { minus ≡ true → (x : Fraction) → x ≡ scaled (pos (top * 2 ^ lost - low)) base → Cuts x result.digits result.two result.inexact }
+    ensures plus { minus ≡ false → (x : Fraction)
+        → x ≡ scaled (pos (top * 2 ^ lost + low)) base → IsSize result x }
+    ensures minus { minus ≡ true → (x : Fraction)
+        → x ≡ scaled (pos (top * 2 ^ lost - low)) base → IsSize result x }
     ensures long { 21267647932558653966460912964485513216 ≤ result.digits }
     ensures two { result.two ≡ base +ℤ pos lost }
 {
@@ -184,33 +208,7 @@ fn far_sum(top: u128, low: u128, lost: u32, minus: bool, base: i32) -> Cut
     }
 }
 
-// A number above and below its bit `lost`.
-#[derive(Clone, Copy)]
-struct Parts {
-    kept: u128,
-    rest: u128,
-}
-
-fn split(number: u128, lost: u32) -> Parts
-    requires { 0 < lost }
-    ensures whole { result.kept * 2 ^ lost + result.rest ≡ number }
-    ensures rest { result.rest < 2 ^ lost }
-    ensures kept { result.kept ≤ number }
-{
-    if lost > 127 {
-        Parts {
-            kept: 0,
-            rest: number,
-        }
-    } else {
-        Parts {
-            kept: number >> lost,
-            rest: number % (1 << lost),
-        }
-    }
-}
-
-fn term_of(a: Dyadic) -> Term
+pub fn term_of(a: Dyadic) -> Term
     ensures mantissa { result.mantissa ≡ a.mantissa }
     ensures exponent { result.exponent ≡ a.exponent }
     ensures size { unsigned_abs result.mantissa < 1152921504606846976 }
@@ -228,7 +226,7 @@ pub fn add_down(a: Dyadic, b: Dyadic) -> End
     ensures { IsDown (value_of a +ℚ value_of b) (bound_of result) }
 {
     let total = sum(term_of(a), term_of(b));
-    round_down(total.negative, total.size.divided(1))
+    round_down(total.negative, total.size.long())
 }
 
 /// The least grid number that is at least the sum.
@@ -236,5 +234,5 @@ pub fn add_up(a: Dyadic, b: Dyadic) -> End
     ensures { IsUp (value_of a +ℚ value_of b) (bound_of result) }
 {
     let total = sum(term_of(a), term_of(b));
-    round_up(total.negative, total.size.divided(1))
+    round_up(total.negative, total.size.long())
 }

@@ -1,7 +1,7 @@
 // Each public call once, at values that were worked out by hand.
 use crate::{
-    Dyadic, End, add_down, add_up, greater, lesser, mul_down, mul_up, ratio_down, ratio_up,
-    same_number,
+    Dyadic, End, Points, add_down, add_up, div_down, div_up, greater, halve_between, lesser,
+    mul_down, mul_up, part_down, ratio_down, ratio_up, same_number,
 };
 
 const TOP: i64 = 1152921504606846975;
@@ -11,7 +11,9 @@ fn answers_the_rows(rt: HostRuntime) {
     let number = |m: i64, e: i32| Dyadic::new(m, e).expect(&rt, "a grid number");
     let at = |m: i64, e: i32| End::At(number(m, e));
     let one = number(1, 0);
+    let three = number(3, 0);
     let top = number(TOP, 512);
+    assert!(rt; !three.is_zero());
     let ends = [
         ("1 + 2^-70 down", add_down(one, number(1, -70)), at(1, 0)),
         (
@@ -43,24 +45,71 @@ fn answers_the_rows(rt: HostRuntime) {
         ),
         (
             "a third down",
-            ratio_down(1, 3, 0),
+            div_down(one, three),
             at(384307168202282325, -60),
         ),
-        ("a third up", ratio_up(1, 3, 0), at(768614336404564651, -61)),
+        (
+            "a third up",
+            div_up(one, three),
+            at(768614336404564651, -61),
+        ),
+        (
+            "minus a third down",
+            ratio_down(-1, 3, 0),
+            at(-768614336404564651, -61),
+        ),
+        ("ten quarters up", ratio_up(10, 4, 0), at(5, -1)),
         ("lesser", lesser(End::Low, End::At(one)), End::Low),
         ("greater", greater(at(-3, 0), End::At(one)), End::At(one)),
     ];
     for (name, found, wanted) in ends {
         assert_eq!(rt; found, wanted, "{name}");
     }
-    assert!(rt; Dyadic::new(1, 572).is_none());
-    assert!(rt; Dyadic::new(3, 571).is_none());
-    assert!(rt; Dyadic::new(1, -513).is_none());
+}
+
+fn halved(a: Dyadic, b: Dyadic) -> Option<Dyadic> {
+    if a.is_at_most(b) {
+        halve_between(a, b)
+    } else {
+        None
+    }
+}
+
+fn a_third(a: Dyadic, b: Dyadic) -> Option<Dyadic> {
+    if a.is_at_most(b) {
+        Some(part_down(a, b, 1, 3))
+    } else {
+        None
+    }
+}
+
+#[test]
+fn keeps_numbers_in_order(rt: HostRuntime) {
+    let number = |m: i64, e: i32| Dyadic::new(m, e).expect(&rt, "a grid number");
+    let one = number(1, 0);
     let eight = number(-8, 3);
+    for (m, e) in [(1, 572), (3, 571), (1, -513)] {
+        assert!(rt; Dyadic::new(m, e).is_none(), "{m} at {e}");
+    }
     eight.on_grid();
     assert_eq!(rt; (eight.mantissa(), eight.exponent()), (-1, 6));
     assert_eq!(rt; eight.neg(), number(64, 0));
-    assert!(rt; eight < one && eight.is_at_most(one) && !eight.is_same(one));
+    assert!(rt; eight < one && eight.is_at_most(one) && eight.is_below(one) && !eight.is_same(one));
     assert!(rt; End::High.is_at_most(End::High));
     same_number(one, one);
+    assert_eq!(rt; halved(one, number(2, 0)), Some(number(3, -1)));
+    assert_eq!(rt; halved(number(1, -512), number(1, -511)), None);
+    assert_eq!(rt;
+        a_third(number(0, 0), one),
+        Some(number(384307168202282325, -60))
+    );
+    let points = Points::new()
+        .with_last(eight)
+        .expect(&rt, "room")
+        .with_last(one)
+        .expect(&rt, "room");
+    points.rising();
+    assert_eq!(rt; points.len(), 2);
+    assert_eq!(rt; points.point(1), one);
+    assert!(rt; points.with_last(one).is_none());
 }

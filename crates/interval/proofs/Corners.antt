@@ -17,7 +17,7 @@ swap (inl p) = inr p
 swap (inr p) = inl p
 
 -- the interval from a to b
-abbrev closed : Fraction → Fraction → Range
+abbrev pub closed : Fraction → Fraction → Range
 closed a b = record { low = At a; high = At b }
 
 module _ (a b c d : Fraction) (i : a ≤ℚ b) (j : c ≤ℚ d) where

@@ -3,8 +3,9 @@ use Rattle.std.specs.Prelude.{◌≡◌}
 use Rattle.std.proofs.Common.{refl, sym, subst, ap, ⊎_elim}
 use Rattle.fx_model.specs.Fraction.{Fraction, ◌-ℚ◌, ◌≤ℚ◌, one_ℚ, neg_ℚ, le_trans, le_refl, le_or_lt, lt_le, lt_not, neg-le, neg-neg, minus_one}
 use Rattle.fx_model.specs.Grid.{Bound, Below, At, Above, IsOnGrid-neg, neg_bound}
-use Rattle.fx_model.specs.Enclosure.{Range, IsFrom, IsUpTo, Lies, IsInfimum, IsSupremum, IsEnclosure, IsOrdered, Negations, IsNegation, enclosure_isotone, in_enclosure, member_of, ordered_by}
+use Rattle.fx_model.specs.Enclosure.{Range, IsFrom, IsUpTo, Lies, IsInfimum, IsSupremum, IsEnclosure, IsOrdered, Negations, enclosure_isotone, in_enclosure, member_of, ordered_by}
 use Rattle.interval.specs.Ends.{IsGridEnd, mirror}
+use Rattle.interval.specs.Exact.{IsExact}
 use Rattle.interval.proofs.Inequalities.{bound_antisymm}
 
 range_eq : (r s : Range) → r.low ≡ s.low → r.high ≡ s.high → r ≡ s
@@ -44,12 +45,12 @@ supremum_neg S T Below f g i = λ h o k. i (neg_ℚ h) (IsOnGrid-neg h o) (λ x 
 supremum_neg S T (At a) f g i = (IsOnGrid-neg a i.0, λ x t. neg_over a x (i.1 (neg_ℚ x) (f x t)), λ h o k. neg_under a h (i.2 (neg_ℚ h) (IsOnGrid-neg h o) (λ x s. neg_under h x (k (neg_ℚ x) (g x s)))))
 supremum_neg S T Above f g i = i
 
-from_neg : (b : Bound) (x : Fraction) → IsUpTo b x → IsFrom (neg_bound b) (neg_ℚ x)
+pub from_neg : (b : Bound) (x : Fraction) → IsUpTo b x → IsFrom (neg_bound b) (neg_ℚ x)
 from_neg Below x h = h
 from_neg (At g) x h = neg-le x g h
 from_neg Above x h = tt
 
-up_to_neg : (b : Bound) (x : Fraction) → IsFrom b x → IsUpTo (neg_bound b) (neg_ℚ x)
+pub up_to_neg : (b : Bound) (x : Fraction) → IsFrom b x → IsUpTo (neg_bound b) (neg_ℚ x)
 up_to_neg Below x h = tt
 up_to_neg (At g) x h = neg-le g x h
 up_to_neg Above x h = h
@@ -57,7 +58,7 @@ up_to_neg Above x h = h
 pub lies_mirror : (r : Range) (x : Fraction) → Lies r x → Lies (mirror r) (neg_ℚ x)
 lies_mirror r x l = (from_neg r.high x l.1, up_to_neg r.low x l.0)
 
-neg_bound-neg : (b : Bound) → neg_bound (neg_bound b) ≡ b
+pub neg_bound-neg : (b : Bound) → neg_bound (neg_bound b) ≡ b
 neg_bound-neg Below = refl
 neg_bound-neg (At g) = ap At (neg-neg g)
 neg_bound-neg Above = refl
@@ -65,8 +66,11 @@ neg_bound-neg Above = refl
 pub lies_mirrored : (r : Range) (x : Fraction) → Lies (mirror r) x → Lies r (neg_ℚ x)
 lies_mirrored r x l = subst (λ s. Lies s (neg_ℚ x)) (range_eq (mirror (mirror r)) r (neg_bound-neg r.low) (neg_bound-neg r.high)) (lies_mirror (mirror r) x l)
 
+pub mirror_ordered : (r : Range) → IsOrdered r.low r.high → IsOrdered (neg_bound r.high) (neg_bound r.low)
+mirror_ordered r o = let m = member_of r.low r.high o in let l = lies_mirror r m.0 (m.1, m.2) in ordered_by (neg_bound r.high) (neg_bound r.low) (neg_ℚ m.0) l.0 l.1
+
 -- ---- a set that is an interval with ends on the grid
-deep : (r : Range) (x k : Fraction) → r.low ≡ Below → Lies r x → (y : Fraction) × Lies r y × (y ≤ℚ k)
+pub deep : (r : Range) (x k : Fraction) → r.low ≡ Below → Lies r x → (y : Fraction) × Lies r y × (y ≤ℚ k)
 deep r x k p i = ⊎_elim (λ h. (x, i, h)) (λ h. (k, (subst (λ e. IsFrom e k) (sym p) tt, up_to r.high x k (lt_le k x h) i.1), le_refl k)) (le_or_lt x k)
   where
     up_to : (e : Bound) (x k : Fraction) → k ≤ℚ x → IsUpTo e x → IsUpTo e k
@@ -74,23 +78,31 @@ deep r x k p i = ⊎_elim (λ h. (x, i, h)) (λ h. (k, (subst (λ e. IsFrom e k)
     up_to (At g) x k h u = le_trans k x g h u
     up_to Above x k h u = u
 
+-- above any number there is a member of an interval that has no upper end
+pub far : (r : Range) (x k : Fraction) → r.high ≡ Above → Lies r x → (y : Fraction) × Lies r y × (k ≤ℚ y)
+far r x k p i = let d = deep (mirror r) (neg_ℚ x) (neg_ℚ k) (ap neg_bound p) (lies_mirror r x i) in (neg_ℚ d.0, lies_mirrored r d.0 d.1, neg_over d.0 k d.2)
+
+-- the ends lie in the interval
+pub low_lies : (r : Range) (g : Fraction) → IsOrdered r.low r.high → r.low ≡ At g → Lies r g
+low_lies r g o p = (subst (λ e. IsFrom e g) (sym p) (le_refl g), least r.high (subst (λ e. IsOrdered e r.high) p o))
+  where
+    least : (c : Bound) → IsOrdered (At g) c → IsUpTo c g
+    least Below i = i
+    least (At h) i = i
+    least Above i = tt
+
+pub high_lies : (r : Range) (g : Fraction) → IsOrdered r.low r.high → r.high ≡ At g → Lies r g
+high_lies r g o p = let l = low_lies (mirror r) (neg_ℚ g) (mirror_ordered r o) (ap neg_bound p) in subst (λ y. Lies r y) (neg-neg g) (lies_mirrored r (neg_ℚ g) l)
+
 module _ (r : Range) (o : IsOrdered r.low r.high) where
   interval_low : (b : Bound) → b ≡ r.low → IsGridEnd b → IsInfimum (Lies r) b
   interval_low Below p g = λ h q k. let m = member_of r.low r.high o in let d = deep r m.0 (h -ℚ one_ℚ) (sym p) (m.1, m.2) in
       lt_not (h -ℚ one_ℚ) h (minus_one h) (le_trans h d.0 (h -ℚ one_ℚ) (k d.0 d.1) d.2)
-  interval_low (At a) p g = (g, λ x l. subst (λ e. IsFrom e x) (sym p) l.0, λ h q k. k a (subst (λ e. IsFrom e a) p (le_refl a), least r.high (subst (λ e. IsOrdered e r.high) (sym p) o)))
-    where
-      least : (c : Bound) → IsOrdered (At a) c → IsUpTo c a
-      least Below i = i
-      least (At h) i = i
-      least Above i = tt
+  interval_low (At a) p g = (g, λ x l. subst (λ e. IsFrom e x) (sym p) l.0, λ h q k. k a (low_lies r a o (sym p)))
   interval_low Above p g = subst (λ e. IsOrdered e r.high) (sym p) o
 
   pub interval_infimum : IsGridEnd r.low → IsInfimum (Lies r) r.low
   interval_infimum = interval_low r.low refl
-
-pub mirror_ordered : (r : Range) → IsOrdered r.low r.high → IsOrdered (neg_bound r.high) (neg_bound r.low)
-mirror_ordered r o = let m = member_of r.low r.high o in let l = lies_mirror r m.0 (m.1, m.2) in ordered_by (neg_bound r.high) (neg_bound r.low) (neg_ℚ m.0) l.0 l.1
 
 grid-neg : (b : Bound) → IsGridEnd b → IsGridEnd (neg_bound b)
 grid-neg Below g = tt
@@ -112,8 +124,12 @@ module _ (r t : Range) (o : IsOrdered r.low r.high) (p : t.low ≡ neg_bound r.h
   pub negation_ordered : IsOrdered t.low t.high
   negation_ordered = subst (λ s. IsOrdered s.low s.high) (sym is_mirror) (mirror_ordered r o)
 
-  pub negation_is : IsGridEnd t.low → IsGridEnd t.high → IsNegation r t
-  negation_is g h = enclosure_same (Lies t) (Negations r) t
-      (λ z l. (neg_ℚ z, lies_mirrored r z (subst (λ s. Lies s z) is_mirror l), sym (neg-neg z)))
-      (λ z n. subst (λ s. Lies s z) (sym is_mirror) (subst (λ y. Lies (mirror r) y) (sym n.2) (lies_mirror r n.0 n.1)))
-      (interval_enclosure t negation_ordered g h)
+  pub negation_exact : IsExact (Negations r) t
+  negation_exact z = (
+    λ l. (neg_ℚ z, lies_mirrored r z (subst (λ s. Lies s z) is_mirror l), sym (neg-neg z)),
+    λ n. subst (λ s. Lies s z) (sym is_mirror) (subst (λ y. Lies (mirror r) y) (sym n.2) (lies_mirror r n.0 n.1)),
+  )
+
+-- an interval that is just a set
+pub exact_enclosure : (S : Fraction → Type 0) (r : Range) → IsExact S r → IsOrdered r.low r.high → IsGridEnd r.low → IsGridEnd r.high → IsEnclosure S r
+exact_enclosure S r e o g h = enclosure_same (Lies r) S r (λ x l. (e x).0 l) (λ x s. (e x).1 s) (interval_enclosure r o g h)

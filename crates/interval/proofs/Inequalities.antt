@@ -1,10 +1,14 @@
 -- The order of fractions and ends.
 use Rattle.std.specs.Prelude.{◌≡◌, ℤ, pos, ◌≤ℤ◌, Bool, true, false, IsTrue}
-use Rattle.std.proofs.Common.{refl, sym, subst, ap, ◌∙◌, ⊎_elim}
-use Rattle.fx_model.specs.Fraction.{Fraction, ◌*ℚ◌, ◌≤ℚ◌, zero_ℚ, neg_ℚ, le_trans, le_antisymm, le_or_lt, lt_le, mul-le, mul_comm, neg-le, neg-neg, neg-mul, add-neg, zero-add}
+use Rattle.std.proofs.Common.{arith, refl, sym, subst, ap, ◌∙◌, ⊎_elim}
+use Rattle.std.proofs.lemmas.Int.{ints}
+use Rattle.fx_model.specs.Fraction.{Fraction, ◌*ℚ◌, ◌≤ℚ◌, zero_ℚ, neg_ℚ, le_trans, le_antisymm, le_or_lt, lt_le, mul-le, mul_comm, neg-le, neg-neg, neg-mul, add-neg, zero-add, ◌<ℚ◌, one_ℚ, plus_one}
 use Rattle.fx_model.specs.Powers.{scaled, scaled-le, scaled-zero, scaled-le_out}
-use Rattle.fx_model.specs.Grid.{Bound, Below, At, Above, IsDown}
+use Rattle.fx_model.specs.Grid.{Bound, Below, At, Above, IsOnGrid, IsDown}
 use Rattle.fx_model.specs.Enclosure.{BoundLe, IsFrom, IsUpTo, within_in}
+
+pub zero_one : zero_ℚ <ℚ one_ℚ
+zero_one = subst (λ y. zero_ℚ <ℚ y) (zero-add one_ℚ) (plus_one zero_ℚ)
 
 -- ---- factors
 pub times_up : (x u v : Fraction) → x ≤ℚ u → zero_ℚ ≤ℚ v → (x *ℚ v) ≤ℚ (u *ℚ v)
@@ -56,6 +60,15 @@ bound_antisymm Above Below h k = absurd h
 bound_antisymm Above (At g) h k = absurd h
 bound_antisymm Above Above h k = refl
 
+pub bound_total : (b c : Bound) → ¬ (BoundLe b c) → BoundLe c b
+bound_total Below c h = absurd (h tt)
+bound_total (At g) Below h = tt
+bound_total (At g) (At i) h = ⊎_elim (λ l. absurd (h l)) (λ l. lt_le i g l) (le_or_lt g i)
+bound_total (At g) Above h = absurd (h tt)
+bound_total Above Below h = tt
+bound_total Above (At g) h = tt
+bound_total Above Above h = absurd (h tt)
+
 -- rounding keeps the order
 pub down-le : (x y : Fraction) (b c : Bound) → x ≤ℚ y → IsDown x b → IsDown y c → BoundLe b c
 down-le x y Below c l d e = tt
@@ -74,3 +87,17 @@ from-le b c x l f = (within_in (record { low = c; high = Above }) (record { low 
 
 pub up_to-le : (b c : Bound) (x : Fraction) → BoundLe b c → IsUpTo b x → IsUpTo c x
 up_to-le b c x l f = (within_in (record { low = Below; high = b }) (record { low = Below; high = c }) x (tt, l) (tt, f)).1
+
+pub bound_by : (b c : Bound) (t : Bool) → (BoundLe b c → IsTrue t) → t ≡ false → BoundLe c b
+bound_by b c t f e = bound_total b c (λ l. let k = f l in let n : true ≡ false = sym k ∙ e in cc)
+
+pub zero_grid : IsOnGrid (scaled (pos 0) (pos 0))
+zero_grid = record {
+  mantissa = pos 0;
+  exponent = pos 0;
+  above = omega (arith, ints);
+  below = omega (arith, ints);
+  lowest = omega (arith, ints);
+  highest = omega (arith, ints);
+  is = refl;
+}

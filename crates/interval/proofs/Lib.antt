@@ -4,3 +4,5 @@ pub mod Corners
 pub mod Sums
 pub mod Pairs
 pub mod Unique
+pub mod Sizes
+pub mod Divisors

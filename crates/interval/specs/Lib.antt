@@ -3,3 +3,5 @@ pub mod Intervals
 pub mod Spans
 pub mod Pairs
 pub mod Unique
+pub mod Exact
+pub mod Squares

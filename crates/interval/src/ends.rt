@@ -3,9 +3,12 @@ ghost use Rattle.std.specs.Prelude.{◌≡◌};
 ghost use Rattle.fx_model.specs.Grid.{neg_bound};
 ghost use Rattle.fx_model.specs.Enclosure.{LowSum, HighSum};
 ghost use Rattle.dyadic.specs.Ends.{bound_of};
+ghost use Rattle.fx_model.specs.Fraction.{zero_ℚ};
+ghost use Rattle.fx_model.specs.Grid as grid;
+ghost use Rattle.interval.specs.Squares.{LowSquare, HighSquare};
 ghost use Rattle.interval.specs.Ends.{IsGridEnd, IsNumberOf};
 
-use dyadic::{Dyadic, End, add_down, add_up};
+use dyadic::{Dyadic, End, add_down, add_up, mul_down, mul_up};
 
 // The number at a finite end.
 pub fn finite(end: End) -> Option<Dyadic>
@@ -52,5 +55,35 @@ pub fn high_sum(a: End, b: End) -> End
             _ => End::High,
         },
         _ => End::High,
+    }
+}
+
+// The lower end of a square, from the lower end of the sizes.
+pub fn low_square(a: End) -> End
+    ensures { LowSquare (bound_of a) (bound_of result) }
+{
+    match a {
+        End::At(a) => mul_down(a, a),
+        _ => End::Low,
+    }
+}
+
+// The upper end of a square, from the upper end of the sizes.
+pub fn high_square(a: End) -> End
+    ensures { HighSquare (bound_of a) (bound_of result) }
+{
+    match a {
+        End::At(a) => mul_up(a, a),
+        _ => End::High,
+    }
+}
+
+// The end 0.
+pub fn zero() -> End
+    ensures { bound_of result ≡ grid.At zero_ℚ }
+{
+    match Dyadic::new(0, 0) {
+        Some(zero) => End::At(zero),
+        None => End::Low,
     }
 }

@@ -1,10 +1,11 @@
 ghost use Rattle.std.specs.Prelude.{◌≡◌, ◌↔◌, IsTrue, IsNone, IfSome};
 ghost use Rattle.interval.specs.Ends.{AreEnds, AreEnds-prop, IsGridEnd};
 
-use crate::ends::{finite, high_sum, low_sum, opposite};
+use crate::ends::{finite, high_square, high_sum, low_square, low_sum, opposite, zero};
 use crate::laws::same_end;
-use crate::order::in_order;
+use crate::order::{from_zero, in_order, not_positive, up_to_zero};
 use crate::products::{high_product, low_product};
+use crate::quotients::{high_quotient, low_quotient};
 use crate::span::Span;
 use dyadic::{Dyadic, End, greater, lesser};
 
@@ -17,10 +18,12 @@ pub struct Interval {
 }
 
 impl Interval {
-    ghost use Rattle.fx_model.specs.Enclosure.{IsNegation, IsSum, IsDifference, IsProduct, whole_line, Within, Lies};
+    ghost use Rattle.fx_model.specs.Enclosure.{Negations, Sizes, IsNegation, IsSize, IsSquare, IsSum, IsDifference, IsProduct, Quotients, IsQuotient, IsEnclosure, whole_line, Within, Lies};
     ghost use Rattle.interval.specs.Intervals.{range_of};
-    ghost use Rattle.interval.specs.Spans.{IsSpan};
+    ghost use Rattle.interval.specs.Spans.{IsSpan, span_of};
+    ghost use Rattle.interval.specs.Exact.{IsExact};
     ghost use Rattle.interval.specs.Pairs.{AreApart, IsCommon, IsHull};
+    ghost use Rattle.fx_model.specs.Fraction.{zero_ℚ, ◌<ℚ◌};
     ghost use Rattle.fx_model.specs.Grid.{value_of};
     ghost use Rattle.dyadic.specs.Ends.{bound_of};
 
@@ -72,11 +75,40 @@ impl Interval {
 
     /// The negatives.
     pub fn neg(self) -> Interval
-        ensures { IsNegation (range_of self) (range_of result) }
+        ensures exact { IsExact (Negations (range_of self)) (range_of result) }
+        ensures best { IsNegation (range_of self) (range_of result) }
     {
         Interval {
             lo: opposite(self.hi),
             hi: opposite(self.lo),
+        }
+    }
+
+    /// The absolute values.
+    pub fn abs(self) -> Interval
+        ensures exact { IsExact (Sizes (range_of self)) (range_of result) }
+        ensures best { IsSize (range_of self) (range_of result) }
+    {
+        if from_zero(&self.lo) {
+            return self;
+        }
+        if up_to_zero(&self.hi) {
+            return self.neg();
+        }
+        Interval {
+            lo: zero(),
+            hi: greater(opposite(self.lo), self.hi),
+        }
+    }
+
+    /// The least interval that holds the square of each number.
+    pub fn square(self) -> Interval
+        ensures { IsSquare (range_of self) (range_of result) }
+    {
+        let size = self.abs();
+        Interval {
+            lo: low_square(size.lo),
+            hi: high_square(size.hi),
         }
     }
 
@@ -164,5 +196,53 @@ impl Interval {
     {
         same_end(&self.lo, &other.lo);
         same_end(&self.hi, &other.hi);
+    }
+
+    /// The least interval that holds every quotient, or the whole line where an end is infinite.
+    /// None where 0 lies in the divisor.
+    pub fn div(self, other: Interval) -> Option<Interval>
+        ensures zero { IsNone result ↔ Lies (range_of other) zero_ℚ }
+        ensures quotient { IfSome result (λ made. IsQuotient (range_of self) (range_of other) (range_of made)) }
+    {
+        if other.holds_zero() {
+            return None;
+        }
+        let Some(x) = self.span() else {
+            return Some(Interval::whole());
+        };
+        let Some(y) = other.span() else {
+            return Some(Interval::whole());
+        };
+        Some(Interval::quotient(&x, &y))
+    }
+
+    // Whether 0 lies in the interval.
+    fn holds_zero(&self) -> bool
+        ensures { IsTrue result ↔ Lies (range_of self.now) zero_ℚ }
+    {
+        up_to_zero(&self.lo) && from_zero(&self.hi)
+    }
+
+    // The quotient by an interval without 0.
+    fn quotient(x: &Span, y: &Span) -> Interval
+        requires { ¬ Lies (span_of y.now) zero_ℚ }
+        ensures { IsEnclosure (Quotients (span_of x.now) (span_of y.now)) (range_of result) }
+    {
+        if not_positive(y.low) {
+            Interval::rising_quotient(&x.neg(), &y.neg())
+        } else {
+            Interval::rising_quotient(x, y)
+        }
+    }
+
+    // The quotient by numbers above 0.
+    fn rising_quotient(x: &Span, y: &Span) -> Interval
+        requires { zero_ℚ <ℚ value_of y.now.low }
+        ensures { IsEnclosure (Quotients (span_of x.now) (span_of y.now)) (range_of result) }
+    {
+        Interval {
+            lo: low_quotient(x, y),
+            hi: high_quotient(x, y),
+        }
     }
 }

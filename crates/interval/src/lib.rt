@@ -6,6 +6,7 @@ mod interval;
 mod laws;
 mod order;
 mod products;
+mod quotients;
 mod span;
 #[cfg(test)]
 mod tests;

@@ -2,6 +2,9 @@
 ghost use Rattle.std.specs.Prelude.{◌≡◌, ◌↔◌, IsTrue};
 ghost use Rattle.fx_model.specs.Fraction.{◌≤ℚ◌, zero_ℚ};
 ghost use Rattle.fx_model.specs.Grid.{value_of};
+ghost use Rattle.fx_model.specs.Grid as grid;
+ghost use Rattle.fx_model.specs.Enclosure.{BoundLe};
+ghost use Rattle.dyadic.specs.Ends.{bound_of};
 ghost use Rattle.interval.specs.Ends.{AreEnds};
 
 use dyadic::{Dyadic, End};
@@ -18,6 +21,28 @@ pub fn not_positive(a: Dyadic) -> bool
     ensures { IsTrue result ↔ value_of a ≤ℚ zero_ℚ }
 {
     a.mantissa() <= 0
+}
+
+// Whether an end is 0 or above.
+pub fn from_zero(end: &End) -> bool
+    ensures { IsTrue result ↔ BoundLe (grid.At zero_ℚ) (bound_of end.now) }
+{
+    match end {
+        End::Low => false,
+        End::At(a) => not_negative(*a),
+        End::High => true,
+    }
+}
+
+// Whether an end is 0 or below.
+pub fn up_to_zero(end: &End) -> bool
+    ensures { IsTrue result ↔ BoundLe (bound_of end.now) (grid.At zero_ℚ) }
+{
+    match end {
+        End::Low => true,
+        End::At(a) => not_positive(*a),
+        End::High => false,
+    }
 }
 
 // Whether two ends make an interval.

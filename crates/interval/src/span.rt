@@ -1,5 +1,5 @@
 ghost use Rattle.std.specs.Prelude.{◌≡◌};
-ghost use Rattle.fx_model.specs.Fraction.{◌≤ℚ◌, Le-prop};
+ghost use Rattle.fx_model.specs.Fraction.{◌≤ℚ◌, Le-prop, neg_ℚ};
 ghost use Rattle.fx_model.specs.Grid.{value_of};
 
 use dyadic::Dyadic;
@@ -18,7 +18,8 @@ impl Span {
 
     // The negatives of its numbers.
     pub fn neg(self) -> Span
-        ensures { span_of result ≡ mirror (span_of self) }
+        ensures range { span_of result ≡ mirror (span_of self) }
+        ensures low { value_of result.low ≡ neg_ℚ (value_of self.high) }
     {
         Span {
             low: self.high.neg(),

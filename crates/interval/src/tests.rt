@@ -74,6 +74,12 @@ fn answers_the_rows(rt: HostRuntime) {
             of(0, 0).mul(of(3, HIGH)),
             of(LOW, HIGH),
         ),
+        ("sizes of rising", of(1, 2).abs(), of(1, 2)),
+        ("sizes of falling", of(-2, -1).abs(), of(1, 2)),
+        ("sizes, mixed", of(-3, 2).abs(), of(0, 3)),
+        ("sizes, infinite", of(LOW, 2).abs(), of(0, HIGH)),
+        ("square, mixed", of(-3, 2).square(), of(0, 9)),
+        ("square, infinite", of(2, HIGH).square(), of(4, HIGH)),
         ("hull", of(-2, -1).hull(of(3, HIGH)), of(-2, HIGH)),
     ];
     for (name, found, wanted) in rows {
@@ -91,4 +97,21 @@ fn compares_intervals(rt: HostRuntime) {
     assert!(rt; !of(4, HIGH).has(three));
     assert!(rt; of(1, 3).meet(of(3, 5)) == Some(of(3, 3)));
     assert!(rt; of(1, 2).meet(of(3, 5)).is_none());
+}
+
+#[test]
+fn divides(rt: HostRuntime) {
+    let of = |lo: i64, hi: i64| range(&rt, lo, hi);
+    for (x, y, wanted) in [
+        (of(4, 8), of(1, 2), Some(of(2, 8))),
+        (of(-4, 8), of(1, 2), Some(of(-4, 8))),
+        (of(4, 8), of(-2, -1), Some(of(-8, -2))),
+        (of(-8, -4), of(-2, -1), Some(of(2, 8))),
+        (of(4, 8), of(0, 1), None),
+        (of(4, 8), of(-1, 0), None),
+        (of(0, 0), of(LOW, HIGH), None),
+        (of(4, 8), of(1, HIGH), Some(of(LOW, HIGH))),
+    ] {
+        assert!(rt; x.div(y) == wanted);
+    }
 }

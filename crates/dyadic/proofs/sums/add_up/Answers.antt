@@ -1,9 +1,7 @@
-use Rattle.std.proofs.Common.{arith, ap, sym, ◌∙◌, subst}
+use Rattle.std.proofs.Common.{subst}
 use Rattle.fx_model.specs.Fraction.{◌+ℚ◌, Fraction}
-use Rattle.fx_model.specs.Powers.{scaled}
 use Rattle.fx_model.specs.Grid.{value_of, signed}
 use Rattle.fx_model.specs.Cut.{Cuts}
-use Rattle.dyadic.proofs.ProductLemmas.{cut_whole}
 use Rattle.dyadic.proofs.SumLemmas.{terms_are}
 use Rattle.dyadic.proofs.sums.add_up.Goals as goal
 
@@ -11,6 +9,5 @@ pub returns : goal.returns
 returns c =
     let size = c.sum-total.result.size in
     c.round_up.ensures (value_of c.args.a +ℚ value_of c.args.b)
-    (c.divided.ensures.cuts (signed c.sum-total.result.negative (value_of c.args.a +ℚ value_of c.args.b))
-    (cut_whole (signed c.sum-total.result.negative (value_of c.args.a +ℚ value_of c.args.b)) size.digits size.two size.inexact
-    (subst (λ (x : Fraction). Cuts (signed c.sum-total.result.negative x) size.digits size.two size.inexact) (terms_are c.args.a c.args.b _ _ _ _ c.term_of.ensures.mantissa c.term_of.ensures.exponent c.term_of-2.ensures.mantissa c.term_of-2.ensures.exponent) c.sum-total.ensures.cuts)))
+    (c.long.ensures.cuts (signed c.sum-total.result.negative (value_of c.args.a +ℚ value_of c.args.b))
+    (subst (λ (x : Fraction). Cuts (signed c.sum-total.result.negative x) size.digits size.two size.inexact) (terms_are c.args.a c.args.b _ _ _ _ c.term_of.ensures.mantissa c.term_of.ensures.exponent c.term_of-2.ensures.mantissa c.term_of-2.ensures.exponent) c.sum-total.ensures.cuts))

@@ -1,10 +1,15 @@
+use Rattle.fx_model.specs.Enclosure.{Negations}
 use Rattle.interval.specs.Ends.{range_from}
 use Rattle.interval.specs.Intervals.{range_of}
-use Rattle.interval.proofs.Enclosures.{negation_is, negation_ordered}
+use Rattle.interval.proofs.Enclosures.{negation_exact, negation_ordered, exact_enclosure}
 use Rattle.interval.proofs.interval.Interval.neg.Goals as goal
 
 pub invariant_of-result : goal.invariant_of-result
 invariant_of-result c = record { ordered = negation_ordered (range_of c.args.self) (range_from c.opposite.result c.opposite-2.result) c.args.self.ordered c.opposite.ensures.value c.opposite-2.ensures.value }
 
-pub returns : goal.returns
-returns c = negation_is (range_of c.args.self) _ c.args.self.ordered c.opposite.ensures.value c.opposite-2.ensures.value c.opposite.ensures.grid c.opposite-2.ensures.grid
+pub returns-clause-exact : goal.returns-clause-exact
+returns-clause-exact c = negation_exact (range_of c.args.self) _ c.args.self.ordered c.opposite.ensures.value c.opposite-2.ensures.value
+
+pub returns-clause-best : goal.returns-clause-best
+returns-clause-best c = let t = range_from c.opposite.result c.opposite-2.result in exact_enclosure (Negations (range_of c.args.self)) t (negation_exact (range_of c.args.self) t c.args.self.ordered c.opposite.ensures.value c.opposite-2.ensures.value)
+    (negation_ordered (range_of c.args.self) t c.args.self.ordered c.opposite.ensures.value c.opposite-2.ensures.value) c.opposite.ensures.grid c.opposite-2.ensures.grid

@@ -1,0 +1,6 @@
+use Rattle.fx_model.specs.Fraction.{◌/ℚ◌}
+use Rattle.fx_model.specs.Grid.{value_of}
+use Rattle.dyadic.proofs.products.div_down.Goals as goal
+
+pub returns : goal.returns
+returns c = c.round_down.ensures (value_of c.args.a /ℚ value_of c.args.b) c.quotient-quotient.ensures.cuts
