@@ -4,3 +4,4 @@ pub mod Calls
 pub mod Sinks
 pub mod Files
 pub mod Folders
+pub mod Paths

@@ -1,0 +1,9 @@
+pub mod Lists
+pub mod Parties
+pub mod Steps
+pub mod Count
+pub mod Fill
+pub mod Emptied
+pub mod Ended
+pub mod Passes
+pub mod Moments

@@ -1,0 +1,5 @@
+pub mod Views
+pub mod Rule
+pub mod Seen
+pub mod Moments
+pub mod Close

@@ -1,0 +1,102 @@
+ghost use Rattle.std.specs.Prelude.{◌≡◌, All, IfOk};
+
+use crate::{Board, Token};
+use std::alloc::{AllocError, Global};
+use std::sync::Wait;
+use std::test::Fail;
+use std::thread::{Threads, map_vec};
+
+fn sends<X: Send>(value: &X) {
+    let _ = value;
+}
+
+fn shares<X: Sync>(value: &X) {
+    let _ = value;
+}
+
+// Whatever the entries are, as long as these may go to other threads.
+fn goes_to_other_threads<E: Drop + Send + Sync>(board: &Board<E>, token: &Token<E>) {
+    sends(board);
+    shares(board);
+    sends(token);
+}
+
+// Other threads read the entries of the tokens.
+fn read_all<R: Threads + Sync>(
+    rt: &R,
+    board: &Board<u32>,
+    tokens: Vec<Token<u32>>,
+) -> Result<Vec<u32>, AllocError>
+    requires { All (λ t. t.board ≡ board.now) tokens.items }
+{
+    map_vec(
+        rt,
+        tokens,
+        &|token: Token<u32>| -> u32
+            requires { token.board ≡ board.now }
+            ensures { result ≡ token.entry }
+        { *board.read(&token) },
+    )
+}
+
+// Publishes the numbers below `count`, and keeps a second token of each.
+fn publish_all<R: Wait>(
+    rt: &R,
+    alloc: Global,
+    board: &Board<u32>,
+    count: u32,
+) -> Result<Vec<Token<u32>>, AllocError>
+    ensures { IfOk result (λ v. All (λ t. t.board ≡ board.now) v.items) }
+{
+    let mut tokens = Vec::new(alloc);
+    for entry in 0..count {
+        let Ok(token) = board.publish(rt, entry) else {
+            return Err(AllocError);
+        };
+        tokens.push(board.again(&token)?)?;
+    }
+    Ok(tokens)
+}
+
+#[test]
+fn other_threads_read_what_was_published(rt: HostRuntime) -> Result<(), Fail> {
+    let board = Board::new(rt.alloc())?;
+    let tokens = publish_all(&rt, rt.alloc(), &board, 20)?;
+    let found = read_all(&rt, &board, tokens)?;
+    assert_eq!(rt; found.len(), 20);
+    for entry in 0..20usize {
+        assert_eq!(rt; found.get(entry), Some(&(entry as u32)), "at {entry}");
+    }
+    Ok(())
+}
+
+// Publishes an entry and reads it, or gets it back where there is no memory.
+fn is_read_or_back<R: Wait>(
+    rt: &R,
+    board: &Board<u32>,
+    first: &Token<u32>,
+    entry: u32,
+) -> (u32, u32)
+    requires { first.now.board ≡ board.now }
+    ensures { (result.0 ≡ entry) × (result.1 ≡ first.now.entry) }
+{
+    let seen = match board.publish(rt, entry) {
+        Ok(token) => *board.read(&token),
+        Err(back) => back,
+    };
+    (seen, *board.read(first))
+}
+
+#[test]
+fn a_refused_entry_comes_back(rt: HostRuntime) {
+    let Ok(board) = Board::new(rt.alloc()) else {
+        return;
+    };
+    let shared = &board;
+    let Ok(first) = shared.publish(&rt, 1000) else {
+        return;
+    };
+    for entry in 0..100u32 {
+        assert_eq!(rt; is_read_or_back(&rt, shared, &first, entry), (entry, 1000));
+    }
+}
