@@ -1,4 +1,5 @@
-//! Reads the small form of a script: hypotheses with whole bounds, and one goal of sums, differences and products.
+//! Reads the small form of a script: hypotheses with whole bounds, and one goal of sums,
+//! differences and products.
 #![tactic(auto)]
 
 pub mod reader;

@@ -19,6 +19,9 @@ use script_words::lex::lexed_once;
 use script_words::words::{Word, Words, read_words, words_once};
 use std::alloc::{AllocError, Global};
 
+/// The greatest number of bytes of a text.
+const MOST_BYTES: usize = 4096;
+
 fn is_sign(word: &Word, sign: Sign) -> bool
     ensures { result ≡ spec.is_sign sign (word_of word.now) }
 {
@@ -30,7 +33,8 @@ fn is_sign(word: &Word, sign: Sign) -> bool
 
 /// The words after a sign.
 fn after<'w, 'a>(words: &'w [Word<'a>], sign: Sign) -> Option<&'w [Word<'a>]>
-    ensures { option_map (λ rest. map word_of rest.now) result ≡ spec.after sign (map word_of words.now) }
+    ensures { option_map (λ rest. map word_of rest.now) result
+        ≡ spec.after sign (map word_of words.now) }
 {
     let [first, rest @ ..] = words else {
         return None;
@@ -43,7 +47,8 @@ fn after<'w, 'a>(words: &'w [Word<'a>], sign: Sign) -> Option<&'w [Word<'a>]>
 }
 
 fn name<'w, 'a>(words: &'w [Word<'a>]) -> Option<(&'a [u8], &'w [Word<'a>])>
-    ensures { option_map (λ p. (p.0.now, map word_of p.1.now)) result ≡ spec.name_at (map word_of words.now) }
+    ensures { option_map (λ p. (p.0.now, map word_of p.1.now)) result
+        ≡ spec.name_at (map word_of words.now) }
 {
     let [Word::Name(_, name), rest @ ..] = words else {
         return None;
@@ -78,7 +83,8 @@ fn value_of(digits: &[u8]) -> u64
 }
 
 fn decimal(text: &[u8]) -> Option<Decimal<'_>>
-    ensures { option_map (λ d. d.text.now) result ≡ (if spec.is_digits text.now then Some text.now else None) }
+    ensures { option_map (λ d. d.text.now) result
+        ≡ (if spec.is_digits text.now then Some text.now else None) }
 {
     if is_digits(text) {
         Some(Decimal {
@@ -91,7 +97,8 @@ fn decimal(text: &[u8]) -> Option<Decimal<'_>>
 }
 
 fn digits<'w, 'a>(words: &'w [Word<'a>]) -> Option<(Decimal<'a>, &'w [Word<'a>])>
-    ensures { option_map (λ p. (p.0.text.now, map word_of p.1.now)) result ≡ spec.digits_at (map word_of words.now) }
+    ensures { option_map (λ p. (p.0.text.now, map word_of p.1.now)) result
+        ≡ spec.digits_at (map word_of words.now) }
 {
     let [Word::Literal(_, text), rest @ ..] = words else {
         return None;
@@ -102,7 +109,8 @@ fn digits<'w, 'a>(words: &'w [Word<'a>]) -> Option<(Decimal<'a>, &'w [Word<'a>])
 /// Digits, or a minus and digits.
 #[tactic(auto, unfolding(crate::specs::Phrases::whole_at))]
 fn whole<'w, 'a>(words: &'w [Word<'a>]) -> Option<(i64, &'w [Word<'a>])>
-    ensures value { option_map (λ p. (p.0, map word_of p.1.now)) result ≡ spec.whole_at (map word_of words.now) }
+    ensures value { option_map (λ p. (p.0, map word_of p.1.now)) result
+        ≡ spec.whole_at (map word_of words.now) }
     ensures small { IfSome result (λ p. unsigned_abs p.0 < 10 ^ 18) }
 {
     if let Some(rest) = after(words, Sign::Minus) {
@@ -116,7 +124,8 @@ fn whole<'w, 'a>(words: &'w [Word<'a>]) -> Option<(i64, &'w [Word<'a>])>
 
 #[tactic(auto, unfolding(crate::specs::Phrases::hyp_at))]
 fn hyp<'w, 'a>(words: &'w [Word<'a>]) -> Option<(Hyp<'a>, &'w [Word<'a>])>
-    ensures { option_map (λ p. (bounds_of p.0, map word_of p.1.now)) result ≡ spec.hyp_at (map word_of words.now) }
+    ensures { option_map (λ p. (bounds_of p.0, map word_of p.1.now)) result
+        ≡ spec.hyp_at (map word_of words.now) }
 {
     let (name, rest) = name(words)?;
     let rest = after(rest, Sign::In)?;
@@ -133,7 +142,8 @@ fn hyp<'w, 'a>(words: &'w [Word<'a>]) -> Option<(Hyp<'a>, &'w [Word<'a>])>
 }
 
 fn atom<'w, 'a>(words: &'w [Word<'a>]) -> Option<(Atom<'a>, &'w [Word<'a>])>
-    ensures { option_map (λ p. (atom_of p.0, map word_of p.1.now)) result ≡ spec.atom_at (map word_of words.now) }
+    ensures { option_map (λ p. (atom_of p.0, map word_of p.1.now)) result
+        ≡ spec.atom_at (map word_of words.now) }
 {
     match words {
         [Word::Name(_, name), rest @ ..] => Some((Atom::Variable(name), rest)),
@@ -143,7 +153,8 @@ fn atom<'w, 'a>(words: &'w [Word<'a>]) -> Option<(Atom<'a>, &'w [Word<'a>])>
 }
 
 fn op<'w, 'a>(words: &'w [Word<'a>]) -> Option<(Op, &'w [Word<'a>])>
-    ensures { option_map (λ p. (p.0, map word_of p.1.now)) result ≡ spec.op_at (map word_of words.now) }
+    ensures { option_map (λ p. (p.0, map word_of p.1.now)) result
+        ≡ spec.op_at (map word_of words.now) }
 {
     let [first, rest @ ..] = words else {
         return None;
@@ -159,12 +170,13 @@ fn op<'w, 'a>(words: &'w [Word<'a>]) -> Option<(Op, &'w [Word<'a>])>
     }
 }
 
-/// The hypotheses up to where no `/\\` follows.
+/// The hypotheses up to where no `/\` follows.
 fn hyps<'w, 'a>(
     alloc: Global,
     words: &'w [Word<'a>],
 ) -> Result<Option<(Vec<Hyp<'a>>, &'w [Word<'a>])>, AllocError>
-    ensures { IfOk result (λ found. option_map (λ p. (map bounds_of p.0.items, map word_of p.1.now)) found
+    ensures { IfOk result (λ found.
+        option_map (λ p. (map bounds_of p.0.items, map word_of p.1.now)) found
         ≡ spec.hyps_at (map word_of words.now)) }
 {
     let mut hyps = Vec::new(alloc);
@@ -187,7 +199,8 @@ fn goal<'w, 'a>(
     alloc: Global,
     words: &'w [Word<'a>],
 ) -> Result<Option<(Atom<'a>, Vec<Step<'a>>, &'w [Word<'a>])>, AllocError>
-    ensures { IfOk result (λ found. option_map (λ p. ((atom_of p.0, map step_of p.1.items), map word_of p.2.now)) found
+    ensures { IfOk result (λ found.
+        option_map (λ p. ((atom_of p.0, map step_of p.1.items), map word_of p.2.now)) found
         ≡ spec.goal_at (map word_of words.now)) }
 {
     let mut steps = Vec::new(alloc);
@@ -207,7 +220,8 @@ fn goal<'w, 'a>(
 /// The words after `in ? }`.
 #[tactic(auto, unfolding(crate::specs::Reader::closing_at))]
 fn closing<'w, 'a>(words: &'w [Word<'a>]) -> Option<&'w [Word<'a>]>
-    ensures { option_map (λ rest. map word_of rest.now) result ≡ spec.closing_at (map word_of words.now) }
+    ensures { option_map (λ rest. map word_of rest.now) result
+        ≡ spec.closing_at (map word_of words.now) }
 {
     let rest = after(words, Sign::In)?;
     let rest = after(rest, Sign::Ask)?;
@@ -225,7 +239,8 @@ fn is_closing(words: &[Word]) -> bool
 
 #[tactic(auto, unfolding(crate::specs::Reader::script_at))]
 fn script<'a>(alloc: Global, words: &[Word<'a>]) -> Result<Option<Script<'a>>, AllocError>
-    ensures { IfOk result (λ found. option_map parts_of found ≡ spec.script_at (map word_of words.now)) }
+    ensures { IfOk result (λ found. option_map parts_of found
+        ≡ spec.script_at (map word_of words.now)) }
 {
     let Some(rest) = after(words, Sign::OpenBrace) else {
         return Ok(None);
@@ -272,7 +287,8 @@ fn is_plain(text: &[u8]) -> bool
     text.iter().all(|byte| *byte != b'#')
 }
 
-/// The script that the text spells, or none where it spells none of the small form. `Err` only where memory runs out.
+/// The script that the text spells, or none where it spells none of the small form.
+/// `Err` only where memory runs out.
 pub fn read<'a>(alloc: Global, text: &'a [u8]) -> Result<Option<Script<'a>>, AllocError>
     ensures { IfOk result (λ found. MatchOption found
         ((s : Said) → ¬ Spells text.now s)
@@ -280,7 +296,7 @@ pub fn read<'a>(alloc: Global, text: &'a [u8]) -> Result<Option<Script<'a>>, All
 {
     // A text is one list of words, so words that no tree spells refuse the text.
     words_once();
-    if text.len() > 4096 {
+    if text.len() > MOST_BYTES {
         return Ok(None);
     }
     if !is_plain(text) {

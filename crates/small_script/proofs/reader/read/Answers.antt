@@ -3,8 +3,8 @@ use Rattle.small_script.specs.Parts.{parts_of}
 use Rattle.small_script.proofs.Laws.{spelled-from_read, refused-from_none, refused-from_unsound, refused-from_words, refused-from_comment, refused-from_length}
 use Rattle.small_script.proofs.reader.read.Goals as goal
 
-pub returns-then-text-gt4096 : goal.returns-then-text-gt4096
-returns-then-text-gt4096 c = refused-from_length c.args.text.now (omega arith)
+pub returns-then-text-gt-MOST_BYTES : goal.returns-then-text-gt-MOST_BYTES
+returns-then-text-gt-MOST_BYTES c = refused-from_length c.args.text.now (omega arith)
 
 pub returns-then-not-is_plain : goal.returns-then-not-is_plain
 returns-then-not-is_plain c = refused-from_comment c.args.text.now (sym c.is_plain.ensures ∙ c.if-not-is_plain.true)
@@ -22,7 +22,7 @@ pub returns-then-is_sound : goal.returns-then-is_sound
 returns-then-is_sound c =
     let words = rw c.in-Some.is at c.in_ok-words.ensures in
     let read = rw (c.in-Some-2.is, c.as_slice.ensures.value) at c.in_ok-script.ensures in
-    spelled-from_read c.args.text.now _ (parts_of c.in-Some-2.script) c.if-text-gt4096.false (sym c.is_plain.ensures ∙ c.if-not-is_plain.false)
+    spelled-from_read c.args.text.now _ (parts_of c.in-Some-2.script) c.if-text-gt-MOST_BYTES.false (sym c.is_plain.ensures ∙ c.if-not-is_plain.false)
     words (sym read) (sym c.is_sound.ensures ∙ c.if-is_sound.true)
 
 pub returns : goal.returns
