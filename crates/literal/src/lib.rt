@@ -1,0 +1,15 @@
+//! Literals of scripts: their spellings, normal forms, and the powers of two that divide them.
+#![tactic(auto)]
+
+mod multiple;
+mod normal;
+mod number;
+mod reading;
+mod scan;
+#[cfg(test)]
+mod tests;
+
+pub use fx_model::Literal;
+pub use multiple::fix_of;
+pub use reading::{LiteralFault, read};
+pub use scan::{Form, Mark};

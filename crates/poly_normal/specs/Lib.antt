@@ -1,0 +1,5 @@
+pub mod Polynomial
+pub mod Form
+pub mod Mark
+pub mod Rows
+pub mod TermsOf

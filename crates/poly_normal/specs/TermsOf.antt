@@ -1,0 +1,8 @@
+-- The polynomial that a value of `Terms` stands for.
+use Rattle.std.specs.Prelude.{ℕ}
+use Rattle.poly_normal.specs.Polynomial.{Polynomial}
+use Rattle.poly_normal.specs.Rows.{rows, IsJoined}
+use Rattle.poly_normal.specs.declared.terms.Terms.{Terms}
+
+abbrev pub polynomial_of : Terms → Polynomial
+polynomial_of t = rows t.width t.coefficients.items t.powers.items
