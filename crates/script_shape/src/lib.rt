@@ -4,3 +4,5 @@
 pub mod due;
 pub mod shape;
 pub mod table;
+#[cfg(test)]
+mod tests;
