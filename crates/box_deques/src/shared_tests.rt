@@ -5,8 +5,8 @@ ghost use Rattle.box_deques.specs.Moments.{SamePasses};
 
 use crate::close::LaneEnd;
 use crate::hand::Hand;
-use crate::pool_hands::hands;
 use crate::lane::{Lane, pool};
+use crate::pool_hands::hands;
 use crate::task::Naming;
 use crate::tests::{Job, numbered};
 use crate::thief::Thief;
