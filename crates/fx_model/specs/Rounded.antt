@@ -31,7 +31,7 @@ abbrev pub is_positive_or_zero : Fraction → Bool
 is_positive_or_zero s = le_ℚ zero_ℚ s
 
 -- The whole number that a direction gives for s.
-pub whole_for : Direction → Fraction → ℤ
+unfoldable pub whole_for : Direction → Fraction → ℤ
 whole_for Dn s = floor s
 whole_for Up s = ceiling s
 whole_for Zr s = if is_positive_or_zero s then floor s else ceiling s
@@ -45,5 +45,5 @@ whole_for Nz s = if is_positive_or_zero s then near_low s else near_high s
 whole_for Na s = if is_positive_or_zero s then near_high s else near_low s
 
 -- x rounded to a multiple of 2^lsb.
-pub rounded : Direction → ℤ → Fraction → Fraction
+unfoldable pub rounded : Direction → ℤ → Fraction → Fraction
 rounded d lsb x = scaled (whole_for d (x *ℚ two_to (neg_ℤ lsb))) lsb

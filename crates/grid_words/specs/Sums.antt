@@ -1,0 +1,112 @@
+-- The best intervals of sums, differences and negatives.
+use Rattle.std.specs.Prelude.{◌≡◌}
+use Rattle.std.proofs.Common.{refl, sym, subst, ap, ◌∙◌}
+use Rattle.fx_model.specs.Fraction.{Fraction, ◌+ℚ◌, ◌-ℚ◌, neg_ℚ, neg-le, neg-neg}
+use Rattle.fx_model.specs.Grid.{Bound, Below, At, Above, neg_bound}
+use Rattle.fx_model.specs.Enclosure.{Range, IsFrom, IsUpTo, Lies, IsOrdered, Negations, Sums, Differences, IsNegation, IsSum, IsDifference, LowSum, HighSum, sum_is, member_of, ordered_by}
+use Rattle.grid_words.specs.Nearest.{down, up, down_is, up_is, neg_bound-neg}
+use Rattle.grid_words.specs.Outward.{outward, outward_exact, enclosure_ordered, enclosure_same}
+
+-- The lower end of the sums, and the upper.
+abbrev pub low_sum : Bound → Bound → Bound
+low_sum (At g) (At h) = down (g +ℚ h)
+low_sum (At g) Below = Below
+low_sum (At g) Above = Below
+low_sum Below c = Below
+low_sum Above c = Below
+
+abbrev pub high_sum : Bound → Bound → Bound
+high_sum (At g) (At h) = up (g +ℚ h)
+high_sum (At g) Below = Above
+high_sum (At g) Above = Above
+high_sum Below c = Above
+high_sum Above c = Above
+
+-- The best interval of the sums.
+pub sum_range : Range → Range → Range
+sum_range r s = record { low = low_sum r.low s.low; high = high_sum r.high s.high }
+
+-- The interval of the negatives, as it is.
+abbrev pub mirror : Range → Range
+mirror r = record { low = neg_bound r.high; high = neg_bound r.low }
+
+-- The best interval of the differences.
+pub difference_range : Range → Range → Range
+difference_range r s = sum_range r (mirror s)
+
+-- The best interval of the negatives.
+pub negation_range : Range → Range
+negation_range r = outward (mirror r)
+
+-- ---- the other side of 0
+from_neg : (b : Bound) (x : Fraction) → IsUpTo b x → IsFrom (neg_bound b) (neg_ℚ x)
+from_neg Below x h = h
+from_neg (At g) x h = neg-le x g h
+from_neg Above x h = tt
+
+up_to_neg : (b : Bound) (x : Fraction) → IsFrom b x → IsUpTo (neg_bound b) (neg_ℚ x)
+up_to_neg Below x h = tt
+up_to_neg (At g) x h = neg-le g x h
+up_to_neg Above x h = h
+
+pub lies_mirror : (r : Range) (x : Fraction) → Lies r x → Lies (mirror r) (neg_ℚ x)
+lies_mirror r x l = (from_neg r.high x l.1, up_to_neg r.low x l.0)
+
+pub mirror-mirror : (r : Range) → mirror (mirror r) ≡ r
+mirror-mirror r = λ i. record { low = neg_bound-neg r.low i; high = neg_bound-neg r.high i }
+
+pub lies_mirrored : (r : Range) (x : Fraction) → Lies (mirror r) x → Lies r (neg_ℚ x)
+lies_mirrored r x l = subst (λ s. Lies s (neg_ℚ x)) (mirror-mirror r) (lies_mirror (mirror r) x l)
+
+pub mirror_ordered : (r : Range) → IsOrdered r.low r.high → IsOrdered (neg_bound r.high) (neg_bound r.low)
+mirror_ordered r o = let m = member_of r.low r.high o in let l = lies_mirror r m.0 (m.1, m.2) in ordered_by (neg_bound r.high) (neg_bound r.low) (neg_ℚ m.0) l.0 l.1
+
+-- ---- sums
+low_sum_is : (b c : Bound) → LowSum b c (low_sum b c)
+low_sum_is (At g) (At h) = down_is (g +ℚ h)
+low_sum_is (At g) Below = refl
+low_sum_is (At g) Above = refl
+low_sum_is Below c = refl
+low_sum_is Above c = refl
+
+high_sum_is : (b c : Bound) → HighSum b c (high_sum b c)
+high_sum_is (At g) (At h) = up_is (g +ℚ h)
+high_sum_is (At g) Below = refl
+high_sum_is (At g) Above = refl
+high_sum_is Below c = refl
+high_sum_is Above c = refl
+
+module _ (r s : Range) (i : IsOrdered r.low r.high) (j : IsOrdered s.low s.high) where
+  pub sum_range_is : IsSum r s (sum_range r s)
+  unfolding sum_range
+  sum_range_is = let m = member_of r.low r.high i in let n = member_of s.low s.high j in
+      sum_is r s (sum_range r s) m.0 n.0 (m.1, m.2) (n.1, n.2) (low_sum_is r.low s.low) (high_sum_is r.high s.high)
+
+  pub sum_range_ordered : IsOrdered (sum_range r s).low (sum_range r s).high
+  sum_range_ordered = let m = member_of r.low r.high i in let n = member_of s.low s.high j in
+      enclosure_ordered (Sums r s) (sum_range r s) (m.0 +ℚ n.0) (m.0, n.0, (m.1, m.2), (n.1, n.2), refl) sum_range_is
+
+-- ---- differences: the sums with the negatives
+module _ (r s : Range) (i : IsOrdered r.low r.high) (j : IsOrdered s.low s.high) where
+  pub difference_range_is : IsDifference r s (difference_range r s)
+  unfolding difference_range
+  difference_range_is = enclosure_same (Sums r (mirror s)) (Differences r s) (difference_range r s)
+      (λ z d. (d.0, neg_ℚ d.1, d.2, lies_mirrored s d.1 d.3, d.4 ∙ ap (λ y. d.0 +ℚ y) (sym (neg-neg d.1))))
+      (λ z d. (d.0, neg_ℚ d.1, d.2, lies_mirror s d.1 d.3, d.4))
+      (sum_range_is r (mirror s) i (mirror_ordered s j))
+
+  pub difference_range_ordered : IsOrdered (difference_range r s).low (difference_range r s).high
+  difference_range_ordered = let m = member_of r.low r.high i in let n = member_of s.low s.high j in
+      enclosure_ordered (Differences r s) (difference_range r s) (m.0 -ℚ n.0) (m.0, n.0, (m.1, m.2), (n.1, n.2), refl) difference_range_is
+
+-- ---- negatives
+module _ (r : Range) (o : IsOrdered r.low r.high) where
+  pub negation_range_is : IsNegation r (negation_range r)
+  unfolding negation_range
+  negation_range_is = outward_exact (Negations r) (mirror r) (mirror_ordered r o)
+      (λ z l. (neg_ℚ z, lies_mirrored r z l, sym (neg-neg z)))
+      (λ z n. subst (λ y. Lies (mirror r) y) (sym n.2) (lies_mirror r n.0 n.1))
+
+  pub negation_range_ordered : IsOrdered (negation_range r).low (negation_range r).high
+  negation_range_ordered = let m = member_of r.low r.high o in
+      enclosure_ordered (Negations r) (negation_range r) (neg_ℚ m.0) (m.0, (m.1, m.2), refl) negation_range_is
