@@ -1,12 +1,12 @@
 -- Numbers in canonical form.
-use Rattle.std.proofs.Common.{◌≡◌, ℕ, ℤ, pos, negsuc, ◌+ℤ◌, ◌≤ℤ◌, ◌<◌, ◌*◌, ◌+◌, ◌%◌, ◌^◌, arith, ap, sym, subst, ◌∙◌, refl, Bool, true, false, inl, inr, ⊎_elim}
+use Rattle.std.proofs.Common.{◌≡◌, ℕ, ℤ, pos, negsuc, ◌+ℤ◌, ◌≤ℤ◌, ◌<◌, ◌*◌, ◌+◌, ◌%◌, ◌^◌, arith, ap, sym, subst, ◌∙◌, Bool, true, false, inl, inr, ⊎_elim}
 use Rattle.std.specs.Int.RustNames.{unsigned_abs}
 use Rattle.std.proofs.lemmas.Int.{ints}
 use lib.IntN.{neg_ℤ}
 use Rattle.fx_model.specs.Fraction.{Fraction, neg_ℚ, neg-neg}
 use Rattle.fx_model.specs.Powers.{scaled, scaled-shift, scaled-zero}
-use Rattle.fx_model.specs.Grid.{IsOnGrid, IsOnGrid-neg, scaled-neg, Below, At, Above, IsDown, IsUp, IsDown-neg, IsUp-neg, signed}
-use Rattle.fx_model.specs.Cut.{Cuts, Full, on_grid, down_is, up_is, up_is_exact}
+use Rattle.fx_model.specs.Grid.{IsOnGrid, scaled-neg, Below, At, Above, IsDown, IsUp, IsDown-neg, IsUp-neg, signed}
+use Rattle.fx_model.specs.Cut.{Cuts, Full, down_is, up_is, up_is_exact}
 use Rattle.dyadic.specs.Canonical.{IsCanonical}
 
 pub value_neg : (m e m' e' : ℤ) → m' ≡ neg_ℤ m → e' ≡ e → scaled m' e' ≡ neg_ℚ (scaled m e)
@@ -18,7 +18,7 @@ IsCanonical-neg m e m' e' p q c = let s = c.size in let l = c.lowest in let h = 
   size = omega (arith, ints);
   lowest = omega (arith, ints);
   highest = omega (arith, ints);
-  grid = subst IsOnGrid (sym (value_neg m e m' e' p q)) (IsOnGrid-neg (scaled m e) c.grid);
+  room = λ k h. let r : unsigned_abs m' ≡ unsigned_abs m = omega (arith, ints) in subst (λ n. n * 2 ^ k < 1152921504606846976) (sym r) (c.room k (sym q ∙ h));
 }
 
 pub strip_value : (odd shift digits : ℕ) (two m e : ℤ) → odd * 2 ^ shift ≡ digits → m ≡ pos odd → e ≡ two +ℤ pos shift → scaled m e ≡ scaled (pos digits) two
@@ -26,15 +26,6 @@ strip_value odd shift digits two m e f g h = ap (λ m. scaled m e) g ∙ ap (sca
 
 pub zero_value : (digits : ℕ) (two : ℤ) → digits ≡ 0 → scaled (pos 0) (pos 0) ≡ scaled (pos digits) two
 zero_value digits two z = scaled-zero (pos 0) ∙ sym (scaled-zero two) ∙ ap (λ n. scaled (pos n) two) (sym z)
-
-pub zero_canonical : IsCanonical (pos 0) (pos 0)
-zero_canonical = record {
-  form = inl (refl, refl);
-  size = omega arith;
-  lowest = omega (arith, ints);
-  highest = omega (arith, ints);
-  grid = on_grid 0 (pos 0) (omega arith) (omega (arith, ints)) (omega (arith, ints));
-}
 
 -- ---- a cut that is rounded, at the number that is made of it
 pub down_at : (x : Fraction) (q : ℕ) (e : ℤ) (i : Bool) → Cuts x q e i → Full q e → q < 1152921504606846976 → negsuc 511 ≤ℤ e → e ≤ℤ pos 512 → (y : Fraction) (f : ℤ) → y ≡ scaled (pos q) f → f ≡ e → IsDown x (At y)

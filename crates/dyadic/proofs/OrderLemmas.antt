@@ -12,9 +12,8 @@ use Rattle.std.specs.Cmp.{tied_itself}
 use borrow.Author.Differences.{product_is}
 use Rattle.fx_model.specs.Fraction.{Fraction, le_ℚ, ◌≤ℚ◌, ◌<ℚ◌, le_refl}
 use Rattle.fx_model.specs.Powers.{scaled, scaled-le, scaled-lt, scaled-shift}
-use Rattle.fx_model.specs.Grid.{Binary, value_of}
-use Rattle.dyadic.specs.Canonical.{IsCanonical}
-use Rattle.dyadic.proofs.GridLemmas.{same_scaled, canonical_same}
+use Rattle.dyadic.specs.declared.number.Dyadic.{Dyadic}
+use Rattle.dyadic.specs.Values.{value_of}
 use Rattle.fx_model.specs.Enclosure.{BoundLe}
 use Rattle.dyadic.specs.declared.number.End.{End}
 use Rattle.dyadic.specs.Ends.{bound_of}
@@ -47,7 +46,7 @@ scaled_cmp m n e = by_lt_z m n
     (λ k. value_greater (scaled m e) (scaled n e) (scaled-lt n m e k) ∙ sym (int_greater m n k))
     (λ k. let h : m ≡ n = omega (arith, ints) in value_equal (scaled m e) (scaled n e) (ap (λ m. scaled m e) h) ∙ sym (int_equal m n h)))
 
-pub value_cmp_at : (a b : Binary) (gap : ℕ) → a.exponent ≡ b.exponent +ℤ pos gap → value_cmp a b ≡ int_cmp (a.mantissa *ℤ pos (2 ^ gap)) b.mantissa
+pub value_cmp_at : (a b : Dyadic) (gap : ℕ) → a.exponent ≡ b.exponent +ℤ pos gap → value_cmp a b ≡ int_cmp (a.mantissa *ℤ pos (2 ^ gap)) b.mantissa
 value_cmp_at a b gap e = ap (λ x. cmp_by le_ℚ x (value_of b)) (ap (scaled a.mantissa) e ∙ scaled-shift a.mantissa b.exponent gap) ∙ scaled_cmp (a.mantissa *ℤ pos (2 ^ gap)) b.mantissa b.exponent
 
 -- ---- past 60 places the sign of the higher decides
@@ -81,25 +80,14 @@ tied Less e = cc
 tied Equal e = refl
 tied Greater e = cc
 
-pub same_test : (a b : Binary) (s : Bool) → Decides s (value_of a ≡ value_of b) → s ≡ eq_by_cmp value_cmp a b
+pub same_test : (a b : Dyadic) (s : Bool) → Decides s (value_of a ≡ value_of b) → s ≡ eq_by_cmp value_cmp a b
 same_test a b s d = one_answer s (eq_by_cmp value_cmp a b) d (
   λ e. value_cmp-equal a b (tied (value_cmp a b) e),
   λ e. ap is_eq (value_equal (value_of a) (value_of b) e),
 )
 
--- ---- one value, by mantissas and exponents as they are kept
-module _ (a b : Binary) (m e n f : ℤ) (u : record { mantissa = m; exponent = e } ≡ a) (v : record { mantissa = n; exponent = f } ≡ b) where
-  pub value_in : m ≡ n → e ≡ f → value_of a ≡ value_of b
-  value_in p q = ap value_of (sym u) ∙ same_scaled n f m e p q ∙ ap value_of v
-
-  pub value_out : IsCanonical m e → IsCanonical n f → value_of a ≡ value_of b → (m ≡ n) × (e ≡ f)
-  value_out c d h = canonical_same m e n f c d (ap value_of u ∙ h ∙ ap value_of (sym v))
-
-  pub number_out : IsCanonical m e → IsCanonical n f → value_of a ≡ value_of b → a ≡ b
-  number_out c d h = let s = value_out c d h in sym u ∙ (λ i. record { mantissa = s.0 i; exponent = s.1 i }) ∙ v
-
 -- ---- the steps of the code, by the numbers that they compute
-pub compared : (a b : Binary) (h l : ℤ) (gap : ℕ) (r : Ordering) → h ≡ a.mantissa → l ≡ b.mantissa → a.exponent ≡ b.exponent +ℤ pos gap → r ≡ int_cmp (h *ℤ pos (2 ^ gap)) l → r ≡ value_cmp a b
+pub compared : (a b : Dyadic) (h l : ℤ) (gap : ℕ) (r : Ordering) → h ≡ a.mantissa → l ≡ b.mantissa → a.exponent ≡ b.exponent +ℤ pos gap → r ≡ int_cmp (h *ℤ pos (2 ^ gap)) l → r ≡ value_cmp a b
 compared a b h l gap r p q e f = f ∙ ap (λ h. int_cmp (h *ℤ pos (2 ^ gap)) l) p ∙ ap (int_cmp (a.mantissa *ℤ pos (2 ^ gap))) q ∙ sym (value_cmp_at a b gap e)
 
 pub compared_far : (h h' x l l' : ℤ) (gap k : ℕ) (r : Ordering) → x ≡ (h' *ℤ pos (2 ^ k)) → h' ≡ h → k ≡ min gap 60 → l' ≡ l → unsigned_abs l < 1152921504606846976 → r ≡ int_cmp x l' → r ≡ int_cmp (h *ℤ pos (2 ^ gap)) l

@@ -4,10 +4,12 @@ use Rattle.std.specs.Int.RustNames.{int_lt, unsigned_abs}
 use mathlib.Core.Bool.{beq, xor}
 use Rattle.fx_model.specs.Fraction.{Fraction, ◌*ℚ◌}
 use Rattle.fx_model.specs.Powers.{whole, scaled}
-use Rattle.fx_model.specs.Grid.{Binary, value_of, signed, signed-mul, signed-size, scaled-mul}
+use Rattle.fx_model.specs.Grid.{signed, signed-mul, signed-size, scaled-mul}
+use Rattle.dyadic.specs.declared.number.Dyadic.{Dyadic}
+use Rattle.dyadic.specs.Values.{value_of}
 use Rattle.fx_model.specs.Cut.{Cuts}
 
-pub product_size : (a b : Binary) (s t : Bool) (digits : ℕ) (two : ℤ) → s ≡ int_lt a.mantissa (pos 0) → t ≡ int_lt b.mantissa (pos 0)
+pub product_size : (a b : Dyadic) (s t : Bool) (digits : ℕ) (two : ℤ) → s ≡ int_lt a.mantissa (pos 0) → t ≡ int_lt b.mantissa (pos 0)
     → digits ≡ unsigned_abs a.mantissa * unsigned_abs b.mantissa → two ≡ a.exponent +ℤ b.exponent → signed (not (beq s t)) (value_of a *ℚ value_of b) ≡ scaled (pos digits) two
 unfolding xor
 product_size a b s t digits two p q f g = signed-mul s t (value_of a) (value_of b)

@@ -13,7 +13,9 @@ use Rattle.dyadic.proofs.NumberLemmas.{same_cut}
 use lib.Dec.{lt→ltb, T}
 use Rattle.fx_model.specs.Fraction.{Fraction, ◌+ℚ◌, ◌*ℚ◌, neg_ℚ, neg-neg, neg-add, mul_comm, mul-add, zero-add}
 use Rattle.fx_model.specs.Powers.{whole, two_to, scaled, whole-add, scaled-shift, scaled-zero}
-use Rattle.fx_model.specs.Grid.{Binary, value_of, signed, signed-size, scaled-neg}
+use Rattle.fx_model.specs.Grid.{signed, signed-size, scaled-neg}
+use Rattle.dyadic.specs.declared.number.Dyadic.{Dyadic}
+use Rattle.dyadic.specs.Values.{value_of}
 use Rattle.fx_model.specs.Cut.{Cuts}
 use Rattle.dyadic.proofs.CutLemmas.{narrow_cuts}
 
@@ -135,7 +137,7 @@ module _ (am ae bm be : ℤ) (s t : Bool) (gap : ℕ) (p : s ≡ int_lt am (pos 
       by false z = plus z (signed s (scaled am ae +ℚ scaled bm be)) (sum_plus am ae bm be s t gap p q r (h ∙ z) ∙ ap (λ n. scaled (pos n) be) (let w = whole in omega arith) ∙ ap (scaled (pos (top * 2 ^ lost + low))) (sym c))
       by true z = minus z (signed s (scaled am ae +ℚ scaled bm be)) (sum_minus am ae bm be s t gap p q r (h ∙ z) (let w = whole in let v = fits in omega arith) ∙ ap (λ n. scaled (pos n) be) (let w = whole in omega arith) ∙ ap (scaled (pos (top * 2 ^ lost - low))) (sym c))
 
-pub terms_are : (a b : Binary) (am ae bm be : ℤ) → am ≡ a.mantissa → ae ≡ a.exponent → bm ≡ b.mantissa → be ≡ b.exponent → scaled am ae +ℚ scaled bm be ≡ value_of a +ℚ value_of b
+pub terms_are : (a b : Dyadic) (am ae bm be : ℤ) → am ≡ a.mantissa → ae ≡ a.exponent → bm ≡ b.mantissa → be ≡ b.exponent → scaled am ae +ℚ scaled bm be ≡ value_of a +ℚ value_of b
 terms_are a b am ae bm be p q r s = cc
 
 -- at one place the mantissas add up

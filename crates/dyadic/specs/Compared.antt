@@ -5,9 +5,11 @@ use Rattle.std.specs.declared.cmp.Ordering.{Ordering}
 use Rattle.std.specs.declared.cmp.Ordering.TheVariants.{Less, Equal, Greater}
 use Rattle.std.specs.Ordering.{is_le, is_lt}
 use Rattle.fx_model.specs.Fraction.{le_ℚ, ◌≤ℚ◌, ◌<ℚ◌, le_antisymm, lt_le}
-use Rattle.fx_model.specs.Grid.{Binary, value_of, Bound, Below, At, Above}
+use Rattle.fx_model.specs.Grid.{Bound, Below, At, Above}
 use Rattle.fx_model.specs.Enclosure.{BoundLe}
+use Rattle.dyadic.specs.declared.number.Dyadic.{Dyadic}
 use Rattle.dyadic.specs.declared.number.End.{End}
+use Rattle.dyadic.specs.Values.{value_of}
 use Rattle.dyadic.specs.Ends.{bound_of}
 use Rattle.dyadic.specs.Order.{value_cmp, le_bound, end_cmp, less_out, equal_out}
 
@@ -35,10 +37,10 @@ le_test true true = refl
 le_test true false = refl
 le_test false t = refl
 
-pub value_cmp-le : (a b : Binary) → is_le (value_cmp a b) ≡ true → value_of a ≤ℚ value_of b
+pub value_cmp-le : (a b : Dyadic) → is_le (value_cmp a b) ≡ true → value_of a ≤ℚ value_of b
 value_cmp-le a b e = record { le = sym (le_test (le_ℚ (value_of a) (value_of b)) (le_ℚ (value_of b) (value_of a))) ∙ e }
 
-pub le-value_cmp : (a b : Binary) → value_of a ≤ℚ value_of b → is_le (value_cmp a b) ≡ true
+pub le-value_cmp : (a b : Dyadic) → value_of a ≤ℚ value_of b → is_le (value_cmp a b) ≡ true
 le-value_cmp a b l = le_test (le_ℚ (value_of a) (value_of b)) (le_ℚ (value_of b) (value_of a)) ∙ l.le
 
 less_test : (r : Ordering) → is_lt r ≡ true → r ≡ Less
@@ -46,16 +48,16 @@ less_test Less e = refl
 less_test Equal e = cc
 less_test Greater e = cc
 
-pub value_cmp-less : (a b : Binary) → value_cmp a b ≡ Less → value_of a <ℚ value_of b
+pub value_cmp-less : (a b : Dyadic) → value_cmp a b ≡ Less → value_of a <ℚ value_of b
 value_cmp-less a b e = record { lt = (less_out (le_ℚ (value_of a) (value_of b)) (le_ℚ (value_of b) (value_of a)) e).1 }
 
-pub value_cmp-lt : (a b : Binary) → is_lt (value_cmp a b) ≡ true → value_of a <ℚ value_of b
+pub value_cmp-lt : (a b : Dyadic) → is_lt (value_cmp a b) ≡ true → value_of a <ℚ value_of b
 value_cmp-lt a b e = value_cmp-less a b (less_test (value_cmp a b) e)
 
-pub lt-value_cmp : (a b : Binary) → value_of a <ℚ value_of b → is_lt (value_cmp a b) ≡ true
+pub lt-value_cmp : (a b : Dyadic) → value_of a <ℚ value_of b → is_lt (value_cmp a b) ≡ true
 lt-value_cmp a b l = let h : value_of a ≤ℚ value_of b = lt_le (value_of a) (value_of b) l in rw (h.le, l.lt)
 
-pub value_cmp-equal : (a b : Binary) → value_cmp a b ≡ Equal → value_of a ≡ value_of b
+pub value_cmp-equal : (a b : Dyadic) → value_cmp a b ≡ Equal → value_of a ≡ value_of b
 value_cmp-equal a b e = let p = equal_out (le_ℚ (value_of a) (value_of b)) (le_ℚ (value_of b) (value_of a)) e in
     le_antisymm (value_of a) (value_of b) (record { le = p.0 }) (record { le = p.1 })
 

@@ -2,7 +2,11 @@ pub mod Canonical
 pub mod Compared
 pub mod Cut
 pub mod Ends
+pub mod Extremes
+pub mod Made
 pub mod Middle
+pub mod Odd
 pub mod Order
 pub mod Rising
 pub mod Texts
+pub mod Values

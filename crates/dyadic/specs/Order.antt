@@ -6,8 +6,10 @@ use Rattle.std.specs.declared.cmp.Ordering.TheVariants.{Less, Equal, Greater}
 use Rattle.std.specs.Ordering.{ordering_reverse}
 use Rattle.std.specs.Cmp.{IsTotalOrder, both_ways, on_total}
 use Rattle.fx_model.specs.Fraction.{Fraction, le_ℚ, le_total, le_trans}
-use Rattle.fx_model.specs.Grid.{Binary, value_of, Bound, Below, At, Above}
+use Rattle.fx_model.specs.Grid.{Bound, Below, At, Above}
+use Rattle.dyadic.specs.declared.number.Dyadic.{Dyadic}
 use Rattle.dyadic.specs.declared.number.End.{End}
+use Rattle.dyadic.specs.Values.{value_of}
 use Rattle.dyadic.specs.Ends.{bound_of}
 
 -- how two values compare, from the test of "at most"
@@ -15,7 +17,7 @@ abbrev pub cmp_by : {K : Type 0} → (K → K → Bool) → K → K → Ordering
 cmp_by le x y = cond (le x y) (cond (le y x) Equal Less) Greater
 
 -- how two numbers compare: as the fractions that they stand for
-abbrev pub value_cmp : Binary → Binary → Ordering
+abbrev pub value_cmp : Dyadic → Dyadic → Ordering
 value_cmp a b = cmp_by le_ℚ (value_of a) (value_of b)
 
 -- minus infinity is at most everything, and everything at most plus infinity
@@ -83,7 +85,7 @@ pub value_cmp_total : IsTotalOrder value_cmp
 value_cmp_total = on_total value_of (cmp_by_total le_ℚ fraction_total fraction_trans)
 
 -- ---- bounds
-bound_total : (b c : Bound) → le_bound b c ≡ false → le_bound c b ≡ true
+pub bound_total : (b c : Bound) → le_bound b c ≡ false → le_bound c b ≡ true
 bound_total Below c e = cc
 bound_total (At g) Below e = refl
 bound_total (At g) (At h) e = fraction_total g h e
@@ -92,7 +94,7 @@ bound_total Above Below e = refl
 bound_total Above (At h) e = refl
 bound_total Above Above e = cc
 
-bound_trans : (b c d : Bound) → le_bound b c ≡ true → le_bound c d ≡ true → le_bound b d ≡ true
+pub bound_trans : (b c d : Bound) → le_bound b c ≡ true → le_bound c d ≡ true → le_bound b d ≡ true
 bound_trans Below c d p q = refl
 bound_trans (At g) Below d p q = cc
 bound_trans (At g) (At h) Below p q = cc

@@ -1,12 +1,12 @@
 -- Numbers of the grid as they are printed: `m`, or `mbe` for m * 2^e.
-use Rattle.std.specs.Prelude.{ℤ, pos, ◌++◌, ◌∷◌, List, ℕ, codes, if◌then◌else◌}
+use Rattle.std.specs.Prelude.{pos, ◌++◌, List, ℕ, codes, if◌then◌else◌}
 use Rattle.std.specs.Ordering.{int_eq}
 use Rattle.std.specs.Fmt.{signed_decimal}
-use Rattle.fx_model.specs.Grid.{Binary}
+use Rattle.dyadic.specs.declared.number.Dyadic.{Dyadic}
 use Rattle.dyadic.specs.declared.number.End.{End}
 use Rattle.dyadic.specs.declared.number.End.TheVariants.{Low, At, High}
 
-abbrev pub number_text : Binary → List ℕ
+abbrev pub number_text : Dyadic → List ℕ
 number_text d = if int_eq d.exponent (pos 0) then signed_decimal d.mantissa else signed_decimal d.mantissa ++ codes "b" ++ signed_decimal d.exponent
 
 abbrev pub end_text : End → List ℕ

@@ -2,7 +2,6 @@
 #![tactic(auto)]
 
 mod cut;
-mod law;
 mod middle;
 mod number;
 mod order;
@@ -15,9 +14,8 @@ mod sums;
 mod tests;
 mod text;
 
-pub use law::{canonical_form_is_unique, has_canonical_form};
 pub use middle::{halve_between, part_down};
-pub use number::{Dyadic, End, same_number};
+pub use number::{Dyadic, End};
 pub use order::{greater, lesser};
 pub use points::Points;
 pub use products::{div_down, div_up, mul_down, mul_up, ratio_down, ratio_up};

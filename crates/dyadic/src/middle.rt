@@ -2,10 +2,11 @@
 ghost use Rattle.std.specs.Prelude.{◌≡◌, ◌≢◌, ◌⊎◌, ◌≤◌, ◌<◌, ◌-◌, ◌*◌, ◌*ℤ◌, ◌≤ℤ◌, pos, negsuc, MatchOption};
 ghost use Rattle.std.specs.Int.RustNames.{unsigned_abs};
 ghost use Rattle.fx_model.specs.Fraction.{Fraction, ◌≤ℚ◌, ◌<ℚ◌};
-ghost use Rattle.fx_model.specs.Grid.{value_of, IsDown, IsUp};
+ghost use Rattle.fx_model.specs.Grid.{IsDown, IsUp};
 ghost use Rattle.fx_model.specs.Grid as grid;
 ghost use Rattle.dyadic.specs.Cut.{IsLong, IsSigned};
 ghost use Rattle.dyadic.specs.Middle.{halfway, part_of, IsMiddle, IsBetween};
+ghost use Rattle.dyadic.specs.Values.{value_of};
 
 use crate::cut::Cut;
 use crate::number::{Dyadic, End};
@@ -20,7 +21,6 @@ fn down_from(low: Dyadic, value: Signed) -> Dyadic
     requires most { value.size.two ≤ℤ pos 3000 }
     ensures { (x : Fraction) → IsSigned value x → value_of low ≤ℚ x → IsDown x (grid.At (value_of result)) }
 {
-    low.on_grid();
     match round_down(value.negative, value.size) {
         End::At(number) => number,
         End::Low => low,
@@ -35,7 +35,6 @@ fn up_to(high: Dyadic, value: Signed) -> Dyadic
     requires most { value.size.two ≤ℤ pos 3000 }
     ensures { (x : Fraction) → IsSigned value x → x ≤ℚ value_of high → IsUp x (grid.At (value_of result)) }
 {
-    high.on_grid();
     match round_up(value.negative, value.size) {
         End::At(number) => number,
         End::Low => high,
@@ -64,7 +63,6 @@ pub fn halve_between(a: Dyadic, b: Dyadic) -> Option<Dyadic>
     ensures { MatchOption result ((g : Fraction) → ¬ (IsBetween (value_of a) (value_of b) g))
         (λ m. (IsBetween (value_of a) (value_of b) (value_of m) × IsMiddle (value_of a) (value_of b) (value_of m))) }
 {
-    a.on_grid();
     let half = half_sum(a, b);
     let lower = down_from(a, half);
     if a.is_below(lower) {

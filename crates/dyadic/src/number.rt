@@ -1,29 +1,19 @@
 ghost use Rattle.std.specs.Prelude.{◌≡◌, ◌⊎◌, ◌↔◌, ◌≤◌, ◌<◌, ◌*◌, ◌%◌, ◌^◌, ◌≤ℤ◌, ◌+ℤ◌, pos, negsuc, IsTrue, MatchOption};
 ghost use Rattle.std.specs.Int.RustNames.{unsigned_abs, int_lt};
-ghost use Rattle.fx_model.specs.Fraction.{neg_ℚ, zero_ℚ};
 ghost use Rattle.fx_model.specs.Powers.{scaled};
-ghost use Rattle.fx_model.specs.Grid.{IsOnGrid, value_of};
+ghost use Rattle.fx_model.specs.Grid.{IsOnGrid};
+ghost use Rattle.dyadic.specs.Canonical.{IsCanonical, IsCanonical-prop};
 
-use std::marker::Model;
+mod form;
+
+pub use form::{canonical, zero};
 
 /// A number of the grid, mantissa * 2^exponent, with an odd mantissa or 0 * 2^0.
 #[derive(Clone, Copy, Debug)]
 pub struct Dyadic {
     mantissa: i64,
     exponent: i32,
-}
-
-impl Model for Dyadic {
-    ghost use Rattle.fx_model.specs.Grid.{Binary};
-    ghost use Rattle.dyadic.specs.Canonical.{IsCanonical};
-
-    ghost Value = { Binary };
-
-    ghost view = { λ d. record { mantissa = d.mantissa; exponent = d.exponent } };
-
-    ghost invariant = { λ d. IsCanonical d.mantissa d.exponent };
-
-    ghost inverse = { λ b. record { mantissa = b.mantissa; exponent = b.exponent } };
+    pub ghost canonical: { IsCanonical mantissa exponent } by { IsCanonical-prop mantissa exponent },
 }
 
 /// An end of an interval: minus infinity, a number of the grid, or plus infinity.
@@ -94,6 +84,9 @@ fn room_at(place: i64) -> u32
 }
 
 impl Dyadic {
+    ghost use Rattle.fx_model.specs.Fraction.{neg_ℚ, zero_ℚ};
+    ghost use Rattle.dyadic.specs.Values.{value_of};
+
     /// The number m * 2^e. None exactly where that is off the grid.
     pub fn new(m: i64, e: i32) -> Option<Dyadic>
         ensures { MatchOption result (¬ (IsOnGrid (scaled m e))) (λ d. value_of d ≡ scaled m e) }
@@ -119,13 +112,6 @@ impl Dyadic {
         ensures high { result ≤ℤ pos 571 }
     {
         self.exponent
-    }
-
-    /// Nothing is done. The clause tells a caller that each number is on the grid.
-    pub fn on_grid(self)
-        ensures { IsOnGrid (value_of self) }
-    {
-        let _ = &self.mantissa;
     }
 
     /// Whether the two have one value.
@@ -165,38 +151,4 @@ impl Dyadic {
             None
         }
     }
-}
-
-// The number 0.
-pub fn zero() -> Dyadic
-    ensures { result ≡ record { mantissa = pos 0; exponent = pos 0 } }
-{
-    Dyadic {
-        mantissa: 0,
-        exponent: 0,
-    }
-}
-
-// The number digits * 2^two in its canonical form.
-pub fn canonical(digits: u64, two: i32) -> Dyadic
-    requires { IsOnGrid (scaled (pos digits) two) }
-    ensures { value_of result ≡ scaled (pos digits) two }
-{
-    if digits == 0 {
-        return zero();
-    }
-    let part = odd_part(digits);
-    Dyadic {
-        mantissa: part.odd as i64,
-        exponent: two + part.shift as i32,
-    }
-}
-
-/// Nothing is done. The clause tells a caller that equal values are of one and the same number.
-pub fn same_number(a: Dyadic, b: Dyadic)
-    requires { value_of a ≡ value_of b }
-    ensures { a ≡ b }
-{
-    let _ = &a.mantissa;
-    let _ = &b.mantissa;
 }

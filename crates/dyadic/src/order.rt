@@ -6,10 +6,11 @@ ghost use Rattle.std.specs.Cmp.{partial_order_from_own_ties, eq_by_cmp_equiv, on
 ghost use Rattle.std.specs.Cmp.Rules.{comparing};
 ghost use Rattle.std.specs.Ordering.{as_partial_cmp, eq_by_cmp, int_cmp, on};
 ghost use Rattle.fx_model.specs.Fraction.{◌≤ℚ◌, ◌<ℚ◌};
-ghost use Rattle.fx_model.specs.Grid.{value_of};
 ghost use Rattle.fx_model.specs.Enclosure.{BoundLe};
 ghost use Rattle.dyadic.specs.Ends.{bound_of};
+ghost use Rattle.dyadic.specs.Extremes.{greater_end, lesser_end};
 ghost use Rattle.dyadic.specs.Order.{value_cmp, value_cmp_total, end_cmp, end_cmp_total};
+ghost use Rattle.dyadic.specs.Values.{value_of};
 
 use crate::number::{Dyadic, End};
 use crate::shift::shifted;
@@ -176,6 +177,7 @@ pub fn lesser(a: End, b: End) -> End
     ensures one { (result ≡ a) ⊎ (result ≡ b) }
     ensures first { BoundLe (bound_of result) (bound_of a) }
     ensures second { BoundLe (bound_of result) (bound_of b) }
+    ensures is { result ≡ lesser_end a b }
 {
     a.min(b)
 }
@@ -185,6 +187,7 @@ pub fn greater(a: End, b: End) -> End
     ensures one { (result ≡ a) ⊎ (result ≡ b) }
     ensures first { BoundLe (bound_of a) (bound_of result) }
     ensures second { BoundLe (bound_of b) (bound_of result) }
+    ensures is { result ≡ greater_end a b }
 {
     a.max(b)
 }

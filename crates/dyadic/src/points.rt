@@ -14,9 +14,9 @@ pub struct Points {
 
 impl Model for Points {
     ghost use Rattle.std.specs.Prelude.{List};
-    ghost use Rattle.fx_model.specs.Grid.{Binary};
+    ghost use Rattle.dyadic.specs.declared.number.Dyadic.{Dyadic};
 
-    ghost Value = { List Binary };
+    ghost Value = { List Dyadic };
 
     ghost use Rattle.dyadic.specs.Rising.{points_in, IsPadded, fields_of, fields_of_points};
 

@@ -3,9 +3,10 @@ ghost use Rattle.std.specs.Prelude.{◌≡◌, ◌≢◌, ◌⊎◌, ◌≤◌, 
 ghost use Rattle.std.specs.Int.RustNames.{unsigned_abs, int_lt};
 ghost use Rattle.fx_model.specs.Fraction.{Fraction, ◌*ℚ◌, ◌/ℚ◌, zero_ℚ};
 ghost use Rattle.fx_model.specs.Powers.{whole, scaled};
-ghost use Rattle.fx_model.specs.Grid.{value_of, IsDown, IsUp};
+ghost use Rattle.fx_model.specs.Grid.{IsDown, IsUp};
 ghost use Rattle.dyadic.specs.Cut.{IsLong, IsSigned};
 ghost use Rattle.dyadic.specs.Ends.{bound_of};
+ghost use Rattle.dyadic.specs.Values.{value_of};
 
 use crate::cut::Cut;
 use crate::number::{Dyadic, End};

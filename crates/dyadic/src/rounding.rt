@@ -1,10 +1,11 @@
 // Rounding a cut value to the grid.
 ghost use Rattle.std.specs.Prelude.{◌≡◌, ◌⊎◌, ◌≤◌, ◌<◌, ◌≤ℤ◌, pos, negsuc};
 ghost use Rattle.fx_model.specs.Fraction.{Fraction, ◌≤ℚ◌};
-ghost use Rattle.fx_model.specs.Grid.{value_of, IsDown, IsUp, signed};
+ghost use Rattle.fx_model.specs.Grid.{IsDown, IsUp, signed};
 ghost use Rattle.fx_model.specs.Grid as grid;
 ghost use Rattle.dyadic.specs.Cut.{IsLong, IsSize};
 ghost use Rattle.dyadic.specs.Ends.{bound_of, upper};
+ghost use Rattle.dyadic.specs.Values.{value_of};
 
 use crate::cut::Cut;
 use crate::number::{Dyadic, End, canonical};

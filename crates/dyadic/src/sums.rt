@@ -3,9 +3,10 @@ ghost use Rattle.std.specs.Prelude.{◌≡◌, ◌≢◌, ◌⊎◌, ◌+◌, �
 ghost use Rattle.std.specs.Int.RustNames.{unsigned_abs, int_lt};
 ghost use Rattle.fx_model.specs.Fraction.{Fraction, ◌+ℚ◌};
 ghost use Rattle.fx_model.specs.Powers.{scaled};
-ghost use Rattle.fx_model.specs.Grid.{value_of, IsDown, IsUp, signed};
+ghost use Rattle.fx_model.specs.Grid.{IsDown, IsUp, signed};
 ghost use Rattle.dyadic.specs.Cut.{IsPlenty, IsSigned, IsSize, term_value};
 ghost use Rattle.dyadic.specs.Ends.{bound_of};
+ghost use Rattle.dyadic.specs.Values.{value_of};
 
 use crate::cut::{Cut, split};
 use crate::number::{Dyadic, End};

@@ -3,17 +3,13 @@ use Rattle.std.specs.Prelude.{◌≡◌}
 use Rattle.std.proofs.Common.{refl, sym, subst, ap, ⊎_elim}
 use Rattle.fx_model.specs.Fraction.{Fraction, ◌-ℚ◌, ◌≤ℚ◌, one_ℚ, neg_ℚ, le_trans, le_refl, le_or_lt, lt_le, lt_not, neg-le, neg-neg, minus_one}
 use Rattle.fx_model.specs.Grid.{Bound, Below, At, Above, IsOnGrid-neg, neg_bound}
-use Rattle.fx_model.specs.Enclosure.{Range, IsFrom, IsUpTo, Lies, IsInfimum, IsSupremum, IsEnclosure, IsOrdered, Negations, enclosure_isotone, in_enclosure, member_of, ordered_by}
-use Rattle.interval.specs.Ends.{IsGridEnd, mirror}
+use Rattle.fx_model.specs.Enclosure.{Range, IsFrom, IsUpTo, Lies, IsInfimum, IsSupremum, IsEnclosure, IsOrdered, Negations, in_enclosure, member_of, ordered_by}
+use Rattle.interval.specs.Ends.{mirror}
+use Rattle.dyadic.specs.Made.{IsGridBound}
 use Rattle.interval.specs.Exact.{IsExact}
-use Rattle.interval.proofs.Inequalities.{bound_antisymm}
 
 range_eq : (r s : Range) → r.low ≡ s.low → r.high ≡ s.high → r ≡ s
 range_eq r s p q = λ i. record { low = p i; high = q i }
-
-pub enclosure_unique : (S : Fraction → Type 0) (r t : Range) → IsEnclosure S r → IsEnclosure S t → r ≡ t
-enclosure_unique S r t i j = let a = enclosure_isotone S S r t (λ x s. s) i j in let b = enclosure_isotone S S t r (λ x s. s) j i in
-    range_eq r t (bound_antisymm r.low t.low a.0 b.0) (bound_antisymm r.high t.high b.1 a.1)
 
 pub enclosure_ordered : (S : Fraction → Type 0) (r : Range) (x : Fraction) → S x → IsEnclosure S r → IsOrdered r.low r.high
 enclosure_ordered S r x s e = let l = in_enclosure S r x e s in ordered_by r.low r.high x l.0 l.1
@@ -95,21 +91,21 @@ pub high_lies : (r : Range) (g : Fraction) → IsOrdered r.low r.high → r.high
 high_lies r g o p = let l = low_lies (mirror r) (neg_ℚ g) (mirror_ordered r o) (ap neg_bound p) in subst (λ y. Lies r y) (neg-neg g) (lies_mirrored r (neg_ℚ g) l)
 
 module _ (r : Range) (o : IsOrdered r.low r.high) where
-  interval_low : (b : Bound) → b ≡ r.low → IsGridEnd b → IsInfimum (Lies r) b
+  interval_low : (b : Bound) → b ≡ r.low → IsGridBound b → IsInfimum (Lies r) b
   interval_low Below p g = λ h q k. let m = member_of r.low r.high o in let d = deep r m.0 (h -ℚ one_ℚ) (sym p) (m.1, m.2) in
       lt_not (h -ℚ one_ℚ) h (minus_one h) (le_trans h d.0 (h -ℚ one_ℚ) (k d.0 d.1) d.2)
   interval_low (At a) p g = (g, λ x l. subst (λ e. IsFrom e x) (sym p) l.0, λ h q k. k a (low_lies r a o (sym p)))
   interval_low Above p g = subst (λ e. IsOrdered e r.high) (sym p) o
 
-  pub interval_infimum : IsGridEnd r.low → IsInfimum (Lies r) r.low
+  pub interval_infimum : IsGridBound r.low → IsInfimum (Lies r) r.low
   interval_infimum = interval_low r.low refl
 
-grid-neg : (b : Bound) → IsGridEnd b → IsGridEnd (neg_bound b)
+grid-neg : (b : Bound) → IsGridBound b → IsGridBound (neg_bound b)
 grid-neg Below g = tt
 grid-neg (At a) g = IsOnGrid-neg a g
 grid-neg Above g = tt
 
-pub interval_enclosure : (r : Range) → IsOrdered r.low r.high → IsGridEnd r.low → IsGridEnd r.high → IsEnclosure (Lies r) r
+pub interval_enclosure : (r : Range) → IsOrdered r.low r.high → IsGridBound r.low → IsGridBound r.high → IsEnclosure (Lies r) r
 interval_enclosure r o g h = record {
   low = interval_infimum r o g;
   high = subst (λ b. IsSupremum (Lies r) b) (neg_bound-neg r.high)
@@ -131,5 +127,5 @@ module _ (r t : Range) (o : IsOrdered r.low r.high) (p : t.low ≡ neg_bound r.h
   )
 
 -- an interval that is just a set
-pub exact_enclosure : (S : Fraction → Type 0) (r : Range) → IsExact S r → IsOrdered r.low r.high → IsGridEnd r.low → IsGridEnd r.high → IsEnclosure S r
+pub exact_enclosure : (S : Fraction → Type 0) (r : Range) → IsExact S r → IsOrdered r.low r.high → IsGridBound r.low → IsGridBound r.high → IsEnclosure S r
 exact_enclosure S r e o g h = enclosure_same (Lies r) S r (λ x l. (e x).0 l) (λ x s. (e x).1 s) (interval_enclosure r o g h)

@@ -6,3 +6,5 @@ pub mod Pairs
 pub mod Unique
 pub mod Sizes
 pub mod Divisors
+pub mod Written
+pub mod Shrunk

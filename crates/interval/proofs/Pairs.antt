@@ -6,7 +6,7 @@ use Rattle.fx_model.specs.Grid.{Bound, Below, At, Above}
 use Rattle.fx_model.specs.Enclosure.{Range, IsFrom, IsUpTo, Lies, IsInfimum, IsSupremum, IsOrdered, BoundLe, member_of, ordered_by}
 use Rattle.dyadic.specs.declared.number.End.{End}
 use Rattle.dyadic.specs.Ends.{bound_of}
-use Rattle.interval.specs.Ends.{IsGridEnd}
+use Rattle.dyadic.specs.Made.{IsGridBound}
 use Rattle.interval.specs.Pairs.{AreApart, IsCommon, Union, IsHull}
 use Rattle.interval.proofs.Inequalities.{from-le, up_to-le}
 use Rattle.interval.proofs.Enclosures.{interval_enclosure, enclosure_ordered}
@@ -46,8 +46,8 @@ supremum_more S T Above f g i = λ h o k. i h o (λ x s. k x (f x s))
 -- an interval with ends on the grid
 pub record IsKept (r : Range) : Type 0 where
   pub ordered : IsOrdered r.low r.high
-  pub low : IsGridEnd r.low
-  pub high : IsGridEnd r.high
+  pub low : IsGridBound r.low
+  pub high : IsGridBound r.high
 
 lies_low : (r : Range) → IsKept r → IsInfimum (Lies r) r.low
 lies_low r k = (interval_enclosure r k.ordered k.low k.high).low

@@ -1,9 +1,11 @@
 -- The ends of an interval.
 use Rattle.std.specs.Prelude.{◌≡◌, Option, Some, None}
 use Rattle.fx_model.specs.Fraction.{Fraction}
-use Rattle.fx_model.specs.Grid.{Bound, Below, At, Above, IsOnGrid, neg_bound, Binary, value_of}
+use Rattle.fx_model.specs.Grid.{Bound, At, neg_bound}
 use Rattle.fx_model.specs.Enclosure.{Range, IsOrdered, IsOrdered-prop}
+use Rattle.dyadic.specs.declared.number.Dyadic.{Dyadic}
 use Rattle.dyadic.specs.declared.number.End.{End}
+use Rattle.dyadic.specs.Values.{value_of}
 use Rattle.dyadic.specs.Ends.{bound_of}
 
 abbrev pub range_from : End → End → Range
@@ -16,17 +18,11 @@ AreEnds lo hi = IsOrdered (bound_of lo) (bound_of hi)
 pub AreEnds-prop : (lo hi : End) → IsProp (AreEnds lo hi)
 AreEnds-prop lo hi = IsOrdered-prop (bound_of lo) (bound_of hi)
 
--- Where the end is a number, it is one of the grid.
-abbrev pub IsGridEnd : Bound → Type 0
-IsGridEnd Below = Unit {0}
-IsGridEnd (At g) = IsOnGrid g
-IsGridEnd Above = Unit {0}
-
 -- The interval of the negatives.
 abbrev pub mirror : Range → Range
 mirror r = record { low = neg_bound r.high; high = neg_bound r.low }
 
 -- The number at a finite end; none where it is infinite.
-abbrev pub IsNumberOf : Bound → Option Binary → Type 0
+abbrev pub IsNumberOf : Bound → Option Dyadic → Type 0
 IsNumberOf b (Some d) = b ≡ At (value_of d)
 IsNumberOf b None = (g : Fraction) → ¬ (b ≡ At g)

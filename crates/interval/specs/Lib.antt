@@ -5,3 +5,9 @@ pub mod Pairs
 pub mod Unique
 pub mod Exact
 pub mod Squares
+pub mod Decided
+pub mod Meets
+pub mod Results
+pub mod Literals
+pub mod Multiples
+pub mod Monotone

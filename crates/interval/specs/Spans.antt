@@ -1,8 +1,8 @@
 -- Intervals with two finite ends.
 use Rattle.std.specs.Prelude.{◌≡◌, Option, Some, None}
-use Rattle.fx_model.specs.Grid.{value_of}
 use Rattle.fx_model.specs.Grid as grid
 use Rattle.fx_model.specs.Enclosure.{Range, IsFinite}
+use Rattle.dyadic.specs.Values.{value_of}
 use Rattle.interval.specs.declared.interval.Interval.{Interval}
 use Rattle.interval.specs.declared.span.Span.{Span}
 use Rattle.interval.specs.Intervals.{range_of}

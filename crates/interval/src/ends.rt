@@ -6,7 +6,7 @@ ghost use Rattle.dyadic.specs.Ends.{bound_of};
 ghost use Rattle.fx_model.specs.Fraction.{zero_ℚ};
 ghost use Rattle.fx_model.specs.Grid as grid;
 ghost use Rattle.interval.specs.Squares.{LowSquare, HighSquare};
-ghost use Rattle.interval.specs.Ends.{IsGridEnd, IsNumberOf};
+ghost use Rattle.interval.specs.Ends.{IsNumberOf};
 
 use dyadic::{Dyadic, End, add_down, add_up, mul_down, mul_up};
 
@@ -22,8 +22,7 @@ pub fn finite(end: End) -> Option<Dyadic>
 
 // The end on the other side of 0.
 pub fn opposite(end: End) -> End
-    ensures value { bound_of result ≡ neg_bound (bound_of end) }
-    ensures grid { IsGridEnd (bound_of result) }
+    ensures { bound_of result ≡ neg_bound (bound_of end) }
 {
     match end {
         End::Low => End::High,

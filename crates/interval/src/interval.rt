@@ -1,8 +1,7 @@
 ghost use Rattle.std.specs.Prelude.{◌≡◌, ◌↔◌, IsTrue, IsNone, IfSome};
-ghost use Rattle.interval.specs.Ends.{AreEnds, AreEnds-prop, IsGridEnd};
+ghost use Rattle.interval.specs.Ends.{AreEnds, AreEnds-prop};
 
 use crate::ends::{finite, high_square, high_sum, low_square, low_sum, opposite, zero};
-use crate::laws::same_end;
 use crate::order::{from_zero, in_order, not_positive, up_to_zero};
 use crate::products::{high_product, low_product};
 use crate::quotients::{high_quotient, low_quotient};
@@ -12,8 +11,8 @@ use dyadic::{Dyadic, End, greater, lesser};
 /// An interval of fractions, whose ends are numbers of the grid or infinite.
 #[derive(Clone, Copy, PartialEq, Eq, Debug)]
 pub struct Interval {
-    lo: End,
-    hi: End,
+    pub(crate) lo: End,
+    pub(crate) hi: End,
     pub ghost ordered: { AreEnds lo hi } by { AreEnds-prop lo hi },
 }
 
@@ -22,16 +21,18 @@ impl Interval {
     ghost use Rattle.interval.specs.Intervals.{range_of};
     ghost use Rattle.interval.specs.Spans.{IsSpan, span_of};
     ghost use Rattle.interval.specs.Exact.{IsExact};
+    ghost use Rattle.interval.specs.Results.{negation_of, size_of, sum_of, difference_of, product_of, quotient_of};
+    ghost use Rattle.interval.specs.Meets.{interval_from, common_of};
     ghost use Rattle.interval.specs.Pairs.{AreApart, IsCommon, IsHull};
     ghost use Rattle.fx_model.specs.Fraction.{zero_ℚ, ◌<ℚ◌};
-    ghost use Rattle.fx_model.specs.Grid.{value_of};
-    ghost use Rattle.dyadic.specs.Ends.{bound_of};
+    ghost use Rattle.dyadic.specs.Values.{value_of};
 
     /// The interval with these ends. None where the lower end is plus infinity, the upper is
     /// minus infinity, or they are out of order.
     pub fn new(lo: End, hi: End) -> Option<Interval>
         ensures refused { IsNone result ↔ (¬ AreEnds lo hi) }
         ensures ends { IfSome result (λ made. (made.lo ≡ lo) × (made.hi ≡ hi)) }
+        ensures is { result ≡ interval_from lo hi }
     {
         if in_order(&lo, &hi) {
             Some(Interval { lo, hi })
@@ -54,16 +55,6 @@ impl Interval {
         self.hi
     }
 
-    // The numbers from minus to plus infinity.
-    fn whole() -> Interval
-        ensures { range_of result ≡ whole_line }
-    {
-        Interval {
-            lo: End::Low,
-            hi: End::High,
-        }
-    }
-
     // The two ends, where they are finite.
     fn span(self) -> Option<Span>
         ensures { IsSpan self result }
@@ -77,6 +68,7 @@ impl Interval {
     pub fn neg(self) -> Interval
         ensures exact { IsExact (Negations (range_of self)) (range_of result) }
         ensures best { IsNegation (range_of self) (range_of result) }
+        ensures is { result ≡ negation_of self }
     {
         Interval {
             lo: opposite(self.hi),
@@ -86,6 +78,14 @@ impl Interval {
 
     /// The absolute values.
     pub fn abs(self) -> Interval
+        ensures exact { IsExact (Sizes (range_of self)) (range_of result) }
+        ensures best { IsSize (range_of self) (range_of result) }
+        ensures is { result ≡ size_of self }
+    {
+        self.sizes()
+    }
+
+    fn sizes(self) -> Interval
         ensures exact { IsExact (Sizes (range_of self)) (range_of result) }
         ensures best { IsSize (range_of self) (range_of result) }
     {
@@ -114,7 +114,8 @@ impl Interval {
 
     /// The least interval that holds every sum.
     pub fn add(self, other: Interval) -> Interval
-        ensures { IsSum (range_of self) (range_of other) (range_of result) }
+        ensures best { IsSum (range_of self) (range_of other) (range_of result) }
+        ensures is { result ≡ sum_of self other }
     {
         Interval {
             lo: low_sum(self.lo, other.lo),
@@ -124,7 +125,8 @@ impl Interval {
 
     /// The least interval that holds every difference.
     pub fn sub(self, other: Interval) -> Interval
-        ensures { IsDifference (range_of self) (range_of other) (range_of result) }
+        ensures best { IsDifference (range_of self) (range_of other) (range_of result) }
+        ensures is { result ≡ difference_of self other }
     {
         Interval {
             lo: low_sum(self.lo, opposite(other.hi)),
@@ -134,6 +136,13 @@ impl Interval {
 
     /// The least interval that holds every product, or the whole line where an end is infinite.
     pub fn mul(self, other: Interval) -> Interval
+        ensures best { IsProduct (range_of self) (range_of other) (range_of result) }
+        ensures is { result ≡ product_of self other }
+    {
+        self.product(other)
+    }
+
+    fn product(self, other: Interval) -> Interval
         ensures { IsProduct (range_of self) (range_of other) (range_of result) }
     {
         let Some(x) = self.span() else {
@@ -146,15 +155,6 @@ impl Interval {
             lo: low_product(&x, &y),
             hi: high_product(&x, &y),
         }
-    }
-
-    /// Nothing is done. The clauses tell a caller that an end is on the grid where it is finite.
-    pub fn on_grid(self)
-        ensures low { IsGridEnd (bound_of self.lo) }
-        ensures high { IsGridEnd (bound_of self.hi) }
-    {
-        let _ = &self.lo;
-        let _ = &self.hi;
     }
 
     /// Whether each number of this interval lies in the other.
@@ -175,6 +175,7 @@ impl Interval {
     pub fn meet(self, other: Interval) -> Option<Interval>
         ensures apart { IsNone result ↔ AreApart (range_of self) (range_of other) }
         ensures common { IfSome result (λ both. IsCommon (range_of self) (range_of other) (range_of both)) }
+        ensures is { result ≡ common_of self other }
     {
         Interval::new(greater(self.lo, other.lo), lesser(self.hi, other.hi))
     }
@@ -189,31 +190,31 @@ impl Interval {
         }
     }
 
-    /// Nothing is done. The clause tells a caller that intervals with the same ends are the same.
-    pub fn same(self, other: Interval)
-        requires { range_of self ≡ range_of other }
-        ensures { self ≡ other }
-    {
-        same_end(&self.lo, &other.lo);
-        same_end(&self.hi, &other.hi);
-    }
-
     /// The least interval that holds every quotient, or the whole line where an end is infinite.
     /// None where 0 lies in the divisor.
     pub fn div(self, other: Interval) -> Option<Interval>
         ensures zero { IsNone result ↔ Lies (range_of other) zero_ℚ }
         ensures quotient { IfSome result (λ made. IsQuotient (range_of self) (range_of other) (range_of made)) }
+        ensures is { result ≡ quotient_of self other }
     {
         if other.holds_zero() {
             return None;
         }
+        Some(self.quotient_by(other))
+    }
+
+    // The quotient by an interval in which 0 doesn't lie.
+    fn quotient_by(self, other: Interval) -> Interval
+        requires { ¬ Lies (range_of other) zero_ℚ }
+        ensures { IsQuotient (range_of self) (range_of other) (range_of result) }
+    {
         let Some(x) = self.span() else {
-            return Some(Interval::whole());
+            return Interval::whole();
         };
         let Some(y) = other.span() else {
-            return Some(Interval::whole());
+            return Interval::whole();
         };
-        Some(Interval::quotient(&x, &y))
+        Interval::quotient(&x, &y)
     }
 
     // Whether 0 lies in the interval.

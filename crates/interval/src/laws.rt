@@ -1,11 +1,7 @@
 // What holds of all intervals, for callers to cite. Nothing here is done at run time.
-ghost use Rattle.std.specs.Prelude.{◌≡◌};
 ghost use Rattle.fx_model.specs.Enclosure.{Range, IsNegation, IsSize, IsSquare, IsSum, IsDifference, IsProduct, IsQuotient};
-ghost use Rattle.dyadic.specs.Ends.{bound_of};
 ghost use Rattle.interval.specs.Pairs.{IsHull};
 ghost use Rattle.interval.specs.Unique.{IsOnly};
-
-use dyadic::{End, same_number};
 
 /// Nothing is done. The clauses tell a caller that each operation has one result.
 pub fn one_result()
@@ -18,15 +14,3 @@ pub fn one_result()
     ensures quotient { (r s : Range) → IsOnly (IsQuotient r s) }
     ensures hull { (r s : Range) → IsOnly (IsHull r s) }
 {}
-
-// Ends that stand for one bound are the same.
-pub fn same_end(a: &End, b: &End)
-    requires { bound_of a.now ≡ bound_of b.now }
-    ensures { a.now ≡ b.now }
-{
-    if let End::At(a) = a {
-        if let End::At(b) = b {
-            same_number(*a, *b);
-        }
-    }
-}

@@ -4,12 +4,16 @@
 mod ends;
 mod interval;
 mod laws;
+mod literals;
+mod multiples;
 mod order;
 mod products;
 mod quotients;
+mod single;
 mod span;
 #[cfg(test)]
 mod tests;
 
 pub use interval::Interval;
 pub use laws::one_result;
+pub use literals::enclose;

@@ -1,7 +1,7 @@
 // The ends of a quotient by numbers above 0.
 ghost use Rattle.fx_model.specs.Fraction.{zero_ℚ, ◌<ℚ◌};
-ghost use Rattle.fx_model.specs.Grid.{value_of};
 ghost use Rattle.fx_model.specs.Enclosure.{Quotients, IsInfimum, IsSupremum};
+ghost use Rattle.dyadic.specs.Values.{value_of};
 ghost use Rattle.dyadic.specs.Ends.{bound_of};
 ghost use Rattle.interval.specs.Spans.{span_of};
 

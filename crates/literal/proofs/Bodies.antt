@@ -1,13 +1,13 @@
 -- The parts of a literal are found in one way alone.
-use Rattle.std.proofs.Common.{◌≡◌, ◌≢◌, ℕ, ◌<◌, ◌≤◌, List, [], ◌∷◌, ◌++◌, length, eqb, Option, Some, None, Bool, true, false, refl, sym, ap, ap₂, subst, ◌∙◌, arith, lit<, lit≤}
-use Rattle.std.specs.Str.Parse.{AllDigits, IsNumeral}
+use Rattle.std.proofs.Common.{◌≡◌, ◌≢◌, ℕ, ◌<◌, List, [], ◌∷◌, ◌++◌, length, eqb, Option, Some, None, Bool, true, false, refl, sym, ap, ap₂, subst, ◌∙◌, arith, lit<, lit≤}
+use Rattle.std.specs.Str.Parse.{AllDigits}
 use Rattle.literal.specs.declared.scan.Form.{Form}
 use Rattle.literal.specs.declared.scan.Form.TheVariants.{Decimal, Binary, Hexadecimal}
 use Rattle.literal.specs.declared.scan.Parts.{Parts}
-use Rattle.literal.specs.Spelling.{Exponent, Spelling, letter, opening, point_bytes, scale_bytes, body_bytes, is_hexadecimal, base, IsFraction, IsExponent, IsSpelling, Spells}
+use Rattle.literal.specs.Spelling.{Exponent, Spelling, opening, point_bytes, scale_bytes, body_bytes, is_hexadecimal, base, IsFraction, Spells}
 use denote.Ref.{Bor}
 use borrow.Author.Tests.{eqb-true, eqb-false}
-use Rattle.literal.specs.Parts.{FindsOne, BeginsWithNo, StandsBehind, StandsBehindOpening, IsNoDigitFirst, IsFrontDigits, Scale, IsScale, IsBody, FindsBody, FindsParts, spelling_of}
+use Rattle.literal.specs.Parts.{FindsOne, BeginsWithNo, StandsBehind, StandsBehindOpening, IsFrontDigits, Scale, IsScale, IsBody, FindsBody, FindsParts, spelling_of}
 use Rattle.literal.proofs.Front.{same_front, tail_ends, scale_ends, scale_no_point, tail_no_x}
 
 abbrev pub spelling : Form → List ℕ → List ℕ → Option Exponent → Spelling

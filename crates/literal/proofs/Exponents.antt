@@ -1,14 +1,14 @@
 -- Exponents are found at one place alone.
-use Rattle.std.proofs.Common.{◌≡◌, ◌≢◌, ℕ, ◌<◌, ◌≤◌, List, [], ◌∷◌, ◌++◌, Option, Some, None, Bool, true, false, refl, sym, ap, ap₂, subst, ◌∙◌, arith, lit<, lit≤, append-nil}
+use Rattle.std.proofs.Common.{◌≡◌, ℕ, ◌<◌, ◌≤◌, List, [], ◌∷◌, ◌++◌, Option, Some, None, Bool, true, false, refl, sym, ap, ap₂, subst, ◌∙◌, arith, lit<, lit≤, append-nil}
 use Rattle.std.specs.Char.{digit_value}
-use Rattle.std.specs.Str.Parse.{AllDigits, IsNumeral}
+use Rattle.std.specs.Str.Parse.{IsNumeral}
 use Rattle.literal.specs.declared.scan.Form.{Form}
 use Rattle.literal.specs.declared.scan.Form.TheVariants.{Decimal, Binary, Hexadecimal}
 use Rattle.literal.specs.declared.scan.Mark.{Mark}
 use Rattle.literal.specs.declared.scan.Mark.TheVariants.{Unmarked, Plus, Minus}
 use Rattle.literal.specs.declared.scan.Power.{Power}
 use Rattle.literal.specs.Spelling.{Exponent, mark_bytes, exponent_bytes, letter, scale_bytes, is_hexadecimal, IsExponent}
-use Rattle.literal.specs.Parts.{IsUnmarked, SplitsMark, IsExponentText, exponent_of, power_of, scale_of, FindsPower, FindsForm, FindsScale, Scale, IsScale, IsFormOf}
+use Rattle.literal.specs.Parts.{IsUnmarked, SplitsMark, IsExponentText, FindsPower, FindsForm, FindsScale, Scale, IsScale, IsFormOf}
 use Rattle.literal.proofs.Front.{clash, same_front}
 use Rattle.literal.specs.Parts.{IsFrontDigits}
 

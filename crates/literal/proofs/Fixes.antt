@@ -1,64 +1,20 @@
 -- The powers of two that divide a normal literal.
-use Rattle.std.proofs.Common.{◌≡◌, ◌≢◌, ◌⊎◌, ℕ, zero, suc, ◌+◌, ◌*◌, ◌/◌, ◌%◌, ◌^◌, ◌<◌, ◌≤◌, ℤ, pos, negsuc, ◌+ℤ◌, ◌-ℤ◌, ◌≤ℤ◌, ◌<ℤ◌, Bool, true, false, true≢false, refl, sym, ap, subst, ◌∙◌, arith, ⊎_elim, inl, inr, lit<}
+use Rattle.std.proofs.Common.{◌≡◌, ◌⊎◌, ℕ, ◌+◌, ◌*◌, ◌/◌, ◌%◌, ◌^◌, ◌<◌, ◌≤◌, ℤ, pos, negsuc, ◌+ℤ◌, ◌-ℤ◌, ◌≤ℤ◌, ◌<ℤ◌, true, false, true≢false, sym, ap, subst, ◌∙◌, arith, ⊎_elim, inl, inr, lit<}
 use Rattle.std.specs.Int.RustNames.{unsigned_abs}
 use Rattle.std.proofs.lemmas.Int.{ints}
 use Rattle.std.specs.Int.{trailing_zeros, w128}
 use Rattle.std.proofs.lemmas.Nat.{div-add-mod'}
 use Rattle.std.proofs.lemmas.Nat.Bits.{bit_at-trailing_zeros}
 use Rattle.std.proofs.lemmas.Bool.{cases_lt}
-use Rattle.std.proofs.Math.Nat.{mul-le-mul_right, pow-le-pow_right}
-use Rattle.fx_model.specs.Fraction.{Fraction}
-use Rattle.fx_model.specs.Powers.{scaled, scaled-zero, IsMultiple}
+use Rattle.std.proofs.Math.Nat.{pow-le-pow_right}
+use Rattle.fx_model.specs.Powers.{scaled-zero, IsMultiple}
 use Rattle.fx_model.specs.Expression.{literal_value}
 use Rattle.fx_model.specs.declared.Literal.{Literal}
-use Rattle.literal.specs.Spelling.{IsBetween}
-use Rattle.literal.specs.Normal.{nought, HasFives, IsCapped, IsNormal, IsNormalDecimal, IsNormalBinary, IsFix, HasNoFix}
-use Rattle.literal.proofs.Tens.{pow_positive}
+use Rattle.literal.specs.Normal.{HasFives, IsCapped, IsNormal, IsFix, HasNoFix}
+use Rattle.literal.specs.Limits.{bounded}
 use Rattle.literal.proofs.Forms.{zero_value}
 use Rattle.literal.proofs.Numbers.{twos_are}
-use Rattle.literal.proofs.Multiples.{fix_is, odd_mul, five_odd, odd_divides, divided, value_whole, value_part, multiple_by_five}
-
--- ---- how far the exponents of a normal literal go
-few : (b m start rest lost : ℕ) → 0 < b → start ≡ rest * b ^ lost → 0 < rest → start < b ^ m → lost < m
-few b m start rest lost p e h k = ⊎_elim (λ t. t) (λ t. absurd (past t)) (cases_lt lost m)
-  where
-    past : m ≤ lost → ⊥
-    past t =
-        let a : b ^ m ≤ b ^ lost = pow-le-pow_right {n = b} p t in
-        let c : 1 * b ^ lost ≤ rest * b ^ lost = mul-le-mul_right (b ^ lost) h in
-        omega arith
-
-pub record Bounds (l : Literal) : Type 0 where
-  pub ten_low : negsuc 29 ≤ℤ l.ten
-  pub ten_high : l.ten ≤ℤ pos 38
-  pub two_low : negsuc 511 ≤ℤ l.two
-  pub two_high : l.two ≤ℤ pos 612
-  pub apart : (l.ten ≡ pos 0) ⊎ (l.two ≡ pos 0)
-
-bounds_zero : (l : Literal) → l ≡ nought → Bounds l
-bounds_zero l e =
-    let a : l.ten ≡ pos 0 = ap (λ (m : Literal). m.ten) e in
-    let b : l.two ≡ pos 0 = ap (λ (m : Literal). m.two) e in
-    record { ten_low = omega (arith, ints); ten_high = omega (arith, ints); two_low = omega (arith, ints); two_high = omega (arith, ints); apart = inl a }
-
-bounds_decimal : (l : Literal) → IsNormalDecimal l → 0 < l.num → Bounds l
-bounds_decimal l d h =
-    let n : d.lost < 30 = few 10 30 (l.num * 10 ^ d.lost) l.num d.lost (lit< tt) refl h d.digits in
-    let b = d.two in
-    let low = d.exponent.0 in
-    let high = d.exponent.1 in
-    record { ten_low = omega (arith, ints); ten_high = omega (arith, ints); two_low = omega (arith, ints); two_high = omega (arith, ints); apart = inr b }
-
-bounds_binary : (l : Literal) → IsNormalBinary l → 0 < l.num → Bounds l
-bounds_binary l d h =
-    let n : d.lost < 100 = few 2 100 (l.num * 2 ^ d.lost) l.num d.lost (lit< tt) refl h d.digits in
-    let a = d.ten in
-    let low = d.exponent.0 in
-    let high = d.exponent.1 in
-    record { ten_low = omega (arith, ints); ten_high = omega (arith, ints); two_low = omega (arith, ints); two_high = omega (arith, ints); apart = inl a }
-
-pub bounds : (l : Literal) → IsNormal l → 0 < l.num → Bounds l
-bounds l n h = ⊎_elim (bounds_zero l) (λ m. ⊎_elim (λ d. bounds_decimal l d h) (λ d. bounds_binary l d h) m) n
+use Rattle.literal.proofs.Multiples.{fix_is, odd_mul, five_odd, odd_divides, value_whole, value_part, multiple_by_five}
 
 -- ---- zero
 pub fix_zero : (l : Literal) → l.num ≡ 0 → IsFix l (pos 512)
@@ -124,7 +80,7 @@ is_some l r X f = (λ e. absurd (true≢false e), λ n. absurd (n r f.within.0 f
 
 pub fix_found : (l : Literal) → IsNormal l → 0 < l.num → l.num < 2 ^ 128 → HasFives l.num l.ten → (place r : ℤ) → place ≡ (pos (trailing_zeros w128 l.num) +ℤ l.two) +ℤ l.ten → IsCapped place r → IsFix l r
 fix_found l n h k f place r e c =
-    let b = bounds l n h in
+    let b = bounded l n in
     let t = bit_at-trailing_zeros w128 l.num h k in
     let low = b.two_low in
     let lowten = b.ten_low in
@@ -136,7 +92,7 @@ apart_at num two (pos d) a n = absurd (n (λ h. absurd (omega (arith, ints))))
 apart_at num two (negsuc d) a n = no_fix_at num two (negsuc d) a (omega (arith, ints)) (λ e. n (λ h. e))
 
 pub no_fix : (l : Literal) → IsNormal l → 0 < l.num → ¬ HasFives l.num l.ten → HasNoFix l
-no_fix l n h f = apart_at l.num l.two l.ten (bounds l n h).apart f
+no_fix l n h f = apart_at l.num l.two l.ten (bounded l n).apart f
 
 pub fives_of_whole : (num : ℕ) (ten : ℤ) → pos 0 ≤ℤ ten → HasFives num ten
 fives_of_whole num ten h = λ k. absurd (omega (arith, ints))

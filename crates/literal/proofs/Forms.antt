@@ -1,15 +1,15 @@
 -- What is left once every factor is taken out is the normal form.
-use Rattle.std.proofs.Common.{◌≡◌, ◌≢◌, ℕ, ◌*◌, ◌+◌, ◌%◌, ◌^◌, ◌<◌, ◌≤◌, ℤ, pos, negsuc, ◌+ℤ◌, ◌-ℤ◌, ◌≤ℤ◌, refl, sym, ap, subst, ◌∙◌, arith, inl, inr}
+use Rattle.std.proofs.Common.{◌≡◌, ℕ, ◌*◌, ◌^◌, ◌<◌, ℤ, pos, negsuc, ◌+ℤ◌, ◌-ℤ◌, refl, sym, ap, subst, ◌∙◌, arith, inl, inr}
 use Rattle.std.proofs.lemmas.Int.{ints}
-use Rattle.fx_model.specs.Fraction.{Fraction, ◌*ℚ◌, zero_ℚ, zero-mul}
+use Rattle.fx_model.specs.Fraction.{◌*ℚ◌, zero_ℚ, zero-mul}
 use Rattle.fx_model.specs.Powers.{whole, two_to, zero-whole}
 use Rattle.fx_model.specs.Expression.{literal_value, ten_to}
 use Rattle.fx_model.specs.declared.Literal.{Literal}
 use Rattle.literal.specs.declared.scan.Form.{Form}
 use Rattle.literal.specs.declared.scan.Form.TheVariants.{Decimal, Binary, Hexadecimal}
 use Rattle.literal.specs.Spelling.{IsBetween}
-use Rattle.literal.specs.Normal.{nought, IsReduced, IsNormalOf, IsNormal, IsNormalDecimal, IsNormalBinary, TakesTensOut, TakesTwosOut, IsSmall}
-use Rattle.literal.proofs.Tens.{decimal, binary, tens_moved, twos_moved}
+use Rattle.literal.specs.Normal.{nought, IsNormalOf, IsNormal, TakesTensOut, TakesTwosOut, IsSmall}
+use Rattle.literal.proofs.Tens.{tens_moved, twos_moved}
 
 same_literal : (l : Literal) (n : ℕ) (two ten : ℤ) → l.num ≡ n → l.two ≡ two → l.ten ≡ ten → literal_value l ≡ literal_value (record { num = n; two = two; ten = ten })
 same_literal l n two ten a b c = subst (λ (z : ℤ). literal_value l ≡ literal_value (record { num = n; two = two; ten = z })) c (subst (λ (z : ℤ). literal_value l ≡ literal_value (record { num = n; two = z; ten = l.ten })) b

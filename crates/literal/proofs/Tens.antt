@@ -1,9 +1,9 @@
 -- Powers of ten and of two may stand in the whole number or in the exponent.
-use Rattle.std.proofs.Common.{◌≡◌, ℕ, zero, suc, ◌+◌, ◌*◌, ◌^◌, ◌<◌, ℤ, pos, negsuc, ◌+ℤ◌, ◌*ℤ◌, refl, sym, ap, subst, ◌∙◌, arith}
+use Rattle.std.proofs.Common.{◌≡◌, ℕ, zero, suc, ◌+◌, ◌*◌, ◌^◌, ◌<◌, ℤ, pos, negsuc, ◌+ℤ◌, sym, ap, subst, ◌∙◌, arith}
 use Rattle.std.proofs.lemmas.Int.{ints}
 use Rattle.std.proofs.Math.Nat.{one-le-pow, pow-succ'}
 use Rattle.fx_model.specs.Fraction.{Fraction, ◌*ℚ◌, ◌<ℚ◌, zero_ℚ, one_ℚ, ◌≤ℚ◌, inverse_ℚ, mul-inverse, mul_comm, mul_assoc, mul_cancel, one-mul, lt_not, le_refl}
-use Rattle.fx_model.specs.Powers.{whole, two_to, scaled, scaled-shift, whole-mul, whole-lt, zero-whole, one-whole}
+use Rattle.fx_model.specs.Powers.{whole, two_to, scaled-shift, whole-mul, whole-lt, zero-whole, one-whole}
 use Rattle.fx_model.specs.Expression.{ten_to, literal_value}
 use Rattle.fx_model.specs.declared.Literal.{Literal}
 

@@ -11,5 +11,5 @@ mod tests;
 
 pub use fx_model::Literal;
 pub use multiple::fix_of;
-pub use reading::{LiteralFault, read};
+pub use reading::{LiteralFault, read, read_bytes};
 pub use scan::{Form, Mark};

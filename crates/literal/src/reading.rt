@@ -30,7 +30,19 @@ pub fn read(text: &str) -> Result<Literal, LiteralFault>
     // A text has the parts of one literal alone.
     ensures one { (x y : Spelling) → Spells text.now x → Spells text.now y → x ≡ y }
 {
-    let Some(parts) = parts_of(text.as_bytes()) else {
+    read_bytes(text.as_bytes())
+}
+
+/// The normal form of the number that bytes spell.
+pub fn read_bytes(text: &[u8]) -> Result<Literal, LiteralFault>
+    ensures reading { IfOk result (IsReading text.now) }
+    ensures normal { IfOk result IsNormal }
+    ensures bad { (result ≡ Err LiteralFault.BadLiteral) ↔ ¬ IsLiteral text.now }
+    ensures past { (result ≡ Err LiteralFault.LiteralLimit) ↔ IsPastLimits text.now }
+    // A text has the parts of one literal alone.
+    ensures one { (x y : Spelling) → Spells text.now x → Spells text.now y → x ≡ y }
+{
+    let Some(parts) = parts_of(text) else {
         return Err(LiteralFault::BadLiteral);
     };
     let Some(number) = written(&parts) else {

@@ -1,4 +1,4 @@
-use Rattle.fx_model.specs.Grid.{value_of}
+use Rattle.dyadic.specs.Values.{value_of}
 use Rattle.dyadic.specs.Middle.{part_of}
 use Rattle.dyadic.proofs.MiddleLemmas.{part_above, part_cut}
 use Rattle.dyadic.proofs.middle.part_down.Goals as goal

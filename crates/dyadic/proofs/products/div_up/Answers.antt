@@ -1,5 +1,5 @@
 use Rattle.fx_model.specs.Fraction.{◌/ℚ◌}
-use Rattle.fx_model.specs.Grid.{value_of}
+use Rattle.dyadic.specs.Values.{value_of}
 use Rattle.dyadic.proofs.products.div_up.Goals as goal
 
 pub returns : goal.returns

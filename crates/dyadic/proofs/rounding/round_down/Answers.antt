@@ -1,4 +1,5 @@
-use Rattle.fx_model.specs.Grid.{value_of, signed}
+use Rattle.fx_model.specs.Grid.{signed}
+use Rattle.dyadic.specs.Values.{value_of}
 use Rattle.dyadic.proofs.NumberLemmas.{down_signed, down_low, down_plain}
 use Rattle.dyadic.proofs.rounding.round_down.Goals as goal
 

@@ -1,4 +1,5 @@
-use Rattle.fx_model.specs.Grid.{value_of, signed}
+use Rattle.fx_model.specs.Grid.{signed}
+use Rattle.dyadic.specs.Values.{value_of}
 use Rattle.dyadic.proofs.NumberLemmas.{up_signed, up_plain, up_high}
 use Rattle.dyadic.proofs.rounding.round_up.Goals as goal
 

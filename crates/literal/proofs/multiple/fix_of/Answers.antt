@@ -1,8 +1,8 @@
-use Rattle.std.proofs.Common.{◌≡◌, ◌<◌, ◌^◌, ℤ, pos, negsuc, ◌+ℤ◌, ◌≤ℤ◌, arith, rules, subst, SFits, to_z, of_z, w32, true, false, true≢false, refl, sym, ◌∙◌}
+use Rattle.std.proofs.Common.{◌≡◌, ◌<◌, ◌^◌, ℤ, pos, arith, rules, subst, SFits, to_z, of_z, w32, true≢false, refl, sym, ◌∙◌}
 use Rattle.std.proofs.lemmas.Int.{ints}
-use Rattle.std.specs.Int.{trailing_zeros, w128}
-use Rattle.literal.specs.Normal.{IsFix, HasNoFix, HasFives, IsCapped}
-use Rattle.literal.proofs.Fixes.{bounds, fix_zero, fix_found, no_fix, is_some}
+use Rattle.literal.specs.Normal.{IsFix, HasFives, IsCapped}
+use Rattle.literal.specs.Limits.{bounded}
+use Rattle.literal.proofs.Fixes.{fix_zero, fix_found, no_fix, is_some}
 use Rattle.literal.proofs.multiple.fix_of.Goals as goal
 
 pub returns-then-lit-eq0-clause-greatest : goal.returns-then-lit-eq0-clause-greatest
@@ -13,13 +13,11 @@ returns-then-lit-eq0-clause-none c = is_some c.args.lit.now (pos 512) _ (fix_zer
 
 pub has_fives-requires : goal.has_fives-requires
 has_fives-requires c =
-    let n : 0 < c.args.lit.now.num = omega arith in
-    (bounds c.args.lit.now c.requires n).ten_low
+    (bounded c.args.lit.now c.requires).ten_low
 
 pub place_of-requires : goal.place_of-requires
 place_of-requires c =
-    let n : 0 < c.args.lit.now.num = omega arith in
-    let b = bounds c.args.lit.now c.requires n in
+    let b = bounded c.args.lit.now c.requires in
     let p = b.two_low in
     let q = b.two_high in
     let r = b.ten_low in

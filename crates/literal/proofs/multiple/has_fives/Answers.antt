@@ -1,4 +1,4 @@
-use Rattle.std.proofs.Common.{◌≡◌, ◌<◌, ◌≤◌, ℕ, subst, sym, arith, lit<}
+use Rattle.std.proofs.Common.{◌<◌, ℕ, subst, sym, arith, lit<}
 use Rattle.std.proofs.lemmas.Int.{ints}
 use Rattle.literal.proofs.Tens.{pow_positive}
 use Rattle.literal.proofs.Fixes.{five_fits}

@@ -1,6 +1,5 @@
-use Rattle.std.proofs.Common.{arith, ◌≢◌, ◌≡◌, ◌*◌, ◌/◌, ◌%◌, ◌^◌, ℕ, ◌<◌}
+use Rattle.std.proofs.Common.{arith, ◌<◌}
 use Rattle.std.proofs.lemmas.Int.{ints}
-use Rattle.std.proofs.lemmas.Nat.{div-add-mod'}
 use Rattle.std.proofs.lemmas.Nat.Bits.{bit_at-trailing_zeros}
 use lib.Count.{count_trailing_zeros}
 use mir.Syntax.{w128}

@@ -1,4 +1,4 @@
-use Rattle.std.proofs.Common.{◌<◌, ◌++◌, ℕ, subst, arith}
+use Rattle.std.proofs.Common.{◌<◌, ℕ, subst, arith}
 use Rattle.std.specs.Option.{SomeIff}
 use Rattle.literal.proofs.Numbers.{joined_past, joined_is}
 use Rattle.literal.proofs.number.joined.Goals as goal

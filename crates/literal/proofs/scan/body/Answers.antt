@@ -1,5 +1,4 @@
-use Rattle.std.proofs.Common.{◌≡◌, ◌<◌, List, ℕ, ◌∷◌, ◌++◌, length, refl, sym, ap, subst, ◌∙◌}
-use Rattle.literal.specs.Spelling.{base}
+use Rattle.std.proofs.Common.{List, ℕ, ◌++◌, refl, sym, ap, subst, ◌∙◌}
 use Rattle.literal.specs.Parts.{FindsBody}
 use Rattle.literal.proofs.Bodies.{no_whole, empty_length, some_length}
 use Rattle.literal.proofs.scan.body.Goals as goal

@@ -1,4 +1,4 @@
-use Rattle.std.proofs.Common.{◌≡◌, List, ℕ, [], length, sym, ap, ◌∙◌, true≢false}
+use Rattle.std.proofs.Common.{List, ℕ, length, sym, ap, ◌∙◌, true≢false}
 use Rattle.std.specs.Prelude.{◌==◌}
 use Rattle.literal.proofs.Exponents.{not_numeral}
 use Rattle.literal.proofs.scan.is_numeral.Goals as goal

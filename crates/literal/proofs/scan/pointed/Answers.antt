@@ -1,7 +1,6 @@
-use Rattle.std.proofs.Common.{◌≡◌, List, ℕ, ◌∷◌, ◌++◌, refl, rules, sym, ◌∙◌, true≢false}
+use Rattle.std.proofs.Common.{◌≡◌, ◌∷◌, ◌++◌, refl, rules}
 use Rattle.literal.specs.declared.scan.Form.TheVariants.{Binary}
-use Rattle.literal.specs.Spelling.{base}
-use Rattle.literal.specs.Parts.{IsFrontDigits, scale_of}
+use Rattle.literal.specs.Parts.{scale_of}
 use Rattle.literal.proofs.Bodies.{no_fraction_digits, none_pointed, none_binary, one_pointed, point_front, empty_length, some_length}
 use Rattle.literal.proofs.scan.pointed.Goals as goal
 

@@ -1,5 +1,7 @@
 use Rattle.std.specs.Prelude.{◌≡◌, Option, Some, None, IfSome}
-use Rattle.std.proofs.Common.{sym, subst}
+use Rattle.std.proofs.Common.{sym, subst, ap, ◌∙◌}
+use Rattle.interval.specs.Meets.{interval_from}
+use Rattle.dyadic.specs.Extremes.{greater_end}
 use Rattle.dyadic.specs.declared.number.End.{End}
 use Rattle.interval.specs.declared.interval.Interval.{Interval}
 use Rattle.interval.specs.Ends.{range_from}
@@ -22,3 +24,6 @@ pub returns-clause-common : goal.returns-clause-common
 returns-clause-common c = let t = range_from c.greater.result c.lesser.result in
     made_common c.args.self c.args.other c.greater.result c.lesser.result c.new.result c.new.ensures.ends
     (meet_common (range_of c.args.self) (range_of c.args.other) t c.greater.ensures.first c.greater.ensures.second c.lesser.ensures.first c.lesser.ensures.second (one_bound _ _ _ c.greater.ensures.one) (one_bound _ _ _ c.lesser.ensures.one))
+
+pub returns-clause-is : goal.returns-clause-is
+returns-clause-is c = c.new.ensures.is ∙ ap (λ lo. interval_from lo c.lesser.result) c.greater.ensures.is ∙ ap (interval_from (greater_end c.args.self.lo c.args.other.lo)) c.lesser.ensures.is

@@ -1,5 +1,5 @@
 use Rattle.fx_model.specs.Fraction.{neg-le}
-use Rattle.fx_model.specs.Grid.{value_of}
+use Rattle.dyadic.specs.Values.{value_of}
 use Rattle.interval.proofs.span.Span.neg.Goals as goal
 
 pub invariant_of-result : goal.invariant_of-result

@@ -1,0 +1,32 @@
+// Numbers in their canonical form.
+ghost use Rattle.std.specs.Prelude.{◌≡◌, pos};
+ghost use Rattle.fx_model.specs.Powers.{scaled};
+ghost use Rattle.fx_model.specs.Grid.{IsOnGrid};
+ghost use Rattle.dyadic.specs.Values.{value_of, zero_number};
+
+use super::{Dyadic, odd_part};
+
+// The number 0.
+pub fn zero() -> Dyadic
+    ensures { result ≡ zero_number }
+{
+    Dyadic {
+        mantissa: 0,
+        exponent: 0,
+    }
+}
+
+// The number digits * 2^two in its canonical form.
+pub fn canonical(digits: u64, two: i32) -> Dyadic
+    requires { IsOnGrid (scaled (pos digits) two) }
+    ensures { value_of result ≡ scaled (pos digits) two }
+{
+    if digits == 0 {
+        return zero();
+    }
+    let part = odd_part(digits);
+    Dyadic {
+        mantissa: part.odd as i64,
+        exponent: two + part.shift as i32,
+    }
+}
