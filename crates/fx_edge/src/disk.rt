@@ -1,6 +1,7 @@
-// The real outside. It tells no content: that a disk holds what was written to it is no clause of this crate.
+// The real outside. The folder tells no content: that a disk holds what was written to it is no clause of this crate.
 ghost use Rattle.std.specs.Prelude.{◌≡◌, None, IfOk, ◌≤◌, ◌<◌, length};
 ghost use Rattle.std.specs.Io.{ReadsAtMost};
+ghost use Rattle.std.specs.Io.KnownBytes.{ReadConsumes, WriteAppends};
 ghost use Rattle.fx_edge.specs.Outside.{HasCause};
 
 use crate::outside::count_failure;
@@ -16,6 +17,7 @@ const TRIES: u32 = 1000;
 // One read, tried again where a signal interrupts it. Each error counts.
 fn read_some<R: Read>(reader: &mut R, buf: &mut [u8], faults: &mut u64) -> Result<usize, Failed>
     ensures bound { ReadsAtMost result buf.new }
+    ensures bytes { ReadConsumes (R.remaining reader.old) (R.remaining reader.new) result buf.new }
     ensures cause { HasCause faults.old faults.new result }
 {
     'tries: for _ in 0..TRIES {
@@ -34,6 +36,7 @@ fn read_some<R: Read>(reader: &mut R, buf: &mut [u8], faults: &mut u64) -> Resul
 fn write_some<W: Write>(writer: &mut W, piece: &[u8], faults: &mut u64) -> Result<usize, Failed>
     ensures bound { IfOk result (λ n. n ≤ length piece.now) }
     ensures some { IfOk result (λ n. 0 < length piece.now → 0 < n) }
+    ensures bytes { WriteAppends (W.contents writer.old) (W.contents writer.new) result piece.now }
     ensures cause { HasCause faults.old faults.new result }
 {
     if piece.is_empty() {
@@ -108,7 +111,7 @@ impl<R: Files + Clone + Drop> Folder for DiskFolder<R> {
     }
 }
 
-/// A sink over any writer.
+/// A sink over any writer. It tells the bytes that the writer tells.
 #[derive(Drop)]
 pub struct StdSink<W: Write + Drop> {
     inner: W,
@@ -118,14 +121,15 @@ pub struct StdSink<W: Write + Drop> {
 impl<W: Write + Drop> StdSink<W> {
     /// A sink with no faults yet.
     pub fn new(inner: W) -> StdSink<W>
-        ensures { ⟦<StdSink<W> as Sink>⟧.faults result ≡ 0 }
+        ensures taken { ⟦<StdSink<W> as Sink>⟧.taken result ≡ W.contents inner }
+        ensures faults { ⟦<StdSink<W> as Sink>⟧.faults result ≡ 0 }
     {
         StdSink { inner, faults: 0 }
     }
 }
 
 impl<W: Write + Drop> Sink for StdSink<W> {
-    ghost taken = { λ s. None };
+    ghost taken = { λ s. W.contents s.inner };
 
     ghost faults = { λ s. s.faults };
 

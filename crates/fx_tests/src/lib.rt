@@ -2,6 +2,10 @@
 #![tactic(auto)]
 
 #[cfg(test)]
+mod asked;
+#[cfg(test)]
+mod faults;
+#[cfg(test)]
 mod rows;
 #[cfg(test)]
 mod runs;

@@ -17,7 +17,8 @@ pub struct Run<'a> {
     pub most: usize,
 }
 
-fn words_of(alloc: Global, words: &[&str]) -> Result<Vec<String>, AllocError> {
+/// The words, as texts of their own.
+pub fn words_of(alloc: Global, words: &[&str]) -> Result<Vec<String>, AllocError> {
     let mut all = Vec::new(alloc);
     for word in words {
         all.push(String::from_str(alloc, *word)?)?;
@@ -39,13 +40,25 @@ pub fn ends(
     status: Status,
     printed: &str,
 ) -> Result<(), Fail> {
+    ends_on(rt, alloc, &["prove", "a"], run, status, printed)
+}
+
+/// The same for other words.
+pub fn ends_on(
+    rt: &impl Abort,
+    alloc: Global,
+    words: &[&str],
+    run: &Run<'_>,
+    status: Status,
+    printed: &str,
+) -> Result<(), Fail> {
     assert!(rt; run.most >= 1);
     let files = files_with(alloc, run.text)?;
     let failing = run.failing_reads.to_vec(alloc)?;
     let mut folder = MemFolder::new(alloc, files, failing, 4096, run.most)?;
     let failing = run.failing_puts.to_vec(alloc)?;
     let mut out = MemSink::new(alloc, failing, 4096, run.most)?;
-    let words = words_of(alloc, &["prove", "a"])?;
+    let words = words_of(alloc, words)?;
     let ended = fx_run(alloc, &words, &mut folder, &mut out);
     assert_eq!(rt; ended, status, "{}", printed);
     assert_eq!(rt; out.bytes(), printed.as_bytes(), "{}", printed);
@@ -64,6 +77,24 @@ pub fn words_end(
     let mut folder = SureFolder::new(alloc, files_with(alloc, text)?, 4096)?;
     let mut out = SureSink::new(alloc, 4096)?;
     let words = words_of(alloc, words)?;
+    let ended = fx_run(alloc, &words, &mut folder, &mut out);
+    assert_eq!(rt; ended, status, "{}", printed);
+    assert_eq!(rt; out.bytes(), printed.as_bytes(), "{}", printed);
+    Ok(())
+}
+
+/// `prove a` over a sure folder and a sure sink with this room ends with this status and line.
+pub fn room_ends(
+    rt: &impl Abort,
+    alloc: Global,
+    text: &[u8],
+    room: usize,
+    status: Status,
+    printed: &str,
+) -> Result<(), Fail> {
+    let mut folder = SureFolder::new(alloc, files_with(alloc, text)?, 4096)?;
+    let mut out = SureSink::new(alloc, room)?;
+    let words = words_of(alloc, &["prove", "a"])?;
     let ended = fx_run(alloc, &words, &mut folder, &mut out);
     assert_eq!(rt; ended, status, "{}", printed);
     assert_eq!(rt; out.bytes(), printed.as_bytes(), "{}", printed);

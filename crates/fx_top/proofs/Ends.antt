@@ -1,13 +1,14 @@
 -- How a run ends.
-use Rattle.std.proofs.Common.{◌≡◌, ◌≢◌, ◌<◌, ◌≤◌, ◌++◌, ℕ, List, Option, Some, None, refl, sym, ap, ◌∙◌, subst, length, arith, inl, inr}
-use Rattle.std.specs.Prelude.{◌⊎◌}
+use Rattle.std.proofs.Common.{◌≡◌, ◌<◌, ◌≤◌, List, Option, Some, None, refl, sym, ap, ◌∙◌, subst, length, take, arith, inl, inr}
+use Rattle.std.specs.Prelude.{◌⊎◌, min}
+use Rattle.std.proofs.lemmas.List.{length-take, take_all}
+use Rattle.std.proofs.Math.Nat.{eq-or-lt_of_le}
 use Rattle.std.specs.Io.KnownBytes.{Appends}
 use Rattle.small_script.specs.Small.{Bytes, Script, Spells}
-use Rattle.fx_top.specs.Command.{Command, reading}
+use Rattle.fx_top.specs.Command.{reading}
 use Rattle.fx_top.specs.Command.Command.{Prove}
-use Rattle.fx_top.specs.Outside.{AppendsFront, IsText}
-use Rattle.fx_top.specs.Meaning.{Assignment, Meets, value}
-use Rattle.fx_top.specs.Run.{Told, IsTold, ProvePrints, CommandPrints, Prints, IsCutShort, EndsAs, PutsLine, IsAsked, IsBounded, IsOfForm, IsAnswer, between}
+use Rattle.fx_top.specs.Outside.{IsText}
+use Rattle.fx_top.specs.Run.{Told, IsTold, ProvePrints, Prints, EndsAs, PutsLine, IsBounded, IsOfForm, between}
 use Rattle.fx_top.specs.declared.run.Status.{Status}
 use Rattle.fx_top.specs.declared.run.Status.TheVariants.{Answered, Unproved, Usage, ReadFault, WriteFault, OutOfMemory}
 use Rattle.fx_top.specs.declared.run.Status.TheVariants as status
@@ -30,10 +31,18 @@ both_long t text a b ReadFault line p = absurd p
 both_long t text a b WriteFault line p = absurd p
 both_long t text a b OutOfMemory line p = absurd p
 
+front_size : (all text : Bytes) → text ≡ take 4097 all → length text ≡ min 4097 (length all)
+front_size all text e = ap length e ∙ length-take 4097 all
+
+told_front : (all text : Bytes) → text ≡ take 4097 all → (length text ≡ 4097) ⊎ (length text < 4097) → (t : Bytes) × (t ≡ all) × Alike t text
+told_front all text e (inl full) = let size = front_size all text e in (all, refl, both_long all text (omega (arith, size, full)) (omega (arith, full)))
+told_front all text e (inr short) =
+    let size = front_size all text e in
+    (all, refl, λ s line p. subst (λ (w : Bytes). ProvePrints w s line) (e ∙ take_all 4097 all (omega (arith, size, short))) p)
+
 told_text : (known : Option Bytes) (text : Bytes) → IsText known text → (t : Bytes) × IsTold known t × Alike t text
 told_text None text read = (text, tt, λ s line p. p)
-told_text (Some all) text (inl e) = (all, refl, λ s line p. subst (λ (w : Bytes). ProvePrints w s line) e p)
-told_text (Some all) text (inr p) = (all, refl, both_long all text p.1 p.0)
+told_text (Some all) text e = told_front all text e (eq-or-lt_of_le (let size = front_size all text e in omega (arith, size)))
 
 pub prints_same : (text text' line line' : Bytes) (s : Status) → text ≡ text' → line ≡ line' → ProvePrints text s line → ProvePrints text' s line'
 prints_same text text' line line' s e f p =

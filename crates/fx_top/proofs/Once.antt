@@ -1,11 +1,12 @@
 -- One answer is defined for a text.
 use Rattle.std.specs.Prelude.{◌⊎◌}
-use Rattle.std.proofs.Common.{◌≡◌, ◌≢◌, inl, inr, ℕ, List, Option, Some, None, refl, sym, ap, ◌∙◌, subst}
+use Rattle.std.proofs.Common.{◌≡◌, ◌≢◌, inl, inr, List, Option, Some, None, refl, sym, ap, ◌∙◌, subst}
 use Rattle.fx_model.specs.Fraction.{Fraction}
-use Rattle.fx_model.specs.Grid.{Binary, Bound, At, value_of}
+use Rattle.fx_model.specs.Grid.{Bound, At}
 use Rattle.fx_model.specs.Enclosure.{Range, IsFinite}
-use Rattle.dyadic.specs.Canonical.{IsCanonical}
-use Rattle.small_script.specs.Small.{Bytes, Script, Spells, Tree, IsSound, script_of_tree}
+use Rattle.dyadic.specs.declared.number.Dyadic.{Dyadic}
+use Rattle.dyadic.specs.Values.{value_of, same_value}
+use Rattle.small_script.specs.Small.{Bytes, Script, Spells, IsSound}
 use Rattle.fx_top.specs.Command.{Command, reading}
 use Rattle.fx_top.specs.Command.Command.{Prove}
 use Rattle.fx_top.specs.Meaning.{IsPlain}
@@ -20,17 +21,14 @@ use Rattle.fx_top.proofs.Plain.{plain_once}
 pub sound_of : (text : Bytes) (s : Script) → Spells text s → IsSound s
 sound_of text s spells = subst IsSound spells.said spells.sound
 
--- a text spells one script, and a canonical number is determined by its value
+-- a text spells one script
 abbrev pub SpellsOnce : Type 0
 SpellsOnce = (text : Bytes) (s t : Script) → Spells text s → Spells text t → s ≡ t
-
-abbrev pub CanonicalOnce : Type 0
-CanonicalOnce = (a b : Binary) → IsCanonical a.mantissa a.exponent → IsCanonical b.mantissa b.exponent → value_of a ≡ value_of b → a ≡ b
 
 abbrev Twice : Status → Status → Bytes → Bytes → Type 0
 Twice s t line other = (s ≡ t) × (line ≡ other)
 
-module _ (spells_once : SpellsOnce) (canonical_once : CanonicalOnce) where
+module _ (spells_once : SpellsOnce) where
   same_plain : (text : Bytes) (s t : Script) (r u : Range) → Spells text s → Spells text t → IsPlain s.hyps s.goal r → IsPlain t.hyps t.goal u → r ≡ u
   same_plain text s t r u a b p q =
       let e : t ≡ s = spells_once text t s b a in
@@ -40,15 +38,15 @@ module _ (spells_once : SpellsOnce) (canonical_once : CanonicalOnce) where
   at_value (At g) f = g
   at_value b f = f
 
-  same_line : (text : Bytes) (s t : Script) (a b c d : Binary) (line other : Bytes) → Spells text s → Spells text t → IsAnswer s a b line → IsAnswer t c d other → line ≡ other
+  same_line : (text : Bytes) (s t : Script) (a b c d : Dyadic) (line other : Bytes) → Spells text s → Spells text t → IsAnswer s a b line → IsAnswer t c d other → line ≡ other
   same_line text s t a b c d line other p q i j =
       let r : between a b ≡ between c d = same_plain text s t (between a b) (between c d) p q i.plain j.plain in
-      let low : a ≡ c = canonical_once a c i.low_form j.low_form (ap (λ (w : Range). at_value w.low (value_of a)) r) in
-      let high : b ≡ d = canonical_once b d i.high_form j.high_form (ap (λ (w : Range). at_value w.high (value_of b)) r) in
+      let low : a ≡ c = same_value a c (ap (λ (w : Range). at_value w.low (value_of a)) r) in
+      let high : b ≡ d = same_value b d (ap (λ (w : Range). at_value w.high (value_of b)) r) in
       let one : s ≡ t = spells_once text s t p q in
-      i.text ∙ ap (λ (v : Script). answer_line v a b) one ∙ ap (λ (v : Binary). answer_line t v b) low ∙ ap (λ (v : Binary). answer_line t c v) high ∙ sym j.text
+      i.text ∙ ap (λ (v : Script). answer_line v a b) one ∙ ap (λ (v : Dyadic). answer_line t v b) low ∙ ap (λ (v : Dyadic). answer_line t c v) high ∙ sym j.text
 
-  finite_not : (text : Bytes) (s t : Script) (a b : Binary) (r : Range) → Spells text s → Spells text t → IsPlain s.hyps s.goal (between a b) → IsPlain t.hyps t.goal r → IsFinite r
+  finite_not : (text : Bytes) (s t : Script) (a b : Dyadic) (r : Range) → Spells text s → Spells text t → IsPlain s.hyps s.goal (between a b) → IsPlain t.hyps t.goal r → IsFinite r
   finite_not text s t a b r p q i j = subst IsFinite (same_plain text s t (between a b) r p q i j) (value_of a, value_of b, refl, refl)
 
   prove_once : (text : Bytes) (s t : Status) (line other : Bytes) → ProvePrints text s line → ProvePrints text t other → Twice s t line other

@@ -1,9 +1,10 @@
 -- What a run of the program prints, reads and answers.
-use Rattle.std.specs.Prelude.{◌≡◌, ◌⊎◌, ◌++◌, ℕ, List, [], ◌∷◌, ⊤, Bool, false, Option, Some, None}
+use Rattle.std.specs.Prelude.{◌≡◌, ◌⊎◌, List, ⊤, Bool, false, Option, Some, None}
 use Rattle.std.specs.Io.KnownBytes.{Appends, Keeps}
-use Rattle.fx_model.specs.Grid.{Binary, At, value_of}
+use Rattle.fx_model.specs.Grid.{At}
 use Rattle.fx_model.specs.Enclosure.{Range, IsFinite, Lies}
-use Rattle.dyadic.specs.Canonical.{IsCanonical}
+use Rattle.dyadic.specs.declared.number.Dyadic.{Dyadic}
+use Rattle.dyadic.specs.Values.{value_of}
 use Rattle.small_script.specs.Small.{Bytes, Script, Spells}
 use Rattle.fx_top.specs.Command.{Command, reading}
 use Rattle.fx_top.specs.Command.Command.{Prove}
@@ -24,20 +25,18 @@ IsTold (Some all) text = text ≡ all
 
 -- ---- the answer to a text
 
-abbrev pub between : Binary → Binary → Range
+abbrev pub between : Dyadic → Dyadic → Range
 between low high = record { low = At (value_of low); high = At (value_of high) }
 
--- the printed line of a script whose goal's plain enclosure has these finite ends, in their canonical form
-pub record IsAnswer (s : Script) (low high : Binary) (line : Bytes) : Type 0 where
+-- the printed line of a script whose goal's plain enclosure has these finite ends, which as all numbers are in canonical form
+pub record IsAnswer (s : Script) (low high : Dyadic) (line : Bytes) : Type 0 where
   pub plain : IsPlain s.hyps s.goal (between low high)
-  pub low_form : IsCanonical low.mantissa low.exponent
-  pub high_form : IsCanonical high.mantissa high.exponent
   pub text : line ≡ answer_line s low high
 
 -- `prove` answers a text with this status and this line
 abbrev pub ProvePrints : Bytes → Status → Bytes → Type 0
 -- the plain enclosure of the goal is finite
-ProvePrints text status.Answered line = (s : Script) × (low : Binary) × (high : Binary) × Spells text s × IsAnswer s low high line
+ProvePrints text status.Answered line = (s : Script) × (low : Dyadic) × (high : Dyadic) × Spells text s × IsAnswer s low high line
 -- the plain enclosure of the goal has an infinite end
 ProvePrints text status.Unproved line = (s : Script) × (r : Range) × Spells text s × IsPlain s.hyps s.goal r × ¬ (IsFinite r) × (line ≡ unproved_line)
 -- the text isn't of the small form
@@ -86,7 +85,7 @@ IsAsked words told s = (name : Bytes) × (text : Bytes) × (reading words ≡ So
 
 -- the sink took the line of an interval, in which the goal's value lies under every assignment that meets the hypotheses
 abbrev pub IsBounded : List Bytes → Told → Option Bytes → Option Bytes → Type 0
-IsBounded words told before after = (s : Script) × (low : Binary) × (high : Binary) × IsAsked words told s × Appends before after (answer_line s low high)
+IsBounded words told before after = (s : Script) × (low : Dyadic) × (high : Dyadic) × IsAsked words told s × Appends before after (answer_line s low high)
     × ((a : Assignment) → Meets a s.hyps → Lies (between low high) (value a s.goal))
 
 -- the words ask for a told text of the small form

@@ -1,6 +1,6 @@
 -- The printed lines.
-use Rattle.std.specs.Prelude.{◌++◌, ◌∷◌, List, ℕ, codes}
-use Rattle.fx_model.specs.Grid.{Binary}
+use Rattle.std.specs.Prelude.{◌++◌, codes}
+use Rattle.dyadic.specs.declared.number.Dyadic.{Dyadic}
 use Rattle.dyadic.specs.Texts.{number_text}
 use Rattle.small_script.specs.declared.script.Op.{Op}
 use Rattle.small_script.specs.declared.script.Op.TheVariants.{Add, Sub, Mul}
@@ -23,7 +23,7 @@ expr_text (difference e t) = expr_text e ++ codes " - " ++ term_text t
 
 -- ---- lines
 
-abbrev pub answer_line : Script → Binary → Binary → Bytes
+abbrev pub answer_line : Script → Dyadic → Dyadic → Bytes
 answer_line s low high = expr_text s.goal ++ codes " in [" ++ number_text low ++ codes ", " ++ number_text high ++ codes "]\n"
 
 abbrev pub unproved_line : Bytes

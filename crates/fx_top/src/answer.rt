@@ -7,7 +7,7 @@ ghost use Rattle.fx_top.specs.Run.{ProvePrints};
 
 use crate::enclosure::plain_enclosure;
 use crate::run::Status;
-use dyadic::{Dyadic, End, has_canonical_form};
+use dyadic::{Dyadic, End};
 use small_script::{Atom, Op, Script, read};
 use std::alloc::{AllocError, Global};
 
@@ -71,8 +71,6 @@ pub fn answer(alloc: Global, text: &[u8]) -> Result<(Status, Vec<u8>), AllocErro
     let interval = plain_enclosure(&script);
     if let End::At(low) = interval.lo() {
         if let End::At(high) = interval.hi() {
-            has_canonical_form(low);
-            has_canonical_form(high);
             return Ok((Status::Answered, answer_line(alloc, &script, low, high)?));
         }
     }

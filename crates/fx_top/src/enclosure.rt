@@ -2,8 +2,8 @@
 ghost use Rattle.std.specs.Prelude.{◌≡◌, ◌<◌, ◌^◌, pos, map, length, unsigned_abs, [], MatchOption, ◌≤ℤ◌};
 ghost use Rattle.std.specs.List.{Any};
 ghost use Rattle.fx_model.specs.Powers.{whole};
-ghost use Rattle.fx_model.specs.Grid.{value_of};
 ghost use Rattle.fx_model.specs.Enclosure.{IsSum, IsDifference, IsProduct};
+ghost use Rattle.dyadic.specs.Values.{value_of};
 ghost use Rattle.interval.specs.Intervals.{range_of};
 ghost use Rattle.small_script.specs.Small.{variable, IsBound, EachAtom};
 ghost use Rattle.small_script.specs.Views.{bounds_of, atom_of, script_of};

@@ -7,7 +7,6 @@ ghost use Rattle.fx_top.specs.Texts.{read_fault_line};
 use crate::answer::answer;
 use crate::outside::{ReadStop, put_all, read_text};
 use crate::words::script_of;
-use dyadic::canonical_form_is_unique;
 use fx_edge::{Failed, Folder, Sink};
 use small_script::spells_once;
 use std::alloc::{AllocError, Global};
@@ -120,5 +119,4 @@ pub fn answer_is_defined_once()
         → s ≢ Status.ReadFault → t ≢ Status.ReadFault → Prints words told s line → Prints words told t other → (s ≡ t) × (line ≡ other) }
 {
     spells_once();
-    canonical_form_is_unique();
 }

@@ -1,5 +1,5 @@
 use Rattle.std.proofs.Common.{◌≡◌, sym, ap, ◌∙◌, subst}
-use Rattle.fx_model.specs.Grid.{Binary}
+use Rattle.dyadic.specs.declared.number.Dyadic.{Dyadic}
 use Rattle.fx_model.specs.Enclosure.{Range}
 use Rattle.dyadic.specs.declared.number.End.{End}
 use Rattle.dyadic.specs.declared.number.End.TheVariants.{At}
@@ -12,7 +12,7 @@ use Rattle.fx_top.specs.Run.{between}
 use Rattle.fx_top.proofs.Once.{sound_of}
 use Rattle.fx_top.proofs.answer.answer.Goals as goal
 
-finite_range : (i : Interval) (a b : Binary) → i.lo ≡ At a → i.hi ≡ At b → range_of i ≡ between a b
+finite_range : (i : Interval) (a b : Dyadic) → i.lo ≡ At a → i.hi ≡ At b → range_of i ≡ between a b
 finite_range i a b e f = ap (λ (x : End). range_from x i.hi) e ∙ ap (λ (x : End). range_from (At a) x) f
 
 pub plain_enclosure-interval-requires : goal.plain_enclosure-interval-requires
@@ -27,8 +27,6 @@ returns-in-At-hi c = (
   record {
     plain = subst (λ (r : Range). IsPlain (script_of c.in-Some.script).hyps (script_of c.in-Some.script).goal r)
         (finite_range c.plain_enclosure-interval.result c.in-At.low c.in-At-hi.high (sym c.lo.ensures ∙ c.in-At.is) (sym c.hi.ensures ∙ c.in-At-hi.is)) c.plain_enclosure-interval.ensures;
-    low_form = c.has_canonical_form.ensures;
-    high_form = c.has_canonical_form-in-At-hi.ensures;
     text = c.in_ok-answer_line.ensures;
   },
 )
