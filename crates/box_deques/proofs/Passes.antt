@@ -1,5 +1,5 @@
 -- A change of one seat that leaves its pass leaves all passes, and those of the hand's own lane.
-use Rattle.std.proofs.Common.{◌≡◌, ◌≢◌, ℕ, zero, suc, ◌+◌, ◌<◌, List, [], ◌∷◌, ◌++◌, length, slice_set, refl, ap, sym, ◌∙◌, get_or-set_other, subst, Option, Some, None}
+use Rattle.std.proofs.Common.{◌≡◌, ◌≢◌, ℕ, zero, suc, ◌<◌, List, [], ◌∷◌, length, slice_set, refl, ap, sym, ◌∙◌, get_or-set_other, subst, Option, Some, None}
 use Rattle.std.specs.Option.{IfSome, IfNone}
 use Rattle.box_deques.specs.Seen as seen
 use Rattle.box_deques.specs.Seen.{seat_at, no_seat, HasPass, hand_with, with_take, with_empty}

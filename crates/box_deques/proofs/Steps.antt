@@ -1,13 +1,12 @@
 -- Each step keeps the rule of a lane.
-use Rattle.std.proofs.Common.{◌≡◌, ◌≢◌, ◌==◌, ◌⊎◌, ℕ, zero, suc, ◌+◌, ◌<◌, ◌≤◌, Bool, true, false, true≢false, cond, List, [], ◌∷◌, ◌++◌, length, map, All, set, slice_index_or, sym, refl, ap, ◌∙◌, subst, inl, inr, ⊎_elim, append_assoc, length-append, arith}
-use Rattle.std.proofs.lemmas.Grind.{common_steps}
+use Rattle.std.proofs.Common.{◌≡◌, ◌≢◌, ◌==◌, ◌⊎◌, ℕ, zero, suc, ◌+◌, ◌<◌, ◌≤◌, true, true≢false, cond, List, [], ◌∷◌, ◌++◌, length, map, set, slice_index_or, sym, refl, ap, ◌∙◌, subst, inl, inr, ⊎_elim, append_assoc, length-append, arith}
 use Rattle.std.proofs.lemmas.List.Elements.{All-push}
 use mathlib.Core.Option.{some, some-ne-none}
 use lib.ListN.{get_elem?}
 use Rattle.crossbeam_deque.specs.Tasks.{Pushes, Takes, Finds, FindsFew, Blocks, Forks, Merges, Learns}
-use Rattle.crossbeam_deque.proofs.Lists.{at_set, at_snoc}
+use Rattle.crossbeam_deque.proofs.Lists.{at_set}
 use Rattle.box_deques.specs.declared.rule.View.{View}
-use Rattle.box_deques.specs.Views.{Take, view, owner, spent, guest, pushing, taking, lending, taking_back}
+use Rattle.box_deques.specs.Views.{Take, owner, spent, guest, pushing, taking, lending, taking_back}
 use Rattle.box_deques.specs.Rule.{Gone, taken_by, paths_of, Fits, Kept, Waits, Takes1, Adds, Tells, Alone, Fitting, WasEmpty}
 use Rattle.box_deques.proofs.Parties.{is_it, isnt_it, taken_by_same, taken_by_other, taken_by_none, taken_by_few}
 

@@ -1,6 +1,6 @@
 -- What a worker can say of a lane at the moment of a pop or a steal. Others may take from it at any time, so it is this: a
 -- lawful state of the lane that the worker can't tell from the real one.
-use Rattle.std.specs.Prelude.{◌≡◌, ◌≢◌, ℕ, ◌+◌, ◌<◌, ◌≤◌, List, [], ◌∷◌, ◌++◌, length, All, Some, slice_get}
+use Rattle.std.specs.Prelude.{◌≡◌, ℕ, ◌+◌, ◌<◌, ◌≤◌, List, [], ◌∷◌, ◌++◌, length, All, Some, slice_get}
 use Rattle.box_deques.specs.Rule.{Gone, taken_by, paths_of}
 use Rattle.box_deques.specs.Seen.{Lane, Seat, Hand, seat_at, hand_with, with_pop, with_take}
 
@@ -29,11 +29,11 @@ pub record Pops (capacity : ℕ) (old new : Lane) (path : List ℕ) : Type 0 whe
 abbrev pub SeatFits : Seat → List Gone → Type 0
 SeatFits seat history = seat.takes ≡ taken_by (seat.hand + 1) 0 history
 
--- so much is known where a steal finds nothing
+-- so much is known where a steal finds nothing: it is no more than was known before
 abbrev pub AnySeat : Seat → Type 0
 AnySeat seat = (history : List Gone) × SeatFits seat history
 
--- a steal took the first path that waited, after all that left the lane
+-- a steal took this path, at a place that is as many as had left the lane, in a state that the hand can't tell from the real one. So the place is above those of all that the hand took there
 pub record Takes (capacity : ℕ) (old new : Seat) (path : List ℕ) : Type 0 where
   pub place : ℕ
   pub below : place < capacity

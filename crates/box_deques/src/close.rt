@@ -1,9 +1,9 @@
 //! What became of the tasks of a lane.
-ghost use Rattle.std.specs.Prelude.{◌≡◌, ℕ, List, ◌+◌, ◌<◌, ◌≤◌, true, [], ◌++◌, length, map, drop, vec_capacity, IfOk, IfErr, OnOk, sum_by};
+ghost use Rattle.std.specs.Prelude.{◌≡◌, ℕ, List, ◌+◌, ◌<◌, ◌≤◌, true, [], ◌++◌, length, map, drop, All, vec_capacity, IfOk, IfErr, OnOk, sum_by};
 ghost use Rattle.crossbeam_deque.specs.Handles.{worker_deque, worker_flavor, worker_view, SameWorker};
 ghost use Rattle.box_deques.specs.Close.{writes, writes_all, AllBelow, AreHands};
 ghost use Rattle.box_deques.specs.Views.{with_back};
-ghost use Rattle.box_deques.specs.Rule.{paths_of, taken_by};
+ghost use Rattle.box_deques.specs.Rule.{paths_of, taken_by, Belongs};
 ghost use Rattle.box_deques.specs.Seen as seen;
 ghost use Rattle.box_deques.specs.Seen.{AllPasses, Each, GaveBack, OwnIsEmpty, takes_on};
 
@@ -43,6 +43,7 @@ fn drain<T: Task, Q: Naming<T::World>>(
     requires empty { (left.old.items ≡ []) × (paths.old.items ≡ [])
         × (n ≤ vec_capacity left.old) × (n ≤ vec_capacity paths.old) }
     ensures tasks { map T.path_of left.new.items ≡ paths.new.items }
+    ensures world { All (λ t. Belongs (T.world t) Q.world) left.new.items }
     ensures paths { paths.new.items
         ≡ drop (length (worker_view deque.old).takes
         + sum_by length (worker_view deque.old).back) (worker_view deque.old).pushed }
@@ -152,8 +153,10 @@ impl<T: Task, Q: Naming<T::World>> Lane<T, Q> {
         ensures pushes { IfOk result (λ e. e.ledger.pushes ≡ self.pushed) }
         ensures whole { IfOk result (λ e. e.ledger.pushes ≡ paths_of e.ledger.takes ++ e.ledger.left) }
         ensures left { IfOk result (λ e. map T.path_of e.left ≡ e.ledger.left) }
+        ensures world { IfOk result (λ e. All (λ t. Belongs (T.world t) Q.world) e.left) }
         ensures owner { IfOk result (λ e. taken_by self.number 0 e.ledger.takes ≡ self.takes) }
         ensures takes { IfOk result (λ e. AreHands self.number hands.old e.ledger.takes) }
+        ensures workers { IfOk result (λ e. All (λ take. take.0 < length hands.old) e.ledger.takes) }
     {
         let room = self.pushed.len();
         let Ok(mut takes) = Vec::with_capacity(alloc, room) else {

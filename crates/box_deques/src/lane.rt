@@ -83,8 +83,9 @@ impl<T: Task, Q: Naming<T::World>> Lane<T, Q> {
         }
     }
 
-    /// The first task. `None` only where the lane was empty at this call's step, and then the lane is dry. It takes no
-    /// memory.
+    /// The first task, which the lane counts with its place. `None` only where the lane was empty at this call's step, and
+    /// then the lane is dry. While hands are out, the clauses say so of a state that the owner can't tell from the real one.
+    /// It takes no memory.
     pub fn pop(&mut self) -> Option<T>
         ensures world { IfSome result (λ t. Belongs (T.world t) Q.world) }
         ensures first { IfSome result (λ t. Pops Q.capacity self.old self.new (T.path_of t)) }
@@ -132,6 +133,7 @@ impl<T: Task, Q: Naming<T::World>> Lane<T, Q> {
         self.deque.another::<NewHand>()
     }
 
+    #[tactic(auto, using(crate::proofs::Steps::begins))]
     fn new(alloc: Global, number: u8, capacity: u32) -> Result<Lane<T, Q>, AllocError>
         requires { capacity ≡ Q.capacity }
         ensures { IfOk result (λ l. IsNew number l) }

@@ -8,6 +8,7 @@ pub mod pool_hands;
 pub mod rule;
 pub mod task;
 pub mod thief;
+mod threads;
 
 pub use close::LaneEnd;
 pub use hand::{Hand, Seat};

@@ -1,6 +1,6 @@
-ghost use Rattle.std.specs.Prelude.{◌≡◌, ◌≢◌, ◌<◌, ◌≤◌, ℕ, [], length, None};
+ghost use Rattle.std.specs.Prelude.{◌≡◌, ◌≢◌, ◌<◌, ◌≤◌, ℕ, [], length, vec_len, None, IfOk, OnOk};
 ghost use Rattle.box_deques.specs.Seen as seen;
-ghost use Rattle.box_deques.specs.Seen.{Each, HasPass, IsReady};
+ghost use Rattle.box_deques.specs.Seen.{AllPasses, Each, HasPass, IsReady, IsSeated, Lent, OwnIsEmpty};
 ghost use Rattle.box_deques.specs.Moments.{SamePasses};
 
 use crate::close::LaneEnd;
@@ -108,6 +108,44 @@ fn worked<Q: Naming<u8> + Send + Sync, R: Threads + Wait + Sync>(
     }
 }
 
+// Closes the lane. Where memory was refused, all is as it was, and it is closed then.
+fn closed<Q: Naming<u8>>(
+    alloc: Global,
+    lane: Lane<Job, Q>,
+    hands: &mut [Hand<Job>],
+) -> Result<LaneEnd<Job>, AllocError>
+    requires all { (length hands.old ≡ lane.hands) × (length hands.old ≤ 16) }
+    requires passes { AllPasses lane.number lane.name hands.old }
+    requires own { lane.number < length hands.old × OwnIsEmpty lane.number hands.old }
+{
+    let lane = match lane.close(alloc, hands) {
+        Ok(end) => return Ok(end),
+        Err((lane, _)) => lane,
+    };
+    match lane.close(alloc, hands) {
+        Ok(end) => Ok(end),
+        Err((_, error)) => Err(error),
+    }
+}
+
+// The hands of the lanes. Where memory was refused, the lanes are as they were, and they get their hands then.
+fn handed<Q: Naming<u8>>(
+    alloc: Global,
+    lanes: &mut [Lane<Job, Q>],
+) -> Result<Vec<Hand<Job>>, AllocError>
+    requires some { (0 < length lanes.old) × (length lanes.old ≤ 16) }
+    requires new { Each (λ (k : ℕ) (lane : seen.Lane). lane.hands ≡ 0) (length lanes.old) lanes.old }
+    ensures lanes { OnOk result (Lent (length lanes.old) lanes.old lanes.new) }
+    ensures many { IfOk result (λ hands. vec_len hands ≡ length lanes.old) }
+    ensures hands { IfOk result (λ hands.
+        Each (λ (k : ℕ) (hand : seen.Hand). IsSeated k Q.capacity lanes.old hand) (length lanes.old) hands.items) }
+{
+    match hands(alloc, lanes) {
+        Ok(all) => Ok(all),
+        Err(_) => hands(alloc, lanes),
+    }
+}
+
 // The lane 0 of two is worked on by its owner and by the hand 1, and then closed.
 fn work_and_close<Q: Naming<u8> + Send + Sync, R: Threads + Wait + Sync>(
     rt: &R,
@@ -121,10 +159,8 @@ fn work_and_close<Q: Naming<u8> + Send + Sync, R: Threads + Wait + Sync>(
 {
     let thief = lane.thief()?;
     let (pushed, stolen) = worked(rt, &mut lane, &thief, &mut hands[1], together);
-    match lane.close(alloc, hands) {
-        Ok(end) => Ok((end, pushed, stolen)),
-        Err((_, error)) => Err(error),
-    }
+    let end = closed(alloc, lane, hands)?;
+    Ok((end, pushed, stolen))
 }
 
 fn shared<Q: Naming<u8> + Send + Sync, R: Threads + Wait + Sync>(
@@ -135,7 +171,7 @@ fn shared<Q: Naming<u8> + Send + Sync, R: Threads + Wait + Sync>(
     requires { Q.capacity ≡ 100 }
 {
     let mut lanes = pool::<Job, Q>(alloc, 2, 100)?;
-    let mut all = hands(alloc, lanes.as_mut_slice())?;
+    let mut all = handed(alloc, lanes.as_mut_slice())?;
     let lane = lanes.remove(0);
     work_and_close(rt, alloc, lane, all.as_mut_slice(), together)
 }

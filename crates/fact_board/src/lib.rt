@@ -2,6 +2,7 @@
 #![tactic(auto)]
 
 mod board;
+mod threads;
 mod token;
 
 pub use board::Board;

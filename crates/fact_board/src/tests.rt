@@ -6,21 +6,6 @@ use std::sync::Wait;
 use std::test::Fail;
 use std::thread::{Threads, map_vec};
 
-fn sends<X: Send>(value: &X) {
-    let _ = value;
-}
-
-fn shares<X: Sync>(value: &X) {
-    let _ = value;
-}
-
-// Whatever the entries are, as long as these may go to other threads.
-fn goes_to_other_threads<E: Drop + Send + Sync>(board: &Board<E>, token: &Token<E>) {
-    sends(board);
-    shares(board);
-    sends(token);
-}
-
 // Other threads read the entries of the tokens.
 fn read_all<R: Threads + Sync>(
     rt: &R,

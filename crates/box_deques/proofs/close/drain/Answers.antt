@@ -1,9 +1,10 @@
-use Rattle.std.proofs.Common.{◌≡◌, ℕ, ◌+◌, ◌<◌, List, [], ◌∷◌, ◌++◌, length, length-append, take, drop, map, sym, ap, ◌∙◌, rules, arith}
+use Rattle.std.proofs.Common.{◌≡◌, ℕ, ◌+◌, List, [], ◌∷◌, ◌++◌, length, length-append, take, drop, sym, ap, ◌∙◌, rules, arith}
 use Rattle.std.specs.List.{sum_by}
-use Rattle.crossbeam_deque.specs.Handles.{worker_view, worker_port, worker_flavor}
+use Rattle.crossbeam_deque.specs.Handles.{worker_view, worker_port}
 use Rattle.box_deques.specs.declared.rule.View.{View}
-use Rattle.box_deques.specs.Views.{Take}
+use Rattle.box_deques.specs.Rule.{Belongs}
 use Rattle.box_deques.proofs.Steps.{takes, finds}
+use Rattle.std.proofs.lemmas.List.Elements.{All-push}
 use Rattle.box_deques.proofs.Lists.{map_snoc}
 use Rattle.box_deques.proofs.Emptied.{at_end, at_take}
 use Rattle.box_deques.proofs.close.drain.Goals as goal
@@ -56,5 +57,6 @@ loop-i-preserved g c =
       room = search rules;
       room' = search rules;
       tasks = rw (c.push_reserved-in-loop-i.ensures.items, c.push_reserved.ensures.items, c.path.ensures) (map_snoc g.T.Task.path_of c.loop-i.left.items c.in-Some.placed.task ∙ ap (λ l. l ++ p ∷ []) inv.tasks);
+      world = rw c.push_reserved-in-loop-i.ensures.items (All-push (λ t. Belongs (g.T.Task.world t) g.Q.Naming.world) c.loop-i.left.items c.in-Some.placed.task inv.world r.1);
       paths = rw (c.push_reserved.ensures.items, c.path.ensures) (ap (λ l. l ++ p ∷ []) inv.paths ∙ sym next);
     }

@@ -1,4 +1,4 @@
-use Rattle.std.proofs.Common.{◌≡◌, ℕ, ◌+◌, ◌<◌, ◌≤◌, length, vec_len, slice_index_or, refl, arith, rules}
+use Rattle.std.proofs.Common.{◌≡◌, length, refl, arith, rules}
 use Rattle.box_deques.specs.Seen as seen
 use Rattle.box_deques.specs.Seen.{IsBareHand}
 use Rattle.box_deques.proofs.Lists.{each_push}

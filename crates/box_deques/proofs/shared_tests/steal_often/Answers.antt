@@ -1,4 +1,4 @@
-use Rattle.box_deques.proofs.Passes.{same_then, still_has, same_itself}
+use Rattle.box_deques.proofs.Passes.{still_has, same_itself}
 use Rattle.box_deques.proofs.shared_tests.steal_often.Goals as goal
 
 pub loop-init : goal.loop-init

@@ -24,8 +24,8 @@ stays room name (a ∷ []) new d two ready same = absurd (omega arith)
 stays room name (a ∷ b ∷ c ∷ old) new d two ready same = absurd (omega arith)
 stays room name (a ∷ b ∷ []) new d two ready same = both name a new (at_first room name 0 a (ready 0 a (omega arith))) (later name 1 b new (at_first room name 1 b (ready 1 b (omega arith))) same)
 
-pub close-requires-clause-passes : goal.close-requires-clause-passes
-close-requires-clause-passes g c =
+pub closed-requires-clause-passes : goal.closed-requires-clause-passes
+closed-requires-clause-passes g c =
     let w = c.worked-pushed.ensures in
     let number : c.worked-pushed.new.lane.number ≡ 0 = w.lane.0 ∙ c.requires.two.2 in
     let name : c.worked-pushed.new.lane.name ≡ c.args.lane.name = w.lane.2 in

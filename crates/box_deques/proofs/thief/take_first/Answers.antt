@@ -1,4 +1,4 @@
-use Rattle.std.proofs.Common.{◌≡◌, ◌<◌, length, sym, ap, ◌∙◌, rules, arith, min}
+use Rattle.std.proofs.Common.{ap, ◌∙◌, min}
 use Rattle.crossbeam_deque.specs.Handles.{view}
 use Rattle.box_deques.proofs.Steps.{takes, finds_few}
 use Rattle.box_deques.proofs.thief.take_first.Goals as goal

@@ -1,14 +1,13 @@
-use Rattle.std.proofs.Common.{◌≡◌, ◌≢◌, ℕ, ◌+◌, ◌-◌, ◌<◌, List, [], ◌∷◌, ◌++◌, length, map, drop, take, slice_index_or, sym, ap, ◌∙◌, subst, rules, arith}
+use Rattle.std.proofs.Common.{◌≡◌, ℕ, ◌+◌, ◌-◌, ◌<◌, List, [], ◌++◌, length, map, drop, take, slice_index_or, sym, ap, ◌∙◌, rules, arith}
 use Rattle.std.specs.List.{sum_by}
 use Rattle.crossbeam_deque.specs.Handles.{worker_view, worker_port}
 use Rattle.box_deques.specs.declared.rule.View.{View}
-use Rattle.box_deques.specs.Views.{Take, with_back}
-use Rattle.box_deques.specs.Rule.{Gone, Tells, paths_of, taken_by}
+use Rattle.box_deques.specs.Rule.{Gone, paths_of}
 use Rattle.box_deques.specs.Seen as seen
 use Rattle.box_deques.specs.Seen.{takes_on, seat_at}
 use Rattle.box_deques.proofs.Steps.{tells}
 use Rattle.box_deques.proofs.Emptied.{takes_on_length}
-use Rattle.box_deques.proofs.Ended.{own_below, all_below, counted, gave_takes, history_length, back_whole, whole_of, hand_of, owner_of}
+use Rattle.box_deques.proofs.Ended.{own_below, all_below, counted, gave_takes, history_length, back_whole, whole_of, hand_of, owner_of, all_workers}
 use Rattle.std.proofs.lemmas.List.{length-map}
 use Rattle.box_deques.specs.declared.rule.Placed.{Placed}
 use Rattle.box_deques.specs.Close.{workers, writes, writes_all}
@@ -159,3 +158,32 @@ returns-clause-takes g c = λ k d below other.
     let ys : List Gone = drop (length into) c.fill.new.takes.items in
     let final : take c.fill.new.takes.len (into ++ ys) ≡ into = back_whole into ys c.fill.new.takes.len held in
     rw (c.of.ensures.takes, final) (rw (← num) (hand_of me hs v waiting t into back out k d below (λ e. other (e ∙ num))))
+
+pub returns-clause-workers : goal.returns-clause-workers
+returns-clause-workers g c =
+    let v : View = worker_view c.collect.new.deque in
+    let is = c.collect.ensures.view in
+    let t = c.len_as-n.ensures.rule.2 in
+    let items = c.len_as-n.ensures.rule.0 in
+    let waiting : List (List ℕ) = map (λ (x : Placed g.row.T.Denot). g.T.Task.path_of x.task) items in
+    let n : length waiting ≡ c.len_as-n.result = length-map items (λ (x : Placed g.row.T.Denot). g.T.Task.path_of x.task) ∙ c.len_as-n.ensures.rule.1 in
+    let pushed : length v.pushed ≡ length c.self.inside.pushed.items = ap (λ (x : View). length x.pushed) is ∙ ap length c.self.invariant.4 in
+    let all : length c.self.inside.pushed.items ≡ c.len.result = search rules in
+    let long = history_length v waiting t in
+    let filled : length c.as_mut_slice.result.now ≡ c.len.result - c.len_as-n.result = ap length c.as_mut_slice.ensures.value ∙ c.fill.ensures in
+    let same : length c.as_mut_slice.result.now ≡ length t.history = omega arith in
+    let me : ℕ = c.self.inside.number in
+    let num : c.self.inside.number ≡ c.args.self.number = ap (λ (l : seen.Lane). l.number) c.self.view_is in
+    let hs : List seen.Hand = c.args.hands.now in
+    let back : v.back ≡ takes_on me hs = ap (λ (x : View). x.back) is in
+    let takes : c.as_slice.result.now ≡ v.takes = c.as_slice.ensures.value ∙ sym c.self.invariant.5 ∙ sym (ap (λ (x : View). x.takes) is) in
+    let gave : takes_on me c.collect.new.hands ≡ takes_on me hs = gave_takes me hs c.collect.new.hands c.collect.auto.hands (λ k d b. rw num ((c.requires.passes k d b).0)) c.collect.ensures.hands in
+    let wrote : c.write_all.new.into ≡ writes_all 0 v.back (writes me v.takes c.as_mut_slice.result.now) = c.write_all.ensures ∙ ap (λ l. writes_all 0 l (writes me c.as_slice.result.now c.as_mut_slice.result.now)) (gave ∙ sym back)
+    ∙ ap (λ l. writes_all 0 v.back (writes me l c.as_mut_slice.result.now)) takes in
+    let out : c.write_all.new.into ≡ workers me t.history = ledger_of me v waiting t c.as_mut_slice.result.now c.write_all.new.into same wrote in
+    let into : List Gone = c.write_all.new.into in
+    let held : c.fill.new.takes.len ≡ length into = (let a = c.write_all.auto.into in let b : length c.as_mut_slice.result.now ≡ c.fill.new.takes.len = search rules in omega arith) in
+    let ys : List Gone = drop (length into) c.fill.new.takes.items in
+    let final : take c.fill.new.takes.len (into ++ ys) ≡ into = back_whole into ys c.fill.new.takes.len held in
+    let few : me < length hs = rw num c.requires.own.0 in
+    rw (c.of.ensures.takes, final) (all_workers me hs v waiting t into back out few)

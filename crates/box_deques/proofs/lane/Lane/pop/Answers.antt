@@ -1,4 +1,4 @@
-use Rattle.std.proofs.Common.{◌≡◌, ◌<◌, length, sym, ap, ◌∙◌, rules, arith}
+use Rattle.std.proofs.Common.{ap, ◌∙◌, rules}
 use Rattle.crossbeam_deque.specs.Handles.{worker_view, worker_port}
 use Rattle.box_deques.specs.Seen as seen
 use Rattle.box_deques.proofs.Moments.{IsOwners, pops, none_waits}

@@ -1,7 +1,7 @@
-use Rattle.std.proofs.Common.{◌≡◌, ◌≢◌, ℕ, ◌<◌, List, length, ap, ◌∙◌, subst, arith}
+use Rattle.std.proofs.Common.{◌≡◌, length, ap, ◌∙◌, subst, arith}
 use Rattle.box_deques.specs.Seen as seen
 use Rattle.box_deques.specs.Seen.{seat_at, no_seat, hand_with, with_empty}
-use Rattle.box_deques.specs.Moments.{Takes, Steals, AnySeat, SamePasses}
+use Rattle.box_deques.specs.Moments.{Steals, AnySeat, SamePasses}
 use Rattle.box_deques.proofs.Lists.{or_same}
 use Rattle.box_deques.proofs.Passes.{new_hand, passes_stay, some_then, none_then, steals, finds_none}
 use Rattle.box_deques.proofs.thief.Thief.steal.Goals as goal

@@ -1,4 +1,4 @@
-use Rattle.std.proofs.Common.{◌≡◌, ◌+◌, ap, ◌∙◌, rules}
+use Rattle.std.proofs.Common.{◌+◌, ap, ◌∙◌, rules}
 use Rattle.crossbeam_deque.specs.Handles.{view}
 use Rattle.box_deques.specs.Seen as seen
 use Rattle.box_deques.proofs.Moments.{IsSeats, takes_first, any_seat}
