@@ -1,0 +1,4 @@
+pub mod Hashed
+pub mod Nodes
+pub mod Same
+pub mod Shapes

@@ -1,0 +1,10 @@
+//! The one list of shared expression nodes, in which each is made of earlier ones.
+#![tactic(auto)]
+
+mod dag;
+mod key;
+#[cfg(test)]
+mod tests;
+
+pub use dag::{Dag, DagFault};
+pub use fx_model::{Direction, ExprId, Literal, Node, Rounding};
