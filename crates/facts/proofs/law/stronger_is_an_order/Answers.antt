@@ -1,0 +1,6 @@
+use Rattle.facts.specs.Laws.{IsStronger-refl, IsStronger-trans, IsStronger-slot}
+use Rattle.facts.specs.Meets.{IsStronger-antisymm}
+use Rattle.facts.proofs.law.stronger_is_an_order.Goals as goal
+
+pub returns : goal.returns
+returns c = record { reflexive = IsStronger-refl; transitive = IsStronger-trans; antisymmetric = IsStronger-antisymm; on_one_slot = IsStronger-slot }

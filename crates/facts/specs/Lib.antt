@@ -1,0 +1,13 @@
+pub mod Ranges
+pub mod Parts
+pub mod Holds
+pub mod Order
+pub mod CommonParts
+pub mod Laws
+pub mod Meets
+pub mod Within
+pub mod Held
+pub mod Promises
+pub mod SmallNumbers
+pub mod SizesWithin
+pub mod Premises

@@ -1,0 +1,23 @@
+//! Facts on expressions: what they say of an assignment, their order and their meet.
+#![tactic(auto)]
+
+mod fact;
+mod hint;
+mod law;
+mod order;
+mod place;
+mod relative;
+mod size;
+#[cfg(test)]
+mod tests;
+
+pub use fact::{Fact, Slot};
+pub use hint::{HintMark, HintRow, Need};
+pub use law::{
+    held_facts, meet_is_the_weakest_as_strong_as_both, sizes_within_an_interval,
+    stronger_is_an_order, void_and_none_are_strongest,
+};
+pub use order::{meet, slot, stronger};
+pub use place::Place;
+pub use relative::RelativeError;
+pub use size::Size;
