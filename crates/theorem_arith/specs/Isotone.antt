@@ -1,0 +1,115 @@
+-- The rules on bounds: from stronger premises they give a fact as strong, or stronger.
+use Rattle.std.specs.Prelude.{◌≡◌, Bool, true, false, [], ◌∷◌, Option, Some, None, refl}
+use Rattle.std.proofs.Common.{sym, ap, subst}
+use Rattle.fx_model.specs.declared.ExprId.{ExprId}
+use Rattle.fx_model.specs.declared.Node.{Node}
+use Rattle.fx_model.specs.declared.Node.TheVariants as node
+use Rattle.interval.specs.declared.interval.Interval.{Interval}
+use Rattle.interval.specs.Results.{negation_of, sum_of, difference_of, product_of, quotient_of}
+use Rattle.interval.specs.Monotone.{negation_of-within, sum_of-within, difference_of-within, product_of-within, quotient_of-within}
+use Rattle.expr_dag.specs.Shapes.{is_at}
+use Rattle.facts.specs.declared.size.Size.{Size}
+use Rattle.facts.specs.declared.fact.Fact.{Fact}
+use Rattle.facts.specs.declared.fact.Fact.TheVariants as fact
+use Rattle.facts.specs.declared.fact.Slot.TheVariants as slot
+use Rattle.facts.specs.Order.{IsWithin, IsStronger}
+use Rattle.facts.specs.Laws.{IsStronger-refl}
+use Rattle.facts.specs.Promises.{IsIsotone}
+use Rattle.facts.specs.Premises.{Gives, no_premises, one_bnd, one_abs, one_nzr, two_bnd, bnd_then_nzr}
+use Rattle.theorem_arith.specs.Shapes.{only_if, given_if, bnd_of, abs_of}
+use Rattle.theorem_arith.specs.Bounds.{literal_rule, negation_rule, binary_rule, sum_rule, difference_rule, product_rule, difference_with_itself_rule, square_rule, quotient_rule, quotient_by_nonzero_rule, quotient_by_itself_rule}
+
+-- ---- conclusions
+-- whatever the first gives, the second gives it or something stronger
+abbrev pub Improves : Option Fact → Option Fact → Type 0
+Improves u v = (c : Fact) → u ≡ Some c → Gives v c
+
+-- behind a test that holds where the other does
+pub improves_if : (b d : Bool) (f g : Fact) → (b ≡ true → d ≡ true) → IsStronger g f → Improves (only_if b f) (only_if d g)
+improves_if true true f g t s c e = (g, refl, subst (IsStronger g) (let h : f ≡ c = cc in h) s)
+improves_if true false f g t s c e = let h : false ≡ true = t refl in cc
+improves_if false d f g t s c e = cc
+
+pub improves_only : (b : Bool) (f g : Fact) → IsStronger g f → Improves (only_if b f) (only_if b g)
+improves_only b f g s = improves_if b b f g (λ t. t) s
+
+pub improves_given : (b : Bool) (u v : Option Fact) → Improves u v → Improves (given_if b u) (given_if b v)
+improves_given true u v h c e = h c e
+improves_given false u v h c e = cc
+
+pub improves_bnd : (x : ExprId) (u v : Option Interval) → ((i : Interval) → u ≡ Some i → (j : Interval) × (v ≡ Some j) × IsWithin j i) → Improves (bnd_of x u) (bnd_of x v)
+improves_bnd x None v h c e = cc
+improves_bnd x (Some i) v h c e = let j = h i refl in
+    (fact.Bnd x j.0, ap (bnd_of x) j.1, subst (IsStronger (fact.Bnd x j.0)) (let g : fact.Bnd x i ≡ c = cc in g) (refl, j.2))
+
+pub improves_abs : (x : ExprId) (u v : Option Size) → ((s : Size) → u ≡ Some s → (t : Size) × (v ≡ Some t) × IsWithin t.interval s.interval) → Improves (abs_of x u) (abs_of x v)
+improves_abs x None v h c e = cc
+improves_abs x (Some s) v h c e = let t = h s refl in
+    (fact.Abs x t.0, ap (abs_of x) t.1, subst (IsStronger (fact.Abs x t.0)) (let g : fact.Abs x s ≡ c = cc in g) (refl, t.2))
+
+-- ---- literals
+pub literal_rule-isotone : IsIsotone literal_rule
+literal_rule-isotone nodes [] t ps c s q = subst (λ l. Gives (literal_rule nodes l t) c) (sym (no_premises ps s)) (c, q, IsStronger-refl c)
+literal_rule-isotone nodes (p ∷ qs) t ps c s q = cc
+
+-- ---- negations, sums, differences, products
+pub negation_rule-isotone : IsIsotone negation_rule
+negation_rule-isotone nodes (fact.Bnd x i ∷ []) (slot.Bnd e) ps c s q =
+    let a = one_bnd ps x i s in
+    subst (λ l. Gives (negation_rule nodes l (slot.Bnd e)) c) (sym a.1)
+    (improves_only (is_at nodes e (node.Neg x)) (fact.Bnd e (negation_of i)) (fact.Bnd e (negation_of a.0)) (refl, negation_of-within a.0 i a.2) c q)
+negation_rule-isotone nodes _ _ ps c s q = cc
+
+-- smaller intervals have a smaller result
+abbrev pub IsRising : (Interval → Interval → Interval) → Type 0
+IsRising op = (i j k l : Interval) → IsWithin i k → IsWithin j l → IsWithin (op i j) (op k l)
+
+pub binary_rule-isotone : (make : ExprId → ExprId → Node) (op : Interval → Interval → Interval) → IsRising op → IsIsotone (binary_rule make op)
+binary_rule-isotone make op w nodes (fact.Bnd x i ∷ fact.Bnd y j ∷ []) (slot.Bnd e) ps c s q =
+    let a = two_bnd ps x i y j s in
+    subst (λ l. Gives (binary_rule make op nodes l (slot.Bnd e)) c) (sym a.2)
+    (improves_only (is_at nodes e (make x y)) (fact.Bnd e (op i j)) (fact.Bnd e (op a.0 a.1)) (refl, w a.0 a.1 i j a.3 a.4) c q)
+binary_rule-isotone make op w nodes _ _ ps c s q = cc
+
+pub sum_rule-isotone : IsIsotone sum_rule
+sum_rule-isotone = binary_rule-isotone node.Add sum_of sum_of-within
+
+pub difference_rule-isotone : IsIsotone difference_rule
+difference_rule-isotone = binary_rule-isotone node.Sub difference_of difference_of-within
+
+pub product_rule-isotone : IsIsotone product_rule
+product_rule-isotone = binary_rule-isotone node.Mul product_of product_of-within
+
+pub difference_with_itself_rule-isotone : IsIsotone difference_with_itself_rule
+difference_with_itself_rule-isotone nodes (fact.Bnd x i ∷ []) (slot.Bnd e) ps c s q =
+    let a = one_bnd ps x i s in
+    subst (λ l. Gives (difference_with_itself_rule nodes l (slot.Bnd e)) c) (sym a.1) (c, q, IsStronger-refl c)
+difference_with_itself_rule-isotone nodes _ _ ps c s q = cc
+
+pub square_rule-isotone : IsIsotone square_rule
+square_rule-isotone nodes (fact.Abs x i ∷ []) (slot.Bnd e) ps c s q =
+    let a = one_abs ps x i s in
+    let j : Interval = a.0.interval in
+    subst (λ l. Gives (square_rule nodes l (slot.Bnd e)) c) (sym a.1)
+    (improves_only (is_at nodes e (node.Mul x x)) (fact.Bnd e (product_of i.interval i.interval)) (fact.Bnd e (product_of j j)) (refl, product_of-within j j i.interval i.interval a.2 a.2) c q)
+square_rule-isotone nodes _ _ ps c s q = cc
+
+-- ---- quotients
+pub quotient_rule-isotone : IsIsotone quotient_rule
+quotient_rule-isotone nodes (fact.Bnd x i ∷ fact.Bnd y j ∷ []) (slot.Bnd e) ps c s q =
+    let a = two_bnd ps x i y j s in
+    subst (λ l. Gives (quotient_rule nodes l (slot.Bnd e)) c) (sym a.2)
+    (improves_given (is_at nodes e (node.Div x y)) (bnd_of e (quotient_of i j)) (bnd_of e (quotient_of a.0 a.1))
+    (improves_bnd e (quotient_of i j) (quotient_of a.0 a.1) (λ k h. quotient_of-within a.0 a.1 i j k a.3 a.4 h)) c q)
+quotient_rule-isotone nodes _ _ ps c s q = cc
+
+pub quotient_by_nonzero_rule-isotone : IsIsotone quotient_by_nonzero_rule
+quotient_by_nonzero_rule-isotone nodes (fact.Bnd x i ∷ fact.Nzr y ∷ []) (slot.Bnd e) ps c s q =
+    let a = bnd_then_nzr ps x i y s in
+    subst (λ l. Gives (quotient_by_nonzero_rule nodes l (slot.Bnd e)) c) (sym a.1) (c, q, IsStronger-refl c)
+quotient_by_nonzero_rule-isotone nodes _ _ ps c s q = cc
+
+pub quotient_by_itself_rule-isotone : IsIsotone quotient_by_itself_rule
+quotient_by_itself_rule-isotone nodes (fact.Nzr x ∷ []) (slot.Bnd e) ps c s q =
+    subst (λ l. Gives (quotient_by_itself_rule nodes l (slot.Bnd e)) c) (sym (one_nzr ps x s)) (c, q, IsStronger-refl c)
+quotient_by_itself_rule-isotone nodes _ _ ps c s q = cc

@@ -1,0 +1,78 @@
+// Bounds of quotients.
+ghost use Rattle.std.specs.Prelude.{◌≡◌};
+ghost use Rattle.fx_model.specs.Fraction.{one_ℚ};
+ghost use Rattle.interval.specs.Results.{point_of};
+ghost use Rattle.theorem_arith.specs.Bounds.{quotient_rule, quotient_by_nonzero_rule, quotient_by_itself_rule};
+
+use crate::shape::{bnd, is_at};
+use dyadic::Dyadic;
+use expr_dag::{Dag, Node};
+use facts::{Fact, Slot};
+use interval::Interval;
+
+/// From BND(a, I), BND(b, J), where 0 isn't in J: BND(a / b, I / J) (Gappa: `div`).
+pub fn rule_8(dag: &Dag, premises: &[Fact], target: Slot) -> Option<Fact>
+    ensures concludes { result ≡ quotient_rule dag.now premises.now target }
+{
+    let [first, second] = premises else {
+        return None;
+    };
+    match (*first, *second, target) {
+        (Fact::Bnd(a, i), Fact::Bnd(b, j), Slot::Bnd(e)) => {
+            if is_at(dag, e, Node::Div(a, b)) {
+                bnd(e, i.div(j))
+            } else {
+                None
+            }
+        }
+        _ => None,
+    }
+}
+
+/// From BND(a), NZR(b): a / b has a value, BND(a / b, whole line).
+pub fn rule_9(dag: &Dag, premises: &[Fact], target: Slot) -> Option<Fact>
+    ensures concludes { result ≡ quotient_by_nonzero_rule dag.now premises.now target }
+{
+    let [first, second] = premises else {
+        return None;
+    };
+    match (*first, *second, target) {
+        (Fact::Bnd(a, _), Fact::Nzr(b), Slot::Bnd(e)) => {
+            if is_at(dag, e, Node::Div(a, b)) {
+                Some(Fact::Bnd(e, Interval::whole()))
+            } else {
+                None
+            }
+        }
+        _ => None,
+    }
+}
+
+/// From NZR(x): BND(x / x, [1, 1]) (Gappa: `div_refl`).
+pub fn rule_10(dag: &Dag, premises: &[Fact], target: Slot) -> Option<Fact>
+    ensures concludes { result ≡ quotient_by_itself_rule dag.now premises.now target }
+{
+    let [first] = premises else {
+        return None;
+    };
+    match (*first, target) {
+        (Fact::Nzr(x), Slot::Bnd(e)) => {
+            if is_at(dag, e, Node::Div(x, x)) {
+                Some(Fact::Bnd(e, one()))
+            } else {
+                None
+            }
+        }
+        _ => None,
+    }
+}
+
+// 1 alone.
+fn one() -> Interval
+    ensures { result ≡ point_of one_ℚ }
+{
+    match Dyadic::new(1, 0) {
+        Some(one) => Interval::point(one),
+        None => Interval::whole(),
+    }
+}

@@ -1,0 +1,35 @@
+-- The list of rules by number.
+use Rattle.std.specs.Prelude.{◌==◌, ℕ, List, Option, None, if◌then◌else◌}
+use Rattle.fx_model.specs.declared.Node.{Node}
+use Rattle.facts.specs.declared.fact.Fact.{Fact}
+use Rattle.facts.specs.declared.fact.Slot.{Slot}
+use Rattle.theorem_arith.specs.Bounds.{literal_rule, negation_rule, sum_rule, difference_rule, difference_with_itself_rule, product_rule, square_rule, quotient_rule, quotient_by_nonzero_rule, quotient_by_itself_rule}
+use Rattle.theorem_arith.specs.Sizes.{size_rule, value_rule, sign_rule, absolute_value_rule, size_of_value_rule, size_of_negation_rule, size_of_product_rule, size_of_quotient_rule, size_of_sum_rule}
+
+-- what the rule with this number gives; nothing where there is none
+abbrev pub by_number : List Node → ℕ → List Fact → Slot → Option Fact
+by_number nodes number premises target =
+    if number == 1 then literal_rule nodes premises target
+    else (if number == 2 then negation_rule nodes premises target
+    else (if number == 3 then sum_rule nodes premises target
+    else (if number == 4 then difference_rule nodes premises target
+    else (if number == 5 then difference_with_itself_rule nodes premises target
+    else (if number == 6 then product_rule nodes premises target
+    else (if number == 7 then square_rule nodes premises target
+    else (if number == 8 then quotient_rule nodes premises target
+    else (if number == 9 then quotient_by_nonzero_rule nodes premises target
+    else (if number == 10 then quotient_by_itself_rule nodes premises target
+    else (if number == 11 then size_rule nodes premises target
+    else (if number == 12 then value_rule nodes premises target
+    else (if number == 13 then sign_rule nodes premises target
+    else (if number == 14 then absolute_value_rule nodes premises target
+    else (if number == 15 then size_of_value_rule nodes premises target
+    else (if number == 16 then size_of_negation_rule nodes premises target
+    else (if number == 17 then size_of_product_rule nodes premises target
+    else (if number == 18 then size_of_quotient_rule nodes premises target
+    else (if number == 19 then size_of_sum_rule nodes premises target
+    else None))))))))))))))))))
+
+-- What the list concludes on a target from premises, in their order: what the rule with this number gives, where arg is 0.
+abbrev pub concludes : List Node → ℕ → ℕ → List Fact → Slot → Option Fact
+concludes nodes number arg premises target = if arg == 0 then by_number nodes number premises target else None

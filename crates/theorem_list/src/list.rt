@@ -1,0 +1,42 @@
+//! The dispatch by number.
+ghost use Rattle.std.specs.Prelude.{◌≡◌};
+ghost use Rattle.theorem_list.specs.Concludes.{concludes};
+
+use expr_dag::Dag;
+use facts::{Fact, Slot};
+use theorem_arith::{
+    rule_1, rule_2, rule_3, rule_4, rule_5, rule_6, rule_7, rule_8, rule_9, rule_10, rule_11,
+    rule_12, rule_13, rule_14, rule_15, rule_16, rule_17, rule_18, rule_19,
+};
+
+/// What the rule with this number concludes on the target from the premises, in their order. None exactly where the number
+/// isn't in the list, arg isn't 0, or the rule gives nothing. It takes no memory.
+pub fn conclude(dag: &Dag, number: u8, arg: u16, premises: &[Fact], target: Slot) -> Option<Fact>
+    ensures concludes { result ≡ concludes dag.now number arg premises.now target }
+{
+    if arg != 0 {
+        return None;
+    }
+    match number {
+        1 => rule_1(dag, premises, target),
+        2 => rule_2(dag, premises, target),
+        3 => rule_3(dag, premises, target),
+        4 => rule_4(dag, premises, target),
+        5 => rule_5(dag, premises, target),
+        6 => rule_6(dag, premises, target),
+        7 => rule_7(dag, premises, target),
+        8 => rule_8(dag, premises, target),
+        9 => rule_9(dag, premises, target),
+        10 => rule_10(dag, premises, target),
+        11 => rule_11(dag, premises, target),
+        12 => rule_12(dag, premises, target),
+        13 => rule_13(dag, premises, target),
+        14 => rule_14(dag, premises, target),
+        15 => rule_15(dag, premises, target),
+        16 => rule_16(dag, premises, target),
+        17 => rule_17(dag, premises, target),
+        18 => rule_18(dag, premises, target),
+        19 => rule_19(dag, premises, target),
+        _ => None,
+    }
+}
