@@ -1,0 +1,6 @@
+use Rattle.rounding.specs.ErrorLaws.{error_lies}
+use Rattle.rounding.specs.Meet.{possible_by_cases}
+use Rattle.rounding.proofs.laws.errors.Goals as goal
+
+pub returns : goal.returns
+returns c = record { lies = error_lies; meet = possible_by_cases }
