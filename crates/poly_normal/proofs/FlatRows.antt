@@ -1,7 +1,7 @@
 -- Flat lists read as terms.
 use Rattle.std.specs.Prelude.{◌≡◌, ℕ, ℤ, pos, ◌+◌, ◌*◌, ◌<◌, ◌≤◌, List, [], ◌∷◌, ◌++◌, take, drop, length, slice_index_or, refl}
 use Rattle.std.proofs.Common.{arith, sym, ap, ◌∙◌, zero, suc, length-append, length-drop}
-use Rattle.std.proofs.lemmas.List.{take-append-le, drop-append-le, drop-drop}
+use Rattle.std.proofs.lemmas.List.{take-append-le, drop-append-le, drop-drop, take-append-drop}
 use Rattle.std.proofs.Math.Seq.{take-length}
 use Rattle.std.proofs.Math.Nat.{mul-le-mul_right}
 use Rattle.poly_normal.specs.Polynomial.{Term, Polynomial}
@@ -38,3 +38,26 @@ row_within i n w k l h e f = let whole : suc i * w ≤ n * w = mul-le-mul_right 
 
 pub same_length : (l k n m w : ℕ) → l ≡ m → l ≡ k * w → k ≡ n → m ≡ n * w
 same_length l k n m w e f g = let same : k * w ≡ n * w = ap (λ x. x * w) g in omega arith
+
+-- ---- equal rows are equal flat lists
+empty_from_length : (ps : List ℕ) → length ps ≡ 0 → ps ≡ []
+empty_from_length [] e = refl
+empty_from_length (p ∷ ps) e = absurd (omega arith)
+
+no_rows : (w : ℕ) (ps : List ℕ) → length ps ≡ 0 * w → ps ≡ []
+no_rows w ps e = empty_from_length ps (let z : 0 * w ≡ 0 = omega arith in omega arith)
+
+rest_length : (w k : ℕ) (ps : List ℕ) → length ps ≡ suc k * w → length (drop w ps) ≡ k * w
+rest_length w k ps e = omega (arith, length-drop w ps)
+
+pub rows_same : (w : ℕ) (cs ds : List ℤ) (ps qs : List ℕ) → length ps ≡ length cs * w → length qs ≡ length ds * w → rows w cs ps ≡ rows w ds qs → (cs ≡ ds) × (ps ≡ qs)
+rows_same w [] [] ps qs e f h = (refl, no_rows w ps e ∙ sym (no_rows w qs f))
+rows_same w [] (d ∷ ds) ps qs e f h = absurd (cc)
+rows_same w (c ∷ cs) [] ps qs e f h = absurd (cc)
+rows_same w (c ∷ cs) (d ∷ ds) ps qs e f h =
+    let rest : rows w cs (drop w ps) ≡ rows w ds (drop w qs) = cc in
+    let first : c ≡ d = ap (λ r. (slice_index_or r 0 no_term).coefficient) h in
+    let row : take w ps ≡ take w qs = ap (λ r. (slice_index_or r 0 no_term).monomial) h in
+    let less = rows_same w cs ds (drop w ps) (drop w qs) (rest_length w (length cs) ps e) (rest_length w (length ds) qs f) rest in
+    let front : cs ≡ ds = less.0 in
+    (ap (λ x. x ∷ cs) first ∙ ap (λ x. d ∷ x) front, sym (take-append-drop w ps) ∙ ap (λ x. x ++ drop w ps) row ∙ ap (λ x. take w qs ++ x) less.1 ∙ take-append-drop w qs)

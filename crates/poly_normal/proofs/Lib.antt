@@ -6,3 +6,14 @@ pub mod Quotients
 pub mod FlatRows
 pub mod Merge
 pub mod Products
+pub mod Joined
+pub mod Divisors
+pub mod Signs
+pub mod Marks
+pub mod Weights
+pub mod Spread
+pub mod Limits
+pub mod Placed
+pub mod NodeForms
+pub mod Trues
+pub mod Tables

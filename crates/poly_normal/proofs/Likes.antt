@@ -16,7 +16,7 @@ without m (t ∷ p) = if same_monomial t.monomial m then without m p else (t ∷
 zero-plus : (z : ℤ) → pos 0 +ℤ z ≡ z
 zero-plus z = omega (arith, ints)
 
-length-without : (m : Monomial) (p : Polynomial) → length (without m p) ≤ length p
+pub length-without : (m : Monomial) (p : Polynomial) → length (without m p) ≤ length p
 length-without m [] = omega arith
 length-without m (t ∷ p) = by (same_monomial t.monomial m) (length-without m p)
   where
@@ -41,7 +41,7 @@ coefficient_of-without_other m k (t ∷ p) h = by (same_monomial t.monomial m) r
     by true e rest = rest ∙ sym (ap (λ l. (if same_monomial l k then t.coefficient else pos 0) +ℤ coefficient_of p k) (same_monomial-true t.monomial m e) ∙ ap (λ c. (if c then t.coefficient else pos 0) +ℤ coefficient_of p k) h ∙ zero-plus (coefficient_of p k))
     by false e rest = ap (λ z. (if same_monomial t.monomial k then t.coefficient else pos 0) +ℤ z) rest
 
-still_zero : (m : Monomial) (p : Polynomial) → ((k : Monomial) → coefficient_of p k ≡ pos 0) → (k : Monomial) → coefficient_of (without m p) k ≡ pos 0
+pub still_zero : (m : Monomial) (p : Polynomial) → ((k : Monomial) → coefficient_of p k ≡ pos 0) → (k : Monomial) → coefficient_of (without m p) k ≡ pos 0
 still_zero m p z k = by (same_monomial m k) refl
   where
     by : (b : Bool) → same_monomial m k ≡ b → coefficient_of (without m p) k ≡ pos 0
@@ -80,7 +80,7 @@ coefficient_of-append (t ∷ p) q m = ap (λ z. (if same_monomial t.monomial m t
     plus_assoc : (x y z : ℤ) → x +ℤ (y +ℤ z) ≡ (x +ℤ y) +ℤ z
     plus_assoc x y z = omega (arith, ints)
 
-coefficient_of-negation : (p : Polynomial) (m : Monomial) → coefficient_of (negation p) m ≡ neg_ℤ (coefficient_of p m)
+pub coefficient_of-negation : (p : Polynomial) (m : Monomial) → coefficient_of (negation p) m ≡ neg_ℤ (coefficient_of p m)
 coefficient_of-negation [] m = refl
 coefficient_of-negation (t ∷ p) m = ap (λ z. (if same_monomial t.monomial m then neg_ℤ t.coefficient else pos 0) +ℤ z) (coefficient_of-negation p m) ∙ by (same_monomial t.monomial m)
   where

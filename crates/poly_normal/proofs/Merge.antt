@@ -44,7 +44,7 @@ merge-empty (t ∷ p) = ap (λ q. t ∷ q) (merge-empty p)
 zero-plus : (z : ℤ) → z ≡ pos 0 +ℤ z
 zero-plus z = omega (arith, ints)
 
-with_term-coefficient : (c : ℤ) (m : Monomial) (p : Polynomial) (k : Monomial) → coefficient_of (with_term c m p) k ≡ (if same_monomial m k then c else pos 0) +ℤ coefficient_of p k
+pub with_term-coefficient : (c : ℤ) (m : Monomial) (p : Polynomial) (k : Monomial) → coefficient_of (with_term c m p) k ≡ (if same_monomial m k then c else pos 0) +ℤ coefficient_of p k
 with_term-coefficient (pos zero) m p k = none (same_monomial m k)
   where
     none : (b : Bool) → coefficient_of p k ≡ (if b then pos zero else pos 0) +ℤ coefficient_of p k
@@ -93,7 +93,7 @@ unfolding AddsUp
 coefficient_of-merge p q m = coefficient_of-merge_by p q m
 
 -- ---- sizes add up at most
-with_term-size : (c : ℤ) (m : Monomial) (p : Polynomial) → size_of (with_term c m p) ≡ unsigned_abs c + size_of p
+pub with_term-size : (c : ℤ) (m : Monomial) (p : Polynomial) → size_of (with_term c m p) ≡ unsigned_abs c + size_of p
 with_term-size (pos zero) m p = omega arith
 with_term-size (pos (suc c)) m p = refl
 with_term-size (negsuc c) m p = refl
@@ -120,7 +120,7 @@ module _ (P : Monomial → Type 0) where
   abbrev AllOf : Polynomial → Type 0
   AllOf p = AllByRecursion (λ t. P t.monomial) p
 
-  with_term-all : (c : ℤ) (m : Monomial) (p : Polynomial) → P m → AllOf p → AllOf (with_term c m p)
+  pub with_term-all : (c : ℤ) (m : Monomial) (p : Polynomial) → P m → AllOf p → AllOf (with_term c m p)
   with_term-all (pos zero) m p h k = k
   with_term-all (pos (suc c)) m p h k = (h, k)
   with_term-all (negsuc c) m p h k = (h, k)
@@ -139,16 +139,16 @@ module _ (P : Monomial → Type 0) where
   all-merge (t ∷ p) q a b = all-merge_term t p a.0 (λ r c. all-merge p r a.1 c) q b
 
 -- ---- monomials rise
-before-weaker : (l m : Monomial) → order l m ≡ Less → (p : Polynomial) → IsBefore m p → IsBefore l p
+pub before-weaker : (l m : Monomial) → order l m ≡ Less → (p : Polynomial) → IsBefore m p → IsBefore l p
 before-weaker l m h [] b = b
 before-weaker l m h (t ∷ p) b = (nat_list_cmp_total.trans l m t.monomial h b.0, before-weaker l m h p b.1)
 
-with_term-rising : (c : ℤ) (m : Monomial) (p : Polynomial) → IsBefore m p → IsRising p → IsRising (with_term c m p)
+pub with_term-rising : (c : ℤ) (m : Monomial) (p : Polynomial) → IsBefore m p → IsRising p → IsRising (with_term c m p)
 with_term-rising (pos zero) m p b r = r
 with_term-rising (pos (suc c)) m p b r = ((λ e. let k : pos (suc c) ≡ pos 0 = e in absurd (omega (arith, ints))), b, r)
 with_term-rising (negsuc c) m p b r = ((λ e. let k : negsuc c ≡ pos 0 = e in absurd (omega (arith, ints))), b, r)
 
-turned : (l m : Monomial) → order l m ≡ Greater → order m l ≡ Less
+pub turned : (l m : Monomial) → order l m ≡ Greater → order m l ≡ Less
 turned l m e = nat_list_cmp_total.antisymm m l ∙ ap ordering_reverse e
 
 rising-merge_term : (t : Term) (p : Polynomial) → IsRising (t ∷ p) → ((q : Polynomial) → IsRising q → IsRising (merge p q)) → (q : Polynomial) → IsRising q → IsRising (merge_term t (merge p) q)

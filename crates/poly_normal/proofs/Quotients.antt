@@ -61,7 +61,7 @@ pub record IsDivisor (g a b : ℕ) : Type 0 where
   pub left : a % g ≡ 0
   pub right : b % g ≡ 0
 
-divides_both : (n a b : ℕ) → IsDivisor (common_divisor_to n a b) a b
+pub divides_both : (n a b : ℕ) → IsDivisor (common_divisor_to n a b) a b
 unfolding common_divisor_to
 divides_both zero a b = record { positive = omega arith; left = omega arith; right = omega arith }
 divides_both (suc n) a b = by (a % suc n == 0) (b % suc n == 0) refl refl (divides_both n a b)
@@ -71,7 +71,7 @@ divides_both (suc n) a b = by (a % suc n == 0) (b % suc n == 0) refl refl (divid
     by true false e f less = less
     by false d e f less = less
 
-whole_quotient : (a g : ℕ) → a % g ≡ 0 → (a / g) * g ≡ a
+pub whole_quotient : (a g : ℕ) → a % g ≡ 0 → (a / g) * g ≡ a
 whole_quotient a g e = let split = div-add-mod' a g in omega arith
 
 literal_bottom-positive : (l : Literal) → 0 < literal_bottom l

@@ -3,3 +3,10 @@ pub mod Form
 pub mod Mark
 pub mod Rows
 pub mod TermsOf
+pub mod Ratio
+pub mod Parts
+pub mod Places
+pub mod Limited
+pub mod Quotients
+pub mod Uniqueness
+pub mod Table

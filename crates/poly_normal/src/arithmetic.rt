@@ -1,8 +1,8 @@
-ghost use Rattle.std.specs.Prelude.{◌≡◌, ◌+◌, ◌*◌, ◌≤◌, ◌<◌, ◌^◌, IfOk, OnOk, length, map, slice_index_or, slice_range};
+ghost use Rattle.std.specs.Prelude.{◌≡◌, ◌+◌, ◌*◌, ◌≤◌, ◌<◌, ◌^◌, ◌↔◌, IsTrue, IfOk, OnOk, length, map, slice_index_or, slice_range};
 ghost use Rattle.std.specs.List.{AllByRecursion};
 ghost use Rattle.poly_normal.specs.Polynomial as polynomial;
-ghost use Rattle.poly_normal.specs.Polynomial.{monomial_product, term_product};
-ghost use Rattle.poly_normal.specs.Rows.{size_of, no_term, AllRows, IsSumOf, IsProductOf};
+ghost use Rattle.poly_normal.specs.Polynomial.{IsEqual, monomial_product, term_product};
+ghost use Rattle.poly_normal.specs.Rows.{size_of, no_term, IsRising, AllRows, IsSumOf, IsProductOf};
 ghost use Rattle.poly_normal.specs.TermsOf.{polynomial_of};
 
 use crate::terms::Terms;
@@ -131,4 +131,24 @@ pub fn product(alloc: Global, p: &Terms, q: &Terms) -> Result<Terms, AllocError>
     ensures product { IfOk result (λ r. IsProductOf p.now.width (polynomial_of p.now) (polynomial_of q.now) (polynomial_of r)) }
 {
     product_between(alloc, p, 0, p.len(), q)
+}
+
+/// How many terms a polynomial has, once like terms are joined.
+pub fn term_count(p: &Terms) -> usize
+    requires { IsRising (polynomial_of p.now) }
+    ensures { result ≡ polynomial.term_count (polynomial_of p.now) }
+{
+    p.len()
+}
+
+/// Whether two polynomials are equal.
+pub fn is_equal(p: &Terms, q: &Terms) -> bool
+    requires widths { p.now.width ≡ q.now.width }
+    requires left { IsRising (polynomial_of p.now) }
+    requires right { IsRising (polynomial_of q.now) }
+    ensures { IsTrue result ↔ IsEqual (polynomial_of p.now) (polynomial_of q.now) }
+{
+    let coefficients = p.coefficients.as_slice() == q.coefficients.as_slice();
+    let powers = p.powers.as_slice() == q.powers.as_slice();
+    coefficients && powers
 }

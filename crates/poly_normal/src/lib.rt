@@ -1,11 +1,22 @@
 //! Normal forms of expressions: whether two of them are equal as rational functions.
 #![tactic(auto)]
 
+mod answer;
 pub mod arithmetic;
+mod forms;
 mod law;
+mod limited;
+mod literals;
+mod parts;
 mod sameness;
+mod shared;
+mod sides;
 pub mod terms;
+#[cfg(test)]
+mod tests;
 
+pub use answer::same as same_of_nodes;
 pub use fx_model::{ExprId, Literal, Node};
 pub use law::equal_forms_have_equal_values;
 pub use sameness::Sameness;
+pub use shared::same;

@@ -1,0 +1,177 @@
+ghost use Rattle.std.specs.Prelude.{◌≡◌, ◌&&◌, ◌<◌, ℕ, IfOk, MatchOption, length};
+ghost use Rattle.std.specs.Prelude.{slice_index_or, IsSome, ◌≤◌, true};
+ghost use Rattle.fx_model.specs.Expression.{ChildrenBelow, IsOrdered};
+ghost use Rattle.poly_normal.specs.Form.{Side, product};
+ghost use Rattle.poly_normal.specs.Limited.{IsLike, side_of};
+ghost use Rattle.poly_normal.specs.Mark.{Answers, HaveEqualValues, IsOperand};
+ghost use Rattle.poly_normal.specs.Parts.{is_atom_node};
+ghost use Rattle.poly_normal.specs.Places.{count_of, places, trues};
+ghost use Rattle.poly_normal.specs.Quotients.{HasRows, IsFormOf, IsKnown, form_at, row_form};
+ghost use Rattle.poly_normal.specs.Ratio.{ArePlain, IsPlainNode};
+ghost use Rattle.poly_normal.specs.Table.{AreKnown, IsClosed, IsCompared, IsPassed};
+
+use crate::forms::Quotient;
+use crate::limited::Limited;
+use crate::sameness::Sameness;
+use crate::{arithmetic, forms, parts, sides};
+use fx_model::{ExprId, Node};
+use std::alloc::{AllocError, Global};
+
+/// The form in the table at x.
+fn known(forms: &[Option<Quotient>], x: ExprId) -> Option<&Quotient>
+    requires before { x.0 < length forms.now }
+    requires known { IsSome (slice_index_or forms.now x.0 None) }
+    ensures { MatchOption result ⊥ (λ f. slice_index_or forms.now x.0 None ≡ Some f.now) }
+{
+    match &forms[x.0 as usize] {
+        Some(f) => Some(f),
+        None => None,
+    }
+}
+
+/// The form of a node, from those of its operands.
+fn node_form(
+    alloc: Global,
+    width: usize,
+    place: usize,
+    forms: &[Option<Quotient>],
+    node: Node,
+) -> Result<Option<Quotient>, AllocError>
+    requires before { ChildrenBelow (length forms.now) node }
+    requires known { (x : ExprId) → IsOperand node x → IsKnown width (slice_index_or forms.now x.0 None) }
+    requires place { is_atom_node node ≡ true → place < width }
+    requires plain { IsPlainNode node }
+    ensures { IfOk result (IsFormOf width (row_form width place (form_at forms.now) node)) }
+{
+    match node {
+        Node::Var(_) | Node::Abs(_) | Node::Round(_, _) => forms::atom(alloc, width, place),
+        Node::Lit(l) => forms::literal(alloc, width, l),
+        Node::Neg(x) => {
+            let Some(f) = known(forms, x) else {
+                return Ok(None);
+            };
+            forms::negation(alloc, f)
+        }
+        Node::Add(x, y) => {
+            let (Some(f), Some(g)) = (known(forms, x), known(forms, y)) else {
+                return Ok(None);
+            };
+            forms::sum(alloc, f, g)
+        }
+        Node::Sub(x, y) => {
+            let (Some(f), Some(g)) = (known(forms, x), known(forms, y)) else {
+                return Ok(None);
+            };
+            forms::difference(alloc, f, g)
+        }
+        Node::Mul(x, y) => {
+            let (Some(f), Some(g)) = (known(forms, x), known(forms, y)) else {
+                return Ok(None);
+            };
+            forms::product(alloc, f, g)
+        }
+        Node::Div(x, y) => {
+            let (Some(f), Some(g)) = (known(forms, x), known(forms, y)) else {
+                return Ok(None);
+            };
+            forms::division(alloc, f, g)
+        }
+    }
+}
+
+/// One for a marked atom.
+fn counted(mark: bool, node: Node) -> usize
+    ensures { result ≡ count_of (mark && is_atom_node node) }
+{
+    if mark && parts::is_atom(node) { 1 } else { 0 }
+}
+
+/// How many atoms are marked.
+fn width_of(nodes: &[Node], marks: &[bool]) -> usize
+    requires { length marks.now ≡ length nodes.now }
+    ensures { result ≡ trues (places nodes.now marks.now) }
+{
+    let mut width = 0;
+    for i in 0..nodes.len() {
+        width += counted(marks[i], nodes[i]);
+    }
+    width
+}
+
+/// The forms of the marked nodes, or none where one of them passes a limit.
+fn table(
+    alloc: Global,
+    nodes: &[Node],
+    marks: &[bool],
+) -> Result<Option<Vec<Option<Quotient>>>, AllocError>
+    requires ordered { IsOrdered nodes.now }
+    requires plain { ArePlain nodes.now }
+    requires each { length marks.now ≡ length nodes.now }
+    requires closed { IsClosed nodes.now marks.now }
+    ensures { IfOk result (λ o. MatchOption o (IsPassed nodes.now marks.now)
+        (λ forms. AreKnown nodes.now marks.now (length nodes.now) forms.items)) }
+{
+    let width = width_of(nodes, marks);
+    let mut place = 0;
+    let mut forms: Vec<Option<Quotient>> = Vec::new(alloc);
+    for i in 0..nodes.len() {
+        if !marks[i] {
+            forms.push(None)?;
+            continue;
+        }
+        let Some(form) = node_form(alloc, width, place, &forms, nodes[i])? else {
+            return Ok(None);
+        };
+        forms.push(Some(form))?;
+        place += counted(true, nodes[i]);
+    }
+    Ok(Some(forms))
+}
+
+/// Whether two polynomials within the limits are equal.
+fn compare_sides(left: &Limited, right: &Limited) -> Sameness
+    requires { left.now.terms.width ≡ right.now.terms.width }
+    ensures { (s t : Side) → IsLike (side_of left.now) s → IsLike (side_of right.now) t → IsCompared s t result }
+{
+    if arithmetic::is_equal(&left.terms, &right.terms) {
+        Sameness::Same
+    } else {
+        Sameness::Differs
+    }
+}
+
+/// Whether two quotients are equal, by their cross products.
+fn compare(alloc: Global, f: &Quotient, g: &Quotient) -> Result<Sameness, AllocError>
+    requires left { HasRows f.now.top.terms.width f.now }
+    requires right { HasRows f.now.top.terms.width g.now }
+    ensures { IfOk result (IsCompared (product (side_of f.now.top) (side_of g.now.bottom)) (product (side_of g.now.top) (side_of f.now.bottom))) }
+{
+    let Some(left) = sides::product(alloc, &f.top, &g.bottom)? else {
+        return Ok(Sameness::TooLarge);
+    };
+    let Some(right) = sides::product(alloc, &g.top, &f.bottom)? else {
+        return Ok(Sameness::TooLarge);
+    };
+    Ok(compare_sides(&left, &right))
+}
+
+/// Whether a and b are equal as rational functions, by the limits and normal forms of `specs/Mark`.
+/// Want of memory is the only error.
+pub fn same(alloc: Global, nodes: &[Node], a: ExprId, b: ExprId) -> Result<Sameness, AllocError>
+    requires ordered { IsOrdered nodes.now }
+    requires plain { ArePlain nodes.now }
+    requires left { a.0 < length nodes.now }
+    requires right { b.0 < length nodes.now }
+    ensures answers { IfOk result (Answers nodes.now a b) }
+    // Where the sides are the same, they have equal values wherever both have one.
+    ensures law { result ≡ Ok Sameness.Same → HaveEqualValues nodes.now a b }
+{
+    let marks = parts::parts(alloc, nodes, a, b)?;
+    let Some(forms) = table(alloc, nodes, &marks)? else {
+        return Ok(Sameness::TooLarge);
+    };
+    let (Some(f), Some(g)) = (known(&forms, a), known(&forms, b)) else {
+        return Ok(Sameness::TooLarge);
+    };
+    compare(alloc, f, g)
+}

@@ -1,0 +1,107 @@
+//! Hints that are the same, that differ, and that are too large.
+ghost use Rattle.std.specs.Prelude.{◌<◌, ◌≤◌, length, IfOk};
+
+use super::*;
+use expr_dag::{Dag, DagFault};
+use literal::read;
+use std::test::Fail;
+
+// The expression times itself, so often.
+fn squared(dag: &mut Dag, base: ExprId, times: u8) -> Result<ExprId, DagFault>
+    requires { base.0 < length dag.old }
+    ensures there { IfOk result (λ x. x.0 < length dag.new) }
+    ensures longer { length dag.old ≤ length dag.new }
+{
+    let mut last = base;
+    for _ in 0..times {
+        last = dag.add(Node::Mul(last, last))?;
+    }
+    Ok(last)
+}
+
+#[test]
+fn a_quotient_times_its_divisor_is_the_dividend(rt: HostRuntime) -> Result<(), Fail> {
+    let mut dag = Dag::new(rt.alloc());
+    let x = dag.add(Node::Var(0))?;
+    let quotient = dag.add(Node::Div(x, x))?;
+    let back = dag.add(Node::Mul(quotient, x))?;
+    let square = dag.add(Node::Mul(x, x))?;
+    assert_eq!(rt; same(rt.alloc(), &dag, back, x)?, Sameness::Same);
+    assert_eq!(rt; same(rt.alloc(), &dag, square, x)?, Sameness::Differs);
+    Ok(())
+}
+
+#[test]
+fn degrees_end_at_4096(rt: HostRuntime) -> Result<(), Fail> {
+    let mut dag = Dag::new(rt.alloc());
+    let x = dag.add(Node::Var(0))?;
+    let last = squared(&mut dag, x, 12)?;
+    let past = dag.add(Node::Mul(last, x))?;
+    assert_eq!(rt; same(rt.alloc(), &dag, last, last)?, Sameness::Same);
+    assert_eq!(rt; same(rt.alloc(), &dag, past, past)?, Sameness::TooLarge);
+    Ok(())
+}
+
+#[test]
+fn literals_are_reduced_and_terms_cancel(rt: HostRuntime) -> Result<(), Fail> {
+    let mut dag = Dag::new(rt.alloc());
+    let x = dag.add(Node::Var(0))?;
+    let half = dag.add(Node::Lit(read("0.50")?))?;
+    let binary = dag.add(Node::Lit(read("1b-1")?))?;
+    let zero = dag.add(Node::Lit(read("0")?))?;
+    let nothing = dag.add(Node::Sub(x, x))?;
+    assert_eq!(rt; same(rt.alloc(), &dag, half, binary)?, Sameness::Same);
+    assert_eq!(rt; same(rt.alloc(), &dag, nothing, zero)?, Sameness::Same);
+    assert_eq!(rt; same(rt.alloc(), &dag, half, zero)?, Sameness::Differs);
+    Ok(())
+}
+
+// The expression times the factor, so often.
+fn times(dag: &mut Dag, base: ExprId, factor: ExprId, often: u8) -> Result<ExprId, DagFault>
+    requires base { base.0 < length dag.old }
+    requires factor { factor.0 < length dag.old }
+    ensures there { IfOk result (λ x. x.0 < length dag.new) }
+    ensures longer { length dag.old ≤ length dag.new }
+{
+    let mut last = base;
+    for _ in 0..often {
+        last = dag.add(Node::Mul(last, factor))?;
+    }
+    Ok(last)
+}
+
+#[test]
+fn eight_factors_are_grouped_as_one_likes(rt: HostRuntime) -> Result<(), Fail> {
+    let mut dag = Dag::new(rt.alloc());
+    let a = dag.add(Node::Var(0))?;
+    let b = dag.add(Node::Var(1))?;
+    let c = dag.add(Node::Var(2))?;
+    let two = dag.add(Node::Add(a, b))?;
+    let sum = dag.add(Node::Add(two, c))?;
+    let grouped = squared(&mut dag, sum, 3)?;
+    let chain = times(&mut dag, sum, sum, 7)?;
+    let shorter = times(&mut dag, sum, sum, 6)?;
+    assert_eq!(rt; same(rt.alloc(), &dag, grouped, chain)?, Sameness::Same);
+    assert_eq!(rt;
+        same(rt.alloc(), &dag, grouped, shorter)?,
+        Sameness::Differs
+    );
+    Ok(())
+}
+
+#[test]
+fn weights_end_at_2_127_and_atoms_stay_closed(rt: HostRuntime) -> Result<(), Fail> {
+    let mut dag = Dag::new(rt.alloc());
+    let x = dag.add(Node::Var(0))?;
+    let y = dag.add(Node::Var(1))?;
+    let light = dag.add(Node::Lit(read("1b126")?))?;
+    let heavy = dag.add(Node::Lit(read("1b127")?))?;
+    let size = dag.add(Node::Abs(x))?;
+    let other = dag.add(Node::Abs(y))?;
+    let closed = dag.add(Node::Abs(heavy))?;
+    assert_eq!(rt; same(rt.alloc(), &dag, light, light)?, Sameness::Same);
+    assert_eq!(rt; same(rt.alloc(), &dag, heavy, heavy)?, Sameness::TooLarge);
+    assert_eq!(rt; same(rt.alloc(), &dag, size, other)?, Sameness::Differs);
+    assert_eq!(rt; same(rt.alloc(), &dag, closed, closed)?, Sameness::Same);
+    Ok(())
+}
