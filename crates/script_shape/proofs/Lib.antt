@@ -7,3 +7,5 @@ pub mod RoleLaws
 pub mod Completions
 pub mod ShapeLaws
 pub mod Shaped
+pub mod Next
+pub mod Once

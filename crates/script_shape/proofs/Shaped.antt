@@ -20,7 +20,7 @@ pub front_more : (xs : List CodeWord) (i : ℕ) (d : CodeWord) → i < length xs
 front_more xs i d h =
     take-map word_of (i + 1) xs ∙ ap (map word_of) (take_more xs i d h) ∙ map-append word_of (take i xs) (get_or xs i d ∷ []) ∙ ap (λ l. l ++ (word_of (get_or xs i d) ∷ [])) (sym (take-map word_of i xs))
 
-single : (w : Word) (left : List Due) → run (w ∷ []) left ≡ step (class_of w) left
+pub single : (w : Word) (left : List Due) → run (w ∷ []) left ≡ step (class_of w) left
 unfolding run
 single w left = go (step (class_of w) left)
   where
@@ -38,7 +38,7 @@ pub began : (ws : List Word) (left roles : List Due) → left ≡ start → role
 unfolding run roles_from
 began ws left roles e r = record { due = ap Some (sym e); taken = r; count = ap length r }
 
-one_more : (ws : List Word) (i : ℕ) (w : Word) (left : List Due) → take (i + 1) ws ≡ take i ws ++ (w ∷ []) → run (take i ws) start ≡ Some left → run (take (i + 1) ws) start ≡ step (class_of w) left
+pub one_more : (ws : List Word) (i : ℕ) (w : Word) (left : List Due) → take (i + 1) ws ≡ take i ws ++ (w ∷ []) → run (take i ws) start ≡ Some left → run (take (i + 1) ws) start ≡ step (class_of w) left
 one_more ws i w left h r = ap (λ l. run l start) h ∙ run_on (take i ws) (w ∷ []) start ∙ ap (option_and_then (run (w ∷ []))) r ∙ single w left
 
 -- ---- one more role
@@ -90,7 +90,7 @@ stopped ws i w left n h r k =
       not_whole = λ f t. refused_all (take (i + 1) ws) (drop (i + 1) ws) t.0 none (t.1 ∙ sym (take-append-drop (i + 1) ws));
     }
 
-all_taken : (ws : List Word) (n : ℕ) → n ≡ length ws → take n ws ≡ ws
+pub all_taken : (ws : List Word) (n : ℕ) → n ≡ length ws → take n ws ≡ ws
 all_taken ws n e = ap (λ k. take k ws) e ∙ take-length ws
 
 pub ended : (ws : List Word) (n : ℕ) (left : List Due) (b : Bool) → n ≡ length ws → run (take n ws) start ≡ Some left → b ≡ may_end left → IsShapeOf ws n b

@@ -6,3 +6,4 @@ pub mod Roles
 pub mod Table
 pub mod Shape
 pub mod ShapeLaw
+pub mod Next

@@ -45,3 +45,7 @@ pub record IsShapeOf (ws : List Word) (taken : ℕ) (is_whole : Bool) : Type 0 w
 -- Each of the words that were taken has this role in every script that they begin.
 abbrev pub AreRolesOf : List Word → ℕ → List Due → Type 0
 AreRolesOf ws taken roles = (leaves : List Leaf) → HasRoles (take taken ws) leaves → map (λ l. l.role) leaves ≡ roles
+
+-- Words have one shape.
+abbrev pub ShapeIsUnique : Type 0
+ShapeIsUnique = (ws : List Word) (n m : ℕ) (a b : Bool) → IsShapeOf ws n a → IsShapeOf ws m b → (n ≡ m) × (a ≡ b)

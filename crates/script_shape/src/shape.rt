@@ -2,7 +2,9 @@
 
 ghost use Rattle.std.specs.Prelude.{◌≡◌, List, length, map, reverse, IfOk};
 ghost use Rattle.script_shape.specs.Shape as spec;
-ghost use Rattle.script_shape.specs.ShapeLaw.{ShapeIsExact, RolesAreUnique, Steps, IsShapeOf, AreRolesOf};
+ghost use Rattle.script_shape.specs.ShapeLaw.{ShapeIsExact, ShapeIsUnique, RolesAreUnique, Steps, IsShapeOf, AreRolesOf};
+ghost use Rattle.script_shape.specs.Next as spec_next;
+ghost use Rattle.script_shape.specs.Next.{NextIsExact};
 ghost use Rattle.script_words.specs.Named.{word_of};
 
 use crate::due::Due;
@@ -72,9 +74,33 @@ pub fn shape_of(alloc: Global, words: &[Word<'_>]) -> Result<Shape, AllocError>
     })
 }
 
+/// Whether a word of this class may come next. `Err` only where memory runs out.
+pub fn may_follow(alloc: Global, words: &[Word<'_>], next: Class) -> Result<bool, AllocError>
+    ensures { IfOk result (λ may. may ≡ spec_next.may_follow (map word_of words.now) next) }
+{
+    let mut stack = Vec::new(alloc);
+    stack.push(Due::Script)?;
+    for word in words {
+        let Some(_) = step(&mut stack, word.class())? else {
+            return Ok(false);
+        };
+    }
+    Ok(step(&mut stack, next)?.is_some())
+}
+
+/// The law of the words that may come next.
+pub fn next_is_exact()
+    ensures { NextIsExact }
+{}
+
 /// The law of the stack.
 pub fn stack_is_exact()
     ensures { ShapeIsExact }
+{}
+
+/// Words have one shape.
+pub fn shape_is_unique()
+    ensures { ShapeIsUnique }
 {}
 
 /// Words have one list of roles.

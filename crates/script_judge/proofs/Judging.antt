@@ -1,0 +1,176 @@
+-- The loop of the judge, a turn at a time.
+use Rattle.std.proofs.Common.{◌≡◌, ℕ, suc, ◌+◌, ◌-◌, ◌≤◌, Bool, true, false, ◌||◌, nat_lt, nat_eq, if◌then◌else◌, List, [], ◌∷◌, length, drop, map, Option, Some, None, IsTrue, ◌↔◌, refl, sym, ap, ◌∙◌, subst, arith}
+use Rattle.std.proofs.lemmas.Bool.{ltb-false}
+use Rattle.std.proofs.Math.ListN.{drop_of_length-le}
+use Rattle.script_words.specs.declared.words.Word.{Word as CodeWord}
+use Rattle.script_words.specs.Words.{Word}
+use Rattle.script_words.specs.Named.{word_of}
+use Rattle.script_shape.specs.declared.due.Due.{Due}
+use Rattle.script_shape.specs.Roles.{Leaf, at}
+use Rattle.script_judge.specs.declared.refusal.RefusalKind.{RefusalKind}
+use Rattle.script_judge.specs.declared.fault.Fault.{Fault}
+use Rattle.script_judge.specs.declared.judge.Seen.{Seen as CodeSeen}
+use Rattle.script_judge.specs.declared.names.Names.{Names}
+use Rattle.script_judge.specs.declared.counts.Counts.{Counts}
+use Rattle.script_judge.specs.Counts.{one_if}
+use Rattle.script_judge.specs.Limits.{IsWithinLimits}
+use Rattle.script_judge.specs.Names.{NamesSeen, is_used, is_some_among, defines, split_name}
+use Rattle.script_judge.specs.Leaves.{leaves_of}
+use Rattle.script_judge.specs.Numbers.{has_no_pieces, is_past_lsb, is_past_pieces, IsPast, is_number}
+use Rattle.script_judge.specs.Judge.{Seen, nothing_seen, seen_after, is_arrow, has_arrow, arrow_count, is_empty, is_on_wrong_side, form_kind, form_refusal, limit_kind, limit_refusal, or_else, refusal_at, Judged, refused, passed}
+use Rattle.script_judge.specs.Views.{AreNames, IsSeen}
+
+-- ---- arrows
+
+one_arrow : (b more : Bool) (n : ℕ) → more ≡ nat_lt 0 n → (b || more) ≡ nat_lt 0 (one_if b + n)
+one_arrow true more n h = some n
+  where
+    some : (n : ℕ) → true ≡ nat_lt 0 (1 + n)
+    some n = grind arith
+one_arrow false more n h = h ∙ ap (nat_lt 0) (none n)
+  where
+    none : (n : ℕ) → n ≡ 0 + n
+    none n = omega arith
+
+pub arrows_left : (ls : List Leaf) → has_arrow ls ≡ nat_lt 0 (arrow_count ls)
+arrows_left [] = refl
+arrows_left (l ∷ ls) = one_arrow (is_arrow l.role l.word) (has_arrow ls) (arrow_count ls) (arrows_left ls)
+
+pub behind_arrow : (r : Due) (w : Word) (behind : List Leaf) (arrows left : ℕ) → arrows ≡ arrow_count (at r w ∷ behind) → left ≡ arrows - one_if (is_arrow r w) → left ≡ arrow_count behind
+behind_arrow r w behind arrows left h k = k ∙ ap (λ n. n - one_if (is_arrow r w)) h ∙ less (one_if (is_arrow r w)) (arrow_count behind)
+  where
+    less : (a b : ℕ) → (a + b) - a ≡ b
+    less a b = omega arith
+
+pub told_arrow : (behind : List Leaf) (left : ℕ) → left ≡ arrow_count behind → nat_lt 0 left ≡ has_arrow behind
+told_arrow behind left h = ap (nat_lt 0) h ∙ sym (arrows_left behind)
+
+-- ---- limits
+
+fails : (b : Bool) (k : RefusalKind) (rest : Option RefusalKind) → (if b then Some k else rest) ≡ None → (b ≡ false) × (rest ≡ None)
+fails true k rest e = absurd (cc e)
+fails false k rest e = (refl, e)
+
+neither : (a b : Bool) → (a || b) ≡ false → a ≡ false
+neither true b e = absurd (cc e)
+neither false b e = refl
+
+pub no_limit : (opened halved : ℕ) (c : Counts) (lsb pieces : Bool) → limit_kind opened halved c lsb pieces ≡ None → IsWithinLimits c
+no_limit opened halved c lsb pieces h =
+    let nesting = fails _ _ _ h in
+    let definitions = fails _ _ _ nesting.1 in
+    let propositions = fails _ _ _ definitions.1 in
+    let hints = fails _ _ _ propositions.1 in
+    let nodes = fails _ _ _ hints.1 in
+    let low = fails _ _ _ nodes.1 in
+    let splits = fails _ _ _ low.1 in
+    let cut = fails _ _ _ splits.1 in
+    record {
+      definitions = ltb-false 256 c.definitions definitions.0;
+      propositions = ltb-false 128 c.propositions propositions.0;
+      hints = ltb-false 64 c.hints hints.0;
+      nodes = ltb-false 512 c.nodes nodes.0;
+      splits = ltb-false 4 c.splits (neither _ _ splits.0);
+      pieces = ltb-false 64 c.pieces (neither _ _ cut.0);
+    }
+
+-- ---- the words that are left
+
+pub split_at : (rs : List Due) (ws : List CodeWord) (n : ℕ) (r : Due) (w : CodeWord) → drop n rs ≡ r ∷ drop (n + 1) rs → drop n ws ≡ w ∷ drop (n + 1) ws
+    → leaves_of (drop n rs) (map word_of (drop n ws)) ≡ at r (word_of w) ∷ leaves_of (drop (n + 1) rs) (map word_of (drop (n + 1) ws))
+split_at rs ws n r w e f = ap (λ l. leaves_of l (map word_of (drop n ws))) e ∙ ap (λ l. leaves_of (r ∷ drop (n + 1) rs) (map word_of l)) f
+
+pub same_rest : (rs later : List Due) (ws words : List CodeWord) (n : ℕ) → later ≡ drop n rs → words ≡ drop n ws → leaves_of later (map word_of words) ≡ leaves_of (drop n rs) (map word_of (drop n ws))
+same_rest rs later ws words n e f = ap (λ l. leaves_of l (map word_of words)) e ∙ ap (λ l. leaves_of (drop n rs) (map word_of l)) f
+
+pub none_left : (rs : List Due) (ws : List Word) (n : ℕ) → length rs ≤ n → leaves_of (drop n rs) ws ≡ []
+none_left rs ws n h = ap (λ l. leaves_of l ws) (drop_of_length-le rs h)
+
+-- ---- the loop
+
+-- What is judged of the words that are left, counted from this number on, is judged of all.
+pub record JudgedTo (all : List Leaf) (number : ℕ) (code : CodeSeen) (left : List Leaf) (arrows : ℕ) : Type 0 where
+  pub seen : Seen
+  pub stands : IsSeen code seen
+  pub within : IsWithinLimits code.counts
+  pub arrows_left : arrows ≡ arrow_count left
+  pub rest : (found : Option Fault) → Judged number seen left found → Judged 0 nothing_seen all found
+
+pub begin_judging : (all : List Leaf) (code : CodeSeen) (arrows : ℕ) → IsSeen code nothing_seen → IsWithinLimits code.counts → arrows ≡ arrow_count all → JudgedTo all 0 code all arrows
+begin_judging all code arrows h w a = record { seen = nothing_seen; stands = h; within = w; arrows_left = a; rest = λ found k. k }
+
+-- what is told of one token
+pub record IsFormOf (names : Names) (past arrow_behind : Bool) (r : Due) (w : Word) (behind : List Leaf) (form : Option RefusalKind) : Type 0 where
+  pub tells : IsTrue past ↔ IsPast (is_number r) w
+  pub arrow : arrow_behind ≡ has_arrow behind
+  pub kind : (s : NamesSeen) → AreNames names s → form ≡ form_refusal (record { past = past }) s r w arrow_behind behind
+
+pub told : (names : Names) (past : Bool) (r : Due) (w : Word) (behind : List Leaf) (form : Option RefusalKind) (arrows later : ℕ) (arrow : Bool) → arrows ≡ arrow_count (at r w ∷ behind) → later ≡ arrows - one_if arrow → arrow ≡ is_arrow r w
+    → IsTrue past ↔ IsPast (is_number r) w → ((s : NamesSeen) → AreNames names s → form ≡ form_refusal (record { past = past }) s r w (nat_lt 0 later) behind) → IsFormOf names past (nat_lt 0 later) r w behind form
+told names past r w behind form arrows later arrow h k e t f = record {
+  tells = t;
+  arrow = told_arrow behind later (behind_arrow r w behind arrows later h (k ∙ ap (λ b. arrows - one_if b) e));
+  kind = f;
+}
+
+form_at : {names : Names} {past arrow_behind : Bool} {r : Due} {w : Word} {behind : List Leaf} {form : Option RefusalKind} → IsFormOf names past arrow_behind r w behind form
+    → (seen : Seen) → AreNames names seen.names → refusal_at (record { past = past }) seen r w behind ≡ or_else form (limit_refusal (seen_after seen r w) r w)
+form_at {names} {past} {arrow_behind} {r} {w} {behind} {form} f seen h =
+    ap (λ o. or_else o (limit_refusal (seen_after seen r w) r w)) (ap (λ b. form_refusal (record { past = past }) seen.names r w b behind) (sym f.arrow) ∙ sym (f.kind seen.names h))
+
+module _ (all : List Leaf) (n : ℕ) (code : CodeSeen) (r : Due) (w : Word) (behind : List Leaf) (arrows : ℕ) (m : JudgedTo all n code (at r w ∷ behind) arrows) (past arrow_behind : Bool) (form : Option RefusalKind) (f : IsFormOf code.names past arrow_behind r w behind form) where
+  -- a token that is refused whatever is counted
+  pub ends_by_form : (k : RefusalKind) → form ≡ Some k → Judged 0 nothing_seen all (Some (record { kind = k; word = n }))
+  ends_by_form k e =
+      m.rest _ (refused {v = record { past = past }} f.tells (form_at f m.seen m.stands.names ∙ ap (λ o. or_else o (limit_refusal (seen_after m.seen r w) r w)) e))
+
+  module _ (e : form ≡ None) (after : CodeSeen) (takes : (s : Seen) → IsSeen code s → IsSeen after (seen_after s r w)) (limit : Option RefusalKind) (limits : (s : Seen) → IsSeen after s → limit ≡ limit_refusal s r w) where
+    at_limit : refusal_at (record { past = past }) m.seen r w behind ≡ limit
+    at_limit =
+        form_at f m.seen m.stands.names ∙ ap (λ o. or_else o (limit_refusal (seen_after m.seen r w) r w)) e ∙ sym (limits (seen_after m.seen r w) (takes m.seen m.stands))
+
+    -- a token that passes a limit
+    pub ends_by_limit : (k : RefusalKind) → limit ≡ Some k → Judged 0 nothing_seen all (Some (record { kind = k; word = n }))
+    ends_by_limit k g = m.rest _ (refused {v = record { past = past }} f.tells (at_limit ∙ g))
+
+    -- a token that isn't refused
+    pub goes_on : limit ≡ None → (later : ℕ) → later ≡ arrow_count behind → JudgedTo all (n + 1) after behind later
+    goes_on g later a =
+        let s = takes m.seen m.stands in
+        let none : limit_refusal (seen_after m.seen r w) r w ≡ None = sym (limits (seen_after m.seen r w) s) ∙ g in
+        record {
+          seen = seen_after m.seen r w;
+          stands = s;
+          within = subst IsWithinLimits (sym s.counts) (no_limit (length (seen_after m.seen r w).opened) (length (seen_after m.seen r w).names.halved) (seen_after m.seen r w).counts (is_past_lsb r w) (is_past_pieces r w) none);
+          arrows_left = a;
+          rest = λ found h. m.rest found (passed {v = record { past = past }} f.tells (at_limit ∙ g) h);
+        }
+
+-- ---- what one token's tests tell
+
+pub empty_leaves : (rs : List Due) (ws : List Word) → length rs ≤ length ws → is_empty (leaves_of rs ws) ≡ nat_eq (length rs) 0
+empty_leaves [] ws h = refl
+empty_leaves (r ∷ rs) [] h = absurd (omega arith)
+empty_leaves (r ∷ rs) (w ∷ ws) h = some (length rs)
+  where
+    some : (n : ℕ) → false ≡ nat_eq (suc n) 0
+    some n = grind arith
+
+pub form_told : (past arrow_behind : Bool) (names : NamesSeen) (r : Due) (w : Word) (rs : List Due) (ws : List Word) (is_last wrong_side used split no_pieces : Bool) (answer : Option RefusalKind)
+    → is_last ≡ is_empty (leaves_of rs ws) → wrong_side ≡ is_on_wrong_side r w arrow_behind is_last → used ≡ is_used names (defines r w) (leaves_of rs ws)
+    → split ≡ is_some_among names.defined (split_name r w) → no_pieces ≡ has_no_pieces r w → answer ≡ form_kind wrong_side used split no_pieces past
+    → answer ≡ form_refusal (record { past = past }) names r w arrow_behind (leaves_of rs ws)
+form_told past arrow_behind names r w rs ws is_last wrong_side used split no_pieces answer l a b d p e =
+    e ∙ ap (λ x. form_kind x used split no_pieces past) (a ∙ ap (is_on_wrong_side r w arrow_behind) l)
+    ∙ ap (λ x. form_kind (is_on_wrong_side r w arrow_behind (is_empty (leaves_of rs ws))) x split no_pieces past) b
+    ∙ ap (λ x. form_kind (is_on_wrong_side r w arrow_behind (is_empty (leaves_of rs ws))) (is_used names (defines r w) (leaves_of rs ws)) x no_pieces past) d
+    ∙ ap (λ x. form_kind (is_on_wrong_side r w arrow_behind (is_empty (leaves_of rs ws))) (is_used names (defines r w) (leaves_of rs ws)) (is_some_among names.defined (split_name r w)) x past) p
+
+pub limit_told : (seen : Seen) (r : Due) (w : Word) (opened halved : ℕ) (counts : Counts) (lsb pieces : Bool) (answer : Option RefusalKind)
+    → opened ≡ length seen.opened → halved ≡ length seen.names.halved → counts ≡ seen.counts → lsb ≡ is_past_lsb r w → pieces ≡ is_past_pieces r w
+    → answer ≡ limit_kind opened halved counts lsb pieces → answer ≡ limit_refusal seen r w
+limit_told seen r w opened halved counts lsb pieces answer o h n l p e =
+    e ∙ ap (λ x. limit_kind x halved counts lsb pieces) o ∙ ap (λ x. limit_kind (length seen.opened) x counts lsb pieces) h
+    ∙ ap (λ x. limit_kind (length seen.opened) (length seen.names.halved) x lsb pieces) n
+    ∙ ap (λ x. limit_kind (length seen.opened) (length seen.names.halved) seen.counts x pieces) l
+    ∙ ap (λ x. limit_kind (length seen.opened) (length seen.names.halved) seen.counts (is_past_lsb r w) x) p

@@ -1,0 +1,8 @@
+use Rattle.std.proofs.Common.{drop, map}
+use Rattle.script_words.specs.Named.{word_of}
+use Rattle.script_judge.specs.Leaves.{leaves_of}
+use Rattle.script_judge.proofs.Judging.{JudgedTo}
+use Rattle.script_judge.proofs.judge.judge.Given as goal
+
+abbrev pub invariant-loop-number : goal.invariant-loop-number
+invariant-loop-number l = JudgedTo (leaves_of l.roles (map word_of l.words)) l.number l.seen (leaves_of (drop l.number l.roles) (map word_of (drop l.number l.words))) l.arrows

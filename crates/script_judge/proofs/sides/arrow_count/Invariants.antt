@@ -1,0 +1,14 @@
+use Rattle.std.proofs.Common.{◌≡◌, ◌+◌, ◌≤◌, length, map}
+use Rattle.script_words.specs.Named.{word_of}
+use Rattle.script_judge.specs.Leaves.{leaves_of}
+use Rattle.script_judge.specs.Judge as spec
+use Rattle.script_judge.proofs.sides.arrow_count.Given as goal
+
+abbrev pub invariant-loop-roles : goal.invariant-loop-roles
+invariant-loop-roles l = record {
+  counted : spec.arrow_count (leaves_of l.fn.roles (map word_of l.fn.words)) ≡ l.count + spec.arrow_count (leaves_of l.roles (map word_of l.words));
+  room : l.count + length l.roles ≤ length l.fn.roles;
+}
+
+abbrev pub decreases-loop-roles : goal.decreases-loop-roles
+decreases-loop-roles l = length l.roles

@@ -1,0 +1,127 @@
+-- The refusals that are judged on the words before the reading ends, token by token.
+use Rattle.std.specs.Prelude.{◌≡◌, ℕ, ◌+◌, ◌&&◌, ◌||◌, not, nat_lt, List, [], ◌∷◌, length, Option, Some, None, Bool, true, false, if◌then◌else◌}
+use Rattle.std.specs.List.{list_any}
+use Rattle.script_words.specs.declared.class.Sign.TheVariants as s
+use Rattle.script_words.specs.Words.{Word, sign}
+use Rattle.script_shape.specs.declared.due.Due.{Due}
+use Rattle.script_shape.specs.declared.due.Due.TheVariants as d
+use Rattle.script_shape.specs.Roles.{Leaf}
+use Rattle.script_judge.specs.declared.refusal.RefusalKind.{RefusalKind}
+use Rattle.script_judge.specs.declared.refusal.RefusalKind.TheVariants as kind
+use Rattle.script_judge.specs.declared.refusal.LimitKind.TheVariants as limit
+use Rattle.script_judge.specs.declared.counts.Counts.{Counts}
+use Rattle.script_judge.specs.declared.counts.Place.TheVariants as place
+use Rattle.script_judge.specs.declared.nesting.Open.{Open}
+use Rattle.script_judge.specs.declared.fault.Fault.{Fault}
+use Rattle.script_judge.specs.Counts.{one_if, counts_after}
+use Rattle.script_judge.specs.Nesting.{opened_after}
+use Rattle.script_judge.specs.Numbers.{Verdict, Tells, has_no_pieces, is_past_lsb, is_past_pieces}
+use Rattle.script_judge.specs.Names.{NamesSeen, no_names, names_after, is_new, is_used, is_some_among, defines, split_name}
+
+-- what stands before a token
+pub record Seen : Type 0 where
+  pub names : NamesSeen
+  pub opened : List Open
+  pub counts : Counts
+
+-- before the first token
+abbrev pub nothing_seen : Seen
+nothing_seen = record {
+  names = no_names;
+  opened = [];
+  counts = record { place = place.Definitions; rounds = false; halves = false; definitions = 0; propositions = 0; hints = 0; nodes = 0; splits = 0; pieces = 0 };
+}
+
+-- what stands before the next token
+abbrev pub seen_after : Seen → Due → Word → Seen
+seen_after seen r w = record {
+  names = names_after seen.names seen.counts.halves r w;
+  opened = opened_after seen.opened r w;
+  counts = counts_after seen.counts (is_new seen.names r w) r w;
+}
+
+-- ---- `?` in a hypothesis, `@FIX` in a goal: propositions with a `->` of the formula behind them are hypotheses
+
+-- a `->` of the formula
+abbrev pub is_arrow : Due → Word → Bool
+is_arrow d.Connective (sign s.Arrow) = true
+is_arrow r w = false
+
+-- one of these tokens is such a `->`
+abbrev pub has_arrow : List Leaf → Bool
+has_arrow leaves = list_any (λ l. is_arrow l.role l.word) leaves
+
+-- how many of them are
+abbrev pub arrow_count : List Leaf → ℕ
+arrow_count [] = 0
+arrow_count (l ∷ ls) = one_if (is_arrow l.role l.word) + arrow_count ls
+
+-- the sign `?`
+abbrev pub is_ask : Word → Bool
+is_ask (sign s.Ask) = true
+is_ask w = false
+
+-- An `@` behind which the reading ends is no `@FIX`.
+abbrev pub is_on_wrong_side : Due → Word → Bool → Bool → Bool
+is_on_wrong_side d.Range w arrow_behind is_last = is_ask w && arrow_behind
+is_on_wrong_side d.Prop w arrow_behind is_last = not arrow_behind && not is_last
+is_on_wrong_side r w arrow_behind is_last = false
+
+-- no token is left
+abbrev pub is_empty : List Leaf → Bool
+is_empty [] = true
+is_empty (l ∷ ls) = false
+
+-- ---- one token: the kinds in the order of their numbers
+
+-- the first kind whose test is true
+abbrev pub first_kind : List (Bool × RefusalKind) → Option RefusalKind
+first_kind [] = None
+first_kind (p ∷ ps) = if p.0 then Some p.1 else first_kind ps
+
+-- what is refused whatever is counted
+abbrev pub form_kind : Bool → Bool → Bool → Bool → Bool → Option RefusalKind
+form_kind wrong_side used defined_split no_pieces past = first_kind (
+    (wrong_side, kind.FormulaForm) ∷ ((used, kind.NameUsed) ∷ ((defined_split || no_pieces, kind.BadSplit) ∷ ((past, kind.LiteralLimit) ∷ []))))
+
+-- the tests of one token, with whether a `->` of the formula stands behind it
+abbrev pub form_refusal : Verdict → NamesSeen → Due → Word → Bool → List Leaf → Option RefusalKind
+form_refusal v names r w arrow_behind behind =
+    form_kind (is_on_wrong_side r w arrow_behind (is_empty behind)) (is_used names (defines r w) behind)
+    (is_some_among names.defined (split_name r w)) (has_no_pieces r w) v.past
+
+-- the limits that are passed with a token
+abbrev pub limit_kind : ℕ → ℕ → Counts → Bool → Bool → Option RefusalKind
+limit_kind opened halved counts past_lsb past_pieces = first_kind (
+    (nat_lt 64 opened, kind.Limit limit.Nesting)
+    ∷ ((nat_lt 256 counts.definitions, kind.Limit limit.Definitions)
+    ∷ ((nat_lt 128 counts.propositions, kind.Limit limit.Propositions)
+    ∷ ((nat_lt 64 counts.hints, kind.Limit limit.Hints)
+    ∷ ((nat_lt 512 counts.nodes, kind.Limit limit.Nodes)
+    ∷ ((past_lsb, kind.Limit limit.Lsb)
+    ∷ ((nat_lt 4 counts.splits || nat_lt 4 halved, kind.Limit limit.Splits)
+    ∷ ((nat_lt 64 counts.pieces || past_pieces, kind.Limit limit.Pieces) ∷ []))))))))
+
+-- the limits that are passed with one token, which is among those that stand before
+abbrev pub limit_refusal : Seen → Due → Word → Option RefusalKind
+limit_refusal after r w =
+    limit_kind (length after.opened) (length after.names.halved) after.counts (is_past_lsb r w) (is_past_pieces r w)
+
+-- the first that there is
+abbrev pub or_else : Option RefusalKind → Option RefusalKind → Option RefusalKind
+or_else (Some k) other = Some k
+or_else None other = other
+
+-- why a token is refused: by its form, or by a limit
+abbrev pub refusal_at : Verdict → Seen → Due → Word → List Leaf → Option RefusalKind
+refusal_at v seen r w behind =
+    or_else (form_refusal v seen.names r w (has_arrow behind) behind) (limit_refusal (seen_after seen r w) r w)
+
+-- ---- all tokens
+
+-- The first refused word, counted from i on, or none.
+pub data Judged : ℕ → Seen → List Leaf → Option Fault → Type 0 where
+  none_refused : {i : ℕ} {seen : Seen} → Judged i seen [] None
+  refused : {i : ℕ} {seen : Seen} {l : Leaf} {ls : List Leaf} {v : Verdict} {k : RefusalKind} → Tells v l.role l.word → refusal_at v seen l.role l.word ls ≡ Some k → Judged i seen (l ∷ ls) (Some (record { kind = k; word = i }))
+  passed : {i : ℕ} {seen : Seen} {l : Leaf} {ls : List Leaf} {v : Verdict} {found : Option Fault} → Tells v l.role l.word → refusal_at v seen l.role l.word ls ≡ None
+      → Judged (i + 1) (seen_after seen l.role l.word) ls found → Judged i seen (l ∷ ls) found

@@ -1,0 +1,11 @@
+pub mod Leaves
+pub mod Fault
+pub mod Reading
+pub mod Views
+pub mod Counts
+pub mod Limits
+pub mod Nesting
+pub mod Names
+pub mod Numbers
+pub mod Judge
+pub mod First

@@ -1,0 +1,57 @@
+-- What the digits of a token tell.
+use Rattle.std.specs.Prelude.{ℕ, ◌==◌, nat_lt, Bool, true, false, IsTrue, ◌↔◌}
+use Rattle.std.specs.Str.Parse.{digits_value}
+use Rattle.literal.specs.Normal.{IsPastLimits}
+use Rattle.script_words.specs.Words.{Word, literal}
+use Rattle.script_shape.specs.declared.due.Due.{Due}
+use Rattle.script_shape.specs.declared.due.Due.TheVariants as d
+
+-- ---- digits alone
+
+-- the number that digits alone write
+abbrev pub digits_of : Word → ℕ
+digits_of (literal k text) = digits_value 10 text
+digits_of w = 0
+
+-- a cut into no pieces
+abbrev pub has_no_pieces : Due → Word → Bool
+has_no_pieces d.Cut (literal k text) = digits_value 10 text == 0
+has_no_pieces r w = false
+
+-- the digits of the least significant bit of an operator, or of `@FIX`
+abbrev pub is_past_lsb : Due → Word → Bool
+is_past_lsb d.Whole w = nat_lt 512 (digits_of w)
+is_past_lsb d.WholeDigits w = nat_lt 512 (digits_of w)
+is_past_lsb r w = false
+
+-- the digits of a cut into too many pieces
+abbrev pub is_past_pieces : Due → Word → Bool
+is_past_pieces d.Cut w = nat_lt 64 (digits_of w)
+is_past_pieces r w = false
+
+-- ---- what only a literal's value tells
+
+-- what is told of a token: whether it is a literal of an expression or a bound that is past its limits
+pub record Verdict : Type 0 where
+  pub past : Bool
+
+-- what is due where a literal of an expression or a bound stands
+abbrev pub is_number : Due → Bool
+is_number d.Operand = true
+is_number d.Bound = true
+is_number d.Magnitude = true
+is_number r = false
+
+-- a literal past its limits
+abbrev pub IsPastWord : Word → Type 0
+IsPastWord (literal k text) = IsPastLimits text
+IsPastWord w = ⊥
+
+-- such a literal, where one is due
+abbrev pub IsPast : Bool → Word → Type 0
+IsPast true w = IsPastWord w
+IsPast false w = ⊥
+
+-- The verdict is right for the token.
+abbrev pub Tells : Verdict → Due → Word → Type 0
+Tells v r w = IsTrue v.past ↔ IsPast (is_number r) w

@@ -1,0 +1,35 @@
+-- The code's values as those that definitions speak of.
+use Rattle.std.specs.Prelude.{◌≡◌, length, map, reverse}
+use Rattle.std.specs.Option.{option_copied}
+use Rattle.script_words.specs.Named.{word_of, HasNames}
+use Rattle.script_judge.specs.declared.names.Names.{Names}
+use Rattle.script_judge.specs.declared.judge.Seen.{Seen as CodeSeen}
+use Rattle.script_judge.specs.declared.reading.ReadText.{ReadText}
+use Rattle.script_judge.specs.Leaves.{leaves_of}
+use Rattle.script_judge.specs.Reading.{Reading}
+use Rattle.script_judge.specs.Names.{NamesSeen}
+use Rattle.script_judge.specs.Judge.{Seen}
+
+-- what the code has read
+abbrev pub reading_of : ReadText → Reading
+reading_of r = record {
+  tokens = r.tokens.items;
+  bad = r.bad;
+  words = map word_of r.words.items;
+  taken = length r.shape.roles.items;
+  whole = r.shape.whole;
+  leaves = leaves_of r.shape.roles.items (map word_of r.words.items);
+}
+
+-- the code's names are these
+pub record AreNames (names : Names) (seen : NamesSeen) : Type 0 where
+  pub known : HasNames names.known seen.known
+  pub defined : HasNames names.defined seen.defined
+  pub pending : option_copied names.pending ≡ seen.pending
+  pub halved : map (λ n. n.now) names.halved.items ≡ seen.halved
+
+-- the code has seen this
+pub record IsSeen (code : CodeSeen) (seen : Seen) : Type 0 where
+  pub names : AreNames code.names seen.names
+  pub opened : reverse code.opened.items ≡ seen.opened
+  pub counts : code.counts ≡ seen.counts

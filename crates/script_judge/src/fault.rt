@@ -1,0 +1,219 @@
+//! Where the reading of a text ends before its script does.
+
+ghost use Rattle.std.specs.Prelude.{◌≡◌, ◌≤◌, length, map, IfOk};
+ghost use Rattle.std.specs.Option.{option_copied, option_map};
+ghost use Rattle.script_words.specs.Named.{word_of};
+ghost use Rattle.script_judge.specs.Leaves.{leaves_of};
+ghost use Rattle.script_judge.specs.Fault as spec;
+
+use crate::refusal::RefusalKind;
+use script_shape::due::Due;
+use script_shape::shape::may_follow;
+use script_words::class::{Class, Sign, Spelled};
+use script_words::words::Word;
+use std::alloc::{AllocError, Global};
+
+/// A refused word: its number, and why.
+#[derive(Clone, Copy)]
+pub struct Fault {
+    pub kind: RefusalKind,
+    pub word: usize,
+}
+
+/// Whether it is a name or a reserved word.
+fn is_spelled(word: Word<'_>) -> bool
+    ensures { result ≡ spec.is_spelled (word_of word.entry) }
+{
+    match word {
+        Word::Name(..) | Word::Rounding(..) => true,
+        Word::Literal(..) => false,
+        Word::Sign(sign) => matches!(
+            sign,
+            Sign::In | Sign::Not | Sign::Fixed | Sign::Int | Sign::Fma | Sign::Float | Sign::Sqrt
+        ),
+    }
+}
+
+/// Whether it is an operator that no script has.
+fn is_foreign(word: Word<'_>) -> bool
+    ensures { result ≡ spec.is_foreign (word_of word.entry) }
+{
+    matches!(word, Word::Sign(Sign::Float | Sign::Sqrt))
+}
+
+/// Whether a name that isn't an operator's stands before `(`.
+fn is_unknown_call(word: Option<&Word<'_>>, next: Option<&Word<'_>>) -> bool
+    ensures { result ≡ spec.is_unknown_call (option_map word_of (option_copied word.entry))
+        (option_map word_of (option_copied next.entry)) }
+{
+    matches!(
+        (word, next),
+        (Some(Word::Name(..)), Some(Word::Sign(Sign::OpenParen)))
+    )
+}
+
+fn is_equal(word: Option<&Word<'_>>) -> bool
+    ensures { result ≡ spec.is_equal (option_map word_of (option_copied word.entry)) }
+{
+    matches!(word, Some(Word::Sign(Sign::Equal)))
+}
+
+/// Whether a name is given a value by a definition that begins with this word.
+fn gives_value(role: Due, word: Word<'_>, name: &[u8]) -> bool
+    ensures { result ≡ spec.gives_value name.now role (word_of word.entry) }
+{
+    match (role, word) {
+        (Due::Script, Word::Name(_, found)) => found == name,
+        _ => false,
+    }
+}
+
+/// Whether a definition among these words gives the name a value.
+fn has_value(words: &[Word<'_>], roles: &[Due], name: &[u8]) -> bool
+    ensures { result ≡ spec.has_value name.now (leaves_of roles.now (map word_of words.now)) }
+{
+    let mut words = words;
+    let mut roles = roles;
+    while let [role, later_roles @ ..] = roles {
+        let [word, later_words @ ..] = words else {
+            return false;
+        };
+        if gives_value(*role, *word, name) {
+            return true;
+        }
+        words = later_words;
+        roles = later_roles;
+    }
+    false
+}
+
+/// Whether only the name of a direction may come next.
+fn is_direction_due(alloc: Global, before: &[Word<'_>]) -> Result<bool, AllocError>
+    ensures { IfOk result (λ due. due ≡ spec.is_direction_due (map word_of before.now)) }
+{
+    let direction = may_follow(alloc, before, Class::Name(Spelled::Direction))?;
+    let any_name = may_follow(alloc, before, Class::Name(Spelled::Plain))?;
+    Ok(direction && !any_name)
+}
+
+/// Whether `=` or an operator may come next, as behind the name that a definition begins with.
+fn is_definition_due(alloc: Global, before: &[Word<'_>]) -> Result<bool, AllocError>
+    ensures { IfOk result (λ due. due ≡ spec.is_definition_due (map word_of before.now)) }
+{
+    let equal = may_follow(alloc, before, Class::Sign(Sign::Equal))?;
+    let operator = may_follow(alloc, before, Class::Sign(Sign::Fixed))?;
+    Ok(equal && operator)
+}
+
+/// Whether nothing but a written operator may come next, as behind `@ name =`.
+fn is_operator_due(alloc: Global, before: &[Word<'_>]) -> Result<bool, AllocError>
+    ensures { IfOk result (λ due. due ≡ spec.is_operator_due (map word_of before.now)) }
+{
+    let operator = may_follow(alloc, before, Class::Sign(Sign::Fixed))?;
+    let equal = may_follow(alloc, before, Class::Sign(Sign::Equal))?;
+    let any_name = may_follow(alloc, before, Class::Name(Spelled::Plain))?;
+    Ok(operator && !equal && !any_name)
+}
+
+/// Whether a proposition may begin next.
+fn is_proposition_due(alloc: Global, before: &[Word<'_>]) -> Result<bool, AllocError>
+    ensures { IfOk result (λ due. due ≡ spec.is_proposition_due (map word_of before.now)) }
+{
+    let fix = may_follow(alloc, before, Class::Sign(Sign::At))?;
+    let operand = may_follow(alloc, before, Class::Sign(Sign::OpenParen))?;
+    Ok(fix && operand)
+}
+
+/// Whether a definition before the one that these words end with gives the name a value.
+fn has_earlier_value(words: &[Word<'_>], roles: &[Due], name: &[u8]) -> bool
+    requires { length roles.now ≤ length words.now }
+    ensures { result ≡ spec.has_earlier_value name.now (leaves_of roles.now (map word_of words.now)) }
+{
+    has_value(words, &roles[..roles.len().saturating_sub(1)], name)
+}
+
+/// Whether it is a name with no meaning so far, in the place of an operator before `=`.
+fn is_unknown_op(
+    alloc: Global,
+    before: &[Word<'_>],
+    roles: &[Due],
+    word: Word<'_>,
+    next: Option<&Word<'_>>,
+) -> Result<bool, AllocError>
+    requires { length roles.now ≤ length before.now }
+    ensures { IfOk result (λ unknown. unknown ≡ spec.is_unknown_op (map word_of before.now)
+        (leaves_of roles.now (map word_of before.now)) (word_of word.entry)
+        (option_map word_of (option_copied next.entry))) }
+{
+    let Word::Name(_, name) = word else {
+        return Ok(false);
+    };
+    if !is_equal(next) || has_earlier_value(before, roles, name) {
+        return Ok(false);
+    }
+    is_definition_due(alloc, before)
+}
+
+/// Whether a word is in the place of an operator or a direction that it isn't.
+fn is_unknown(
+    alloc: Global,
+    before: &[Word<'_>],
+    roles: &[Due],
+    word: Word<'_>,
+    next: Option<&Word<'_>>,
+) -> Result<bool, AllocError>
+    requires { length roles.now ≤ length before.now }
+    ensures { IfOk result (λ unknown. unknown ≡ spec.is_unknown (map word_of before.now)
+        (leaves_of roles.now (map word_of before.now)) (word_of word.entry)
+        (option_map word_of (option_copied next.entry))) }
+{
+    if is_foreign(word) || is_unknown_call(Some(&word), next) {
+        return Ok(true);
+    }
+    if is_spelled(word) && (is_operator_due(alloc, before)? || is_direction_due(alloc, before)?) {
+        return Ok(true);
+    }
+    is_unknown_op(alloc, before, roles, word, next)
+}
+
+/// Whether it is a sign of formulas that no script has yet.
+fn is_later_form(alloc: Global, before: &[Word<'_>], word: Word<'_>) -> Result<bool, AllocError>
+    ensures { IfOk result (λ later. later ≡ spec.is_later_form (map word_of before.now) (word_of word.entry)) }
+{
+    match word {
+        Word::Sign(Sign::Not) => is_proposition_due(alloc, before),
+        Word::Sign(Sign::Or) => may_follow(alloc, before, Class::Sign(Sign::And)),
+        _ => Ok(false),
+    }
+}
+
+/// Why the first word that has no place is refused, and where.
+pub fn fault_of(
+    alloc: Global,
+    before: &[Word<'_>],
+    roles: &[Due],
+    word: Word<'_>,
+    next: Option<&Word<'_>>,
+) -> Result<Fault, AllocError>
+    requires { length roles.now ≤ length before.now }
+    ensures fault { IfOk result (λ fault. fault ≡ spec.fault_of (map word_of before.now)
+        (leaves_of roles.now (map word_of before.now)) (word_of word.entry)
+        (option_map word_of (option_copied next.entry))) }
+    ensures within { IfOk result (λ fault. fault.word ≤ length before.now) }
+{
+    let at = before.len();
+    if !is_foreign(word) && is_unknown_call(before.last(), Some(&word)) {
+        return Ok(Fault {
+            kind: RefusalKind::UnsupportedOperator,
+            word: at.saturating_sub(1),
+        });
+    }
+    let kind = if is_unknown(alloc, before, roles, word, next)? {
+        RefusalKind::UnsupportedOperator
+    } else if is_later_form(alloc, before, word)? {
+        RefusalKind::FormulaForm
+    } else {
+        RefusalKind::Unexpected
+    };
+    Ok(Fault { kind, word: at })
+}

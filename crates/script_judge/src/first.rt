@@ -1,0 +1,103 @@
+//! The first refusal of a text.
+
+ghost use Rattle.std.specs.Prelude.{◌≡◌, ◌≤◌, length, Option, IfOk};
+ghost use Rattle.script_judge.specs.declared.fault.Fault.{Fault};
+ghost use Rattle.script_judge.specs.First as spec;
+ghost use Rattle.script_judge.specs.First.{FaultsAreUnique, FirstsAreUnique};
+ghost use Rattle.script_judge.specs.Judge.{Judged, nothing_seen};
+ghost use Rattle.script_judge.specs.Views.{reading_of};
+
+use crate::judge::judge;
+use crate::reading::{ReadText, at_word, fault, read_text, text_refusal};
+use crate::refusal::{Refusal, RefusalKind};
+use script_shape::shape::{roles_are_unique, shape_is_unique};
+use script_words::lex::lexed_once;
+use std::alloc::{AllocError, Global};
+
+/// The number of a kind in the table of refusals.
+fn number(kind: RefusalKind) -> u32
+    ensures { result ≡ spec.number kind }
+{
+    match kind {
+        RefusalKind::NotText => 1,
+        RefusalKind::BadToken => 2,
+        RefusalKind::Unexpected => 3,
+        RefusalKind::FormulaForm => 4,
+        RefusalKind::UnsupportedOperator => 5,
+        RefusalKind::NameUsed => 6,
+        RefusalKind::BadBound => 7,
+        RefusalKind::SplitRange => 8,
+        RefusalKind::BadSplit => 9,
+        RefusalKind::LiteralLimit => 10,
+        RefusalKind::Limit(_) => 11,
+    }
+}
+
+/// Whether the one refusal comes before the other: at a lower byte, or at the same with the lower number.
+fn is_before(one: Refusal, other: Refusal) -> bool
+    ensures { result ≡ spec.is_before one other }
+{
+    one.at < other.at || one.at == other.at && number(one.kind) < number(other.kind)
+}
+
+/// The first of two refusals.
+fn first_of(one: Option<Refusal>, other: Option<Refusal>) -> Option<Refusal>
+    ensures { result ≡ spec.first_of one other }
+{
+    let Some(first) = one else {
+        return other;
+    };
+    let Some(second) = other else {
+        return one;
+    };
+    if is_before(second, first) { other } else { one }
+}
+
+/// The first refusal that is judged on the words before the reading ends.
+fn judged(alloc: Global, read: &ReadText<'_>) -> Result<Option<Refusal>, AllocError>
+    requires taken { length read.now.shape.roles.items ≤ length read.now.words.items }
+    requires places { length read.now.tokens.items ≡ length read.now.words.items }
+    ensures { IfOk result (λ answer. (found : Option Fault)
+        × Judged 0 nothing_seen (reading_of read.now).leaves found
+        × (answer ≡ spec.refusal_of (reading_of read.now) found)) }
+{
+    let words = read.words.as_slice();
+    let roles = read.shape.roles.as_slice();
+    let tokens = read.tokens.as_slice();
+    let found = judge(alloc, words, roles)?;
+    match found {
+        Some(fault) => Ok(Some(at_word(tokens, fault))),
+        None => Ok(None),
+    }
+}
+
+/// The first refusal of a text, or none. `Err` only where memory runs out.
+pub fn first_refusal(alloc: Global, text: &[u8]) -> Result<Option<Refusal>, AllocError>
+    ensures { IfOk result (spec.IsFirstRefusal text.now) }
+{
+    if let Some(refusal) = text_refusal(text) {
+        return Ok(Some(refusal));
+    }
+    let read = read_text(alloc, text)?;
+    let fault = fault(alloc, text.len() as u32, &read)?;
+    let judged = judged(alloc, &read)?;
+    Ok(first_of(fault, judged))
+}
+
+/// The reading of a text ends at one refusal at most.
+pub fn faults_are_unique()
+    ensures { FaultsAreUnique }
+{
+    lexed_once();
+    shape_is_unique();
+    roles_are_unique();
+}
+
+/// A text has one first refusal at most.
+pub fn firsts_are_unique()
+    ensures { FirstsAreUnique }
+{
+    lexed_once();
+    shape_is_unique();
+    roles_are_unique();
+}

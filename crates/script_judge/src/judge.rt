@@ -1,0 +1,226 @@
+//! The refusals that are judged on the words before the reading ends.
+
+ghost use Rattle.std.specs.Prelude.{◌≡◌, ◌≤◌, ◌<◌, ◌+◌, ◌∷◌, length, drop, map, IfOk, IfSome, OnOk};
+ghost use Rattle.script_words.specs.Named.{word_of};
+ghost use Rattle.script_judge.specs.Leaves.{leaves_of};
+ghost use Rattle.script_judge.specs.Judge as spec;
+ghost use Rattle.script_judge.specs.Judge.{Judged};
+ghost use Rattle.script_judge.specs.Limits.{IsWithinLimits};
+ghost use Rattle.script_judge.specs.Names.{NamesSeen};
+ghost use Rattle.script_judge.specs.Views.{AreNames, IsSeen};
+
+use crate::counts::{Counts, Place, counts_after};
+use crate::fault::Fault;
+use crate::names::Names;
+use crate::nesting::{Open, open_or_close};
+use crate::numbers::{has_no_pieces, is_past, is_past_lsb, is_past_pieces};
+use crate::refusal::{LimitKind, RefusalKind};
+use crate::sides::{arrow_count, is_arrow, is_on_wrong_side, without};
+use script_shape::due::Due;
+use script_words::words::Word;
+use std::alloc::{AllocError, Global};
+
+/// What stood before a token.
+#[derive(Drop)]
+struct Seen<'a> {
+    names: Names<'a>,
+    opened: Vec<Open>,
+    counts: Counts,
+}
+
+fn form_kind(
+    wrong_side: bool,
+    used: bool,
+    defined_split: bool,
+    no_pieces: bool,
+    past: bool,
+) -> Option<RefusalKind>
+    ensures { result ≡ spec.form_kind wrong_side used defined_split no_pieces past }
+{
+    if wrong_side {
+        Some(RefusalKind::FormulaForm)
+    } else if used {
+        Some(RefusalKind::NameUsed)
+    } else if defined_split || no_pieces {
+        Some(RefusalKind::BadSplit)
+    } else if past {
+        Some(RefusalKind::LiteralLimit)
+    } else {
+        None
+    }
+}
+
+/// What is refused whatever is counted.
+fn form_refusal<'a>(
+    names: &Names<'a>,
+    leaf: (Due, Word<'a>),
+    past: bool,
+    arrow_behind: bool,
+    words: &[Word<'a>],
+    roles: &[Due],
+) -> Option<RefusalKind>
+    requires { length roles.now ≤ length words.now }
+    ensures { (seen : NamesSeen) → AreNames names.now seen → result
+        ≡ spec.form_refusal (record { past = past }) seen leaf.entry.0 (word_of leaf.entry.1) arrow_behind
+        (leaves_of roles.now (map word_of words.now)) }
+{
+    let (role, word) = leaf;
+    let wrong_side = is_on_wrong_side(role, word, arrow_behind, roles.is_empty());
+    let used = names.is_used(role, word, words, roles);
+    let defined_split = names.splits_defined(role, word);
+    form_kind(
+        wrong_side,
+        used,
+        defined_split,
+        has_no_pieces(role, word),
+        past,
+    )
+}
+
+fn limit_kind(
+    opened: usize,
+    halved: usize,
+    counts: Counts,
+    past_lsb: bool,
+    past_pieces: bool,
+) -> Option<RefusalKind>
+    ensures { result ≡ spec.limit_kind opened halved counts past_lsb past_pieces }
+{
+    if opened > 64 {
+        Some(RefusalKind::Limit(LimitKind::Nesting))
+    } else if counts.definitions > 256 {
+        Some(RefusalKind::Limit(LimitKind::Definitions))
+    } else if counts.propositions > 128 {
+        Some(RefusalKind::Limit(LimitKind::Propositions))
+    } else if counts.hints > 64 {
+        Some(RefusalKind::Limit(LimitKind::Hints))
+    } else if counts.nodes > 512 {
+        Some(RefusalKind::Limit(LimitKind::Nodes))
+    } else if past_lsb {
+        Some(RefusalKind::Limit(LimitKind::Lsb))
+    } else if counts.splits > 4 || halved > 4 {
+        Some(RefusalKind::Limit(LimitKind::Splits))
+    } else if counts.pieces > 64 || past_pieces {
+        Some(RefusalKind::Limit(LimitKind::Pieces))
+    } else {
+        None
+    }
+}
+
+/// The limit that is passed with the token.
+fn limit_refusal(seen: &Seen<'_>, role: Due, word: Word<'_>) -> Option<RefusalKind>
+    ensures { (stands : spec.Seen) → IsSeen seen.now stands
+        → result ≡ spec.limit_refusal stands role (word_of word.entry) }
+{
+    limit_kind(
+        seen.opened.len(),
+        seen.names.halved(),
+        seen.counts,
+        is_past_lsb(role, word),
+        is_past_pieces(role, word),
+    )
+}
+
+impl<'a> Seen<'a> {
+    fn new(alloc: Global) -> Seen<'a>
+        ensures seen { IsSeen result spec.nothing_seen }
+        ensures within { IsWithinLimits result.counts }
+    {
+        Seen {
+            names: Names::new(alloc),
+            opened: Vec::new(alloc),
+            counts: Counts {
+                place: Place::Definitions,
+                rounds: false,
+                halves: false,
+                definitions: 0,
+                propositions: 0,
+                hints: 0,
+                nodes: 0,
+                splits: 0,
+                pieces: 0,
+            },
+        }
+    }
+
+    /// Takes a token.
+    fn take(&mut self, role: Due, word: Word<'a>) -> Result<(), AllocError>
+        requires { IsWithinLimits self.old.counts }
+        ensures { OnOk result ((stands : spec.Seen) → IsSeen self.old stands
+            → IsSeen self.new (spec.seen_after stands role (word_of word.entry))) }
+    {
+        let is_new = self.names.is_new(role, word);
+        self.names.take(self.counts.halves, role, word)?;
+        open_or_close(&mut self.opened, role, word)?;
+        self.counts = counts_after(self.counts, is_new, role, word);
+        Ok(())
+    }
+}
+
+fn role_at(roles: &[Due], number: usize) -> Due
+    requires { number < length roles.now }
+    ensures { drop number roles.now ≡ result ∷ drop (number + 1) roles.now }
+{
+    roles[number]
+}
+
+fn word_at<'a>(words: &[Word<'a>], number: usize) -> Word<'a>
+    requires { number < length words.now }
+    ensures { drop number words.now ≡ result ∷ drop (number + 1) words.now }
+{
+    words[number]
+}
+
+fn roles_from(roles: &[Due], number: usize) -> &[Due]
+    requires { number ≤ length roles.now }
+    ensures { result.now ≡ drop number roles.now }
+{
+    &roles[number..]
+}
+
+fn words_from<'w, 'a>(words: &'w [Word<'a>], number: usize) -> &'w [Word<'a>]
+    requires { number ≤ length words.now }
+    ensures { result.now ≡ drop number words.now }
+{
+    &words[number..]
+}
+
+/// The first refused word, or none. `Err` only where memory runs out.
+pub fn judge<'a>(
+    alloc: Global,
+    words: &[Word<'a>],
+    roles: &[Due],
+) -> Result<Option<Fault>, AllocError>
+    requires { length roles.now ≤ length words.now }
+    ensures judged { IfOk result
+        (Judged 0 spec.nothing_seen (leaves_of roles.now (map word_of words.now))) }
+    ensures within { IfOk result (λ found. IfSome found (λ f. f.word < length roles.now)) }
+{
+    let mut seen = Seen::new(alloc);
+    let mut arrows = arrow_count(words, roles);
+    for number in 0..roles.len() {
+        let role = role_at(roles, number);
+        let word = word_at(words, number);
+        let later_words = words_from(words, number + 1);
+        let later_roles = roles_from(roles, number + 1);
+        let later_arrows = without(arrows, is_arrow(role, word));
+        let past = is_past(role, word);
+        let form = form_refusal(
+            &seen.names,
+            (role, word),
+            past,
+            later_arrows > 0,
+            later_words,
+            later_roles,
+        );
+        if let Some(kind) = form {
+            return Ok(Some(Fault { kind, word: number }));
+        }
+        seen.take(role, word)?;
+        if let Some(kind) = limit_refusal(&seen, role, word) {
+            return Ok(Some(Fault { kind, word: number }));
+        }
+        arrows = later_arrows;
+    }
+    Ok(None)
+}

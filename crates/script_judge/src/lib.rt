@@ -1,0 +1,16 @@
+//! Why a text is no script: the first refusal, as far as it needs no arithmetic of the grid.
+#![tactic(auto)]
+
+pub mod counts;
+pub mod fault;
+pub mod first;
+pub mod judge;
+pub mod names;
+pub mod nesting;
+pub mod numbers;
+pub mod reading;
+pub mod refusal;
+pub mod sets;
+pub mod sides;
+#[cfg(test)]
+mod tests;

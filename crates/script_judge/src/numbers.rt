@@ -1,0 +1,119 @@
+//! What the digits of a token tell.
+
+ghost use Rattle.std.specs.Prelude.{◌≡◌, ◌≤◌, ◌<◌, ◌==◌, nat_lt, IsTrue, ◌↔◌, SomeIff};
+ghost use Rattle.std.specs.Char.{digit_value};
+ghost use Rattle.std.specs.Str.Parse.{digits_value};
+ghost use Rattle.literal.specs.Normal.{IsPastLimits};
+ghost use Rattle.script_words.specs.Named.{word_of};
+ghost use Rattle.script_judge.specs.Numbers as spec;
+
+use literal::{LiteralFault, read_bytes};
+use script_shape::due::Due;
+use script_words::words::Word;
+
+/// What a digit counts, and 36 for what is none.
+fn digit(b: u8) -> u8
+    ensures value { result ≡ digit_value b }
+    ensures small { result ≤ 36 }
+{
+    match b {
+        b'0'..=b'9' => b - b'0',
+        b'A'..=b'Z' => b - b'A' + 10,
+        b'a'..=b'z' => b - b'a' + 10,
+        _ => 36,
+    }
+}
+
+/// The number that digits write; `None` exactly where it is a thousand or more.
+fn number_of(digits: &[u8]) -> Option<u32>
+    ensures { SomeIff result (digits_value 10 digits.now < 1000) (digits_value 10 digits.now) }
+{
+    let mut number = 0u32;
+    for b in digits {
+        number = number * 10 + u32::from(digit(*b));
+        if number >= 1000 {
+            return None;
+        }
+    }
+    Some(number)
+}
+
+/// Whether digits write a number above a limit.
+fn is_above(limit: u32, text: &[u8]) -> bool
+    requires { limit < 999 }
+    ensures { result ≡ nat_lt limit (digits_value 10 text.now) }
+{
+    match number_of(text) {
+        Some(number) => number > limit,
+        None => true,
+    }
+}
+
+/// Whether the word is digits of a number above a limit.
+fn is_word_above(limit: u32, word: Word<'_>) -> bool
+    requires { limit < 999 }
+    ensures { result ≡ nat_lt limit (spec.digits_of (word_of word.entry)) }
+{
+    match word {
+        Word::Literal(_, text) => is_above(limit, text),
+        _ => false,
+    }
+}
+
+fn is_nought(text: &[u8]) -> bool
+    ensures { result ≡ digits_value 10 text.now == 0 }
+{
+    match number_of(text) {
+        Some(number) => number == 0,
+        None => false,
+    }
+}
+
+/// Whether a cut is into no pieces.
+pub fn has_no_pieces(role: Due, word: Word<'_>) -> bool
+    ensures { result ≡ spec.has_no_pieces role (word_of word.entry) }
+{
+    match (role, word) {
+        (Due::Cut, Word::Literal(_, text)) => is_nought(text),
+        _ => false,
+    }
+}
+
+/// Whether the digits are a least significant bit past its limits.
+pub fn is_past_lsb(role: Due, word: Word<'_>) -> bool
+    ensures { result ≡ spec.is_past_lsb role (word_of word.entry) }
+{
+    match role {
+        Due::Whole | Due::WholeDigits => is_word_above(512, word),
+        _ => false,
+    }
+}
+
+/// Whether the digits are too many pieces.
+pub fn is_past_pieces(role: Due, word: Word<'_>) -> bool
+    ensures { result ≡ spec.is_past_pieces role (word_of word.entry) }
+{
+    match role {
+        Due::Cut => is_word_above(64, word),
+        _ => false,
+    }
+}
+
+/// Whether the text is a literal past its limits.
+fn is_past_limits(text: &[u8]) -> bool
+    ensures { IsTrue result ↔ IsPastLimits text.now }
+{
+    matches!(read_bytes(text), Err(LiteralFault::LiteralLimit))
+}
+
+/// Whether the token is a literal of an expression or a bound that is past its limits.
+pub fn is_past(role: Due, word: Word<'_>) -> bool
+    ensures { IsTrue result ↔ spec.IsPast (spec.is_number role) (word_of word.entry) }
+{
+    match (role, word) {
+        (Due::Operand | Due::Bound | Due::Magnitude, Word::Literal(_, text)) => is_past_limits(
+            text,
+        ),
+        _ => false,
+    }
+}

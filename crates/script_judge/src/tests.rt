@@ -1,0 +1,161 @@
+//! Refusals of texts, worked out by hand.
+
+ghost use Rattle.std.specs.Prelude.{◌<◌};
+
+use crate::first::first_refusal;
+use crate::reading::reading_fault;
+use crate::refusal::{LimitKind, Refusal, RefusalKind};
+use std::alloc::{AllocError, Global};
+use std::test::Fail;
+
+#[test]
+fn faults(rt: HostRuntime) -> Result<(), Fail> {
+    let rows: [(&[u8], RefusalKind, u32); 13] = [
+        (b"", RefusalKind::Unexpected, 0),
+        (b"{ x in [1,2", RefusalKind::Unexpected, 11),
+        (b"{ x in [0,1] \\/ x in ? }", RefusalKind::FormulaForm, 13),
+        (b"{ not x <= 1 }", RefusalKind::FormulaForm, 2),
+        (b"{ sqrt(x) in ? }", RefusalKind::UnsupportedOperator, 2),
+        (b"{ x in [0,1] -> x in ? } !", RefusalKind::BadToken, 25),
+        (b"{ x\xff", RefusalKind::NotText, 3),
+        (b"foo(x) = 3;", RefusalKind::UnsupportedOperator, 0),
+        (b"y q 3", RefusalKind::Unexpected, 2),
+        (b"y q= 3", RefusalKind::UnsupportedOperator, 2),
+        (b"a = 1; b a= 2;", RefusalKind::Unexpected, 9),
+        (b"@ name = in ;", RefusalKind::UnsupportedOperator, 9),
+        (b"@q = int<not>;", RefusalKind::UnsupportedOperator, 9),
+    ];
+    for (text, kind, at) in rows {
+        assert_eq!(rt;
+            reading_fault(rt.alloc(), text)?,
+            Some(Refusal { kind, at }),
+            "{text:?}"
+        );
+    }
+    Ok(())
+}
+
+#[test]
+fn refusals(rt: HostRuntime) -> Result<(), Fail> {
+    let rows: [(&[u8], RefusalKind, u32); 16] = [
+        (b"x = 1; x = 2; { x in ? }", RefusalKind::NameUsed, 7),
+        (b"x = x + 1;", RefusalKind::NameUsed, 0),
+        (b"x = x +", RefusalKind::NameUsed, 0),
+        (b"y = y(1);", RefusalKind::NameUsed, 0),
+        (b"y y= 1;", RefusalKind::UnsupportedOperator, 2),
+        (b"{ @", RefusalKind::Unexpected, 3),
+        (b"{ @FIX(x,0) /\\ x in [1,2", RefusalKind::FormulaForm, 2),
+        (b"{ x in ? -> x in ? }", RefusalKind::FormulaForm, 7),
+        (
+            b"{ x in ? /\\ sqrt(y) in [0,1] -> z in ? }",
+            RefusalKind::UnsupportedOperator,
+            12,
+        ),
+        (
+            b"{ x in [5,1e-99] -> x in ? }",
+            RefusalKind::LiteralLimit,
+            10,
+        ),
+        (
+            b"{ x in [0,-1e99] -> x in ? }",
+            RefusalKind::LiteralLimit,
+            11,
+        ),
+        (
+            b"{ x in [0,1] -> x in ? } $ x in 0;",
+            RefusalKind::BadSplit,
+            32,
+        ),
+        (b"y = 1; { y in ? } $ y;", RefusalKind::BadSplit, 20),
+        (
+            b"@q = fixed<513,dn>;",
+            RefusalKind::Limit(LimitKind::Lsb),
+            11,
+        ),
+        (
+            b"{ x in ? } $ x in 65;",
+            RefusalKind::Limit(LimitKind::Pieces),
+            18,
+        ),
+        (
+            b"{ x in ? } x $ a,b,c,d,e;",
+            RefusalKind::Limit(LimitKind::Splits),
+            23,
+        ),
+    ];
+    for (text, kind, at) in rows {
+        assert_eq!(rt;
+            first_refusal(rt.alloc(), text)?,
+            Some(Refusal { kind, at }),
+            "{text:?}"
+        );
+    }
+    Ok(())
+}
+
+#[test]
+fn scripts(rt: HostRuntime) -> Result<(), Fail> {
+    let rows: [&[u8]; 5] = [
+        b"{ x in ? }",
+        b"@q = fixed<-15,dn>; x = q(xx); y q= x * x; My = x * x; { xx in [0,1] -> y - My in ? }",
+        b"{ @FIX(a,-15) /\\ a in [0,1] -> |a| -/ 2 in ? } a -> b { b <> 0, a < 1 }; $ a in (0.5, 1);",
+        b"y fixed<-4,dn>= x + 1; { fma(x, -y, int<zr>(x)) in ? } x, y + 1 $ x; x ~ y;",
+        b"@FIX = int<up>; y = FIX(x); { @FIX(y,3) -> y in ? }",
+    ];
+    for text in rows {
+        assert_eq!(rt; first_refusal(rt.alloc(), text)?, None, "{text:?}");
+    }
+    Ok(())
+}
+
+/// `{ `, so many opening parentheses, `x`, so many closing ones, ` in ? }`.
+fn nested(alloc: Global, depth: usize) -> Result<Vec<u8>, AllocError> {
+    let mut text = Vec::new(alloc);
+    text.extend_from_slice(b"{ ".as_slice())?;
+    for _ in 0..depth {
+        text.push(b'(')?;
+    }
+    text.push(b'x')?;
+    for _ in 0..depth {
+        text.push(b')')?;
+    }
+    text.extend_from_slice(b" in ? }".as_slice())?;
+    Ok(text)
+}
+
+#[test]
+fn nesting(rt: HostRuntime) -> Result<(), Fail> {
+    let within = nested(rt.alloc(), 64)?;
+    assert_eq!(rt; first_refusal(rt.alloc(), within.as_slice())?, None);
+    let beyond = nested(rt.alloc(), 65)?;
+    let refusal = Refusal {
+        kind: RefusalKind::Limit(LimitKind::Nesting),
+        at: 66,
+    };
+    assert_eq!(rt;
+        first_refusal(rt.alloc(), beyond.as_slice())?,
+        Some(refusal)
+    );
+    Ok(())
+}
+
+#[test]
+fn many_bytes(rt: HostRuntime) -> Result<(), Fail> {
+    let mut text = Vec::new(rt.alloc());
+    text.extend_from_slice(b"{ ".as_slice())?;
+    for _ in 0..1_048_574 {
+        text.push(b'(')?;
+    }
+    let nested = Refusal {
+        kind: RefusalKind::Limit(LimitKind::Nesting),
+        at: 66,
+    };
+    assert_eq!(rt; first_refusal(rt.alloc(), text.as_slice())?, Some(nested));
+    text.push(b'(')?;
+    let longer = Refusal {
+        kind: RefusalKind::Limit(LimitKind::Bytes),
+        at: 1_048_576,
+    };
+    assert_eq!(rt; first_refusal(rt.alloc(), text.as_slice())?, Some(longer));
+    Ok(())
+}
