@@ -1,0 +1,40 @@
+//! Pseudo-random numbers, and what a result adds to a checksum.
+
+use dyadic::{Dyadic, End};
+use std::alloc::{AllocError, Global};
+
+/// How many numbers a table has.
+const COUNT: u32 = 64;
+
+/// The table of a linear congruential generator with a fixed seed: mantissas of up to 60 bits
+/// and exponents from -60 to 3, none of them 0.
+pub fn table(alloc: Global) -> Result<Vec<Dyadic>, AllocError> {
+    let mut numbers = Vec::new(alloc);
+    let mut bits = 88172645463325252u64;
+    for _ in 0..COUNT {
+        bits = bits
+            .wrapping_mul(6364136223846793005)
+            .wrapping_add(1442695040888963407);
+        let size = (bits >> 5) as i64;
+        let mantissa = if (bits >> 4) % 2 == 0 { size } else { -size };
+        let exponent = (bits >> 58) as i32 - 60;
+        if let Some(number) = Dyadic::new(mantissa, exponent) {
+            numbers.push(number)?;
+        }
+    }
+    Ok(numbers)
+}
+
+/// What an end adds to a checksum.
+pub fn weight(end: End) -> u64 {
+    match end {
+        End::Low => 1,
+        End::At(number) => number.mantissa().unsigned_abs(),
+        End::High => 2,
+    }
+}
+
+/// A checksum with one more part, whose place among the parts counts.
+pub fn with_part(checksum: u64, part: u64) -> u64 {
+    checksum.rotate_left(1).wrapping_add(part)
+}
