@@ -81,6 +81,7 @@ fn encloses_errors(rt: HostRuntime) {
             last,
         ),
     ] {
+        assert!(rt; lsb >= -512 && lsb <= 512, "{lsb}");
         let found = error_interval(Rounding { lsb, dir }, sign, fix);
         assert_eq!(rt; found, from_to(&rt, lo, hi), "{lsb} {dir:?} {sign:?}");
     }

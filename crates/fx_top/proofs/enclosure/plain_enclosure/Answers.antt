@@ -52,7 +52,7 @@ loop-step-preserved c =
     let walking = at_step _ _ c.as_slice-step-items.result.now c.loop-step.step-index c.step-item.result _ _ c.loop-step-test.true c.step-item.is c.loop-step.invariant in
     let atom = rw c.as_slice-hyps.ensures.value at c.atom_enclosure-atom.ensures in
     elim c.match-step.branch [
-      | in-Mul w ↦ rw (w.waiting-is, w.term-is) (walk_mul _ _ _ _ _ _ (atom_of c.step-item.result.atom) _ (as_step _ _ _ _ _ c.step-item.result Mul w.in-Mul.is walking) atom w.mul-term.ensures)
+      | in-Mul w ↦ rw (w.waiting-is, w.term-is) (walk_mul _ _ _ _ _ _ (atom_of c.step-item.result.atom) _ (as_step _ _ _ _ _ c.step-item.result Mul w.in-Mul.is walking) atom w.mul-term.ensures.best)
       | in-Add w ↦ rw (w.waiting-is, w.term-is) (walk_add _ _ _ _ _ w.closed.result (atom_of c.step-item.result.atom) _ (as_step _ _ _ _ _ c.step-item.result Add w.in-Add.is walking) atom w.closed.ensures)
       | in-Sub w ↦ rw (w.waiting-is, w.term-is) (walk_sub _ _ _ _ _ w.closed-in-Sub.result (atom_of c.step-item.result.atom) _ (as_step _ _ _ _ _ c.step-item.result Sub w.in-Sub.is walking) atom w.closed-in-Sub.ensures)
     ]
