@@ -1,5 +1,5 @@
 #!/usr/bin/env python3
-"""Writes random premise lists for rules 1 to 19: python3 cases.py COUNT SEED > CASES
+"""Writes random premise lists for rules 1 to 19, 22 to 27 and 31 to 36: python3 cases.py COUNT SEED > CASES
 
 Each line is a list of whole numbers. `0` begins a new list of nodes. `1 KIND A B C` adds a node: 0 variable A, 1 literal
 A * 2^B * 10^C, 2 negation, 3 sum, 4 difference, 5 product, 6 quotient, 7 absolute value, 8 rounding to 2^A of B. A case is
@@ -81,7 +81,7 @@ def fact(r, slot):
     elif slot[0] == REL and r.randrange(4):
         flag, ends = 1, relative(r)
     elif slot[0] == FIX:
-        k = r.randint(-1024, 512)
+        k = r.choice((r.randint(-1024, 512), r.randint(-8, 8), r.choice((-1024, -512, 511, 512))))
     return slot + (flag,) + ends + (k,)
 
 
@@ -100,7 +100,7 @@ def literal(r):
 def nodes(r):
     """Distinct nodes, each kind once at least, over a few operands."""
     found = [(VAR, 0), (VAR, 1), literal(r), (NEG, 0), (ADD, 0, 1), (SUB, 0, 1), (MUL, 0, 1), (DIV, 0, 1), (ABS, 0),
-             (SUB, 1, 1), (MUL, 1, 1), (DIV, 0, 0), (RND, -4, 0), (ABS, 3)]
+             (SUB, 1, 1), (MUL, 1, 1), (DIV, 0, 0), (RND, -4, 0), (RND, 3, 1), (RND, -512, 2), (RND, 512, 0), (ABS, 3)]
     for _ in range(20):
         kind = r.randint(LIT, ABS)
         a, b = r.randrange(len(found)), r.randrange(len(found))
@@ -116,6 +116,10 @@ def bnd(x):
 
 def abs_of(x):
     return (SIZE, x, 0)
+
+
+def fix(x):
+    return (FIX, x, 0)
 
 
 def nzr(x):
@@ -142,18 +146,35 @@ ON_NODE = {
     17: ((MUL,), lambda e, a, b: ([abs_of(a), abs_of(b)], abs_of(e))),
     18: ((DIV,), lambda e, a, b: ([abs_of(a), abs_of(b)], abs_of(e))),
     19: ((ADD, SUB), lambda e, a, b: ([abs_of(a), abs_of(b)], abs_of(e))),
+    22: ((NEG,), lambda e, a: ([fix(a)], fix(e))),
+    23: ((ADD, SUB), lambda e, a, b: ([fix(a), fix(b)], fix(e))),
+    24: ((MUL,), lambda e, a, b: ([fix(a), fix(b)], fix(e))),
+    25: ((RND,), lambda e, lsb, a: ([bnd(a)], fix(e))),
+    26: ((RND,), lambda e, lsb, a: ([fix(a)], fix(e))),
+    33: ((MUL,), lambda e, a, b: ([nzr(a), nzr(b)], nzr(e))),
+    34: ((DIV,), lambda e, a, b: ([nzr(a), nzr(b)], nzr(e))),
+    35: ((NEG,), lambda e, a: ([nzr(a)], nzr(e))),
 }
 ON_ANY = {
     11: lambda x: ([bnd(x)], abs_of(x)),
     12: lambda x: ([abs_of(x)], bnd(x)),
     13: lambda x: ([bnd(x), abs_of(x)], bnd(x)),
+    27: lambda x: ([bnd(x)], fix(x)),
+    31: lambda x: ([bnd(x)], nzr(x)),
+    32: lambda x: ([abs_of(x)], nzr(x)),
 }
 TWICE = (5, 7, 10)
+SIDES = 36
+NUMBERS = sorted([*ON_NODE, *ON_ANY, SIDES])
 
 
 def fitting(r, number, listed):
     if number in ON_ANY:
         return ON_ANY[number](r.randrange(len(listed)))
+    if number == SIDES:
+        x, y = r.randrange(len(listed)), r.randrange(len(listed))
+        known, other = r.choice(((x, y), (y, x), (x, x)))
+        return [(REL, x, y), nzr(known)], nzr(other)
     kinds, make = ON_NODE[number]
     fit = [e for e, n in enumerate(listed) if n[0] in kinds]
     same = [e for e in fit if listed[e][1] == listed[e][-1]]
@@ -192,15 +213,15 @@ def damaged(r, premises, target, count):
 
 
 def case(r, listed):
-    number = r.randint(1, 19)
+    number = r.choice(NUMBERS)
     premises, target = fitting(r, number, listed)
-    if number in (13, 15) and r.randrange(4) == 0:
+    if number in (13, 15, SIDES) and r.randrange(4) == 0:
         target = NOWHERE
     if r.randrange(3) == 0:
         premises, target = damaged(r, premises, target, len(listed))
     arg = r.choice((1, 65535)) if r.randrange(40) == 0 else 0
     if r.randrange(40) == 0:
-        number = r.choice((0, 20, 100, 200, 255, r.randint(1, 19)))
+        number = r.choice((0, 20, 100, 200, 255, r.choice(NUMBERS)))
     row = (2, number, arg) + target + (len(premises),)
     for slot in premises:
         row += fact(r, slot)

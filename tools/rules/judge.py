@@ -2,7 +2,7 @@
 """Compares answers with those of a plain program of the rules: python3 judge.py PROGRAM CASES ANSWERS
 
 PROGRAM is the folder of its package `reference`, CASES what `cases.py` wrote, and ANSWERS one line for each node (`node X`)
-and each case: `none`, `void`, or `bnd X LOW HIGH` or `abs X LOW HIGH`. Ends with status 1 where an answer differs.
+and each case: `none`, `void`, or `bnd X LOW HIGH`, `abs X LOW HIGH`, `fix X K` or `nzr X`. Ends with status 1 where an answer differs.
 """
 
 import sys
@@ -14,7 +14,7 @@ from reference.dag import Dag  # noqa: E402
 
 NODES = ("var", "lit", "neg", "add", "sub", "mul", "div", "abs")
 KINDS = "BARFNV"
-LAST = 19
+LISTED = (*range(1, 20), *range(22, 28), *range(31, 37))
 
 
 def node(row):
@@ -59,6 +59,10 @@ def shown(found):
     on, value = found
     if on[0] == "V":
         return "void"
+    if on[0] == "F":
+        return "fix %d %d" % (on[1], value)
+    if on[0] == "N":
+        return "nzr %d" % on[1]
     kind = {"B": "bnd", "A": "abs"}.get(on[0])
     if kind is None:
         return "other"
@@ -68,7 +72,7 @@ def shown(found):
 def wanted(dag, row):
     number, arg, target = row[0], row[1], slot(row[2:5])
     premises = [fact(row[6 + 11 * k:17 + 11 * k]) for k in range(row[5])]
-    return shown(rules.conclude(dag, (), number, arg, premises, target) if number <= LAST else None)
+    return shown(rules.conclude(dag, (), number, arg, premises, target) if number in LISTED else None)
 
 
 def main():
@@ -88,7 +92,7 @@ def main():
             differ += [(line, want, found)] * (want != found)
     differ += [("(no case)", "", line) for line in answers]
     for number in sorted({n for n, _ in kinds}):
-        print("rule %3d:" % number, *("%s %d" % (kind, kinds[number, kind]) for kind in ("bnd", "abs", "void", "none")))
+        print("rule %3d:" % number, *("%s %d" % (kind, kinds[number, kind]) for kind in ("bnd", "abs", "fix", "nzr", "void", "none")))
     print("%d cases, %d differ" % (sum(kinds.values()), len(differ)))
     for line, want, found in differ[:10]:
         print("case %s\n  wanted %s\n  found  %s" % (line, want, found))

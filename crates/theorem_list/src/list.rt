@@ -8,6 +8,10 @@ use theorem_arith::{
     rule_1, rule_2, rule_3, rule_4, rule_5, rule_6, rule_7, rule_8, rule_9, rule_10, rule_11,
     rule_12, rule_13, rule_14, rule_15, rule_16, rule_17, rule_18, rule_19,
 };
+use theorem_fix::{
+    rule_22, rule_23, rule_24, rule_25, rule_26, rule_27, rule_31, rule_32, rule_33, rule_34,
+    rule_35, rule_36,
+};
 
 /// What the rule with this number concludes on the target from the premises, in their order. None exactly where the number
 /// isn't in the list, arg isn't 0, or the rule gives nothing. It takes no memory.
@@ -37,6 +41,18 @@ pub fn conclude(dag: &Dag, number: u8, arg: u16, premises: &[Fact], target: Slot
         17 => rule_17(dag, premises, target),
         18 => rule_18(dag, premises, target),
         19 => rule_19(dag, premises, target),
+        22 => rule_22(dag, premises, target),
+        23 => rule_23(dag, premises, target),
+        24 => rule_24(dag, premises, target),
+        25 => rule_25(dag, premises, target),
+        26 => rule_26(dag, premises, target),
+        27 => rule_27(dag, premises, target),
+        31 => rule_31(dag, premises, target),
+        32 => rule_32(dag, premises, target),
+        33 => rule_33(dag, premises, target),
+        34 => rule_34(dag, premises, target),
+        35 => rule_35(dag, premises, target),
+        36 => rule_36(dag, premises, target),
         _ => None,
     }
 }

@@ -25,6 +25,9 @@ fn only_numbers_of_the_list_conclude(rt: HostRuntime) -> Result<(), Fail> {
         (4, 0, None),
         (0, 0, None),
         (20, 0, None),
+        (23, 0, None),
+        (28, 0, None),
+        (37, 0, None),
         (200, 0, None),
     ] {
         let given = conclude(&dag, number, arg, &[one, one], Slot::Bnd(sum));

@@ -1,0 +1,19 @@
+use Rattle.theorem_fix.specs.Isotone.{multiple_of_negation_rule-isotone, multiple_of_sum_rule-isotone, multiple_of_product_rule-isotone, rounded_multiple_rule-isotone, untouched_multiple_rule-isotone, number_multiple_rule-isotone}
+use Rattle.theorem_fix.specs.IsotoneNonzero.{nonzero_bound_rule-isotone, nonzero_size_rule-isotone, nonzero_product_rule-isotone, nonzero_quotient_rule-isotone, nonzero_negation_rule-isotone, nonzero_side_rule-isotone}
+use Rattle.theorem_fix.proofs.laws.rules_are_isotone.Goals as goal
+
+pub returns : goal.returns
+returns c = record {
+  multiple_of_negation = multiple_of_negation_rule-isotone;
+  multiple_of_sum = multiple_of_sum_rule-isotone;
+  multiple_of_product = multiple_of_product_rule-isotone;
+  rounded_multiple = rounded_multiple_rule-isotone;
+  untouched_multiple = untouched_multiple_rule-isotone;
+  number_multiple = number_multiple_rule-isotone;
+  nonzero_bound = nonzero_bound_rule-isotone;
+  nonzero_size = nonzero_size_rule-isotone;
+  nonzero_product = nonzero_product_rule-isotone;
+  nonzero_quotient = nonzero_quotient_rule-isotone;
+  nonzero_negation = nonzero_negation_rule-isotone;
+  nonzero_side = nonzero_side_rule-isotone;
+}

@@ -1,0 +1,16 @@
+use Rattle.std.specs.Prelude.{◌≡◌, not, Bool, true, false, refl}
+use Rattle.std.proofs.Common.{ap, ◌∙◌, sym}
+use Rattle.fx_model.specs.Fraction.{Fraction, zero_ℚ}
+use Rattle.fx_model.specs.Grid.{Bound, Below, At, Above}
+use Rattle.dyadic.specs.Order.{le_bound}
+use Rattle.dyadic.specs.Ends.{bound_of}
+use Rattle.facts.specs.Ranges.{is_below}
+use Rattle.theorem_fix.proofs.nonzero.is_positive.Goals as goal
+
+not_at_most : (x : Fraction) (b : Bound) → not (le_bound b (At x)) ≡ is_below x b
+not_at_most x Below = refl
+not_at_most x (At g) = refl
+not_at_most x Above = refl
+
+pub returns : goal.returns
+returns c = ap not (c.is_at_most.ensures ∙ ap (le_bound (bound_of c.args.end)) c.zero.ensures) ∙ not_at_most zero_ℚ (bound_of c.args.end)

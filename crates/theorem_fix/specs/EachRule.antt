@@ -1,0 +1,19 @@
+-- What holds of each rule of this crate.
+use Rattle.facts.specs.Promises.{Rule}
+use Rattle.theorem_fix.specs.Multiples.{multiple_of_negation_rule, multiple_of_sum_rule, multiple_of_product_rule, rounded_multiple_rule, untouched_multiple_rule, number_multiple_rule}
+use Rattle.theorem_fix.specs.Nonzero.{nonzero_bound_rule, nonzero_size_rule, nonzero_product_rule, nonzero_quotient_rule, nonzero_negation_rule, nonzero_side_rule}
+
+-- P holds of the rules 22 to 27 and 31 to 36.
+pub record EachRule (P : Rule → Type 0) : Type 0 where
+  pub multiple_of_negation : P multiple_of_negation_rule
+  pub multiple_of_sum : P multiple_of_sum_rule
+  pub multiple_of_product : P multiple_of_product_rule
+  pub rounded_multiple : P rounded_multiple_rule
+  pub untouched_multiple : P untouched_multiple_rule
+  pub number_multiple : P number_multiple_rule
+  pub nonzero_bound : P nonzero_bound_rule
+  pub nonzero_size : P nonzero_size_rule
+  pub nonzero_product : P nonzero_product_rule
+  pub nonzero_quotient : P nonzero_quotient_rule
+  pub nonzero_negation : P nonzero_negation_rule
+  pub nonzero_side : P nonzero_side_rule

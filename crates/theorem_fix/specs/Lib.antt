@@ -1,0 +1,10 @@
+pub mod Places
+pub mod Shapes
+pub mod Multiples
+pub mod Nonzero
+pub mod EachRule
+pub mod SoundMultiples
+pub mod SoundNonzero
+pub mod Isotone
+pub mod IsotoneNonzero
+pub mod OnTarget

@@ -1,0 +1,148 @@
+// Multiples of powers of two.
+ghost use Rattle.std.specs.Prelude.{◌≡◌};
+ghost use Rattle.theorem_fix.specs.Multiples.{multiple_of_negation_rule, multiple_of_sum_rule, multiple_of_product_rule, last_place, rounded_multiple_rule, untouched, untouched_multiple_rule, number_place, point_place, number_multiple_rule};
+
+use crate::places::{keep, lesser, place, product_place};
+use crate::shape::{fix, is_at, is_one, rounding};
+use dyadic::{Dyadic, End};
+use expr_dag::{Dag, Node, Rounding};
+use facts::{Fact, Place, Slot};
+
+/// From FIX(a, k): FIX(-a, k) (Gappa: `neg_fix`).
+pub fn rule_22(dag: &Dag, premises: &[Fact], target: Slot) -> Option<Fact>
+    ensures concludes { result ≡ multiple_of_negation_rule dag.now premises.now target }
+{
+    let [first] = premises else {
+        return None;
+    };
+    match (*first, target) {
+        (Fact::Fix(a, k), Slot::Fix(e)) => {
+            if is_at(dag, e, Node::Neg(a)) {
+                Some(Fact::Fix(e, k))
+            } else {
+                None
+            }
+        }
+        _ => None,
+    }
+}
+
+/// From FIX(a, k), FIX(b, n): FIX(a + b) and FIX(a - b) with the lesser of k and n (Gappa: `add_fix`, `sub_fix`).
+pub fn rule_23(dag: &Dag, premises: &[Fact], target: Slot) -> Option<Fact>
+    ensures concludes { result ≡ multiple_of_sum_rule dag.now premises.now target }
+{
+    let [first, second] = premises else {
+        return None;
+    };
+    match (*first, *second, target) {
+        (Fact::Fix(a, k), Fact::Fix(b, n), Slot::Fix(e)) => {
+            if is_at(dag, e, Node::Add(a, b)) || is_at(dag, e, Node::Sub(a, b)) {
+                Some(Fact::Fix(e, lesser(k, n)))
+            } else {
+                None
+            }
+        }
+        _ => None,
+    }
+}
+
+/// From FIX(a, k), FIX(b, n): FIX(a * b, k + n) (Gappa: `mul_fix`).
+pub fn rule_24(dag: &Dag, premises: &[Fact], target: Slot) -> Option<Fact>
+    ensures concludes { result ≡ multiple_of_product_rule dag.now premises.now target }
+{
+    let [first, second] = premises else {
+        return None;
+    };
+    match (*first, *second, target) {
+        (Fact::Fix(a, k), Fact::Fix(b, n), Slot::Fix(e)) => {
+            if is_at(dag, e, Node::Mul(a, b)) {
+                fix(e, product_place(k, n))
+            } else {
+                None
+            }
+        }
+        _ => None,
+    }
+}
+
+/// From BND(x): FIX(R(x), l), where l is the lsb of the rounding R.
+pub fn rule_25(dag: &Dag, premises: &[Fact], target: Slot) -> Option<Fact>
+    ensures concludes { result ≡ rounded_multiple_rule dag.now premises.now target }
+{
+    let [first] = premises else {
+        return None;
+    };
+    match (*first, target) {
+        (Fact::Bnd(x, _), Slot::Fix(e)) => { fix(e, lsb(rounding(dag, e, x))) }
+        _ => None,
+    }
+}
+
+fn lsb(rounding: Option<Rounding>) -> Option<Place>
+    ensures { result ≡ last_place rounding }
+{
+    match rounding {
+        Some(r) => place(r.lsb),
+        None => None,
+    }
+}
+
+/// From FIX(x, k), k at least l: FIX(R(x), k).
+pub fn rule_26(dag: &Dag, premises: &[Fact], target: Slot) -> Option<Fact>
+    ensures concludes { result ≡ untouched_multiple_rule dag.now premises.now target }
+{
+    let [first] = premises else {
+        return None;
+    };
+    match (*first, target) {
+        (Fact::Fix(x, k), Slot::Fix(e)) => { fix(e, left_as_it_is(k, rounding(dag, e, x))) }
+        _ => None,
+    }
+}
+
+fn left_as_it_is(k: Place, rounding: Option<Rounding>) -> Option<Place>
+    ensures { result ≡ untouched k rounding }
+{
+    match rounding {
+        Some(r) => { if k.exponent() < r.lsb { None } else { Some(k) } }
+        None => None,
+    }
+}
+
+/// From BND(x, [p, p]): FIX(x, the exponent of p in its canonical form, 512 for 0).
+pub fn rule_27(dag: &Dag, premises: &[Fact], target: Slot) -> Option<Fact>
+    ensures concludes { result ≡ number_multiple_rule dag.now premises.now target }
+{
+    let [first] = premises else {
+        return None;
+    };
+    match (*first, target) {
+        (Fact::Bnd(x, i), Slot::Fix(e)) => {
+            if is_one(dag, x, e) {
+                fix(e, of_point(i.lo(), i.hi()))
+            } else {
+                None
+            }
+        }
+        _ => None,
+    }
+}
+
+fn of_number(number: Dyadic) -> Option<Place>
+    ensures { result ≡ number_place number }
+{
+    if number.mantissa().unsigned_abs() == 0 {
+        keep(512)
+    } else {
+        keep(number.exponent())
+    }
+}
+
+fn of_point(low: End, high: End) -> Option<Place>
+    ensures { result ≡ point_place low high }
+{
+    match (low, high) {
+        (End::At(c), End::At(d)) => { if d.is_at_most(c) { of_number(c) } else { None } }
+        _ => None,
+    }
+}

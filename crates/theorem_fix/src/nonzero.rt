@@ -1,0 +1,193 @@
+// Values other than 0.
+ghost use Rattle.std.specs.Prelude.{◌≡◌};
+ghost use Rattle.fx_model.specs.Fraction.{zero_ℚ};
+ghost use Rattle.fx_model.specs.Grid as grid;
+ghost use Rattle.dyadic.specs.Order.{le_bound};
+ghost use Rattle.dyadic.specs.Ends.{bound_of};
+ghost use Rattle.interval.specs.Intervals.{range_of};
+ghost use Rattle.interval.specs.Results.{has_zero};
+ghost use Rattle.facts.specs.Ranges.{is_below};
+ghost use Rattle.theorem_fix.specs.Nonzero.{nonzero_bound_rule, nonzero_size_rule, nonzero_product_rule, nonzero_quotient_rule, nonzero_negation_rule, are_known, are_sides, nonzero_or_void, void_of, nonzero_side_rule};
+
+use crate::shape::{is_at, is_one};
+use dyadic::End;
+use expr_dag::{Dag, ExprId, Node};
+use facts::{Fact, RelativeError, Slot};
+use interval::Interval;
+
+/// From BND(x, I), where 0 isn't in I: NZR(x) (Gappa: `nzr_of_bnd`).
+pub fn rule_31(dag: &Dag, premises: &[Fact], target: Slot) -> Option<Fact>
+    ensures concludes { result ≡ nonzero_bound_rule dag.now premises.now target }
+{
+    let [first] = premises else {
+        return None;
+    };
+    match (*first, target) {
+        (Fact::Bnd(x, i), Slot::Nzr(e)) => {
+            if is_one(dag, x, e) && !holds_zero(i) {
+                Some(Fact::Nzr(e))
+            } else {
+                None
+            }
+        }
+        _ => None,
+    }
+}
+
+/// From ABS(x, I), the lower end above 0: NZR(x) (Gappa: `nzr_of_abs`).
+pub fn rule_32(dag: &Dag, premises: &[Fact], target: Slot) -> Option<Fact>
+    ensures concludes { result ≡ nonzero_size_rule dag.now premises.now target }
+{
+    let [first] = premises else {
+        return None;
+    };
+    match (*first, target) {
+        (Fact::Abs(x, s), Slot::Nzr(e)) => {
+            if is_one(dag, x, e) && is_positive(s.interval().lo()) {
+                Some(Fact::Nzr(e))
+            } else {
+                None
+            }
+        }
+        _ => None,
+    }
+}
+
+fn holds_zero(range: Interval) -> bool
+    ensures { result ≡ has_zero (range_of range) }
+{
+    is_at_most(range.lo(), zero()) && is_at_most(zero(), range.hi())
+}
+
+// Whether the end is above 0.
+fn is_positive(end: End) -> bool
+    ensures { result ≡ is_below zero_ℚ (bound_of end) }
+{
+    !is_at_most(end, zero())
+}
+
+fn zero() -> End
+    ensures { bound_of result ≡ grid.At zero_ℚ }
+{
+    Interval::not_negative().lo()
+}
+
+fn is_at_most(a: End, b: End) -> bool
+    ensures { result ≡ le_bound (bound_of a) (bound_of b) }
+{
+    a.is_at_most(b)
+}
+
+/// From NZR(a), NZR(b): NZR(a * b) (Gappa: `mul_nzr`).
+pub fn rule_33(dag: &Dag, premises: &[Fact], target: Slot) -> Option<Fact>
+    ensures concludes { result ≡ nonzero_product_rule dag.now premises.now target }
+{
+    let [first, second] = premises else {
+        return None;
+    };
+    match (*first, *second, target) {
+        (Fact::Nzr(a), Fact::Nzr(b), Slot::Nzr(e)) => {
+            if is_at(dag, e, Node::Mul(a, b)) {
+                Some(Fact::Nzr(e))
+            } else {
+                None
+            }
+        }
+        _ => None,
+    }
+}
+
+/// From NZR(a), NZR(b): NZR(a / b) (Gappa: `div_nzr`).
+pub fn rule_34(dag: &Dag, premises: &[Fact], target: Slot) -> Option<Fact>
+    ensures concludes { result ≡ nonzero_quotient_rule dag.now premises.now target }
+{
+    let [first, second] = premises else {
+        return None;
+    };
+    match (*first, *second, target) {
+        (Fact::Nzr(a), Fact::Nzr(b), Slot::Nzr(e)) => {
+            if is_at(dag, e, Node::Div(a, b)) {
+                Some(Fact::Nzr(e))
+            } else {
+                None
+            }
+        }
+        _ => None,
+    }
+}
+
+/// From NZR(a): NZR(-a) (Gappa: `neg_nzr`).
+pub fn rule_35(dag: &Dag, premises: &[Fact], target: Slot) -> Option<Fact>
+    ensures concludes { result ≡ nonzero_negation_rule dag.now premises.now target }
+{
+    let [first] = premises else {
+        return None;
+    };
+    match (*first, target) {
+        (Fact::Nzr(a), Slot::Nzr(e)) => {
+            if is_at(dag, e, Node::Neg(a)) {
+                Some(Fact::Nzr(e))
+            } else {
+                None
+            }
+        }
+        _ => None,
+    }
+}
+
+/// From REL(x, y, I), NZR of one of x, y: NZR of the other; VOID where I is `none` (Gappa: `nzr_of_nzr_rel`, `nzr_of_nzr_rel_rev`).
+pub fn rule_36(dag: &Dag, premises: &[Fact], target: Slot) -> Option<Fact>
+    ensures concludes { result ≡ nonzero_side_rule dag.now premises.now target }
+{
+    let [first, second] = premises else {
+        return None;
+    };
+    match (*first, *second, target) {
+        (Fact::Rel(x, y, d), Fact::Nzr(z), Slot::Nzr(e)) => {
+            if are_known(dag, x, y) && are_sides(x, y, z, e) {
+                Some(nonzero_or_void(e, d))
+            } else {
+                None
+            }
+        }
+        (Fact::Rel(x, y, d), Fact::Nzr(z), Slot::Void) => {
+            if are_known(dag, x, y) && (z == x || z == y) {
+                void_of(d)
+            } else {
+                None
+            }
+        }
+        _ => None,
+    }
+}
+
+fn are_known(dag: &Dag, x: ExprId, y: ExprId) -> bool
+    ensures { result ≡ are_known dag.now x y }
+{
+    x.0 < dag.len() && y.0 < dag.len()
+}
+
+// Whether z is one of x and y, and e the other.
+fn are_sides(x: ExprId, y: ExprId, z: ExprId, e: ExprId) -> bool
+    ensures { result ≡ are_sides x y z e }
+{
+    z == x && e == y || z == y && e == x
+}
+
+fn nonzero_or_void(e: ExprId, error: Option<RelativeError>) -> Fact
+    ensures { result ≡ nonzero_or_void e error }
+{
+    match error {
+        Some(_) => Fact::Nzr(e),
+        None => Fact::Void,
+    }
+}
+
+fn void_of(error: Option<RelativeError>) -> Option<Fact>
+    ensures { result ≡ void_of error }
+{
+    match error {
+        Some(_) => None,
+        None => Some(Fact::Void),
+    }
+}

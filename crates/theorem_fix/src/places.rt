@@ -1,0 +1,38 @@
+// Exponents of multiples.
+ghost use Rattle.std.specs.Prelude.{◌≡◌, ◌≤ℤ◌, pos, negsuc};
+ghost use Rattle.theorem_fix.specs.Places.{place_from, kept, sum_place, lesser_place};
+
+use facts::Place;
+
+// The exponent as that of a multiple. None where it is out of range.
+pub fn place(exponent: i16) -> Option<Place>
+    ensures { result ≡ place_from exponent }
+{
+    Place::new(exponent)
+}
+
+// The exponent, or 512 where it is above. None below -1024.
+pub fn keep(exponent: i32) -> Option<Place>
+    requires low { negsuc 2047 ≤ℤ exponent }
+    requires high { exponent ≤ℤ pos 1024 }
+    ensures { result ≡ kept exponent }
+{
+    if 512 < exponent {
+        place(512)
+    } else {
+        place(exponent as i16)
+    }
+}
+
+// Of which power a product of multiples is one.
+pub fn product_place(k: Place, n: Place) -> Option<Place>
+    ensures { result ≡ sum_place k n }
+{
+    keep(k.exponent() as i32 + n.exponent() as i32)
+}
+
+pub fn lesser(k: Place, n: Place) -> Place
+    ensures { result ≡ lesser_place k n }
+{
+    if k.exponent() < n.exponent() { k } else { n }
+}
