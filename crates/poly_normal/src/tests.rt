@@ -105,3 +105,32 @@ fn weights_end_at_2_127_and_atoms_stay_closed(rt: HostRuntime) -> Result<(), Fai
     assert_eq!(rt; same(rt.alloc(), &dag, closed, closed)?, Sameness::Same);
     Ok(())
 }
+
+// The sum of the powers of x below the 256th: (1 + x) (1 + x^2) (1 + x^4) .. (1 + x^128).
+fn sum_of_powers(dag: &mut Dag, one: ExprId, x: ExprId) -> Result<ExprId, DagFault>
+    requires one { one.0 < length dag.old }
+    requires base { x.0 < length dag.old }
+    ensures there { IfOk result (λ y. y.0 < length dag.new) }
+    ensures longer { length dag.old ≤ length dag.new }
+{
+    let mut last = one;
+    for k in 0..8 {
+        let power = squared(dag, x, k)?;
+        let factor = dag.add(Node::Add(one, power))?;
+        last = dag.add(Node::Mul(last, factor))?;
+    }
+    Ok(last)
+}
+
+#[test]
+fn terms_end_at_256(rt: HostRuntime) -> Result<(), Fail> {
+    let mut dag = Dag::new(rt.alloc());
+    let one = dag.add(Node::Lit(read("1")?))?;
+    let x = dag.add(Node::Var(0))?;
+    let all = sum_of_powers(&mut dag, one, x)?;
+    let next = squared(&mut dag, x, 8)?;
+    let past = dag.add(Node::Add(all, next))?;
+    assert_eq!(rt; same(rt.alloc(), &dag, all, all)?, Sameness::Same);
+    assert_eq!(rt; same(rt.alloc(), &dag, past, past)?, Sameness::TooLarge);
+    Ok(())
+}
