@@ -2,3 +2,4 @@ pub mod Hashed
 pub mod Nodes
 pub mod Same
 pub mod Shapes
+pub mod Lifted

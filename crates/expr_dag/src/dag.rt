@@ -4,6 +4,7 @@ ghost use Rattle.std.specs.Prelude.{◌≡◌, ℕ, ◌<◌, ◌≤◌, ◌↔�
 ghost use Rattle.fx_model.specs.declared.Node.{Node};
 ghost use Rattle.fx_model.specs.declared.ExprId.{ExprId};
 ghost use Rattle.fx_model.specs.Expression.{IsOrdered};
+ghost use Rattle.expr_dag.specs.Shapes.{is_at, is_known};
 ghost use Rattle.expr_dag.specs.Nodes.{IsLawful, IsAt, IsAbsent, IsFull, IsPlaced, IsKept, place_of, with_node};
 
 use crate::key::Key;
@@ -109,11 +110,28 @@ impl Dag {
     pub fn get(&self, id: ExprId) -> Option<Node>
         ensures { result ≡ slice_get self.now id.0 }
     {
-        if id.0 < self.len() {
+        if self.knows(id) {
             Some(self.node(id))
         } else {
             None
         }
+    }
+
+    /// Whether the expression with this number is this node.
+    pub fn is_at(&self, id: ExprId, node: Node) -> bool
+        ensures { result ≡ is_at self.now id node }
+    {
+        match self.get(id) {
+            Some(found) => found == node,
+            None => false,
+        }
+    }
+
+    /// Whether an expression has this number.
+    pub fn knows(&self, id: ExprId) -> bool
+        ensures { result ≡ is_known self.now id }
+    {
+        id.0 < self.len()
     }
 
     /// How many nodes there are.

@@ -11,3 +11,4 @@ pub mod Promises
 pub mod SmallNumbers
 pub mod SizesWithin
 pub mod Premises
+pub mod Conclusions

@@ -1,8 +1,9 @@
 -- Premises that are stronger than those of a known shape have that shape.
-use Rattle.std.specs.Prelude.{◌≡◌, List, [], ◌∷◌, Option, Some, refl}
+use Rattle.std.specs.Prelude.{◌≡◌, ◌≤ℤ◌, List, [], ◌∷◌, Option, Some, refl}
 use Rattle.std.proofs.Common.{ap, ◌∙◌}
 use Rattle.fx_model.specs.declared.ExprId.{ExprId}
 use Rattle.interval.specs.declared.interval.Interval.{Interval}
+use Rattle.facts.specs.declared.place.Place.{Place}
 use Rattle.facts.specs.declared.size.Size.{Size}
 use Rattle.facts.specs.declared.fact.Fact.{Fact}
 use Rattle.facts.specs.declared.fact.Fact.TheVariants as fact
@@ -23,6 +24,11 @@ pub strong_abs : (p : Fact) (x : ExprId) (i : Size) → ¬ (p ≡ fact.Void) →
 strong_abs (fact.Abs y j) x i n s = (j, ap (λ z. fact.Abs z j) s.0, s.1)
 strong_abs fact.Void x i n s = absurd (n refl)
 strong_abs _ x i n s = absurd s
+
+pub strong_fix : (p : Fact) (x : ExprId) (k : Place) → ¬ (p ≡ fact.Void) → IsStronger p (fact.Fix x k) → (n : Place) × (p ≡ fact.Fix x n) × (k.exponent ≤ℤ n.exponent)
+strong_fix (fact.Fix y n) x k v s = (n, ap (λ z. fact.Fix z n) s.0, s.1)
+strong_fix fact.Void x k v s = absurd (v refl)
+strong_fix _ x k v s = absurd s
 
 pub strong_nzr : (p : Fact) (x : ExprId) → ¬ (p ≡ fact.Void) → IsStronger p (fact.Nzr x) → p ≡ fact.Nzr x
 strong_nzr (fact.Nzr y) x n s = ap fact.Nzr s
@@ -62,6 +68,10 @@ pub one_abs : (ps : List Fact) (x : ExprId) (i : Size) → EachStronger ps (fact
 one_abs ps x i s = let a = one_premise ps (fact.Abs x i) s in let b = strong_abs a.0 x i a.1.not_void a.1.first in
     (b.0, a.1.is ∙ ap (λ p. p ∷ []) b.1, b.2)
 
+pub one_fix : (ps : List Fact) (x : ExprId) (k : Place) → EachStronger ps (fact.Fix x k ∷ []) → (n : Place) × (ps ≡ fact.Fix x n ∷ []) × (k.exponent ≤ℤ n.exponent)
+one_fix ps x k s = let a = one_premise ps (fact.Fix x k) s in let b = strong_fix a.0 x k a.1.not_void a.1.first in
+    (b.0, a.1.is ∙ ap (λ p. p ∷ []) b.1, b.2)
+
 pub one_nzr : (ps : List Fact) (x : ExprId) → EachStronger ps (fact.Nzr x ∷ []) → ps ≡ fact.Nzr x ∷ []
 one_nzr ps x s = let a = one_premise ps (fact.Nzr x) s in a.1.is ∙ ap (λ p. p ∷ []) (strong_nzr a.0 x a.1.not_void a.1.first)
 
@@ -80,6 +90,14 @@ two_abs ps x i y k s =
     let b = strong_abs a.0 x i a.2.not_void a.2.first in
     let c = one_abs a.1 y k a.2.others in
     (b.0, c.0, a.2.is ∙ ap (λ p. p ∷ a.1) b.1 ∙ ap (λ l. fact.Abs x b.0 ∷ l) c.1, b.2, c.2)
+
+pub two_fix : (ps : List Fact) (x : ExprId) (k : Place) (y : ExprId) (n : Place) → EachStronger ps (fact.Fix x k ∷ fact.Fix y n ∷ []) →
+    (l : Place) × (m : Place) × (ps ≡ fact.Fix x l ∷ fact.Fix y m ∷ []) × (k.exponent ≤ℤ l.exponent) × (n.exponent ≤ℤ m.exponent)
+two_fix ps x k y n s =
+    let a = first_premise ps (fact.Fix x k) (fact.Fix y n ∷ []) s in
+    let b = strong_fix a.0 x k a.2.not_void a.2.first in
+    let c = one_fix a.1 y n a.2.others in
+    (b.0, c.0, a.2.is ∙ ap (λ p. p ∷ a.1) b.1 ∙ ap (λ l. fact.Fix x b.0 ∷ l) c.1, b.2, c.2)
 
 pub bnd_then_abs : (ps : List Fact) (x : ExprId) (i : Interval) (y : ExprId) (k : Size) → EachStronger ps (fact.Bnd x i ∷ fact.Abs y k ∷ []) →
     (j : Interval) × (l : Size) × (ps ≡ fact.Bnd x j ∷ fact.Abs y l ∷ []) × IsWithin j i × IsWithin l.interval k.interval

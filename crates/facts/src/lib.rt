@@ -1,6 +1,7 @@
 //! Facts on expressions: what they say of an assignment, their order and their meet.
 #![tactic(auto)]
 
+mod conclusion;
 mod fact;
 mod hint;
 mod law;

@@ -1,5 +1,5 @@
 -- What a run of the program prints, reads and answers.
-use Rattle.std.specs.Prelude.{◌≡◌, ◌⊎◌, List, ⊤, Bool, false, Option, Some, None}
+use Rattle.std.specs.Prelude.{◌≡◌, ◌⊎◌, ℕ, List, ⊤, Bool, false, Option, Some, None}
 use Rattle.std.specs.Io.KnownBytes.{Appends, Keeps}
 use Rattle.fx_model.specs.Grid.{At}
 use Rattle.fx_model.specs.Enclosure.{Range, IsFinite, Lies}
@@ -22,6 +22,16 @@ Told = Bytes → Option Bytes
 abbrev pub IsTold : Option Bytes → Bytes → Type 0
 IsTold None text = ⊤
 IsTold (Some all) text = text ≡ all
+
+-- the exit status of the program for each way that a run ends
+abbrev pub exit_code : Status → ℕ
+exit_code status.Answered = 0
+exit_code status.Unproved = 1
+exit_code status.Usage = 2
+exit_code status.Script = 3
+exit_code status.ReadFault = 6
+exit_code status.WriteFault = 7
+exit_code status.OutOfMemory = 8
 
 -- ---- the answer to a text
 

@@ -1,7 +1,7 @@
 // The top call.
 ghost use Rattle.std.specs.Prelude.{◌≡◌, ◌≢◌, ◌⊎◌, ℕ, List, false, map, string_bytes, IfOk};
 ghost use Rattle.fx_edge.specs.Outside.{Rose};
-ghost use Rattle.fx_top.specs.Run.{Told, EndsAs, IsBounded, IsOfForm, IsTelling, Prints, PutsLine, is_written};
+ghost use Rattle.fx_top.specs.Run.{Told, EndsAs, IsBounded, IsOfForm, IsTelling, Prints, PutsLine, exit_code, is_written};
 ghost use Rattle.fx_top.specs.Texts.{read_fault_line};
 
 use crate::answer::answer;
@@ -25,7 +25,9 @@ pub enum Status {
 
 impl Status {
     /// The exit status of the program.
-    pub fn code(self) -> u8 {
+    pub fn code(self) -> u8
+        ensures { result ≡ exit_code self }
+    {
         match self {
             Status::Answered => 0,
             Status::Unproved => 1,

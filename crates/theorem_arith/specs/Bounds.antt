@@ -13,7 +13,7 @@ use Rattle.facts.specs.declared.fact.Fact.{Fact}
 use Rattle.facts.specs.declared.fact.Slot.{Slot}
 use Rattle.facts.specs.declared.fact.Fact.TheVariants as fact
 use Rattle.facts.specs.declared.fact.Slot.TheVariants as slot
-use Rattle.theorem_arith.specs.Shapes.{only_if, given_if, bnd_of}
+use Rattle.facts.specs.Conclusions.{bnd_of, given_if, only_if}
 
 -- ---- literals
 -- the best interval of the literal that the expression is

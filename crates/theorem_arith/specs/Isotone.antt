@@ -1,6 +1,6 @@
 -- The rules on bounds: from stronger premises they give a fact as strong, or stronger.
-use Rattle.std.specs.Prelude.{◌≡◌, Bool, true, false, [], ◌∷◌, Option, Some, None, refl}
-use Rattle.std.proofs.Common.{sym, ap, subst}
+use Rattle.std.specs.Prelude.{[], ◌∷◌, refl}
+use Rattle.std.proofs.Common.{sym, subst}
 use Rattle.fx_model.specs.declared.ExprId.{ExprId}
 use Rattle.fx_model.specs.declared.Node.{Node}
 use Rattle.fx_model.specs.declared.Node.TheVariants as node
@@ -8,44 +8,14 @@ use Rattle.interval.specs.declared.interval.Interval.{Interval}
 use Rattle.interval.specs.Results.{negation_of, sum_of, difference_of, product_of, quotient_of}
 use Rattle.interval.specs.Monotone.{negation_of-within, sum_of-within, difference_of-within, product_of-within, quotient_of-within}
 use Rattle.expr_dag.specs.Shapes.{is_at}
-use Rattle.facts.specs.declared.size.Size.{Size}
-use Rattle.facts.specs.declared.fact.Fact.{Fact}
 use Rattle.facts.specs.declared.fact.Fact.TheVariants as fact
 use Rattle.facts.specs.declared.fact.Slot.TheVariants as slot
-use Rattle.facts.specs.Order.{IsWithin, IsStronger}
+use Rattle.facts.specs.Order.{IsWithin}
 use Rattle.facts.specs.Laws.{IsStronger-refl}
 use Rattle.facts.specs.Promises.{IsIsotone}
 use Rattle.facts.specs.Premises.{Gives, no_premises, one_bnd, one_abs, one_nzr, two_bnd, bnd_then_nzr}
-use Rattle.theorem_arith.specs.Shapes.{only_if, given_if, bnd_of, abs_of}
+use Rattle.facts.specs.Conclusions.{bnd_of, improves_bnd, improves_given, improves_only}
 use Rattle.theorem_arith.specs.Bounds.{literal_rule, negation_rule, binary_rule, sum_rule, difference_rule, product_rule, difference_with_itself_rule, square_rule, quotient_rule, quotient_by_nonzero_rule, quotient_by_itself_rule}
-
--- ---- conclusions
--- whatever the first gives, the second gives it or something stronger
-abbrev pub Improves : Option Fact → Option Fact → Type 0
-Improves u v = (c : Fact) → u ≡ Some c → Gives v c
-
--- behind a test that holds where the other does
-pub improves_if : (b d : Bool) (f g : Fact) → (b ≡ true → d ≡ true) → IsStronger g f → Improves (only_if b f) (only_if d g)
-improves_if true true f g t s c e = (g, refl, subst (IsStronger g) (let h : f ≡ c = cc in h) s)
-improves_if true false f g t s c e = let h : false ≡ true = t refl in cc
-improves_if false d f g t s c e = cc
-
-pub improves_only : (b : Bool) (f g : Fact) → IsStronger g f → Improves (only_if b f) (only_if b g)
-improves_only b f g s = improves_if b b f g (λ t. t) s
-
-pub improves_given : (b : Bool) (u v : Option Fact) → Improves u v → Improves (given_if b u) (given_if b v)
-improves_given true u v h c e = h c e
-improves_given false u v h c e = cc
-
-pub improves_bnd : (x : ExprId) (u v : Option Interval) → ((i : Interval) → u ≡ Some i → (j : Interval) × (v ≡ Some j) × IsWithin j i) → Improves (bnd_of x u) (bnd_of x v)
-improves_bnd x None v h c e = cc
-improves_bnd x (Some i) v h c e = let j = h i refl in
-    (fact.Bnd x j.0, ap (bnd_of x) j.1, subst (IsStronger (fact.Bnd x j.0)) (let g : fact.Bnd x i ≡ c = cc in g) (refl, j.2))
-
-pub improves_abs : (x : ExprId) (u v : Option Size) → ((s : Size) → u ≡ Some s → (t : Size) × (v ≡ Some t) × IsWithin t.interval s.interval) → Improves (abs_of x u) (abs_of x v)
-improves_abs x None v h c e = cc
-improves_abs x (Some s) v h c e = let t = h s refl in
-    (fact.Abs x t.0, ap (abs_of x) t.1, subst (IsStronger (fact.Abs x t.0)) (let g : fact.Abs x s ≡ c = cc in g) (refl, t.2))
 
 -- ---- literals
 pub literal_rule-isotone : IsIsotone literal_rule

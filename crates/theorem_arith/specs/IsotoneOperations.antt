@@ -24,9 +24,8 @@ use Rattle.facts.specs.Parts.{size_within}
 use Rattle.facts.specs.SizesWithin.{on_half_line, size_member, size_within-smaller}
 use Rattle.facts.specs.Promises.{IsIsotone}
 use Rattle.facts.specs.Premises.{Gives, one_abs, two_abs}
-use Rattle.theorem_arith.specs.Shapes.{abs_of}
+use Rattle.facts.specs.Conclusions.{abs_of, improves_abs, improves_given, improves_only}
 use Rattle.theorem_arith.specs.Sizes.{size_of_negation_rule, size_of_product_rule, size_within_part, size_of_quotient_rule, least_size, size_of_sum, size_of_sum_rule}
-use Rattle.theorem_arith.specs.Isotone.{improves_only, improves_given, improves_abs}
 use Rattle.theorem_arith.specs.IsotoneSizes.{from_le}
 
 pub size_of_negation_rule-isotone : IsIsotone size_of_negation_rule

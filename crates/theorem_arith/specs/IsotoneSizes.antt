@@ -27,9 +27,9 @@ use Rattle.facts.specs.Parts.{size_within}
 use Rattle.facts.specs.SizesWithin.{size_member, size_within-within, size_within-none, size_within-grows, size_within-smaller}
 use Rattle.facts.specs.Promises.{IsIsotone}
 use Rattle.facts.specs.Premises.{Gives, one_bnd, one_abs, bnd_then_abs}
-use Rattle.theorem_arith.specs.Shapes.{bnd_of, abs_of, is_one}
+use Rattle.facts.specs.Conclusions.{Improves, abs_of, bnd_of, improves_abs, improves_bnd, improves_given, improves_if, improves_only}
+use Rattle.theorem_arith.specs.Shapes.{is_one}
 use Rattle.theorem_arith.specs.Sizes.{size_rule, around, value_rule, is_less, is_above, is_below, signed_fact, sign_rule, absolute_value_rule, abs_or_void, void_if_none, is_absolute_value, size_of_value_rule}
-use Rattle.theorem_arith.specs.Isotone.{Improves, improves_if, improves_only, improves_given, improves_bnd, improves_abs}
 
 -- ---- from values to absolute values and back
 size_of-smaller : (i j : Interval) (s : Size) → IsWithin j i → size_within (size_of i) ≡ Some s → (t : Size) × (size_within (size_of j) ≡ Some t) × IsWithin t.interval s.interval

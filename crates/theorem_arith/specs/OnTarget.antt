@@ -1,6 +1,6 @@
 -- What a rule gives stands on its target, or is VOID.
 use Rattle.std.specs.Prelude.{◌≡◌, ◌⊎◌, Bool, true, false, ◌&&◌, ◌||◌, [], ◌∷◌, Option, Some, None, slice_get, refl}
-use Rattle.std.proofs.Common.{subst, inl, inr}
+use Rattle.std.proofs.Common.{inl, inr}
 use Rattle.fx_model.specs.Fraction.{zero_ℚ, one_ℚ}
 use Rattle.fx_model.specs.Expression.{literal_value}
 use Rattle.fx_model.specs.declared.ExprId.{ExprId}
@@ -10,39 +10,15 @@ use Rattle.interval.specs.declared.interval.Interval.{Interval}
 use Rattle.interval.specs.Results.{negation_of, sum_of, difference_of, product_of, quotient_of, point_of, whole_interval, size_of}
 use Rattle.expr_dag.specs.Shapes.{is_at}
 use Rattle.facts.specs.declared.size.Size.{Size}
-use Rattle.facts.specs.declared.fact.Fact.{Fact}
-use Rattle.facts.specs.declared.fact.Slot.{Slot}
 use Rattle.facts.specs.declared.fact.Fact.TheVariants as fact
 use Rattle.facts.specs.declared.fact.Slot.TheVariants as slot
 use Rattle.facts.specs.Order.{slot_of, is_same}
 use Rattle.facts.specs.Parts.{size_within}
 use Rattle.facts.specs.Promises.{IsOnTarget}
-use Rattle.theorem_arith.specs.Shapes.{only_if, given_if, bnd_of, abs_of, is_one}
+use Rattle.facts.specs.Conclusions.{StandsOn, abs_of, abs_stands, bnd_of, bnd_stands, fact_stands, given_stands, only_stands}
+use Rattle.theorem_arith.specs.Shapes.{is_one}
 use Rattle.theorem_arith.specs.Bounds.{literal_at, literal_rule, negation_rule, binary_rule, sum_rule, difference_rule, product_rule, difference_with_itself_rule, square_rule, quotient_rule, quotient_by_nonzero_rule, quotient_by_itself_rule}
 use Rattle.theorem_arith.specs.Sizes.{size_rule, around, value_rule, is_above, is_below, signed_fact, sign_rule, absolute_value_rule, abs_or_void, void_if_none, is_absolute_value, size_of_value_rule, size_of_negation_rule, size_of_product_rule, size_within_part, size_of_quotient_rule, size_of_sum, size_of_sum_rule}
-
--- what is given, if anything, stands on the target or is VOID
-abbrev pub StandsOn : Slot → Option Fact → Type 0
-StandsOn t o = (f : Fact) → o ≡ Some f → (slot_of f ≡ t) ⊎ (f ≡ fact.Void)
-
-pub fact_stands : (t : Slot) (g : Fact) → (slot_of g ≡ t) ⊎ (g ≡ fact.Void) → StandsOn t (Some g)
-fact_stands t g s f e = subst (λ h. (slot_of h ≡ t) ⊎ (h ≡ fact.Void)) (let d : g ≡ f = cc in d) s
-
-pub only_stands : (t : Slot) (b : Bool) (g : Fact) → (slot_of g ≡ t) ⊎ (g ≡ fact.Void) → StandsOn t (only_if b g)
-only_stands t true g s f e = fact_stands t g s f e
-only_stands t false g s f e = cc
-
-pub given_stands : (t : Slot) (b : Bool) (o : Option Fact) → StandsOn t o → StandsOn t (given_if b o)
-given_stands t true o s f e = s f e
-given_stands t false o s f e = cc
-
-pub bnd_stands : (x : ExprId) (o : Option Interval) → StandsOn (slot.Bnd x) (bnd_of x o)
-bnd_stands x None f e = cc
-bnd_stands x (Some i) f e = fact_stands (slot.Bnd x) (fact.Bnd x i) (inl refl) f e
-
-pub abs_stands : (x : ExprId) (o : Option Size) → StandsOn (slot.Abs x) (abs_of x o)
-abs_stands x None f e = cc
-abs_stands x (Some s) f e = fact_stands (slot.Abs x) (fact.Abs x s) (inl refl) f e
 
 -- ---- rules on bounds
 literal_stands : (n : Option Node) (x : ExprId) → StandsOn (slot.Bnd x) (literal_at n x)

@@ -20,7 +20,8 @@ use Rattle.facts.specs.declared.fact.Fact.TheVariants as fact
 use Rattle.facts.specs.declared.fact.Slot.TheVariants as slot
 use Rattle.facts.specs.Parts.{size_within}
 use Rattle.facts.specs.Order.{is_same}
-use Rattle.theorem_arith.specs.Shapes.{only_if, given_if, bnd_of, abs_of, is_one}
+use Rattle.facts.specs.Conclusions.{abs_of, bnd_of, given_if, only_if}
+use Rattle.theorem_arith.specs.Shapes.{is_one}
 
 -- ---- from values to absolute values and back
 -- 11: from BND(x, I): ABS(x, abs I)   (Gappa: `abs_of_bnd`)

@@ -1,10 +1,10 @@
 -- The rules on bounds are sound: where the premises hold, the conclusion does.
-use Rattle.std.specs.Prelude.{◌≡◌, ◌≢◌, Bool, true, false, List, [], ◌∷◌, Option, Some, None, slice_get, if◌then◌else◌, refl}
+use Rattle.std.specs.Prelude.{◌≡◌, ◌≢◌, List, [], ◌∷◌, Option, Some, None, slice_get, refl}
 use Rattle.std.specs.Option.{IsSomeAnd}
-use Rattle.std.proofs.Common.{sym, ap, subst, ◌∙◌}
-use Rattle.fx_model.specs.Fraction.{Fraction, ◌+ℚ◌, ◌-ℚ◌, ◌*ℚ◌, ◌/ℚ◌, neg_ℚ, inverse_ℚ, zero_ℚ, one_ℚ, is_zero_ℚ, is_zero_out, add-neg, mul-inverse}
+use Rattle.std.proofs.Common.{sym, subst}
+use Rattle.fx_model.specs.Fraction.{Fraction, ◌+ℚ◌, ◌-ℚ◌, ◌*ℚ◌, ◌/ℚ◌, neg_ℚ, zero_ℚ, one_ℚ, add-neg, mul-inverse}
 use Rattle.fx_model.specs.Enclosure.{Lies, Sums, Differences, Negations, in_enclosure, product_holds}
-use Rattle.fx_model.specs.Expression.{Assignment, IsOrdered, value, node_value, lift₁, lift₂, quotient, literal_value}
+use Rattle.fx_model.specs.Expression.{Assignment, IsOrdered, value, node_value, lift₂, quotient, literal_value}
 use Rattle.fx_model.specs.declared.ExprId.{ExprId}
 use Rattle.fx_model.specs.declared.Node.{Node}
 use Rattle.fx_model.specs.declared.Node.TheVariants as node
@@ -13,51 +13,16 @@ use Rattle.interval.specs.declared.interval.Interval.{Interval}
 use Rattle.interval.specs.Intervals.{range_of}
 use Rattle.interval.specs.Literals.{Alone}
 use Rattle.interval.specs.Results.{negation_of, negation_of-is, sum_of, sum_of-is, difference_of, difference_of-is, product_of, product_of-is, quotient_of, quotient_of-is, point_of, point_of-is, whole_interval}
-use Rattle.expr_dag.specs.Shapes.{is_at, is_at_out, node_at-value}
+use Rattle.expr_dag.specs.Shapes.{is_at, node_at-value}
 use Rattle.facts.specs.declared.fact.Fact.{Fact}
-use Rattle.facts.specs.declared.fact.Slot.{Slot}
 use Rattle.facts.specs.declared.fact.Fact.TheVariants as fact
 use Rattle.facts.specs.declared.fact.Slot.TheVariants as slot
 use Rattle.facts.specs.Holds.{Holds}
 use Rattle.facts.specs.CommonParts.{if-some}
 use Rattle.facts.specs.Promises.{IsSound}
-use Rattle.theorem_arith.specs.Shapes.{only_if, given_if, bnd_of}
+use Rattle.facts.specs.Conclusions.{bnd_of, given}
+use Rattle.expr_dag.specs.Lifted.{at_node, lifted_quotient, lifted_twice, lifted₁, lifted₂}
 use Rattle.theorem_arith.specs.Bounds.{literal_at, literal_rule, negation_rule, binary_rule, sum_rule, difference_rule, product_rule, difference_with_itself_rule, quotient_rule, quotient_by_nonzero_rule, quotient_by_itself_rule}
-
--- ---- what is given behind a test
-pub given : {X : Type 0} (b : Bool) (o : Option X) (f : X) → (if b then o else None) ≡ Some f → (b ≡ true) × (o ≡ Some f)
-given true o f e = (refl, e)
-given false o f e = cc
-
--- ---- values of operations
-pub lifted₁ : (f : Fraction → Fraction) (u : Option Fraction) (P Q : Fraction → Type 0) → ((x : Fraction) → P x → Q (f x)) → IsSomeAnd u P → IsSomeAnd (lift₁ f u) Q
-lifted₁ f None P Q h p = p
-lifted₁ f (Some x) P Q h p = h x p
-
-pub lifted₂ : (f : Fraction → Fraction → Fraction) (u v : Option Fraction) (P Q R : Fraction → Type 0) → ((x y : Fraction) → P x → Q y → R (f x y)) → IsSomeAnd u P → IsSomeAnd v Q → IsSomeAnd (lift₂ f u v) R
-lifted₂ f None v P Q R h p q = absurd p
-lifted₂ f (Some x) None P Q R h p q = absurd q
-lifted₂ f (Some x) (Some y) P Q R h p q = h x y p q
-
--- of one value with itself
-pub lifted_twice : (f : Fraction → Fraction → Fraction) (u : Option Fraction) (P R : Fraction → Type 0) → ((x : Fraction) → P x → R (f x x)) → IsSomeAnd u P → IsSomeAnd (lift₂ f u u) R
-lifted_twice f None P R h p = absurd p
-lifted_twice f (Some x) P R h p = h x p
-
--- a quotient by a value other than 0
-pub lifted_quotient : (u v : Option Fraction) (P Q R : Fraction → Type 0) → ((y : Fraction) → Q y → y ≢ zero_ℚ) → ((x y : Fraction) → P x → Q y → R (x /ℚ y)) → IsSomeAnd u P → IsSomeAnd v Q → IsSomeAnd (quotient u v) R
-lifted_quotient u None P Q R n h p q = absurd q
-lifted_quotient None (Some y) P Q R n h p q = absurd p
-lifted_quotient (Some x) (Some y) P Q R n h p q = at_test (is_zero_ℚ y) refl
-  where
-    at_test : (b : Bool) → is_zero_ℚ y ≡ b → IsSomeAnd (if b then None else Some (x /ℚ y)) R
-    at_test true e = absurd (n y q (is_zero_out y e))
-    at_test false e = h x y p q
-
--- the value of an expression that is a node
-module _ (nodes : List Node) (a : Assignment) (o : IsOrdered nodes) where
-  pub at_node : (e : ExprId) (n : Node) (P : Fraction → Type 0) → is_at nodes e n ≡ true → IsSomeAnd (node_value a (value nodes a) n) P → IsSomeAnd (value nodes a e) P
-  at_node e n P t h = subst (λ v. IsSomeAnd v P) (sym (node_at-value nodes a e n o (is_at_out nodes e n t))) h
 
 -- ---- literals
 point_holds : (x : Fraction) → Lies (range_of (point_of x)) x

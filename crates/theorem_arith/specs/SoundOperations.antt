@@ -2,13 +2,13 @@
 use Rattle.std.specs.Prelude.{◌≡◌, ◌≢◌, ◌⊎◌, ◌||◌, Bool, true, false, List, [], ◌∷◌, Option, Some, None, refl}
 use Rattle.std.specs.Option.{IsSomeAnd}
 use Rattle.std.proofs.Common.{sym, ap, subst, ◌∙◌, ⊎_elim, inl, inr}
-use Rattle.fx_model.specs.Fraction.{Fraction, ◌+ℚ◌, ◌-ℚ◌, ◌*ℚ◌, ◌/ℚ◌, ◌≤ℚ◌, neg_ℚ, abs_ℚ, zero_ℚ, abs-from, le_refl}
+use Rattle.fx_model.specs.Fraction.{Fraction, ◌+ℚ◌, ◌-ℚ◌, ◌*ℚ◌, ◌≤ℚ◌, neg_ℚ, abs_ℚ, zero_ℚ, abs-from, le_refl}
 use Rattle.fx_model.specs.Enclosure.{IsFrom, IsUpTo, Lies, Sums, Differences, in_enclosure, product_holds, ordered_by}
-use Rattle.fx_model.specs.Expression.{Assignment, IsOrdered, value, lift₁, lift₂, quotient}
+use Rattle.fx_model.specs.Expression.{Assignment, value, lift₂}
 use Rattle.fx_model.specs.declared.ExprId.{ExprId}
 use Rattle.fx_model.specs.declared.Node.{Node}
 use Rattle.fx_model.specs.declared.Node.TheVariants as node
-use Rattle.grid_words.specs.AbsoluteValues.{abs-not_negative, abs-neg, abs-mul, abs-div, abs-zero, abs-square, abs-add, abs-sub, abs-add_least, abs-sub_least, abs-add_other, abs-sub_other}
+use Rattle.grid_words.specs.AbsoluteValues.{abs-not_negative, abs-neg, abs-mul, abs-div, abs-square, abs-add, abs-sub, abs-add_least, abs-sub_least, abs-add_other, abs-sub_other}
 use Rattle.grid_words.specs.Products.{quotient_holds}
 use Rattle.dyadic.specs.declared.number.End.{End}
 use Rattle.dyadic.specs.Ends.{bound_of}
@@ -21,7 +21,6 @@ use Rattle.interval.specs.Results.{sum_of, sum_of-is, difference_of, difference_
 use Rattle.expr_dag.specs.Shapes.{is_at, is_at_out, node_at-value}
 use Rattle.facts.specs.declared.size.Size.{Size}
 use Rattle.facts.specs.declared.fact.Fact.{Fact}
-use Rattle.facts.specs.declared.fact.Slot.{Slot}
 use Rattle.facts.specs.declared.fact.Fact.TheVariants as fact
 use Rattle.facts.specs.declared.fact.Slot.TheVariants as slot
 use Rattle.facts.specs.Parts.{size_within}
@@ -29,10 +28,10 @@ use Rattle.facts.specs.Within.{on_half_line}
 use Rattle.facts.specs.Holds.{Holds}
 use Rattle.facts.specs.CommonParts.{if-some}
 use Rattle.facts.specs.Promises.{IsSound}
-use Rattle.theorem_arith.specs.Shapes.{only_if, given_if, abs_of}
+use Rattle.facts.specs.Conclusions.{abs_of, given}
+use Rattle.expr_dag.specs.Lifted.{at_node, lifted_quotient, lifted_twice, lifted₁, lifted₂}
 use Rattle.theorem_arith.specs.Bounds.{square_rule}
 use Rattle.theorem_arith.specs.Sizes.{size_of_negation_rule, size_of_product_rule, size_within_part, size_of_quotient_rule, least_size, size_of_sum, size_of_sum_rule}
-use Rattle.theorem_arith.specs.Sound.{given, lifted₁, lifted₂, lifted_twice, lifted_quotient, at_node}
 use Rattle.theorem_arith.specs.SoundSizes.{abs_given, from_up, to_down}
 
 -- the absolute value lies in the interval

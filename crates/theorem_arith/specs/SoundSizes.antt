@@ -1,41 +1,38 @@
 -- The rules on absolute values are sound: where the premises hold, the conclusion does.
-use Rattle.std.specs.Prelude.{◌≡◌, ◌≢◌, ◌⊎◌, ◌&&◌, ◌||◌, Bool, true, false, List, [], ◌∷◌, Option, Some, None, slice_get, if◌then◌else◌, refl}
+use Rattle.std.specs.Prelude.{◌≡◌, ◌⊎◌, ◌&&◌, Bool, true, false, List, [], ◌∷◌, Option, Some, None, slice_get, if◌then◌else◌, refl}
 use Rattle.std.specs.Option.{IsSomeAnd}
 use Rattle.std.proofs.Common.{sym, ap, subst, ◌∙◌, inl, inr, ⊎_elim}
-use Rattle.fx_model.specs.Fraction.{Fraction, ◌+ℚ◌, ◌-ℚ◌, ◌*ℚ◌, ◌/ℚ◌, ◌≤ℚ◌, ◌<ℚ◌, neg_ℚ, abs_ℚ, zero_ℚ, le_trans, le_refl, lt_not, neg-le, neg-neg, add-le-add}
+use Rattle.fx_model.specs.Fraction.{Fraction, ◌≤ℚ◌, neg_ℚ, abs_ℚ, le_trans, neg-le, neg-neg}
 use Rattle.fx_model.specs.Grid.{Bound, Below, At, Above, neg_bound}
-use Rattle.fx_model.specs.Enclosure.{Range, IsFrom, IsUpTo, Lies, BoundLe, Sizes, Negations, Sums, Differences, in_enclosure, product_holds, ordered_by}
-use Rattle.fx_model.specs.Expression.{Assignment, IsOrdered, value, lift₁, lift₂, quotient}
+use Rattle.fx_model.specs.Enclosure.{IsFrom, IsUpTo, Lies, BoundLe, Sizes, Negations, in_enclosure}
+use Rattle.fx_model.specs.Expression.{Assignment, IsOrdered, value, lift₁}
 use Rattle.fx_model.specs.declared.ExprId.{ExprId}
 use Rattle.fx_model.specs.declared.Node.{Node}
 use Rattle.fx_model.specs.declared.Node.TheVariants as node
-use Rattle.grid_words.specs.AbsoluteValues.{IsUpSide, IsDownSide, sides, abs-not_negative, abs-neg, le_abs, neg_abs_le, abs-mul, abs-div, abs-zero, abs-add, abs-sub, abs-add_least, abs-sub_least, abs-add_other, abs-sub_other}
-use Rattle.grid_words.specs.Products.{quotient_holds}
-use Rattle.dyadic.specs.declared.number.End.{End}
+use Rattle.grid_words.specs.AbsoluteValues.{sides, abs-not_negative, le_abs, neg_abs_le}
 use Rattle.dyadic.specs.Ends.{bound_of}
 use Rattle.dyadic.specs.Order.{le_bound}
 use Rattle.dyadic.specs.Compared.{BoundLe_out}
-use Rattle.dyadic.specs.Extremes.{greater_end, chosen}
 use Rattle.interval.specs.declared.interval.Interval.{Interval}
 use Rattle.interval.specs.Intervals.{range_of}
-use Rattle.interval.specs.Meets.{interval_from, interval_from_out, interval_from-some}
-use Rattle.interval.specs.Results.{negation_of, negation_of-is, sum_of, sum_of-is, difference_of, difference_of-is, product_of, product_of-is, quotient_of, quotient_of-is, size_of, size_of-is, half_line}
+use Rattle.interval.specs.Meets.{interval_from_out}
+use Rattle.interval.specs.Results.{negation_of, negation_of-is, size_of, size_of-is}
 use Rattle.expr_dag.specs.Shapes.{is_at, is_at_out, node_at-value}
 use Rattle.facts.specs.declared.size.Size.{Size}
 use Rattle.facts.specs.declared.fact.Fact.{Fact}
-use Rattle.facts.specs.declared.fact.Slot.{Slot}
 use Rattle.facts.specs.declared.fact.Fact.TheVariants as fact
 use Rattle.facts.specs.declared.fact.Slot.TheVariants as slot
 use Rattle.facts.specs.Parts.{size_within}
-use Rattle.facts.specs.Within.{size_within_holds, on_half_line}
+use Rattle.facts.specs.Within.{size_within_holds}
 use Rattle.facts.specs.Holds.{Holds}
 use Rattle.facts.specs.Order.{is_same}
 use Rattle.facts.specs.CommonParts.{if-some, and_both, expr_same}
 use Rattle.facts.specs.Held.{some-and}
 use Rattle.facts.specs.Promises.{IsSound}
-use Rattle.theorem_arith.specs.Shapes.{only_if, given_if, bnd_of, abs_of, is_one}
-use Rattle.theorem_arith.specs.Sizes.{size_rule, around, value_rule, is_less, is_above, is_below, signed_fact, sign_rule, absolute_value_rule, abs_or_void, void_if_none, is_absolute_value, size_of_value_rule, size_of_negation_rule, size_of_product_rule, size_within_part, size_of_quotient_rule, least_size, size_of_sum, size_of_sum_rule}
-use Rattle.theorem_arith.specs.Sound.{given, lifted₁, lifted₂, lifted_quotient, at_node}
+use Rattle.facts.specs.Conclusions.{abs_of, bnd_of, given}
+use Rattle.expr_dag.specs.Lifted.{at_node, lifted₁}
+use Rattle.theorem_arith.specs.Shapes.{is_one}
+use Rattle.theorem_arith.specs.Sizes.{size_rule, around, value_rule, is_less, is_above, is_below, signed_fact, sign_rule, absolute_value_rule, abs_or_void, void_if_none, is_absolute_value, size_of_value_rule}
 
 -- both are one expression
 one_same : (nodes : List Node) (x y : ExprId) → is_one nodes x y ≡ true → x ≡ y

@@ -5,7 +5,6 @@ ghost use Rattle.std.specs.Prelude.{slice_get};
 ghost use Rattle.fx_model.specs.Fraction.{zero_ℚ};
 ghost use Rattle.interval.specs.Results.{point_of};
 
-use crate::shape::is_at;
 use dyadic::Dyadic;
 use expr_dag::{Dag, ExprId, Node};
 use facts::{Fact, Slot};
@@ -40,7 +39,7 @@ pub fn rule_2(dag: &Dag, premises: &[Fact], target: Slot) -> Option<Fact>
     };
     match (*first, target) {
         (Fact::Bnd(a, i), Slot::Bnd(e)) => {
-            if is_at(dag, e, Node::Neg(a)) {
+            if dag.is_at(e, Node::Neg(a)) {
                 Some(Fact::Bnd(e, i.neg()))
             } else {
                 None
@@ -59,7 +58,7 @@ pub fn rule_3(dag: &Dag, premises: &[Fact], target: Slot) -> Option<Fact>
     };
     match (*first, *second, target) {
         (Fact::Bnd(a, i), Fact::Bnd(b, j), Slot::Bnd(e)) => {
-            if is_at(dag, e, Node::Add(a, b)) {
+            if dag.is_at(e, Node::Add(a, b)) {
                 Some(Fact::Bnd(e, i.add(j)))
             } else {
                 None
@@ -78,7 +77,7 @@ pub fn rule_4(dag: &Dag, premises: &[Fact], target: Slot) -> Option<Fact>
     };
     match (*first, *second, target) {
         (Fact::Bnd(a, i), Fact::Bnd(b, j), Slot::Bnd(e)) => {
-            if is_at(dag, e, Node::Sub(a, b)) {
+            if dag.is_at(e, Node::Sub(a, b)) {
                 Some(Fact::Bnd(e, i.sub(j)))
             } else {
                 None
@@ -97,7 +96,7 @@ pub fn rule_5(dag: &Dag, premises: &[Fact], target: Slot) -> Option<Fact>
     };
     match (*first, target) {
         (Fact::Bnd(x, _), Slot::Bnd(e)) => {
-            if is_at(dag, e, Node::Sub(x, x)) {
+            if dag.is_at(e, Node::Sub(x, x)) {
                 Some(Fact::Bnd(e, zero()))
             } else {
                 None
@@ -116,7 +115,7 @@ pub fn rule_6(dag: &Dag, premises: &[Fact], target: Slot) -> Option<Fact>
     };
     match (*first, *second, target) {
         (Fact::Bnd(a, i), Fact::Bnd(b, j), Slot::Bnd(e)) => {
-            if is_at(dag, e, Node::Mul(a, b)) {
+            if dag.is_at(e, Node::Mul(a, b)) {
                 Some(Fact::Bnd(e, i.mul(j)))
             } else {
                 None
@@ -135,7 +134,7 @@ pub fn rule_7(dag: &Dag, premises: &[Fact], target: Slot) -> Option<Fact>
     };
     match (*first, target) {
         (Fact::Abs(x, s), Slot::Bnd(e)) => {
-            if is_at(dag, e, Node::Mul(x, x)) {
+            if dag.is_at(e, Node::Mul(x, x)) {
                 Some(Fact::Bnd(e, s.interval().mul(s.interval())))
             } else {
                 None

@@ -4,7 +4,6 @@
 mod bounds;
 mod laws;
 mod quotients;
-mod shape;
 mod sizes;
 #[cfg(test)]
 mod tests;

@@ -4,7 +4,6 @@ ghost use Rattle.fx_model.specs.Fraction.{one_ℚ};
 ghost use Rattle.interval.specs.Results.{point_of};
 ghost use Rattle.theorem_arith.specs.Bounds.{quotient_rule, quotient_by_nonzero_rule, quotient_by_itself_rule};
 
-use crate::shape::{bnd, is_at};
 use dyadic::Dyadic;
 use expr_dag::{Dag, Node};
 use facts::{Fact, Slot};
@@ -19,8 +18,8 @@ pub fn rule_8(dag: &Dag, premises: &[Fact], target: Slot) -> Option<Fact>
     };
     match (*first, *second, target) {
         (Fact::Bnd(a, i), Fact::Bnd(b, j), Slot::Bnd(e)) => {
-            if is_at(dag, e, Node::Div(a, b)) {
-                bnd(e, i.div(j))
+            if dag.is_at(e, Node::Div(a, b)) {
+                Fact::bnd(e, i.div(j))
             } else {
                 None
             }
@@ -38,7 +37,7 @@ pub fn rule_9(dag: &Dag, premises: &[Fact], target: Slot) -> Option<Fact>
     };
     match (*first, *second, target) {
         (Fact::Bnd(a, _), Fact::Nzr(b), Slot::Bnd(e)) => {
-            if is_at(dag, e, Node::Div(a, b)) {
+            if dag.is_at(e, Node::Div(a, b)) {
                 Some(Fact::Bnd(e, Interval::whole()))
             } else {
                 None
@@ -57,7 +56,7 @@ pub fn rule_10(dag: &Dag, premises: &[Fact], target: Slot) -> Option<Fact>
     };
     match (*first, target) {
         (Fact::Nzr(x), Slot::Bnd(e)) => {
-            if is_at(dag, e, Node::Div(x, x)) {
+            if dag.is_at(e, Node::Div(x, x)) {
                 Some(Fact::Bnd(e, one()))
             } else {
                 None

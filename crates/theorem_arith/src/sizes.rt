@@ -2,7 +2,6 @@
 ghost use Rattle.std.specs.Prelude.{◌≡◌};
 ghost use Rattle.theorem_arith.specs.Sizes.{size_of_negation_rule, size_of_product_rule, size_within_part, size_of_quotient_rule, least_size, size_of_sum, size_of_sum_rule};
 
-use crate::shape::{abs, is_at};
 use dyadic::{End, greater};
 use expr_dag::{Dag, Node};
 use facts::{Fact, Size, Slot};
@@ -17,7 +16,7 @@ pub fn rule_16(dag: &Dag, premises: &[Fact], target: Slot) -> Option<Fact>
     };
     match (*first, target) {
         (Fact::Abs(a, s), Slot::Abs(e)) => {
-            if is_at(dag, e, Node::Neg(a)) {
+            if dag.is_at(e, Node::Neg(a)) {
                 Some(Fact::Abs(e, s))
             } else {
                 None
@@ -36,8 +35,8 @@ pub fn rule_17(dag: &Dag, premises: &[Fact], target: Slot) -> Option<Fact>
     };
     match (*first, *second, target) {
         (Fact::Abs(a, s), Fact::Abs(b, t), Slot::Abs(e)) => {
-            if is_at(dag, e, Node::Mul(a, b)) {
-                abs(e, Size::within(s.interval().mul(t.interval())))
+            if dag.is_at(e, Node::Mul(a, b)) {
+                Fact::abs(e, Size::within(s.interval().mul(t.interval())))
             } else {
                 None
             }
@@ -55,8 +54,8 @@ pub fn rule_18(dag: &Dag, premises: &[Fact], target: Slot) -> Option<Fact>
     };
     match (*first, *second, target) {
         (Fact::Abs(a, s), Fact::Abs(b, t), Slot::Abs(e)) => {
-            if is_at(dag, e, Node::Div(a, b)) {
-                abs(e, size_of_part(s.interval().div(t.interval())))
+            if dag.is_at(e, Node::Div(a, b)) {
+                Fact::abs(e, size_of_part(s.interval().div(t.interval())))
             } else {
                 None
             }
@@ -74,8 +73,8 @@ pub fn rule_19(dag: &Dag, premises: &[Fact], target: Slot) -> Option<Fact>
     };
     match (*first, *second, target) {
         (Fact::Abs(a, s), Fact::Abs(b, t), Slot::Abs(e)) => {
-            if is_at(dag, e, Node::Add(a, b)) || is_at(dag, e, Node::Sub(a, b)) {
-                abs(e, sum_of_sizes(s.interval(), t.interval()))
+            if dag.is_at(e, Node::Add(a, b)) || dag.is_at(e, Node::Sub(a, b)) {
+                Fact::abs(e, sum_of_sizes(s.interval(), t.interval()))
             } else {
                 None
             }

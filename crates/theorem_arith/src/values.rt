@@ -5,7 +5,6 @@ ghost use Rattle.dyadic.specs.Ends.{bound_of};
 ghost use Rattle.fx_model.specs.Grid.{neg_bound};
 ghost use Rattle.theorem_arith.specs.Sizes.{size_rule, around, value_rule, is_less, is_above, is_below, signed_fact, sign_rule, absolute_value_rule, abs_or_void, void_if_none, is_absolute_value, size_of_value_rule};
 
-use crate::shape::{abs, bnd, is_at, is_one};
 use dyadic::End;
 use expr_dag::{Dag, ExprId, Node};
 use facts::{Fact, Size, Slot};
@@ -20,8 +19,8 @@ pub fn rule_11(dag: &Dag, premises: &[Fact], target: Slot) -> Option<Fact>
     };
     match (*first, target) {
         (Fact::Bnd(x, i), Slot::Abs(e)) => {
-            if is_one(dag, x, e) {
-                abs(e, Size::within(i.abs()))
+            if x == e && dag.knows(x) {
+                Fact::abs(e, Size::within(i.abs()))
             } else {
                 None
             }
@@ -39,8 +38,8 @@ pub fn rule_12(dag: &Dag, premises: &[Fact], target: Slot) -> Option<Fact>
     };
     match (*first, target) {
         (Fact::Abs(x, s), Slot::Bnd(e)) => {
-            if is_one(dag, x, e) {
-                bnd(e, both_signs(s))
+            if x == e && dag.knows(x) {
+                Fact::bnd(e, both_signs(s))
             } else {
                 None
             }
@@ -66,14 +65,14 @@ pub fn rule_13(dag: &Dag, premises: &[Fact], target: Slot) -> Option<Fact>
     };
     match (*first, *second, target) {
         (Fact::Bnd(x, i), Fact::Abs(y, s), Slot::Bnd(e)) => {
-            if is_one(dag, x, y) && x == e {
+            if x == y && dag.knows(x) && x == e {
                 with_sign(e, s, exceeds(i, s), falls_short(i, s))
             } else {
                 None
             }
         }
         (Fact::Bnd(x, i), Fact::Abs(y, s), Slot::Void) => {
-            if is_one(dag, x, y) && exceeds(i, s) && falls_short(i, s) {
+            if x == y && dag.knows(x) && exceeds(i, s) && falls_short(i, s) {
                 Some(Fact::Void)
             } else {
                 None
@@ -135,7 +134,7 @@ pub fn rule_14(dag: &Dag, premises: &[Fact], target: Slot) -> Option<Fact>
     };
     match (*first, target) {
         (Fact::Abs(x, s), Slot::Bnd(e)) => {
-            if is_at(dag, e, Node::Abs(x)) {
+            if dag.is_at(e, Node::Abs(x)) {
                 Some(Fact::Bnd(e, s.interval()))
             } else {
                 None
@@ -154,7 +153,7 @@ pub fn rule_15(dag: &Dag, premises: &[Fact], target: Slot) -> Option<Fact>
     };
     match (*first, target) {
         (Fact::Bnd(y, i), Slot::Abs(e)) => {
-            if is_at(dag, y, Node::Abs(e)) {
+            if dag.is_at(y, Node::Abs(e)) {
                 Some(size_or_void(e, Size::within(i)))
             } else {
                 None

@@ -27,37 +27,13 @@ use Rattle.facts.specs.declared.fact.Slot.TheVariants as slot
 use Rattle.facts.specs.Order.{IsStronger}
 use Rattle.facts.specs.Laws.{IsStronger-refl}
 use Rattle.facts.specs.Promises.{EachStronger, IsIsotone}
-use Rattle.facts.specs.Premises.{Gives, first_premise, one_premise, one_bnd}
+use Rattle.facts.specs.Premises.{Gives, first_premise, one_premise, one_bnd, one_fix, two_fix}
 use Rattle.rounding.specs.Places.{less, not_less}
-use Rattle.theorem_arith.specs.Shapes.{only_if, given_if, is_one}
-use Rattle.theorem_arith.specs.Isotone.{Improves, improves_if, improves_only, improves_given}
+use Rattle.facts.specs.Conclusions.{Improves, fix_of, given_if, improves_fix, improves_given, improves_if, improves_only, only_if}
+use Rattle.theorem_arith.specs.Shapes.{is_one}
 use Rattle.theorem_fix.specs.Places.{place_from, place_from-some, place_from_out, kept, sum_place, lesser_place}
-use Rattle.theorem_fix.specs.Shapes.{fix_of, rounding_at}
+use Rattle.theorem_fix.specs.Shapes.{rounding_at}
 use Rattle.theorem_fix.specs.Multiples.{multiple_of_negation_rule, multiple_of_sum_rule, multiple_of_product_rule, last_place, rounded_multiple_rule, untouched, untouched_multiple_rule, number_place, point_place, number_multiple_rule}
-
--- ---- stronger premises
-strong_fix : (p : Fact) (x : ExprId) (k : Place) → ¬ (p ≡ fact.Void) → IsStronger p (fact.Fix x k) → (n : Place) × (p ≡ fact.Fix x n) × (k.exponent ≤ℤ n.exponent)
-strong_fix (fact.Fix y n) x k v s = (n, ap (λ z. fact.Fix z n) s.0, s.1)
-strong_fix fact.Void x k v s = absurd (v refl)
-strong_fix _ x k v s = absurd s
-
-one_fix : (ps : List Fact) (x : ExprId) (k : Place) → EachStronger ps (fact.Fix x k ∷ []) → (n : Place) × (ps ≡ fact.Fix x n ∷ []) × (k.exponent ≤ℤ n.exponent)
-one_fix ps x k s = let a = one_premise ps (fact.Fix x k) s in let b = strong_fix a.0 x k a.1.not_void a.1.first in
-    (b.0, a.1.is ∙ ap (λ p. p ∷ []) b.1, b.2)
-
-two_fix : (ps : List Fact) (x : ExprId) (k : Place) (y : ExprId) (n : Place) → EachStronger ps (fact.Fix x k ∷ fact.Fix y n ∷ []) →
-    (l : Place) × (m : Place) × (ps ≡ fact.Fix x l ∷ fact.Fix y m ∷ []) × (k.exponent ≤ℤ l.exponent) × (n.exponent ≤ℤ m.exponent)
-two_fix ps x k y n s =
-    let a = first_premise ps (fact.Fix x k) (fact.Fix y n ∷ []) s in
-    let b = strong_fix a.0 x k a.2.not_void a.2.first in
-    let c = one_fix a.1 y n a.2.others in
-    (b.0, c.0, a.2.is ∙ ap (λ p. p ∷ a.1) b.1 ∙ ap (λ l. fact.Fix x b.0 ∷ l) c.1, b.2, c.2)
-
--- ---- conclusions
-improves_fix : (x : ExprId) (u v : Option Place) → ((k : Place) → u ≡ Some k → (n : Place) × (v ≡ Some n) × (k.exponent ≤ℤ n.exponent)) → Improves (fix_of x u) (fix_of x v)
-improves_fix x None v h c e = cc
-improves_fix x (Some k) v h c e = let n = h k refl in
-    (fact.Fix x n.0, ap (fix_of x) n.1, subst (IsStronger (fact.Fix x n.0)) (let g : fact.Fix x k ≡ c = cc in g) (refl, n.2))
 
 lesser-rises : (k n l m : Place) → k.exponent ≤ℤ l.exponent → n.exponent ≤ℤ m.exponent → (lesser_place k n).exponent ≤ℤ (lesser_place l m).exponent
 lesser-rises k n l m p q = by_test (int_lt k.exponent n.exponent) (int_lt l.exponent m.exponent) refl refl

@@ -18,9 +18,10 @@ use Rattle.facts.specs.declared.fact.Fact.{Fact}
 use Rattle.facts.specs.declared.fact.Slot.{Slot}
 use Rattle.facts.specs.declared.fact.Fact.TheVariants as fact
 use Rattle.facts.specs.declared.fact.Slot.TheVariants as slot
-use Rattle.theorem_arith.specs.Shapes.{only_if, given_if, is_one}
+use Rattle.facts.specs.Conclusions.{fix_of, given_if, only_if}
+use Rattle.theorem_arith.specs.Shapes.{is_one}
 use Rattle.theorem_fix.specs.Places.{place_from, kept, sum_place, lesser_place}
-use Rattle.theorem_fix.specs.Shapes.{fix_of, rounding_at}
+use Rattle.theorem_fix.specs.Shapes.{rounding_at}
 
 -- 22: from FIX(a, k): FIX(-a, k)   (Gappa: `neg_fix`)
 abbrev pub multiple_of_negation_rule : List Node → List Fact → Slot → Option Fact

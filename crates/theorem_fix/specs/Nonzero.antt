@@ -17,7 +17,8 @@ use Rattle.facts.specs.declared.fact.Fact.TheVariants as fact
 use Rattle.facts.specs.declared.fact.Slot.TheVariants as slot
 use Rattle.facts.specs.Order.{is_same}
 use Rattle.facts.specs.Ranges.{is_below}
-use Rattle.theorem_arith.specs.Shapes.{only_if, given_if, is_one}
+use Rattle.facts.specs.Conclusions.{given_if, only_if}
+use Rattle.theorem_arith.specs.Shapes.{is_one}
 
 -- 31: from BND(x, I), where 0 isn't in I: NZR(x)   (Gappa: `nzr_of_bnd`)
 abbrev pub nonzero_bound_rule : List Node → List Fact → Slot → Option Fact

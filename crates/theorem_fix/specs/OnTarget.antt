@@ -15,17 +15,14 @@ use Rattle.facts.specs.declared.fact.Slot.TheVariants as slot
 use Rattle.facts.specs.Order.{slot_of, is_same}
 use Rattle.facts.specs.Ranges.{is_below}
 use Rattle.facts.specs.Promises.{IsOnTarget}
+use Rattle.facts.specs.Conclusions.{StandsOn, fact_stands, fix_of, fix_stands, given_stands, only_stands}
 use Rattle.theorem_arith.specs.Shapes.{is_one}
-use Rattle.theorem_arith.specs.OnTarget.{StandsOn, fact_stands, only_stands, given_stands}
 use Rattle.theorem_fix.specs.Places.{lesser_place, sum_place}
-use Rattle.theorem_fix.specs.Shapes.{fix_of, rounding_at}
+use Rattle.theorem_fix.specs.Shapes.{rounding_at}
 use Rattle.theorem_fix.specs.Multiples.{multiple_of_negation_rule, multiple_of_sum_rule, multiple_of_product_rule, last_place, rounded_multiple_rule, untouched, untouched_multiple_rule, point_place, number_multiple_rule}
 use Rattle.theorem_fix.specs.Nonzero.{nonzero_bound_rule, nonzero_size_rule, nonzero_binary_rule, nonzero_product_rule, nonzero_quotient_rule, nonzero_negation_rule, are_known, are_sides, nonzero_or_void, void_of, nonzero_side_rule}
 
 -- ---- multiples
-fix_stands : (x : ExprId) (o : Option Place) → StandsOn (slot.Fix x) (fix_of x o)
-fix_stands x None f e = cc
-fix_stands x (Some k) f e = fact_stands (slot.Fix x) (fact.Fix x k) (inl refl) f e
 
 pub multiple_of_negation_rule-target : IsOnTarget multiple_of_negation_rule
 multiple_of_negation_rule-target nodes (fact.Fix x k ∷ []) (slot.Fix e) f q = only_stands (slot.Fix e) (is_at nodes e (node.Neg x)) (fact.Fix e k) (inl refl) f q

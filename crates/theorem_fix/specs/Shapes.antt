@@ -9,11 +9,6 @@ use Rattle.facts.specs.declared.fact.Fact.{Fact}
 use Rattle.facts.specs.declared.fact.Fact.TheVariants as fact
 use Rattle.facts.specs.Order.{is_same}
 
--- a FIX fact, where there is a place
-abbrev pub fix_of : ExprId → Option Place → Option Fact
-fix_of x None = None
-fix_of x (Some k) = Some (fact.Fix x k)
-
 -- the rounding, where the node is one of x
 abbrev pub rounding_of : Option Node → ExprId → Option Rounding
 rounding_of (Some (node.Round r y)) x = if is_same y x then Some r else None

@@ -39,10 +39,11 @@ use Rattle.facts.specs.Promises.{IsSound}
 use Rattle.rounding.specs.Sums.{add-mul}
 use Rattle.rounding.specs.Rounded.{rounded_multiple, rounded-finer}
 use Rattle.rounding.specs.Places.{less, not_less}
-use Rattle.theorem_arith.specs.Shapes.{only_if, given_if, is_one}
-use Rattle.theorem_arith.specs.Sound.{given, lifted₁, lifted₂, at_node}
+use Rattle.facts.specs.Conclusions.{fix_of, given, given_if, only_if}
+use Rattle.expr_dag.specs.Lifted.{at_node, lifted₁, lifted₂}
+use Rattle.theorem_arith.specs.Shapes.{is_one}
 use Rattle.theorem_fix.specs.Places.{place_from, place_from_out, kept, sum_place, lesser_place}
-use Rattle.theorem_fix.specs.Shapes.{fix_of, rounding_of, rounding_at}
+use Rattle.theorem_fix.specs.Shapes.{rounding_of, rounding_at}
 use Rattle.theorem_fix.specs.Multiples.{multiple_of_negation_rule, multiple_of_sum_rule, multiple_of_product_rule, last_place, rounded_multiple_rule, untouched, untouched_multiple_rule, is_zero, number_place, point_place, number_multiple_rule}
 
 -- ---- multiples

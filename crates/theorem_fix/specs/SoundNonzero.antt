@@ -25,8 +25,9 @@ use Rattle.facts.specs.Held.{some-and}
 use Rattle.facts.specs.Order.{is_same}
 use Rattle.facts.specs.Ranges.{IsBelow, is_below, is_below_in}
 use Rattle.facts.specs.Promises.{IsSound}
-use Rattle.theorem_arith.specs.Shapes.{only_if, given_if, is_one}
-use Rattle.theorem_arith.specs.Sound.{given, lifted₁, lifted₂, lifted_quotient, at_node}
+use Rattle.facts.specs.Conclusions.{given, given_if, only_if}
+use Rattle.expr_dag.specs.Lifted.{at_node, lifted_quotient, lifted₁, lifted₂}
+use Rattle.theorem_arith.specs.Shapes.{is_one}
 use Rattle.theorem_fix.specs.SoundMultiples.{one_same, or_out}
 use Rattle.theorem_fix.specs.Nonzero.{nonzero_bound_rule, nonzero_size_rule, nonzero_binary_rule, nonzero_product_rule, nonzero_quotient_rule, nonzero_negation_rule, are_known, are_sides, nonzero_or_void, void_of, nonzero_side_rule}
 

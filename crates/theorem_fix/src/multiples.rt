@@ -3,7 +3,7 @@ ghost use Rattle.std.specs.Prelude.{◌≡◌};
 ghost use Rattle.theorem_fix.specs.Multiples.{multiple_of_negation_rule, multiple_of_sum_rule, multiple_of_product_rule, last_place, rounded_multiple_rule, untouched, untouched_multiple_rule, number_place, point_place, number_multiple_rule};
 
 use crate::places::{keep, lesser, place, product_place};
-use crate::shape::{fix, is_at, is_one, rounding};
+use crate::shape::rounding;
 use dyadic::{Dyadic, End};
 use expr_dag::{Dag, Node, Rounding};
 use facts::{Fact, Place, Slot};
@@ -17,7 +17,7 @@ pub fn rule_22(dag: &Dag, premises: &[Fact], target: Slot) -> Option<Fact>
     };
     match (*first, target) {
         (Fact::Fix(a, k), Slot::Fix(e)) => {
-            if is_at(dag, e, Node::Neg(a)) {
+            if dag.is_at(e, Node::Neg(a)) {
                 Some(Fact::Fix(e, k))
             } else {
                 None
@@ -36,7 +36,7 @@ pub fn rule_23(dag: &Dag, premises: &[Fact], target: Slot) -> Option<Fact>
     };
     match (*first, *second, target) {
         (Fact::Fix(a, k), Fact::Fix(b, n), Slot::Fix(e)) => {
-            if is_at(dag, e, Node::Add(a, b)) || is_at(dag, e, Node::Sub(a, b)) {
+            if dag.is_at(e, Node::Add(a, b)) || dag.is_at(e, Node::Sub(a, b)) {
                 Some(Fact::Fix(e, lesser(k, n)))
             } else {
                 None
@@ -55,8 +55,8 @@ pub fn rule_24(dag: &Dag, premises: &[Fact], target: Slot) -> Option<Fact>
     };
     match (*first, *second, target) {
         (Fact::Fix(a, k), Fact::Fix(b, n), Slot::Fix(e)) => {
-            if is_at(dag, e, Node::Mul(a, b)) {
-                fix(e, product_place(k, n))
+            if dag.is_at(e, Node::Mul(a, b)) {
+                Fact::fix(e, product_place(k, n))
             } else {
                 None
             }
@@ -73,7 +73,7 @@ pub fn rule_25(dag: &Dag, premises: &[Fact], target: Slot) -> Option<Fact>
         return None;
     };
     match (*first, target) {
-        (Fact::Bnd(x, _), Slot::Fix(e)) => { fix(e, lsb(rounding(dag, e, x))) }
+        (Fact::Bnd(x, _), Slot::Fix(e)) => { Fact::fix(e, lsb(rounding(dag, e, x))) }
         _ => None,
     }
 }
@@ -95,7 +95,7 @@ pub fn rule_26(dag: &Dag, premises: &[Fact], target: Slot) -> Option<Fact>
         return None;
     };
     match (*first, target) {
-        (Fact::Fix(x, k), Slot::Fix(e)) => { fix(e, left_as_it_is(k, rounding(dag, e, x))) }
+        (Fact::Fix(x, k), Slot::Fix(e)) => { Fact::fix(e, left_as_it_is(k, rounding(dag, e, x))) }
         _ => None,
     }
 }
@@ -118,8 +118,8 @@ pub fn rule_27(dag: &Dag, premises: &[Fact], target: Slot) -> Option<Fact>
     };
     match (*first, target) {
         (Fact::Bnd(x, i), Slot::Fix(e)) => {
-            if is_one(dag, x, e) {
-                fix(e, of_point(i.lo(), i.hi()))
+            if x == e && dag.knows(x) {
+                Fact::fix(e, of_point(i.lo(), i.hi()))
             } else {
                 None
             }

@@ -9,7 +9,6 @@ ghost use Rattle.interval.specs.Results.{has_zero};
 ghost use Rattle.facts.specs.Ranges.{is_below};
 ghost use Rattle.theorem_fix.specs.Nonzero.{nonzero_bound_rule, nonzero_size_rule, nonzero_product_rule, nonzero_quotient_rule, nonzero_negation_rule, are_known, are_sides, nonzero_or_void, void_of, nonzero_side_rule};
 
-use crate::shape::{is_at, is_one};
 use dyadic::End;
 use expr_dag::{Dag, ExprId, Node};
 use facts::{Fact, RelativeError, Slot};
@@ -24,7 +23,7 @@ pub fn rule_31(dag: &Dag, premises: &[Fact], target: Slot) -> Option<Fact>
     };
     match (*first, target) {
         (Fact::Bnd(x, i), Slot::Nzr(e)) => {
-            if is_one(dag, x, e) && !holds_zero(i) {
+            if x == e && dag.knows(x) && !holds_zero(i) {
                 Some(Fact::Nzr(e))
             } else {
                 None
@@ -43,7 +42,7 @@ pub fn rule_32(dag: &Dag, premises: &[Fact], target: Slot) -> Option<Fact>
     };
     match (*first, target) {
         (Fact::Abs(x, s), Slot::Nzr(e)) => {
-            if is_one(dag, x, e) && is_positive(s.interval().lo()) {
+            if x == e && dag.knows(x) && is_positive(s.interval().lo()) {
                 Some(Fact::Nzr(e))
             } else {
                 None
@@ -87,7 +86,7 @@ pub fn rule_33(dag: &Dag, premises: &[Fact], target: Slot) -> Option<Fact>
     };
     match (*first, *second, target) {
         (Fact::Nzr(a), Fact::Nzr(b), Slot::Nzr(e)) => {
-            if is_at(dag, e, Node::Mul(a, b)) {
+            if dag.is_at(e, Node::Mul(a, b)) {
                 Some(Fact::Nzr(e))
             } else {
                 None
@@ -106,7 +105,7 @@ pub fn rule_34(dag: &Dag, premises: &[Fact], target: Slot) -> Option<Fact>
     };
     match (*first, *second, target) {
         (Fact::Nzr(a), Fact::Nzr(b), Slot::Nzr(e)) => {
-            if is_at(dag, e, Node::Div(a, b)) {
+            if dag.is_at(e, Node::Div(a, b)) {
                 Some(Fact::Nzr(e))
             } else {
                 None
@@ -125,7 +124,7 @@ pub fn rule_35(dag: &Dag, premises: &[Fact], target: Slot) -> Option<Fact>
     };
     match (*first, target) {
         (Fact::Nzr(a), Slot::Nzr(e)) => {
-            if is_at(dag, e, Node::Neg(a)) {
+            if dag.is_at(e, Node::Neg(a)) {
                 Some(Fact::Nzr(e))
             } else {
                 None
