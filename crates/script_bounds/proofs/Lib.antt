@@ -1,0 +1,3 @@
+mod Rounded
+mod Inside
+mod Needs

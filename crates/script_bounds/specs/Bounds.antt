@@ -1,0 +1,54 @@
+-- Bounds as they are written, and the intervals that stand for them.
+use Rattle.std.specs.Prelude.{◌≡◌, ⊤, Bool, Option, Some, None}
+use Rattle.fx_model.specs.Fraction.{Fraction}
+use Rattle.fx_model.specs.Grid.{Bound, Below, At, Above, signed}
+use Rattle.fx_model.specs.Enclosure.{Range}
+use Rattle.fx_model.specs.Expression.{literal_value}
+use Rattle.literal.specs.Normal.{IsNormal}
+use Rattle.dyadic.specs.declared.number.End.{End}
+use Rattle.dyadic.specs.declared.number.End.TheVariants as end
+use Rattle.interval.specs.declared.interval.Interval.{Interval}
+use Rattle.interval.specs.Results.{point_of}
+use Rattle.interval.specs.Meets.{interval_from}
+use Rattle.script_bounds.specs.declared.bound.Written.{Written}
+
+-- the number that is written
+abbrev pub written_value : Written → Fraction
+written_value w = signed w.negative (literal_value w.literal)
+
+-- a bound that is there has a literal in normal form
+abbrev pub IsWritten : Option Written → Type 0
+IsWritten None = ⊤
+IsWritten (Some w) = IsNormal w.literal
+
+-- the bound below and above, open where none is written
+abbrev pub low_of : Option Written → Bound
+low_of None = Below
+low_of (Some w) = At (written_value w)
+
+abbrev pub high_of : Option Written → Bound
+high_of None = Above
+high_of (Some w) = At (written_value w)
+
+-- what lies between the bounds, exactly as they are written
+abbrev pub written_range : Option Written → Option Written → Range
+written_range lower upper = record { low = low_of lower; high = high_of upper }
+
+-- the bound rounded down to the grid, and up
+abbrev pub down_end : Bound → End
+down_end Below = end.Low
+down_end (At x) = (point_of x).lo
+down_end Above = end.High
+
+abbrev pub up_end : Bound → End
+up_end Below = end.Low
+up_end (At x) = (point_of x).hi
+up_end Above = end.High
+
+-- the interval with the ends rounded outward
+abbrev pub outward_of : Range → Option Interval
+outward_of r = interval_from (down_end r.low) (up_end r.high)
+
+-- the interval with the ends rounded inward; none where the lower end is plus infinity, the upper is minus infinity, or they cross
+abbrev pub inward_of : Range → Option Interval
+inward_of r = interval_from (up_end r.low) (down_end r.high)

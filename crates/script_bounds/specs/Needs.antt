@@ -1,0 +1,35 @@
+-- Constraints on one side.
+use Rattle.std.specs.Prelude.{◌≡◌, ⊤, ◌&&◌, Bool, true, false}
+use Rattle.fx_model.specs.Fraction.{Fraction, ◌≤ℚ◌, ◌<ℚ◌}
+use Rattle.fx_model.specs.Grid.{Bound, Below, At, Above}
+use Rattle.dyadic.specs.declared.number.End.{End}
+use Rattle.dyadic.specs.Ends.{bound_of}
+use Rattle.dyadic.specs.Order.{le_bound}
+use Rattle.interval.specs.declared.interval.Interval.{Interval}
+use Rattle.interval.specs.Results.{point_of}
+use Rattle.script_bounds.specs.declared.bound.Written.{Written}
+use Rattle.script_bounds.specs.Bounds.{written_value}
+
+-- both ends are the same number
+abbrev pub is_point : Interval → Bool
+is_point i = le_bound (bound_of i.hi) (bound_of i.lo)
+
+-- At most this end, and below it where the flag is true. It is true where the bound is strict and a number of the grid.
+abbrev pub below_of : Written → Bool → End × Bool
+below_of w strict = ((point_of (written_value w)).lo, strict && is_point (point_of (written_value w)))
+
+abbrev pub above_of : Written → Bool → End × Bool
+above_of w strict = ((point_of (written_value w)).hi, strict && is_point (point_of (written_value w)))
+
+-- x is at most the end, or below it
+abbrev pub IsUnder : Bound → Bool → Fraction → Type 0
+IsUnder Below apart x = ⊥
+IsUnder (At g) true x = x <ℚ g
+IsUnder (At g) false x = x ≤ℚ g
+IsUnder Above apart x = ⊤
+
+abbrev pub IsOver : Bound → Bool → Fraction → Type 0
+IsOver Below apart x = ⊤
+IsOver (At g) true x = g <ℚ x
+IsOver (At g) false x = g ≤ℚ x
+IsOver Above apart x = ⊥
