@@ -1,0 +1,65 @@
+// The enclosures of the nodes of a list.
+ghost use Rattle.std.specs.Prelude.{◌≡◌, None, IfOk, length, slice_index_or};
+ghost use Rattle.expr_dag.specs.Nodes.{IsInLimits};
+ghost use Rattle.plain_bounds.specs.Plain.{node_enclosure, enclosure_at, plain, or_whole};
+
+use crate::given::bounds;
+use expr_dag::Dag;
+use facts::Fact;
+use fx_model::{ExprId, Node};
+use interval::{Interval, enclose};
+use std::alloc::{AllocError, Global};
+
+/// The enclosure of the expression with this number, if it has one.
+pub fn at(all: &[Option<Interval>], x: ExprId) -> Option<Interval>
+    ensures { result ≡ enclosure_at all.now x }
+{
+    *all.get(usize::from(x.0))?
+}
+
+// The whole line where there is no interval.
+fn or_whole(bound: Option<Interval>) -> Interval
+    ensures { result ≡ or_whole bound }
+{
+    match bound {
+        Some(range) => range,
+        None => Interval::whole(),
+    }
+}
+
+// The enclosure of a node, from the bound on it and the enclosures of the nodes before.
+fn of_node(bound: Option<Interval>, done: &[Option<Interval>], node: Node) -> Option<Interval>
+    requires { IsInLimits node }
+    ensures { result ≡ node_enclosure bound (enclosure_at done.now) node }
+{
+    match node {
+        Node::Var(_) => Some(or_whole(bound)),
+        Node::Lit(l) => Some(enclose(&l, false)),
+        Node::Neg(x) => Some(at(done, x)?.neg()),
+        Node::Add(x, y) => Some(at(done, x)?.add(at(done, y)?)),
+        Node::Sub(x, y) => Some(at(done, x)?.sub(at(done, y)?)),
+        Node::Mul(x, y) => Some(at(done, x)?.mul(at(done, y)?)),
+        Node::Div(x, y) => at(done, x)?.div(at(done, y)?),
+        Node::Abs(x) => Some(at(done, x)?.abs()),
+        Node::Round(_, _) => None,
+    }
+}
+
+/// The plain enclosure of each node of the list, under the hypotheses; `None` for one that has none.
+/// Want of memory is the only error.
+pub fn enclosures(
+    alloc: Global,
+    dag: &Dag,
+    hyps: &[Fact],
+) -> Result<Vec<Option<Interval>>, AllocError>
+    ensures { IfOk result (λ all. all.items ≡ plain dag.now hyps.now) }
+{
+    dag.laws();
+    let given = bounds(alloc, dag.len(), hyps)?;
+    let mut all = Vec::new(alloc);
+    for k in 0..dag.len() {
+        let enclosure = of_node(given[usize::from(k)], &all, dag.node(ExprId(k)));
+        all.push(enclosure)?;
+    }
+    Ok(all)
+}
