@@ -5,7 +5,9 @@ mod given;
 mod goals;
 mod laws;
 mod nodes;
+#[cfg(test)]
+mod tests;
 
 pub use goals::{Goal, Want, first_unproved};
-pub use laws::enclosures_hold;
+pub use laws::{enclosures_are_isotone, enclosures_hold, proved_goals_follow};
 pub use nodes::enclosures;
