@@ -13,7 +13,7 @@ use Rattle.facts.specs.declared.fact.Fact.TheVariants as fact
 use Rattle.facts.specs.Order.{IsWithin, IsStronger}
 use Rattle.facts.specs.Laws.{IsStronger-refl}
 use Rattle.facts.specs.Promises.{EachStronger}
-use Rattle.plain_bounds.specs.Plain.{first_of, bound_by, bound_of, or_whole, of_one, of_two, of_quotient, node_enclosure, enclosure_at, plain_after, plain_at}
+use Rattle.plain_bounds.specs.Plain.{first_of, bound_by, first_bound, or_whole, of_one, of_two, of_quotient, node_enclosure, enclosure_at, plain_after, plain_at}
 use Rattle.plain_bounds.specs.Pushed.{pushed_both}
 
 -- Where each hypothesis is as strong as that in its place, or stronger, and none is VOID, an expression that had an enclosure has
@@ -57,9 +57,9 @@ by_one k (fact.Bnd x i) (fact.Bnd y j) n w = subst (λ z. AreLike (if x.0 == k t
 by_one k fact.Void h n w = absurd (n refl)
 by_one k _ _ n w = search rules
 
-by_all : (k : ℕ) (stronger hyps : List Fact) → EachStronger stronger hyps → AreLike (bound_of k stronger) (bound_of k hyps)
+by_all : (k : ℕ) (stronger hyps : List Fact) → EachStronger stronger hyps → AreLike (first_bound k stronger) (first_bound k hyps)
 by_all k [] [] w = tt
-by_all k (s ∷ stronger) (h ∷ hyps) w = first_like (bound_by k s) (bound_of k stronger) (bound_by k h) (bound_of k hyps) (by_one k s h w.0 w.1) (by_all k stronger hyps w.2)
+by_all k (s ∷ stronger) (h ∷ hyps) w = first_like (bound_by k s) (first_bound k stronger) (bound_by k h) (first_bound k hyps) (by_one k s h w.0 w.1) (by_all k stronger hyps w.2)
 by_all k [] (h ∷ hyps) w = absurd w
 by_all k (s ∷ stronger) [] w = absurd w
 
@@ -110,11 +110,11 @@ all_narrower : (stronger hyps : List Fact) → EachStronger stronger hyps → (d
 unfolding plain_after
 all_narrower stronger hyps h done wide [] s p = p
 all_narrower stronger hyps h done wide (n ∷ ns) s p =
-    let i : Option Interval = node_enclosure (bound_of (length done) stronger) (enclosure_at done) n in
-    let j : Option Interval = node_enclosure (bound_of (length wide) hyps) (enclosure_at wide) n in
-    let like = subst (λ k. AreLike (bound_of (length done) stronger) (bound_of k hyps)) s (by_all (length done) stronger hyps h) in
+    let i : Option Interval = node_enclosure (first_bound (length done) stronger) (enclosure_at done) n in
+    let j : Option Interval = node_enclosure (first_bound (length wide) hyps) (enclosure_at wide) n in
+    let like = subst (λ k. AreLike (first_bound (length done) stronger) (first_bound k hyps)) s (by_all (length done) stronger hyps h) in
     all_narrower stronger hyps h (done ++ (i ∷ [])) (wide ++ (j ∷ [])) ns (omega (arith, length-append done (i ∷ []), length-append wide (j ∷ [])))
-    (pushed_both (λ k u v. IsNarrower u v) done wide i j s (λ k. tt) p (node_narrower (bound_of (length done) stronger) (bound_of (length wide) hyps) (enclosure_at done) (enclosure_at wide) n like (λ x. p x.0)))
+    (pushed_both (λ k u v. IsNarrower u v) done wide i j s (λ k. tt) p (node_narrower (first_bound (length done) stronger) (first_bound (length wide) hyps) (enclosure_at done) (enclosure_at wide) n like (λ x. p x.0)))
 
 pub enclosures_are_isotone : EnclosuresAreIsotone
 enclosures_are_isotone nodes stronger hyps x i h e = narrower_out (plain_at nodes stronger x) (plain_at nodes hyps x) i (all_narrower stronger hyps h [] [] nodes refl (λ k. tt) x.0) e

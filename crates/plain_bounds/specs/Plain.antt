@@ -21,9 +21,9 @@ bound_by k (fact.Bnd x i) = if x.0 == k then Some i else None
 bound_by k _ = None
 
 -- that of the first such fact
-abbrev pub bound_of : ℕ → List Fact → Option Interval
-bound_of k [] = None
-bound_of k (h ∷ hyps) = first_of (bound_by k h) (bound_of k hyps)
+abbrev pub first_bound : ℕ → List Fact → Option Interval
+first_bound k [] = None
+first_bound k (h ∷ hyps) = first_of (bound_by k h) (first_bound k hyps)
 
 -- the whole line where there is none
 abbrev pub or_whole : Option Interval → Interval
@@ -68,7 +68,7 @@ enclosure_at all x = slice_index_or all x.0 None
 -- The plain enclosures of a list of nodes, one after another, with those of `done` before them.
 unfoldable pub plain_after : List Fact → List (Option Interval) → List Node → List (Option Interval)
 plain_after hyps done [] = done
-plain_after hyps done (n ∷ ns) = plain_after hyps (done ++ (node_enclosure (bound_of (length done) hyps) (enclosure_at done) n ∷ [])) ns
+plain_after hyps done (n ∷ ns) = plain_after hyps (done ++ (node_enclosure (first_bound (length done) hyps) (enclosure_at done) n ∷ [])) ns
 
 -- The plain enclosure of each node of a list, under hypotheses.
 abbrev pub plain : List Node → List Fact → List (Option Interval)

@@ -19,7 +19,7 @@ use Rattle.facts.specs.declared.fact.Fact.{Fact}
 use Rattle.facts.specs.declared.fact.Fact.TheVariants as fact
 use Rattle.facts.specs.Holds.{Holds}
 use Rattle.facts.specs.Promises.{FollowsFrom}
-use Rattle.plain_bounds.specs.Plain.{first_of, bound_by, bound_of, or_whole, of_one, of_two, of_quotient, node_enclosure, enclosure_at, plain_after, plain_at}
+use Rattle.plain_bounds.specs.Plain.{first_of, bound_by, first_bound, or_whole, of_one, of_two, of_quotient, node_enclosure, enclosure_at, plain_after, plain_at}
 use Rattle.plain_bounds.specs.Pushed.{pushed}
 
 -- Where each node is made of earlier ones and the hypotheses hold, an expression with a plain enclosure has a value, which lies in it.
@@ -44,9 +44,9 @@ by_one nodes a x (fact.Bnd y i) h = at_test (y.0 == x.0) refl
     at_test false e = tt
 by_one nodes a x _ h = tt
 
-by_hyps : (nodes : List Node) (a : Assignment) (x : ExprId) (hyps : List Fact) → AllByRecursion (Holds nodes a) hyps → Encloses (bound_of x.0 hyps) (value nodes a x)
+by_hyps : (nodes : List Node) (a : Assignment) (x : ExprId) (hyps : List Fact) → AllByRecursion (Holds nodes a) hyps → Encloses (first_bound x.0 hyps) (value nodes a x)
 by_hyps nodes a x [] h = tt
-by_hyps nodes a x (f ∷ hyps) h = first_encloses (bound_by x.0 f) (bound_of x.0 hyps) (value nodes a x) (by_one nodes a x f h.0) (by_hyps nodes a x hyps h.1)
+by_hyps nodes a x (f ∷ hyps) h = first_encloses (bound_by x.0 f) (first_bound x.0 hyps) (value nodes a x) (by_one nodes a x f h.0) (by_hyps nodes a x hyps h.1)
 
 -- ---- operations
 one_encloses : (op : Interval → Interval) (f : Fraction → Fraction) (i : Option Interval) (u : Option Fraction) → ((j : Interval) (x : Fraction) → Lies (range_of j) x → Lies (range_of (op j)) (f x)) → Encloses i u → Encloses (of_one op i) (lift₁ f u)
@@ -89,20 +89,20 @@ module _ (nodes : List Node) (hyps : List Fact) (a : Assignment) (o : IsOrdered 
   Enclosed k i = Encloses i (value nodes a (record { 0 = k }))
 
   next : (done : List (Option Interval)) (n : Node) → length done < length nodes → slice_index_or nodes (length done) n ≡ n → ((k : ℕ) → Enclosed k (slice_index_or done k None))
-      → Enclosed (length done) (node_enclosure (bound_of (length done) hyps) (enclosure_at done) n)
+      → Enclosed (length done) (node_enclosure (first_bound (length done) hyps) (enclosure_at done) n)
   unfolding Enclosed
   next done n l e p =
       let x : ExprId = record { 0 = length done } in
       let s : value nodes a x ≡ node_value a (value nodes a) n = value_step nodes a x n o l ∙ ap (node_value a (value nodes a)) e in
-      subst (Encloses (node_enclosure (bound_of (length done) hyps) (enclosure_at done) n)) (sym s)
-      (node_encloses a (value nodes a) (enclosure_at done) (bound_of (length done) hyps) n (subst (Encloses (bound_of (length done) hyps)) s (by_hyps nodes a x hyps h)) (λ y. p y.0))
+      subst (Encloses (node_enclosure (first_bound (length done) hyps) (enclosure_at done) n)) (sym s)
+      (node_encloses a (value nodes a) (enclosure_at done) (first_bound (length done) hyps) n (subst (Encloses (first_bound (length done) hyps)) s (by_hyps nodes a x hyps h)) (λ y. p y.0))
 
   all_enclosed : (done : List (Option Interval)) (ns : List Node) → length done + length ns ≡ length nodes → ((j : ℕ) (d : Node) → j < length ns → slice_index_or nodes (length done + j) d ≡ slice_index_or ns j d)
       → ((k : ℕ) → Enclosed k (slice_index_or done k None)) → (k : ℕ) → Enclosed k (slice_index_or (plain_after hyps done ns) k None)
   unfolding Enclosed plain_after
   all_enclosed done [] l e p = p
   all_enclosed done (n ∷ ns) l e p =
-      let i : Option Interval = node_enclosure (bound_of (length done) hyps) (enclosure_at done) n in
+      let i : Option Interval = node_enclosure (first_bound (length done) hyps) (enclosure_at done) n in
       let m : length (done ++ (i ∷ [])) ≡ length done + 1 = length-append done (i ∷ []) in
       let here : slice_index_or nodes (length done) n ≡ n = subst (λ k. slice_index_or nodes k n ≡ n) (omega arith) (e 0 n (omega arith)) in
       all_enclosed (done ++ (i ∷ [])) ns (omega (arith, m))

@@ -1,6 +1,5 @@
 // What the hypotheses give, by expression number.
-ghost use Rattle.std.specs.Prelude.{◌≡◌, ◌<◌, ℕ, None, IfOk, length, slice_index_or};
-ghost use Rattle.plain_bounds.specs.Plain.{bound_of};
+ghost use Rattle.std.specs.Prelude.{IfOk};
 ghost use Rattle.plain_bounds.specs.Given.{IsNoted, AreBounds};
 
 use facts::Fact;

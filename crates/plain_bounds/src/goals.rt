@@ -1,8 +1,7 @@
 // Goals, and which of them enclosures prove.
-ghost use Rattle.std.specs.Prelude.{◌≡◌, ◌↔◌, ◌≤◌, IsTrue, IsNone, IfSome, length, slice_index_or};
+ghost use Rattle.std.specs.Prelude.{◌↔◌, ◌≤◌, IsTrue, IsNone, IfSome, length};
 ghost use Rattle.fx_model.specs.Enclosure.{IsFinite};
 ghost use Rattle.interval.specs.Intervals.{range_of};
-ghost use Rattle.plain_bounds.specs.Plain.{enclosure_at};
 ghost use Rattle.plain_bounds.specs.Goals.{Meets, IsProved, AreProved, IsFirstUnproved};
 
 use crate::nodes::at;

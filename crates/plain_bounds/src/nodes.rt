@@ -1,5 +1,5 @@
 // The enclosures of the nodes of a list.
-ghost use Rattle.std.specs.Prelude.{◌≡◌, None, IfOk, length, slice_index_or};
+ghost use Rattle.std.specs.Prelude.{◌≡◌, IfOk};
 ghost use Rattle.expr_dag.specs.Nodes.{IsInLimits};
 ghost use Rattle.plain_bounds.specs.Plain.{node_enclosure, enclosure_at, plain, or_whole};
 
