@@ -23,7 +23,7 @@ module _ (e u v : Fraction) (h : u ≤ℚ v) where
   wider_side : Lies (sideward u) e → Lies (sideward v) e
   wider_side l = (le_trans (neg_ℚ v) (neg_ℚ u) e (neg-le u v h) l.0, le_trans e u v l.1 h)
 
-  wider : (d : Direction) (k : Fraction) → Lies (errors d u k) e → Lies (errors d v k) e
+  pub wider : (d : Direction) (k : Fraction) → Lies (errors d u k) e → Lies (errors d v k) e
   wider Dn k l = wider_left l
   wider Up k l = wider_right l
   wider Zr k l = wider_side l
@@ -91,7 +91,7 @@ both e u v k Zero Aw s l = s
 both e u v k Zero d s l = l
 
 -- 0 is always possible
-zero_possible : (e u k : Fraction) → zero_ℚ ≤ℚ u → zero_ℚ ≤ℚ k → (d : Direction) → Lies nowhere e → Lies (errors d u k) e
+pub zero_possible : (e u k : Fraction) → zero_ℚ ≤ℚ u → zero_ℚ ≤ℚ k → (d : Direction) → Lies nowhere e → Lies (errors d u k) e
 zero_possible e u k h i Dn l = zero_left e u h l
 zero_possible e u k h i Up l = zero_right e u h l
 zero_possible e u k h i Zr l = zero_side e u h l
@@ -104,7 +104,7 @@ zero_possible e u k h i Na l = zero_side e k i l
 zero_possible e u k h i Nd l = zero_side e k i l
 zero_possible e u k h i Nu l = zero_side e k i l
 
-signed_zero_possible : (e u k : Fraction) → zero_ℚ ≤ℚ u → zero_ℚ ≤ℚ k → (sign : Sign) (d : Direction) → Lies nowhere e → Lies (signed_errors sign d u k) e
+pub signed_zero_possible : (e u k : Fraction) → zero_ℚ ≤ℚ u → zero_ℚ ≤ℚ k → (sign : Sign) (d : Direction) → Lies nowhere e → Lies (signed_errors sign d u k) e
 signed_zero_possible e u k h i Unknown d l = zero_possible e u k h i d l
 signed_zero_possible e u k h i NotNegative Zr l = zero_left e u h l
 signed_zero_possible e u k h i NotNegative Aw l = zero_right e u h l

@@ -1,10 +1,13 @@
 -- What holds of each rule of this crate.
 use Rattle.facts.specs.Promises.{Rule}
-use Rattle.theorem_fix.specs.Multiples.{multiple_of_negation_rule, multiple_of_sum_rule, multiple_of_product_rule, rounded_multiple_rule, untouched_multiple_rule, number_multiple_rule}
+use Rattle.theorem_fix.specs.Multiples.{literal_multiple_rule, multiple_of_negation_rule, multiple_of_sum_rule, multiple_of_product_rule, rounded_multiple_rule, untouched_multiple_rule, number_multiple_rule}
 use Rattle.theorem_fix.specs.Nonzero.{nonzero_bound_rule, nonzero_size_rule, nonzero_product_rule, nonzero_quotient_rule, nonzero_negation_rule, nonzero_side_rule}
+use Rattle.theorem_fix.specs.Roundings.{rounded_bound_rule, error_rule, signed_error_rule, multiple_error_rule}
+use Rattle.theorem_fix.specs.Shrunk.{no_multiple_rule}
 
--- P holds of the rules 22 to 27 and 31 to 36.
+-- P holds of each rule but 28: 21 to 27, 31 to 36, 41 to 44 and 90.
 pub record EachRule (P : Rule → Type 0) : Type 0 where
+  pub literal_multiple : P literal_multiple_rule
   pub multiple_of_negation : P multiple_of_negation_rule
   pub multiple_of_sum : P multiple_of_sum_rule
   pub multiple_of_product : P multiple_of_product_rule
@@ -17,3 +20,8 @@ pub record EachRule (P : Rule → Type 0) : Type 0 where
   pub nonzero_quotient : P nonzero_quotient_rule
   pub nonzero_negation : P nonzero_negation_rule
   pub nonzero_side : P nonzero_side_rule
+  pub rounded_bound : P rounded_bound_rule
+  pub error : P error_rule
+  pub signed_error : P signed_error_rule
+  pub multiple_error : P multiple_error_rule
+  pub no_multiple : P no_multiple_rule

@@ -1,14 +1,12 @@
 -- The rules on multiples and on values other than 0: from stronger premises they give a fact as strong, or stronger.
-use Rattle.std.specs.Prelude.{◌≡◌, ◌&&◌, ◌||◌, not, ℤ, pos, negsuc, ◌≤ℤ◌, ◌+ℤ◌, Bool, true, false, List, [], ◌∷◌, Option, Some, None, if◌then◌else◌, refl}
+use Rattle.std.specs.Prelude.{◌≡◌, ◌||◌, ℤ, pos, negsuc, ◌≤ℤ◌, ◌+ℤ◌, Bool, true, false, [], ◌∷◌, Option, Some, None, if◌then◌else◌, refl}
 use Rattle.std.specs.Int.RustNames.{int_lt}
 use Rattle.std.proofs.Common.{sym, ap, subst, ◌∙◌, arith}
 use Rattle.std.proofs.lemmas.Int.{ints}
 use Rattle.fx_model.specs.Fraction.{Fraction, le_antisymm}
 use Rattle.fx_model.specs.Grid.{Bound, Below, At, Above}
 use Rattle.fx_model.specs.Enclosure.{BoundLe, IsOrdered}
-use Rattle.fx_model.specs.declared.ExprId.{ExprId}
 use Rattle.fx_model.specs.declared.Rounding.{Rounding}
-use Rattle.fx_model.specs.declared.Node.{Node}
 use Rattle.fx_model.specs.declared.Node.TheVariants as node
 use Rattle.dyadic.specs.declared.number.Dyadic.{Dyadic}
 use Rattle.dyadic.specs.declared.number.End.{End}
@@ -21,19 +19,17 @@ use Rattle.dyadic.specs.Extremes.{BoundLe-trans}
 use Rattle.interval.specs.declared.interval.Interval.{Interval}
 use Rattle.expr_dag.specs.Shapes.{is_at}
 use Rattle.facts.specs.declared.place.Place.{Place}
-use Rattle.facts.specs.declared.fact.Fact.{Fact}
 use Rattle.facts.specs.declared.fact.Fact.TheVariants as fact
 use Rattle.facts.specs.declared.fact.Slot.TheVariants as slot
-use Rattle.facts.specs.Order.{IsStronger}
 use Rattle.facts.specs.Laws.{IsStronger-refl}
-use Rattle.facts.specs.Promises.{EachStronger, IsIsotone}
-use Rattle.facts.specs.Premises.{Gives, first_premise, one_premise, one_bnd, one_fix, two_fix}
+use Rattle.facts.specs.Promises.{IsIsotone}
+use Rattle.facts.specs.Premises.{Gives, no_premises, one_bnd, one_fix, two_fix}
 use Rattle.rounding.specs.Places.{less, not_less}
-use Rattle.facts.specs.Conclusions.{Improves, fix_of, given_if, improves_fix, improves_given, improves_if, improves_only, only_if}
+use Rattle.facts.specs.Conclusions.{fix_of, improves_fix, improves_given, improves_only}
 use Rattle.theorem_arith.specs.Shapes.{is_one}
-use Rattle.theorem_fix.specs.Places.{place_from, place_from-some, place_from_out, kept, sum_place, lesser_place}
+use Rattle.theorem_fix.specs.Places.{place_from-some, place_from_out, kept, sum_place, lesser_place}
 use Rattle.theorem_fix.specs.Shapes.{rounding_at}
-use Rattle.theorem_fix.specs.Multiples.{multiple_of_negation_rule, multiple_of_sum_rule, multiple_of_product_rule, last_place, rounded_multiple_rule, untouched, untouched_multiple_rule, number_place, point_place, number_multiple_rule}
+use Rattle.theorem_fix.specs.Multiples.{literal_multiple_rule, multiple_of_negation_rule, multiple_of_sum_rule, multiple_of_product_rule, rounded_multiple_rule, untouched, untouched_multiple_rule, number_place, point_place, number_multiple_rule}
 
 lesser-rises : (k n l m : Place) → k.exponent ≤ℤ l.exponent → n.exponent ≤ℤ m.exponent → (lesser_place k n).exponent ≤ℤ (lesser_place l m).exponent
 lesser-rises k n l m p q = by_test (int_lt k.exponent n.exponent) (int_lt l.exponent m.exponent) refl refl
@@ -71,6 +67,11 @@ kept-rises s t p l e =
     let low = p.lowest in
     let w : negsuc 1023 ≤ℤ cap t = omega (arith, ints) in
     (record { exponent = cap t; lowest = w; highest = cap_most t }, place_from-some (cap t) (record { lowest = w; highest = cap_most t }), up)
+
+-- ---- literals
+pub literal_multiple_rule-isotone : IsIsotone literal_multiple_rule
+literal_multiple_rule-isotone nodes [] t ps c s q = subst (λ l. Gives (literal_multiple_rule nodes l t) c) (sym (no_premises ps s)) (c, q, IsStronger-refl c)
+literal_multiple_rule-isotone nodes (p ∷ qs) t ps c s q = cc
 
 -- ---- multiples
 pub multiple_of_negation_rule-isotone : IsIsotone multiple_of_negation_rule

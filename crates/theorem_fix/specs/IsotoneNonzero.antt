@@ -11,7 +11,6 @@ use Rattle.dyadic.specs.Compared.{BoundLe_out}
 use Rattle.interval.specs.declared.interval.Interval.{Interval}
 use Rattle.interval.specs.Intervals.{range_of}
 use Rattle.interval.specs.Results.{has_zero}
-use Rattle.expr_dag.specs.Shapes.{is_at}
 use Rattle.facts.specs.declared.size.Size.{Size}
 use Rattle.facts.specs.declared.relative.RelativeError.{RelativeError}
 use Rattle.facts.specs.declared.fact.Fact.{Fact}
@@ -23,7 +22,7 @@ use Rattle.facts.specs.Laws.{IsStronger-refl}
 use Rattle.facts.specs.Ranges.{is_below, is_below_in, is_below_out, IsBelow-mono}
 use Rattle.facts.specs.Promises.{EachStronger, IsIsotone}
 use Rattle.facts.specs.Premises.{Gives, first_premise, one_bnd, one_abs, one_nzr, strong_nzr}
-use Rattle.facts.specs.Conclusions.{Improves, given_if, improves_given, improves_if, improves_only, only_if}
+use Rattle.facts.specs.Conclusions.{Improves, improves_given, improves_if, improves_only}
 use Rattle.theorem_arith.specs.Shapes.{is_one}
 use Rattle.theorem_fix.specs.Nonzero.{nonzero_bound_rule, nonzero_size_rule, nonzero_binary_rule, nonzero_product_rule, nonzero_quotient_rule, nonzero_negation_rule, are_known, are_sides, nonzero_or_void, void_of, nonzero_side_rule}
 

@@ -1,8 +1,8 @@
--- Rules on multiples of powers of two, numbers 22 to 27 of the list: each row as a function from premises and a target to its
+-- Rules on multiples of powers of two, numbers 21 to 27 of the list: each row as a function from premises and a target to its
 -- conclusion. What fits no row gives nothing. A power above 2^512 is kept as 2^512; below 2^-1024 there is no conclusion.
-use Rattle.std.specs.Prelude.{◌≡◌, ◌==◌, ◌||◌, ℤ, pos, Bool, true, false, List, [], ◌∷◌, Option, Some, None, if◌then◌else◌}
+use Rattle.std.specs.Prelude.{◌==◌, ◌||◌, pos, Bool, List, [], ◌∷◌, Option, Some, None, slice_get, if◌then◌else◌}
 use Rattle.std.specs.Int.RustNames.{int_lt, unsigned_abs}
-use Rattle.fx_model.specs.declared.ExprId.{ExprId}
+use Rattle.fx_model.specs.Expression.{literal_value}
 use Rattle.fx_model.specs.declared.Rounding.{Rounding}
 use Rattle.fx_model.specs.declared.Node.{Node}
 use Rattle.fx_model.specs.declared.Node.TheVariants as node
@@ -11,7 +11,6 @@ use Rattle.dyadic.specs.declared.number.End.{End}
 use Rattle.dyadic.specs.declared.number.End.TheVariants as end
 use Rattle.dyadic.specs.Order.{le_bound}
 use Rattle.dyadic.specs.Ends.{bound_of}
-use Rattle.interval.specs.declared.interval.Interval.{Interval}
 use Rattle.expr_dag.specs.Shapes.{is_at}
 use Rattle.facts.specs.declared.place.Place.{Place}
 use Rattle.facts.specs.declared.fact.Fact.{Fact}
@@ -21,7 +20,18 @@ use Rattle.facts.specs.declared.fact.Slot.TheVariants as slot
 use Rattle.facts.specs.Conclusions.{fix_of, given_if, only_if}
 use Rattle.theorem_arith.specs.Shapes.{is_one}
 use Rattle.theorem_fix.specs.Places.{place_from, kept, sum_place, lesser_place}
+use Rattle.theorem_fix.specs.Greatest.{greatest_place}
 use Rattle.theorem_fix.specs.Shapes.{rounding_at}
+
+-- the greatest place of the literal that the node is
+abbrev pub literal_place : Option Node → Option Place
+literal_place (Some (node.Lit l)) = greatest_place (literal_value l)
+literal_place _ = None
+
+-- 21: for a literal c, FIX(c, k), where k is the greatest of which it is a multiple
+abbrev pub literal_multiple_rule : List Node → List Fact → Slot → Option Fact
+literal_multiple_rule nodes [] (slot.Fix e) = fix_of e (literal_place (slice_get nodes e.0))
+literal_multiple_rule nodes _ _ = None
 
 -- 22: from FIX(a, k): FIX(-a, k)   (Gappa: `neg_fix`)
 abbrev pub multiple_of_negation_rule : List Node → List Fact → Slot → Option Fact

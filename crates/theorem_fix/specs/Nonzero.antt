@@ -1,8 +1,7 @@
 -- Rules on values other than 0, numbers 31 to 36 of the list: each row as a function from premises and a target to its
 -- conclusion. What fits no row gives nothing.
-use Rattle.std.specs.Prelude.{◌≡◌, ◌&&◌, ◌||◌, not, Bool, true, false, List, [], ◌∷◌, Option, Some, None, if◌then◌else◌}
+use Rattle.std.specs.Prelude.{◌&&◌, ◌||◌, not, Bool, List, [], ◌∷◌, Option, Some, None}
 use Rattle.fx_model.specs.Fraction.{zero_ℚ}
-use Rattle.fx_model.specs.Grid.{At}
 use Rattle.fx_model.specs.declared.ExprId.{ExprId}
 use Rattle.fx_model.specs.declared.Node.{Node}
 use Rattle.fx_model.specs.declared.Node.TheVariants as node
@@ -10,7 +9,6 @@ use Rattle.interval.specs.Intervals.{range_of}
 use Rattle.interval.specs.Results.{has_zero}
 use Rattle.expr_dag.specs.Shapes.{is_at, is_known}
 use Rattle.facts.specs.declared.relative.RelativeError.{RelativeError}
-use Rattle.facts.specs.declared.size.Size.{Size}
 use Rattle.facts.specs.declared.fact.Fact.{Fact}
 use Rattle.facts.specs.declared.fact.Slot.{Slot}
 use Rattle.facts.specs.declared.fact.Fact.TheVariants as fact

@@ -1,5 +1,5 @@
 -- What a rule gives stands on its target, or is VOID.
-use Rattle.std.specs.Prelude.{◌≡◌, ◌⊎◌, ◌&&◌, ◌||◌, not, [], ◌∷◌, Option, Some, None, refl}
+use Rattle.std.specs.Prelude.{◌≡◌, ◌⊎◌, ◌&&◌, ◌||◌, not, [], ◌∷◌, Option, Some, None, slice_get, refl}
 use Rattle.std.proofs.Common.{inl, inr}
 use Rattle.fx_model.specs.Fraction.{zero_ℚ}
 use Rattle.fx_model.specs.declared.ExprId.{ExprId}
@@ -8,21 +8,27 @@ use Rattle.fx_model.specs.declared.Node.TheVariants as node
 use Rattle.interval.specs.Intervals.{range_of}
 use Rattle.interval.specs.Results.{has_zero}
 use Rattle.expr_dag.specs.Shapes.{is_at}
-use Rattle.facts.specs.declared.place.Place.{Place}
 use Rattle.facts.specs.declared.relative.RelativeError.{RelativeError}
 use Rattle.facts.specs.declared.fact.Fact.TheVariants as fact
 use Rattle.facts.specs.declared.fact.Slot.TheVariants as slot
 use Rattle.facts.specs.Order.{slot_of, is_same}
 use Rattle.facts.specs.Ranges.{is_below}
 use Rattle.facts.specs.Promises.{IsOnTarget}
-use Rattle.facts.specs.Conclusions.{StandsOn, fact_stands, fix_of, fix_stands, given_stands, only_stands}
+use Rattle.facts.specs.Conclusions.{StandsOn, bnd_of, bnd_stands, fact_stands, fix_of, fix_stands, given_stands, only_stands}
 use Rattle.theorem_arith.specs.Shapes.{is_one}
 use Rattle.theorem_fix.specs.Places.{lesser_place, sum_place}
-use Rattle.theorem_fix.specs.Shapes.{rounding_at}
-use Rattle.theorem_fix.specs.Multiples.{multiple_of_negation_rule, multiple_of_sum_rule, multiple_of_product_rule, last_place, rounded_multiple_rule, untouched, untouched_multiple_rule, point_place, number_multiple_rule}
+use Rattle.theorem_fix.specs.Shapes.{rounding_at, error_rounding_at}
+use Rattle.theorem_fix.specs.Roundings.{rounded_interval, rounded_bound_rule, errors_of, error_rule, sign_of, signed_errors_of, signed_error_rule, multiple_error_rule}
+use Rattle.theorem_fix.specs.Shrunk.{shrunk_of, shrinking_rule, void_without, no_multiple_rule}
+use Rattle.interval.specs.declared.interval.Interval.{Interval}
+use Rattle.rounding.specs.declared.sign.Sign.TheVariants.{Unknown}
+use Rattle.theorem_fix.specs.Multiples.{literal_place, literal_multiple_rule, multiple_of_negation_rule, multiple_of_sum_rule, multiple_of_product_rule, last_place, rounded_multiple_rule, untouched, untouched_multiple_rule, point_place, number_multiple_rule}
 use Rattle.theorem_fix.specs.Nonzero.{nonzero_bound_rule, nonzero_size_rule, nonzero_binary_rule, nonzero_product_rule, nonzero_quotient_rule, nonzero_negation_rule, are_known, are_sides, nonzero_or_void, void_of, nonzero_side_rule}
 
 -- ---- multiples
+pub literal_multiple_rule-target : IsOnTarget literal_multiple_rule
+literal_multiple_rule-target nodes [] (slot.Fix e) f q = fix_stands e (literal_place (slice_get nodes e.0)) f q
+literal_multiple_rule-target nodes _ _ f q = cc
 
 pub multiple_of_negation_rule-target : IsOnTarget multiple_of_negation_rule
 multiple_of_negation_rule-target nodes (fact.Fix x k ∷ []) (slot.Fix e) f q = only_stands (slot.Fix e) (is_at nodes e (node.Neg x)) (fact.Fix e k) (inl refl) f q
@@ -89,3 +95,34 @@ nonzero_side_rule-target nodes (fact.Rel x y d ∷ fact.Nzr z ∷ []) (slot.Nzr 
 nonzero_side_rule-target nodes (fact.Rel x y d ∷ fact.Nzr z ∷ []) slot.Void f q =
     given_stands slot.Void (are_known nodes x y && (is_same z x || is_same z y)) (void_of d) (void_stands d) f q
 nonzero_side_rule-target nodes _ _ f q = cc
+
+-- ---- roundings
+pub rounded_bound_rule-target : IsOnTarget rounded_bound_rule
+rounded_bound_rule-target nodes (fact.Bnd x i ∷ []) (slot.Bnd e) f q = bnd_stands e (rounded_interval (rounding_at nodes e x) i) f q
+rounded_bound_rule-target nodes _ _ f q = cc
+
+pub error_rule-target : IsOnTarget error_rule
+error_rule-target nodes (fact.Bnd x i ∷ []) (slot.Bnd e) f q = bnd_stands e (errors_of (error_rounding_at nodes e x) Unknown None) f q
+error_rule-target nodes _ _ f q = cc
+
+pub signed_error_rule-target : IsOnTarget signed_error_rule
+signed_error_rule-target nodes (fact.Bnd x i ∷ []) (slot.Bnd e) f q = bnd_stands e (signed_errors_of (error_rounding_at nodes e x) (sign_of (range_of i))) f q
+signed_error_rule-target nodes _ _ f q = cc
+
+pub multiple_error_rule-target : IsOnTarget multiple_error_rule
+multiple_error_rule-target nodes (fact.Fix x k ∷ []) (slot.Bnd e) f q = bnd_stands e (errors_of (error_rounding_at nodes e x) Unknown (Some k.exponent)) f q
+multiple_error_rule-target nodes _ _ f q = cc
+
+-- ---- multiples in an interval
+pub shrinking_rule-target : IsOnTarget shrinking_rule
+shrinking_rule-target nodes (fact.Bnd x i ∷ fact.Fix y k ∷ []) (slot.Bnd e) f q =
+    given_stands (slot.Bnd e) (is_one nodes x y && is_same x e) (bnd_of e (shrunk_of i k)) (bnd_stands e (shrunk_of i k)) f q
+shrinking_rule-target nodes _ _ f q = cc
+
+without_stands : (o : Option Interval) → StandsOn slot.Void (void_without o)
+without_stands None f e = fact_stands slot.Void fact.Void (inr refl) f e
+without_stands (Some i) f e = cc
+
+pub no_multiple_rule-target : IsOnTarget no_multiple_rule
+no_multiple_rule-target nodes (fact.Bnd x i ∷ fact.Fix y k ∷ []) slot.Void f q = given_stands slot.Void (is_one nodes x y) (void_without (shrunk_of i k)) (without_stands (shrunk_of i k)) f q
+no_multiple_rule-target nodes _ _ f q = cc

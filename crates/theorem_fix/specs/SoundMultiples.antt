@@ -1,5 +1,5 @@
 -- The rules on multiples are sound: where the premises hold, the conclusion does.
-use Rattle.std.specs.Prelude.{◌≡◌, ◌⊎◌, ◌==◌, ◌||◌, ℤ, pos, ◌≤ℤ◌, ◌+ℤ◌, ◌*ℤ◌, Bool, true, false, List, [], ◌∷◌, Option, Some, None, slice_get, if◌then◌else◌, refl}
+use Rattle.std.specs.Prelude.{◌≡◌, ◌⊎◌, ◌||◌, ℤ, pos, ◌≤ℤ◌, ◌+ℤ◌, ◌*ℤ◌, Bool, true, false, List, [], ◌∷◌, Option, Some, None, slice_get, if◌then◌else◌, refl}
 use Rattle.std.specs.Int.RustNames.{int_lt, unsigned_abs}
 use Rattle.std.specs.Option.{IsSomeAnd}
 use Rattle.std.proofs.Common.{sym, ap, subst, ◌∙◌, inl, inr, ⊎_elim, arith}
@@ -9,8 +9,8 @@ use lib.IntN.{neg_ℤ}
 use Rattle.fx_model.specs.Fraction.{Fraction, ◌+ℚ◌, ◌-ℚ◌, ◌*ℚ◌, ◌≤ℚ◌, neg_ℚ, le_antisymm, le_trans}
 use Rattle.fx_model.specs.Powers.{IsMultiple, scaled, scaled-zero, whole, two_to, whole-add}
 use Rattle.fx_model.specs.Grid.{scaled-neg, scaled-mul}
-use Rattle.fx_model.specs.Enclosure.{Lies, BoundLe}
-use Rattle.fx_model.specs.Expression.{Assignment, IsOrdered, value, node_value, lift₁, lift₂}
+use Rattle.fx_model.specs.Enclosure.{Lies}
+use Rattle.fx_model.specs.Expression.{Assignment, IsOrdered, value, lift₁, literal_value}
 use Rattle.fx_model.specs.Rounded.{rounded}
 use Rattle.fx_model.specs.declared.ExprId.{ExprId}
 use Rattle.fx_model.specs.declared.Rounding.{Rounding}
@@ -23,12 +23,10 @@ use Rattle.dyadic.specs.Values.{value_of}
 use Rattle.dyadic.specs.Ends.{bound_of}
 use Rattle.dyadic.specs.Order.{le_bound}
 use Rattle.dyadic.specs.Compared.{BoundLe_in}
-use Rattle.interval.specs.declared.interval.Interval.{Interval}
 use Rattle.interval.specs.Intervals.{range_of}
-use Rattle.expr_dag.specs.Shapes.{is_at, is_at_out, node_at-value}
+use Rattle.expr_dag.specs.Shapes.{is_at, node_at-value}
 use Rattle.facts.specs.declared.place.Place.{Place}
 use Rattle.facts.specs.declared.fact.Fact.{Fact}
-use Rattle.facts.specs.declared.fact.Slot.{Slot}
 use Rattle.facts.specs.declared.fact.Fact.TheVariants as fact
 use Rattle.facts.specs.declared.fact.Slot.TheVariants as slot
 use Rattle.facts.specs.Holds.{Holds}
@@ -39,12 +37,13 @@ use Rattle.facts.specs.Promises.{IsSound}
 use Rattle.rounding.specs.Sums.{add-mul}
 use Rattle.rounding.specs.Rounded.{rounded_multiple, rounded-finer}
 use Rattle.rounding.specs.Places.{less, not_less}
-use Rattle.facts.specs.Conclusions.{fix_of, given, given_if, only_if}
+use Rattle.facts.specs.Conclusions.{fix_of, given}
 use Rattle.expr_dag.specs.Lifted.{at_node, lifted₁, lifted₂}
 use Rattle.theorem_arith.specs.Shapes.{is_one}
-use Rattle.theorem_fix.specs.Places.{place_from, place_from_out, kept, sum_place, lesser_place}
+use Rattle.theorem_fix.specs.Places.{place_from_out, kept, sum_place, lesser_place}
+use Rattle.theorem_fix.specs.Greatest.{greatest_place_out}
 use Rattle.theorem_fix.specs.Shapes.{rounding_of, rounding_at}
-use Rattle.theorem_fix.specs.Multiples.{multiple_of_negation_rule, multiple_of_sum_rule, multiple_of_product_rule, last_place, rounded_multiple_rule, untouched, untouched_multiple_rule, is_zero, number_place, point_place, number_multiple_rule}
+use Rattle.theorem_fix.specs.Multiples.{literal_place, literal_multiple_rule, multiple_of_negation_rule, multiple_of_sum_rule, multiple_of_product_rule, last_place, rounded_multiple_rule, untouched, untouched_multiple_rule, is_zero, number_place, point_place, number_multiple_rule}
 
 -- ---- multiples
 pub multiple-neg : (k : ℤ) (x : Fraction) → IsMultiple k x → IsMultiple k (neg_ℚ x)
@@ -92,6 +91,15 @@ pub fix_given : (nodes : List Node) (a : Assignment) (e : ExprId) (k : Option Pl
 fix_given nodes a e None f q h = cc
 fix_given nodes a e (Some p) f q h = let t : fact.Fix e p ≡ f = cc in subst (Holds nodes a) t (h p refl)
 
+-- ---- literals
+at_literal : (nodes : List Node) (a : Assignment) (e : ExprId) (n : Option Node) (p : Place) → IsOrdered nodes → slice_get nodes e.0 ≡ n → literal_place n ≡ Some p → IsSomeAnd (value nodes a e) (IsMultiple p.exponent)
+at_literal nodes a e (Some (node.Lit l)) p o s q = subst (λ v. IsSomeAnd v (IsMultiple p.exponent)) (sym (node_at-value nodes a e (node.Lit l) o s)) (greatest_place_out (literal_value l) p q)
+at_literal nodes a e _ p o s q = cc
+
+pub literal_multiple_rule-sound : IsSound literal_multiple_rule
+literal_multiple_rule-sound nodes [] (slot.Fix e) f o q = λ a h. fix_given nodes a e (literal_place (slice_get nodes e.0)) f q (λ p s. at_literal nodes a e (slice_get nodes e.0) p o refl s)
+literal_multiple_rule-sound nodes _ _ f o q = cc
+
 -- ---- negations, sums, products
 pub multiple_of_negation_rule-sound : IsSound multiple_of_negation_rule
 multiple_of_negation_rule-sound nodes (fact.Fix x k ∷ []) (slot.Fix e) f o q = λ a h.
@@ -127,7 +135,7 @@ multiple_of_product_rule-sound nodes (fact.Fix x k ∷ fact.Fix y n ∷ []) (slo
 multiple_of_product_rule-sound nodes _ _ f o q = cc
 
 -- ---- roundings
-rounding_of_out : (n : Option Node) (x : ExprId) (r : Rounding) → rounding_of n x ≡ Some r → n ≡ Some (node.Round r x)
+pub rounding_of_out : (n : Option Node) (x : ExprId) (r : Rounding) → rounding_of n x ≡ Some r → n ≡ Some (node.Round r x)
 rounding_of_out (Some (node.Round s y)) x r e = let t = if-some (is_same y x) s r e in ap Some (ap (λ z. node.Round s z) (expr_same y x t.0) ∙ ap (λ z. node.Round z x) t.1)
 rounding_of_out _ x r e = cc
 

@@ -1,11 +1,11 @@
 -- The rules on values other than 0 are sound: where the premises hold, the conclusion does.
-use Rattle.std.specs.Prelude.{◌≡◌, ◌≢◌, ◌⊎◌, ◌&&◌, ◌||◌, not, Bool, true, false, List, [], ◌∷◌, Option, Some, None, if◌then◌else◌, refl}
+use Rattle.std.specs.Prelude.{◌≡◌, ◌≢◌, ◌⊎◌, ◌&&◌, ◌||◌, not, Bool, true, false, List, [], ◌∷◌, Option, Some, None}
 use Rattle.std.specs.Option.{IsSomeAnd}
 use Rattle.std.proofs.Common.{sym, ap, subst, ◌∙◌, inl, inr, ⊎_elim}
-use Rattle.fx_model.specs.Fraction.{Fraction, ◌*ℚ◌, ◌-ℚ◌, ◌/ℚ◌, ◌≤ℚ◌, ◌<ℚ◌, neg_ℚ, abs_ℚ, zero_ℚ, one_ℚ, inverse_ℚ, abs-from, le_refl, lt_not, mul_comm, mul_assoc, mul-inverse, one-mul, zero-mul, zero-add, neg-neg, add-neg, div-mul}
+use Rattle.fx_model.specs.Fraction.{Fraction, ◌*ℚ◌, ◌-ℚ◌, ◌/ℚ◌, neg_ℚ, abs_ℚ, zero_ℚ, one_ℚ, inverse_ℚ, abs-from, le_refl, lt_not, mul_comm, mul_assoc, mul-inverse, one-mul, zero-mul, zero-add, neg-neg, add-neg, div-mul}
 use Rattle.fx_model.specs.Grid.{Bound, Below, At, Above}
 use Rattle.fx_model.specs.Enclosure.{IsFrom, IsUpTo, Lies, BoundLe}
-use Rattle.fx_model.specs.Expression.{Assignment, IsOrdered, value, lift₁, lift₂, quotient}
+use Rattle.fx_model.specs.Expression.{Assignment, value}
 use Rattle.fx_model.specs.declared.ExprId.{ExprId}
 use Rattle.fx_model.specs.declared.Node.{Node}
 use Rattle.fx_model.specs.declared.Node.TheVariants as node
@@ -16,20 +16,19 @@ use Rattle.interval.specs.Results.{has_zero}
 use Rattle.expr_dag.specs.Shapes.{is_at}
 use Rattle.facts.specs.declared.relative.RelativeError.{RelativeError}
 use Rattle.facts.specs.declared.fact.Fact.{Fact}
-use Rattle.facts.specs.declared.fact.Slot.{Slot}
 use Rattle.facts.specs.declared.fact.Fact.TheVariants as fact
 use Rattle.facts.specs.declared.fact.Slot.TheVariants as slot
-use Rattle.facts.specs.Holds.{AreZero, IsRelated, IsRelatedBy, Holds}
+use Rattle.facts.specs.Holds.{AreZero, IsRelated, Holds}
 use Rattle.facts.specs.CommonParts.{if-some, and_both, expr_same}
 use Rattle.facts.specs.Held.{some-and}
 use Rattle.facts.specs.Order.{is_same}
 use Rattle.facts.specs.Ranges.{IsBelow, is_below, is_below_in}
 use Rattle.facts.specs.Promises.{IsSound}
-use Rattle.facts.specs.Conclusions.{given, given_if, only_if}
+use Rattle.facts.specs.Conclusions.{given}
 use Rattle.expr_dag.specs.Lifted.{at_node, lifted_quotient, lifted₁, lifted₂}
 use Rattle.theorem_arith.specs.Shapes.{is_one}
 use Rattle.theorem_fix.specs.SoundMultiples.{one_same, or_out}
-use Rattle.theorem_fix.specs.Nonzero.{nonzero_bound_rule, nonzero_size_rule, nonzero_binary_rule, nonzero_product_rule, nonzero_quotient_rule, nonzero_negation_rule, are_known, are_sides, nonzero_or_void, void_of, nonzero_side_rule}
+use Rattle.theorem_fix.specs.Nonzero.{nonzero_bound_rule, nonzero_size_rule, nonzero_product_rule, nonzero_quotient_rule, nonzero_negation_rule, are_known, are_sides, nonzero_or_void, void_of, nonzero_side_rule}
 
 -- the value isn't 0
 abbrev IsNonzero : Fraction → Type 0

@@ -1,12 +1,46 @@
 // Multiples of powers of two.
-ghost use Rattle.std.specs.Prelude.{◌≡◌};
-ghost use Rattle.theorem_fix.specs.Multiples.{multiple_of_negation_rule, multiple_of_sum_rule, multiple_of_product_rule, last_place, rounded_multiple_rule, untouched, untouched_multiple_rule, number_place, point_place, number_multiple_rule};
+ghost use Rattle.std.specs.Prelude.{◌≡◌, slice_get};
+ghost use Rattle.fx_model.specs.Expression.{literal_value};
+ghost use Rattle.literal.specs.Normal.{IsNormal};
+ghost use Rattle.theorem_fix.specs.Greatest.{greatest_place};
+ghost use Rattle.theorem_fix.specs.Multiples.{literal_place, literal_multiple_rule, multiple_of_negation_rule, multiple_of_sum_rule, multiple_of_product_rule, last_place, rounded_multiple_rule, untouched, untouched_multiple_rule, number_place, point_place, number_multiple_rule};
 
 use crate::places::{keep, lesser, place, product_place};
 use crate::shape::rounding;
 use dyadic::{Dyadic, End};
-use expr_dag::{Dag, Node, Rounding};
+use expr_dag::{Dag, ExprId, Literal, Node, Rounding};
 use facts::{Fact, Place, Slot};
+use literal::fix_of;
+
+/// For a literal c: FIX(c, k), where k is the greatest of which it is a multiple.
+pub fn rule_21(dag: &Dag, premises: &[Fact], target: Slot) -> Option<Fact>
+    ensures concludes { result ≡ literal_multiple_rule dag.now premises.now target }
+{
+    let ([], Slot::Fix(e)) = (premises, target) else {
+        return None;
+    };
+    Fact::fix(e, of_expression(dag, e))
+}
+
+fn of_expression(dag: &Dag, e: ExprId) -> Option<Place>
+    ensures { result ≡ literal_place (slice_get dag.now e.0) }
+{
+    dag.laws();
+    match dag.get(e) {
+        Some(Node::Lit(c)) => of_literal(&c),
+        _ => None,
+    }
+}
+
+fn of_literal(literal: &Literal) -> Option<Place>
+    requires { IsNormal literal.now }
+    ensures { result ≡ greatest_place (literal_value literal.now) }
+{
+    match fix_of(literal) {
+        Some(k) => place(k as i16),
+        None => None,
+    }
+}
 
 /// From FIX(a, k): FIX(-a, k) (Gappa: `neg_fix`).
 pub fn rule_22(dag: &Dag, premises: &[Fact], target: Slot) -> Option<Fact>

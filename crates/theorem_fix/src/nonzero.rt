@@ -1,14 +1,13 @@
 // Values other than 0.
 ghost use Rattle.std.specs.Prelude.{◌≡◌};
 ghost use Rattle.fx_model.specs.Fraction.{zero_ℚ};
-ghost use Rattle.fx_model.specs.Grid as grid;
-ghost use Rattle.dyadic.specs.Order.{le_bound};
 ghost use Rattle.dyadic.specs.Ends.{bound_of};
 ghost use Rattle.interval.specs.Intervals.{range_of};
 ghost use Rattle.interval.specs.Results.{has_zero};
 ghost use Rattle.facts.specs.Ranges.{is_below};
 ghost use Rattle.theorem_fix.specs.Nonzero.{nonzero_bound_rule, nonzero_size_rule, nonzero_product_rule, nonzero_quotient_rule, nonzero_negation_rule, are_known, are_sides, nonzero_or_void, void_of, nonzero_side_rule};
 
+use crate::ends::{is_at_most, zero};
 use dyadic::End;
 use expr_dag::{Dag, ExprId, Node};
 use facts::{Fact, RelativeError, Slot};
@@ -63,18 +62,6 @@ fn is_positive(end: End) -> bool
     ensures { result ≡ is_below zero_ℚ (bound_of end) }
 {
     !is_at_most(end, zero())
-}
-
-fn zero() -> End
-    ensures { bound_of result ≡ grid.At zero_ℚ }
-{
-    Interval::not_negative().lo()
-}
-
-fn is_at_most(a: End, b: End) -> bool
-    ensures { result ≡ le_bound (bound_of a) (bound_of b) }
-{
-    a.is_at_most(b)
 }
 
 /// From NZR(a), NZR(b): NZR(a * b) (Gappa: `mul_nzr`).

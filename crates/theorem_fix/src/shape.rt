@@ -1,15 +1,28 @@
 // Roundings of an expression.
 ghost use Rattle.std.specs.Prelude.{◌≡◌};
-ghost use Rattle.theorem_fix.specs.Shapes.{rounding_at};
+ghost use Rattle.theorem_fix.specs.Shapes.{IsInLimits, rounding_at, error_rounding_at};
 
 use expr_dag::{Dag, ExprId, Node, Rounding};
 
 // The rounding by which an expression is made of x.
 pub fn rounding(dag: &Dag, e: ExprId, x: ExprId) -> Option<Rounding>
-    ensures { result ≡ rounding_at dag.now e x }
+    ensures is { result ≡ rounding_at dag.now e x }
+    ensures limits { IsInLimits result }
 {
+    dag.laws();
     match dag.get(e) {
         Some(Node::Round(r, y)) => { if y == x { Some(r) } else { None } }
+        _ => None,
+    }
+}
+
+// The rounding R, where the expression is R(x) - x.
+pub fn error_rounding(dag: &Dag, e: ExprId, x: ExprId) -> Option<Rounding>
+    ensures is { result ≡ error_rounding_at dag.now e x }
+    ensures limits { IsInLimits result }
+{
+    match dag.get(e) {
+        Some(Node::Sub(r, y)) => { if y == x { rounding(dag, r, x) } else { None } }
         _ => None,
     }
 }

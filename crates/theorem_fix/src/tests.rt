@@ -1,4 +1,4 @@
-// Each rule, at values that were worked out by hand.
+// The rules on multiples and on values other than 0, at values that were worked out by hand.
 use super::*;
 use dyadic::{Dyadic, End};
 use expr_dag::{Dag, Direction, ExprId, Node, Rounding};
@@ -26,14 +26,14 @@ const DIV: u16 = 6;
 const RND: u16 = 7;
 
 // Ends from here on, on both sides, are infinite.
-const INF: i64 = 100;
+pub const INF: i64 = 100;
 
-use Given::{One, Two};
-use Said::{A, B, Equal, F, N, Near, Nil, V};
+pub use Given::{No, One, Two};
+pub use Said::{A, B, Equal, F, N, Near, Nil, V};
 
 // A fact with whole ends, or nothing. `Near` is a relative error from 0 to 1, `Equal` that both sides are 0.
 #[derive(Clone, Copy)]
-enum Said {
+pub enum Said {
     B(u16, i64, i64),
     A(u16, i64, i64),
     F(u16, i16),
@@ -46,7 +46,8 @@ enum Said {
 
 // Premises.
 #[derive(Clone, Copy)]
-enum Given {
+pub enum Given {
+    No,
     One(Said),
     Two(Said, Said),
 }
@@ -111,29 +112,41 @@ fn fact(rt: &impl Abort, premise: Said) -> Fact {
 
 fn rule(dag: &Dag, number: u8, premises: &[Fact], target: Slot) -> Option<Fact> {
     match number {
+        21 => rule_21(dag, premises, target),
         22 => rule_22(dag, premises, target),
         23 => rule_23(dag, premises, target),
         24 => rule_24(dag, premises, target),
         25 => rule_25(dag, premises, target),
         26 => rule_26(dag, premises, target),
         27 => rule_27(dag, premises, target),
+        28 => rule_28(dag, premises, target),
         31 => rule_31(dag, premises, target),
         32 => rule_32(dag, premises, target),
         33 => rule_33(dag, premises, target),
         34 => rule_34(dag, premises, target),
         35 => rule_35(dag, premises, target),
-        _ => rule_36(dag, premises, target),
+        36 => rule_36(dag, premises, target),
+        41 => rule_41(dag, premises, target),
+        42 => rule_42(dag, premises, target),
+        43 => rule_43(dag, premises, target),
+        44 => rule_44(dag, premises, target),
+        _ => rule_90(dag, premises, target),
     }
 }
 
 fn found(rt: &impl Abort, dag: &Dag, number: u8, given: Given, target: Slot) -> Option<Fact> {
     match given {
+        No => rule(dag, number, &[], target),
         One(a) => rule(dag, number, &[fact(rt, a)], target),
         Two(a, b) => rule(dag, number, &[fact(rt, a), fact(rt, b)], target),
     }
 }
 
-fn fix(x: u16) -> Slot {
+pub fn bnd(x: u16) -> Slot {
+    Slot::Bnd(ExprId(x))
+}
+
+pub fn fix(x: u16) -> Slot {
     Slot::Fix(ExprId(x))
 }
 
@@ -141,7 +154,7 @@ fn nzr(x: u16) -> Slot {
     Slot::Nzr(ExprId(x))
 }
 
-fn try_rows(rt: &impl Abort, dag: &Dag, rows: &[(u8, Given, Slot, Said)]) {
+pub fn try_rows(rt: &impl Abort, dag: &Dag, rows: &[(u8, Given, Slot, Said)]) {
     for (number, given, target, wanted) in rows {
         let given = found(rt, dag, *number, *given, *target);
         assert!(rt;

@@ -9,8 +9,8 @@ use theorem_arith::{
     rule_12, rule_13, rule_14, rule_15, rule_16, rule_17, rule_18, rule_19,
 };
 use theorem_fix::{
-    rule_22, rule_23, rule_24, rule_25, rule_26, rule_27, rule_31, rule_32, rule_33, rule_34,
-    rule_35, rule_36,
+    rule_21, rule_22, rule_23, rule_24, rule_25, rule_26, rule_27, rule_28, rule_31, rule_32,
+    rule_33, rule_34, rule_35, rule_36, rule_41, rule_42, rule_43, rule_44, rule_90,
 };
 
 /// What the rule with this number concludes on the target from the premises, in their order. None exactly where the number
@@ -41,18 +41,25 @@ pub fn conclude(dag: &Dag, number: u8, arg: u16, premises: &[Fact], target: Slot
         17 => rule_17(dag, premises, target),
         18 => rule_18(dag, premises, target),
         19 => rule_19(dag, premises, target),
+        21 => rule_21(dag, premises, target),
         22 => rule_22(dag, premises, target),
         23 => rule_23(dag, premises, target),
         24 => rule_24(dag, premises, target),
         25 => rule_25(dag, premises, target),
         26 => rule_26(dag, premises, target),
         27 => rule_27(dag, premises, target),
+        28 => rule_28(dag, premises, target),
         31 => rule_31(dag, premises, target),
         32 => rule_32(dag, premises, target),
         33 => rule_33(dag, premises, target),
         34 => rule_34(dag, premises, target),
         35 => rule_35(dag, premises, target),
         36 => rule_36(dag, premises, target),
+        41 => rule_41(dag, premises, target),
+        42 => rule_42(dag, premises, target),
+        43 => rule_43(dag, premises, target),
+        44 => rule_44(dag, premises, target),
+        90 => rule_90(dag, premises, target),
         _ => None,
     }
 }

@@ -1,5 +1,5 @@
-use Rattle.std.specs.Prelude.{◌≡◌, not, Bool, true, false, refl}
-use Rattle.std.proofs.Common.{ap, ◌∙◌, sym}
+use Rattle.std.specs.Prelude.{◌≡◌, not, refl}
+use Rattle.std.proofs.Common.{ap, ◌∙◌}
 use Rattle.fx_model.specs.Fraction.{Fraction, zero_ℚ}
 use Rattle.fx_model.specs.Grid.{Bound, Below, At, Above}
 use Rattle.dyadic.specs.Order.{le_bound}

@@ -2,7 +2,7 @@ use Rattle.std.specs.Prelude.{◌≡◌, ◌↔◌, ℤ, pos, negsuc, ◌≤ℤ�
 use Rattle.std.proofs.Common.{ap, ◌∙◌, sym, subst, refl, arith}
 use Rattle.std.proofs.lemmas.Int.{ints}
 use Rattle.facts.specs.declared.place.Place.{Place}
-use Rattle.theorem_fix.specs.Places.{IsPlace, place_from, place_from-none, place_from_self}
+use Rattle.theorem_fix.specs.Places.{place_from, place_from-none, place_from_self}
 use Rattle.theorem_fix.proofs.places.place.Goals as goal
 
 place_only : (k l : ℤ) (o : Option Place) → l ≡ k → (IsNone o ↔ (¬ ((negsuc 1023 ≤ℤ l) × (l ≤ℤ pos 512)))) → IfSome o (λ p. p.exponent ≡ l) → o ≡ place_from k
