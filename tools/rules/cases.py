@@ -1,10 +1,14 @@
 #!/usr/bin/env python3
-"""Writes random premise lists for rules 1 to 19, 22 to 27 and 31 to 36: python3 cases.py COUNT SEED > CASES
+"""Writes random premise lists for rules 1 to 19, 21 to 28, 31 to 36, 41 to 44 and 90: python3 cases.py COUNT SEED > CASES
 
 Each line is a list of whole numbers. `0` begins a new list of nodes. `1 KIND A B C` adds a node: 0 variable A, 1 literal
-A * 2^B * 10^C, 2 negation, 3 sum, 4 difference, 5 product, 6 quotient, 7 absolute value, 8 rounding to 2^A of B. A case is
-`2 NUMBER ARG SLOT COUNT PREMISE..`. A slot is KIND X Y: 0 BND, 1 ABS, 2 REL, 3 FIX, 4 NZR, 5 VOID. A premise is a slot, a
-flag (of REL: 1 with an interval), two ends, and k of FIX. An end is `0 m e`, `1 0 0` for minus and `2 0 0` for plus infinity.
+A * 2^B * 10^C, 2 negation, 3 sum, 4 difference, 5 product, 6 quotient, 7 absolute value, 8 rounding to 2^A of B
+in the direction with number C. A case is `2 NUMBER ARG SLOT COUNT PREMISE..`. A slot is KIND X Y: 0 BND, 1 ABS, 2 REL, 3 FIX,
+4 NZR, 5 VOID. A premise is a slot, a flag (of REL: 1 with an interval), two ends, and k of FIX. An end is `0 m e`, `1 0 0` for
+minus and `2 0 0` for plus infinity.
+
+The program is `concluding.txt`: as src/main.rt of a program over fx_model, dyadic, interval, expr_dag, facts and theorem_list,
+it reads the cases and writes the answers that `judge.py` judges.
 """
 
 import random
@@ -100,7 +104,13 @@ def literal(r):
 def nodes(r):
     """Distinct nodes, each kind once at least, over a few operands."""
     found = [(VAR, 0), (VAR, 1), literal(r), (NEG, 0), (ADD, 0, 1), (SUB, 0, 1), (MUL, 0, 1), (DIV, 0, 1), (ABS, 0),
-             (SUB, 1, 1), (MUL, 1, 1), (DIV, 0, 0), (RND, -4, 0), (RND, 3, 1), (RND, -512, 2), (RND, 512, 0), (ABS, 3)]
+             (SUB, 1, 1), (MUL, 1, 1), (DIV, 0, 0), (RND, -4, 0, 5), (RND, 3, 1, 0), (RND, -512, 2, 1), (RND, 512, 0, 2), (ABS, 3)]
+    for _ in range(12):
+        node = (RND, r.choice((-512, 512, r.randint(-8, 8), r.randint(-512, 512))), r.randrange(3), r.choice((0, 0, 1, 1, *range(11))))
+        if node not in found:
+            found.append(node)
+    found += [(SUB, e, n[2]) for e, n in enumerate(found) if n[0] == RND]
+    found += [(SUB, n[2], e) for e, n in enumerate(found) if n[0] == RND and r.randrange(8) == 0]
     for _ in range(20):
         kind = r.randint(LIT, ABS)
         a, b = r.randrange(len(found)), r.randrange(len(found))
@@ -131,6 +141,7 @@ NOWHERE = (VOID, 0, 0)
 # For each rule that stands on a node: the node's kinds, and from its number and operands the premises and the target.
 ON_NODE = {
     1: ((LIT,), lambda e, *_: ([], bnd(e))),
+    21: ((LIT,), lambda e, *_: ([], fix(e))),
     2: ((NEG,), lambda e, a: ([bnd(a)], bnd(e))),
     3: ((ADD,), lambda e, a, b: ([bnd(a), bnd(b)], bnd(e))),
     4: ((SUB,), lambda e, a, b: ([bnd(a), bnd(b)], bnd(e))),
@@ -149,8 +160,12 @@ ON_NODE = {
     22: ((NEG,), lambda e, a: ([fix(a)], fix(e))),
     23: ((ADD, SUB), lambda e, a, b: ([fix(a), fix(b)], fix(e))),
     24: ((MUL,), lambda e, a, b: ([fix(a), fix(b)], fix(e))),
-    25: ((RND,), lambda e, lsb, a: ([bnd(a)], fix(e))),
-    26: ((RND,), lambda e, lsb, a: ([fix(a)], fix(e))),
+    25: ((RND,), lambda e, lsb, a, _: ([bnd(a)], fix(e))),
+    26: ((RND,), lambda e, lsb, a, _: ([fix(a)], fix(e))),
+    41: ((RND,), lambda e, lsb, a, _: ([bnd(a)], bnd(e))),
+    42: ((SUB,), lambda e, a, b: ([bnd(b)], bnd(e))),
+    43: ((SUB,), lambda e, a, b: ([bnd(b)], bnd(e))),
+    44: ((SUB,), lambda e, a, b: ([fix(b)], bnd(e))),
     33: ((MUL,), lambda e, a, b: ([nzr(a), nzr(b)], nzr(e))),
     34: ((DIV,), lambda e, a, b: ([nzr(a), nzr(b)], nzr(e))),
     35: ((NEG,), lambda e, a: ([nzr(a)], nzr(e))),
@@ -160,10 +175,14 @@ ON_ANY = {
     12: lambda x: ([abs_of(x)], bnd(x)),
     13: lambda x: ([bnd(x), abs_of(x)], bnd(x)),
     27: lambda x: ([bnd(x)], fix(x)),
+    28: lambda x: ([bnd(x), fix(x)], bnd(x)),
     31: lambda x: ([bnd(x)], nzr(x)),
     32: lambda x: ([abs_of(x)], nzr(x)),
+    90: lambda x: ([bnd(x), fix(x)], NOWHERE),
 }
 TWICE = (5, 7, 10)
+ERRORS = (42, 43, 44)
+SIGNED = 43
 SIDES = 36
 NUMBERS = sorted([*ON_NODE, *ON_ANY, SIDES])
 
@@ -177,6 +196,8 @@ def fitting(r, number, listed):
         return [(REL, x, y), nzr(known)], nzr(other)
     kinds, make = ON_NODE[number]
     fit = [e for e, n in enumerate(listed) if n[0] in kinds]
+    if number in ERRORS and r.randrange(5):
+        fit = [e for e in fit if listed[listed[e][1]][0] == RND and (number != SIGNED or listed[listed[e][1]][3] < 2)]
     same = [e for e in fit if listed[e][1] == listed[e][-1]]
     e = r.choice(same if number in TWICE and r.randrange(5) else fit)
     return make(e, *listed[e][1:])

@@ -14,12 +14,13 @@ from reference.dag import Dag  # noqa: E402
 
 NODES = ("var", "lit", "neg", "add", "sub", "mul", "div", "abs")
 KINDS = "BARFNV"
-LISTED = (*range(1, 20), *range(22, 28), *range(31, 37))
+DIRECTIONS = ("zr", "aw", "dn", "up", "od", "ne", "no", "nz", "na", "nd", "nu")
+LISTED = (*range(1, 20), *range(21, 29), *range(31, 37), *range(41, 45), 90)
 
 
 def node(row):
     if row[0] == 8:
-        return ("rnd", "ne", row[1], row[2])
+        return ("rnd", DIRECTIONS[row[3]], row[1], row[2])
     return (NODES[row[0]],) + tuple(row[1:])
 
 

@@ -1,5 +1,12 @@
 -- What holds of each rule of this crate.
-use Rattle.facts.specs.Promises.{Rule}
+use Rattle.std.specs.Prelude.{◌≡◌, ◌⊎◌, List, Some}
+use Rattle.fx_model.specs.declared.Node.{Node}
+use Rattle.facts.specs.declared.fact.Fact.{Fact}
+use Rattle.facts.specs.declared.fact.Slot.{Slot}
+use Rattle.facts.specs.declared.fact.Fact.TheVariants as fact
+use Rattle.facts.specs.declared.fact.Slot.TheVariants as slot
+use Rattle.facts.specs.Order.{IsStronger}
+use Rattle.facts.specs.Promises.{Rule, EachStronger}
 use Rattle.theorem_fix.specs.Multiples.{literal_multiple_rule, multiple_of_negation_rule, multiple_of_sum_rule, multiple_of_product_rule, rounded_multiple_rule, untouched_multiple_rule, number_multiple_rule}
 use Rattle.theorem_fix.specs.Nonzero.{nonzero_bound_rule, nonzero_size_rule, nonzero_product_rule, nonzero_quotient_rule, nonzero_negation_rule, nonzero_side_rule}
 use Rattle.theorem_fix.specs.Roundings.{rounded_bound_rule, error_rule, signed_error_rule, multiple_error_rule}
@@ -25,3 +32,8 @@ pub record EachRule (P : Rule → Type 0) : Type 0 where
   pub signed_error : P signed_error_rule
   pub multiple_error : P multiple_error_rule
   pub no_multiple : P no_multiple_rule
+
+-- Of rule 28, and 90: from stronger premises the first rule gives a fact that is as strong, or stronger, or the second gives VOID.
+abbrev pub IsIsotoneOrVoid : Rule → Rule → Type 0
+IsIsotoneOrVoid r other = (nodes : List Node) (qs : List Fact) (target : Slot) (ps : List Fact) (c : Fact) → EachStronger ps qs → r nodes qs target ≡ Some c
+    → ((d : Fact) × (r nodes ps target ≡ Some d) × IsStronger d c) ⊎ (other nodes ps slot.Void ≡ Some fact.Void)

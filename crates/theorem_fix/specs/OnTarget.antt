@@ -5,9 +5,11 @@ use Rattle.fx_model.specs.Fraction.{zero_ℚ}
 use Rattle.fx_model.specs.declared.ExprId.{ExprId}
 use Rattle.fx_model.specs.declared.Node.{Node}
 use Rattle.fx_model.specs.declared.Node.TheVariants as node
+use Rattle.interval.specs.declared.interval.Interval.{Interval}
 use Rattle.interval.specs.Intervals.{range_of}
 use Rattle.interval.specs.Results.{has_zero}
 use Rattle.expr_dag.specs.Shapes.{is_at}
+use Rattle.rounding.specs.declared.sign.Sign.TheVariants.{Unknown}
 use Rattle.facts.specs.declared.relative.RelativeError.{RelativeError}
 use Rattle.facts.specs.declared.fact.Fact.TheVariants as fact
 use Rattle.facts.specs.declared.fact.Slot.TheVariants as slot
@@ -18,12 +20,10 @@ use Rattle.facts.specs.Conclusions.{StandsOn, bnd_of, bnd_stands, fact_stands, f
 use Rattle.theorem_arith.specs.Shapes.{is_one}
 use Rattle.theorem_fix.specs.Places.{lesser_place, sum_place}
 use Rattle.theorem_fix.specs.Shapes.{rounding_at, error_rounding_at}
-use Rattle.theorem_fix.specs.Roundings.{rounded_interval, rounded_bound_rule, errors_of, error_rule, sign_of, signed_errors_of, signed_error_rule, multiple_error_rule}
-use Rattle.theorem_fix.specs.Shrunk.{shrunk_of, shrinking_rule, void_without, no_multiple_rule}
-use Rattle.interval.specs.declared.interval.Interval.{Interval}
-use Rattle.rounding.specs.declared.sign.Sign.TheVariants.{Unknown}
 use Rattle.theorem_fix.specs.Multiples.{literal_place, literal_multiple_rule, multiple_of_negation_rule, multiple_of_sum_rule, multiple_of_product_rule, last_place, rounded_multiple_rule, untouched, untouched_multiple_rule, point_place, number_multiple_rule}
 use Rattle.theorem_fix.specs.Nonzero.{nonzero_bound_rule, nonzero_size_rule, nonzero_binary_rule, nonzero_product_rule, nonzero_quotient_rule, nonzero_negation_rule, are_known, are_sides, nonzero_or_void, void_of, nonzero_side_rule}
+use Rattle.theorem_fix.specs.Roundings.{rounded_interval, rounded_bound_rule, errors_of, error_rule, sign_of, signed_errors_of, signed_error_rule, multiple_error_rule}
+use Rattle.theorem_fix.specs.Shrunk.{shrunk_of, shrinking_rule, void_without, no_multiple_rule}
 
 -- ---- multiples
 pub literal_multiple_rule-target : IsOnTarget literal_multiple_rule

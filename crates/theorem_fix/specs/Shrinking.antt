@@ -12,15 +12,15 @@ use Rattle.interval.specs.declared.interval.Interval.{Interval}
 use Rattle.interval.specs.Intervals.{range_of}
 use Rattle.facts.specs.declared.place.Place.{Place}
 use Rattle.facts.specs.declared.fact.Fact.{Fact}
-use Rattle.facts.specs.declared.fact.Slot.{Slot}
 use Rattle.facts.specs.declared.fact.Fact.TheVariants as fact
 use Rattle.facts.specs.declared.fact.Slot.TheVariants as slot
 use Rattle.facts.specs.CommonParts.{and_both, expr_same, some-inj}
-use Rattle.facts.specs.Order.{IsWithin, IsStronger, is_same}
-use Rattle.facts.specs.Promises.{Rule, IsSound, IsIsotone, EachStronger}
+use Rattle.facts.specs.Order.{IsWithin, is_same}
+use Rattle.facts.specs.Promises.{IsSound, IsIsotone, EachStronger}
 use Rattle.facts.specs.Premises.{Gives, strong_bnd, first_premise, one_fix}
 use Rattle.facts.specs.Conclusions.{bnd_of, given, given_if, improves_bnd, improves_given}
 use Rattle.theorem_arith.specs.Shapes.{is_one}
+use Rattle.theorem_fix.specs.EachRule.{IsIsotoneOrVoid}
 use Rattle.theorem_fix.specs.Outward.{outward_of_lies}
 use Rattle.theorem_fix.specs.SoundMultiples.{one_same}
 use Rattle.theorem_fix.specs.SoundRoundings.{bnd_given}
@@ -98,11 +98,6 @@ no_multiple_rule-isotone nodes (fact.Bnd x i ∷ fact.Fix y k ∷ []) slot.Void 
     let a = bnd_then_fix ps x i y k s in
     subst (λ l. Gives (no_multiple_rule nodes l slot.Void) c) (sym a.2) (void_stays nodes x y i a.0 k a.1 c a.3 a.4 q)
 no_multiple_rule-isotone nodes _ _ ps c s q = cc
-
--- From stronger premises the first rule gives a fact that is as strong, or stronger, or the second gives VOID.
-abbrev pub IsIsotoneOrVoid : Rule → Rule → Type 0
-IsIsotoneOrVoid r other = (nodes : List Node) (qs : List Fact) (target : Slot) (ps : List Fact) (c : Fact) → EachStronger ps qs → r nodes qs target ≡ Some c
-    → ((d : Fact) × (r nodes ps target ≡ Some d) × IsStronger d c) ⊎ (other nodes ps slot.Void ≡ Some fact.Void)
 
 further_in : (i j : Interval) (k n : Place) (p q : Interval) → IsWithin j i → k.exponent ≤ℤ n.exponent → shrunk_of i k ≡ Some p → shrunk_of j n ≡ Some q → IsWithin q p
 further_in i j k n p q w h e f = subst (λ r. Within (range_of q) r) (sym (shrunk_ends i k p e)) (subst (λ r. Within r (shrunk_range k.exponent (range_of i))) (sym (shrunk_ends j n q f)) (shrunk_within i j k n w h))

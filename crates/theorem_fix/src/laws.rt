@@ -1,8 +1,7 @@
 // What the rules promise, for callers to cite. Nothing here is done at run time.
 ghost use Rattle.facts.specs.Promises.{IsSound, IsIsotone, IsOnTarget};
-ghost use Rattle.theorem_fix.specs.EachRule.{EachRule};
+ghost use Rattle.theorem_fix.specs.EachRule.{EachRule, IsIsotoneOrVoid};
 ghost use Rattle.theorem_fix.specs.Shrunk.{shrinking_rule, no_multiple_rule};
-ghost use Rattle.theorem_fix.specs.Shrinking.{IsIsotoneOrVoid};
 
 /// Nothing is done. The clauses tell a caller that each rule is sound: for every assignment of fractions, where the
 /// premises hold, the conclusion does.

@@ -43,32 +43,48 @@ const NOUGHT: u16 = 14;
 
 const GREAT: u16 = 15;
 
-fn rounded(x: ExprId, lsb: i16, dir: Direction) -> Node {
-    Node::Round(Rounding { lsb, dir }, x)
-}
-
-fn literal(rt: &impl Abort, text: &str) -> Node {
-    Node::Lit(read(text).expect(rt, "a literal"))
-}
-
-fn list(rt: &(impl AllocGlobal + Abort)) -> Result<Dag, Fail> {
+fn list(rt: &impl AllocGlobal) -> Result<Dag, Fail> {
     let mut dag = Dag::new(rt.alloc());
     let x = dag.add(Node::Var(0))?;
     let y = dag.add(Node::Var(1))?;
-    let zr = dag.add(rounded(x, 3, Direction::Zr))?;
-    let aw = dag.add(rounded(x, 3, Direction::Aw))?;
-    let dn = dag.add(rounded(x, 3, Direction::Dn))?;
-    let ne = dag.add(rounded(x, 3, Direction::Ne))?;
+    let zr = dag.add(Node::Round(
+        Rounding {
+            lsb: 3,
+            dir: Direction::Zr,
+        },
+        x,
+    ))?;
+    let aw = dag.add(Node::Round(
+        Rounding {
+            lsb: 3,
+            dir: Direction::Aw,
+        },
+        x,
+    ))?;
+    let dn = dag.add(Node::Round(
+        Rounding {
+            lsb: 3,
+            dir: Direction::Dn,
+        },
+        x,
+    ))?;
+    let ne = dag.add(Node::Round(
+        Rounding {
+            lsb: 3,
+            dir: Direction::Ne,
+        },
+        x,
+    ))?;
     dag.add(Node::Sub(zr, x))?;
     dag.add(Node::Sub(aw, x))?;
     dag.add(Node::Sub(dn, x))?;
     dag.add(Node::Sub(ne, x))?;
     dag.add(Node::Sub(ne, y))?;
     dag.add(Node::Sub(x, ne))?;
-    dag.add(literal(rt, "12"))?;
-    dag.add(literal(rt, "0.1"))?;
-    dag.add(literal(rt, "0"))?;
-    dag.add(literal(rt, "16b512"))?;
+    dag.add(Node::Lit(read("12")?))?;
+    dag.add(Node::Lit(read("0.1")?))?;
+    dag.add(Node::Lit(read("0")?))?;
+    dag.add(Node::Lit(read("16b512")?))?;
     Ok(dag)
 }
 
@@ -150,7 +166,13 @@ fn roundings_are_those_of_the_rows(rt: HostRuntime) -> Result<(), Fail> {
 fn half_of_the_last_place_is_rounded_outward(rt: HostRuntime) -> Result<(), Fail> {
     let mut dag = Dag::new(rt.alloc());
     let x = dag.add(Node::Var(0))?;
-    let near = dag.add(rounded(x, -512, Direction::Nu))?;
+    let near = dag.add(Node::Round(
+        Rounding {
+            lsb: -512,
+            dir: Direction::Nu,
+        },
+        x,
+    ))?;
     let error = dag.add(Node::Sub(near, x))?;
     let last = Dyadic::new(1, -512).expect(&rt, "the least number above 0");
     let wanted = Interval::new(End::At(last.neg()), End::At(last));

@@ -3,7 +3,7 @@ use Rattle.std.proofs.Common.{sym, ap, ◌∙◌, subst, arith, to_z, of_z, w16,
 use Rattle.std.proofs.lemmas.Int.{ints}
 use Rattle.fx_model.specs.Fraction.{Fraction}
 use Rattle.fx_model.specs.Grid.{Bound, Below, At, Above}
-use Rattle.fx_model.specs.Enclosure.{Range, MultiplesIn, IsEnclosure, IsOrdered, enclosure_unique}
+use Rattle.fx_model.specs.Enclosure.{Range, MultiplesIn, IsEnclosure, IsOrdered, enclosure_unique, ordered_by}
 use Rattle.fx_model.specs.declared.Direction.TheVariants.{Dn, Up}
 use Rattle.interval.specs.declared.interval.Interval.{Interval}
 use Rattle.interval.specs.Intervals.{range_of, same_range}
@@ -12,7 +12,6 @@ use Rattle.interval.specs.Multiples.{IsEndUp, IsEndDown}
 use Rattle.interval.proofs.Shrunk.{some_multiple, shrunk_is}
 use Rattle.rounding.specs.Rounded.{rounded_multiple}
 use Rattle.facts.specs.declared.place.Place.{Place}
-use Rattle.fx_model.specs.Enclosure.{ordered_by}
 use Rattle.theorem_fix.specs.Beside.{rounded_below, rounded_above, multiple_below, multiple_above}
 use Rattle.theorem_fix.specs.Roundings.{rounded_end}
 use Rattle.theorem_fix.specs.Shrunk.{shrunk_range, shrunk_of}
