@@ -18,3 +18,4 @@ pub mod IsotoneRoundings
 pub mod IsotoneNonzero
 pub mod Shrinking
 pub mod OnTarget
+pub mod Examples
