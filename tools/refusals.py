@@ -5,8 +5,8 @@
     refusals.py program > main.rt                   a program over `script_judge` that answers TEXTS on its input
     refusals.py compare REFERENCE TEXTS ANSWERS     ANSWERS: for each text `KIND BYTE` or `None`
 
-REFERENCE is the folder that holds the package `reference`. Refusals that need numbers of the grid are left out of its
-answers: bounds out of order, split ranges, split points.
+REFERENCE is the folder that holds the package `reference`. Of its answers the ranges of split variables and the points of
+splits are left out.
 """
 
 import random
@@ -347,7 +347,7 @@ def one(seed):
 
 
 def reference_answer(script, data):
-    """The first refusal of the reference, without those that need numbers of the grid."""
+    """The first refusal of the reference, without those of split ranges and points."""
     try:
         text = script.decode(data)
     except script.Refusal as r:
@@ -363,7 +363,7 @@ def reference_answer(script, data):
 
     def stays(refusal):
         at, number, _ = refusal
-        if number in (script.BAD_BOUND, script.SPLIT_RANGE):
+        if number == script.SPLIT_RANGE:
             return False
         if number == script.BAD_SPLIT:
             i = starts[at]

@@ -10,15 +10,15 @@ use Rattle.script_shape.specs.Roles.{Leaf, at}
 use Rattle.script_judge.specs.declared.refusal.RefusalKind.{RefusalKind}
 use Rattle.script_judge.specs.declared.fault.Fault.{Fault}
 use Rattle.script_judge.specs.declared.judge.Seen.{Seen as CodeSeen}
-use Rattle.script_judge.specs.declared.names.Names.{Names}
 use Rattle.script_judge.specs.declared.counts.Counts.{Counts}
 use Rattle.script_judge.specs.Counts.{one_if}
 use Rattle.script_judge.specs.Limits.{IsWithinLimits}
-use Rattle.script_judge.specs.Names.{NamesSeen, is_used, is_some_among, defines, split_name}
+use Rattle.script_judge.specs.Names.{is_used, is_some_among, defines, split_name}
 use Rattle.script_judge.specs.Leaves.{leaves_of}
-use Rattle.script_judge.specs.Numbers.{has_no_pieces, is_past_lsb, is_past_pieces, IsPast, is_number}
+use Rattle.script_judge.specs.Bounds.{is_bad_bound}
+use Rattle.script_judge.specs.Numbers.{Verdict, Tells, has_no_pieces, is_past_lsb, is_past_pieces}
 use Rattle.script_judge.specs.Judge.{Seen, nothing_seen, seen_after, is_arrow, has_arrow, arrow_count, is_empty, is_on_wrong_side, form_kind, form_refusal, limit_kind, limit_refusal, or_else, refusal_at, Judged, refused, passed}
-use Rattle.script_judge.specs.Views.{AreNames, IsSeen}
+use Rattle.script_judge.specs.Views.{IsSeen}
 
 -- ---- arrows
 
@@ -100,50 +100,50 @@ pub begin_judging : (all : List Leaf) (code : CodeSeen) (arrows : ℕ) → IsSee
 begin_judging all code arrows h w a = record { seen = nothing_seen; stands = h; within = w; arrows_left = a; rest = λ found k. k }
 
 -- what is told of one token
-pub record IsFormOf (names : Names) (past arrow_behind : Bool) (r : Due) (w : Word) (behind : List Leaf) (form : Option RefusalKind) : Type 0 where
-  pub tells : IsTrue past ↔ IsPast (is_number r) w
+pub record IsFormOf (code : CodeSeen) (v : Verdict) (arrow_behind : Bool) (r : Due) (w : Word) (behind : List Leaf) (form : Option RefusalKind) : Type 0 where
+  pub tells : Tells v r w behind
   pub arrow : arrow_behind ≡ has_arrow behind
-  pub kind : (s : NamesSeen) → AreNames names s → form ≡ form_refusal (record { past = past }) s r w arrow_behind behind
+  pub kind : (s : Seen) → IsSeen code s → form ≡ form_refusal v s r w arrow_behind behind
 
-pub told : (names : Names) (past : Bool) (r : Due) (w : Word) (behind : List Leaf) (form : Option RefusalKind) (arrows later : ℕ) (arrow : Bool) → arrows ≡ arrow_count (at r w ∷ behind) → later ≡ arrows - one_if arrow → arrow ≡ is_arrow r w
-    → IsTrue past ↔ IsPast (is_number r) w → ((s : NamesSeen) → AreNames names s → form ≡ form_refusal (record { past = past }) s r w (nat_lt 0 later) behind) → IsFormOf names past (nat_lt 0 later) r w behind form
-told names past r w behind form arrows later arrow h k e t f = record {
+pub told : (code : CodeSeen) (v : Verdict) (r : Due) (w : Word) (behind : List Leaf) (form : Option RefusalKind) (arrows later : ℕ) (arrow : Bool) → arrows ≡ arrow_count (at r w ∷ behind) → later ≡ arrows - one_if arrow → arrow ≡ is_arrow r w
+    → Tells v r w behind → ((s : Seen) → IsSeen code s → form ≡ form_refusal v s r w (nat_lt 0 later) behind) → IsFormOf code v (nat_lt 0 later) r w behind form
+told code v r w behind form arrows later arrow h k e t f = record {
   tells = t;
   arrow = told_arrow behind later (behind_arrow r w behind arrows later h (k ∙ ap (λ b. arrows - one_if b) e));
   kind = f;
 }
 
-form_at : {names : Names} {past arrow_behind : Bool} {r : Due} {w : Word} {behind : List Leaf} {form : Option RefusalKind} → IsFormOf names past arrow_behind r w behind form
-    → (seen : Seen) → AreNames names seen.names → refusal_at (record { past = past }) seen r w behind ≡ or_else form (limit_refusal (seen_after seen r w) r w)
-form_at {names} {past} {arrow_behind} {r} {w} {behind} {form} f seen h =
-    ap (λ o. or_else o (limit_refusal (seen_after seen r w) r w)) (ap (λ b. form_refusal (record { past = past }) seen.names r w b behind) (sym f.arrow) ∙ sym (f.kind seen.names h))
+form_at : {code : CodeSeen} {v : Verdict} {arrow_behind : Bool} {r : Due} {w : Word} {behind : List Leaf} {form : Option RefusalKind} → IsFormOf code v arrow_behind r w behind form
+    → (seen : Seen) → IsSeen code seen → refusal_at v seen r w behind ≡ or_else form (limit_refusal (seen_after v seen r w) r w)
+form_at {code} {v} {arrow_behind} {r} {w} {behind} {form} f seen h =
+    ap (λ o. or_else o (limit_refusal (seen_after v seen r w) r w)) (ap (λ b. form_refusal v seen r w b behind) (sym f.arrow) ∙ sym (f.kind seen h))
 
-module _ (all : List Leaf) (n : ℕ) (code : CodeSeen) (r : Due) (w : Word) (behind : List Leaf) (arrows : ℕ) (m : JudgedTo all n code (at r w ∷ behind) arrows) (past arrow_behind : Bool) (form : Option RefusalKind) (f : IsFormOf code.names past arrow_behind r w behind form) where
+module _ (all : List Leaf) (n : ℕ) (code : CodeSeen) (r : Due) (w : Word) (behind : List Leaf) (arrows : ℕ) (m : JudgedTo all n code (at r w ∷ behind) arrows) (v : Verdict) (arrow_behind : Bool) (form : Option RefusalKind) (f : IsFormOf code v arrow_behind r w behind form) where
   -- a token that is refused whatever is counted
   pub ends_by_form : (k : RefusalKind) → form ≡ Some k → Judged 0 nothing_seen all (Some (record { kind = k; word = n }))
   ends_by_form k e =
-      m.rest _ (refused {v = record { past = past }} f.tells (form_at f m.seen m.stands.names ∙ ap (λ o. or_else o (limit_refusal (seen_after m.seen r w) r w)) e))
+      m.rest _ (refused {v = v} f.tells (form_at f m.seen m.stands ∙ ap (λ o. or_else o (limit_refusal (seen_after v m.seen r w) r w)) e))
 
-  module _ (e : form ≡ None) (after : CodeSeen) (takes : (s : Seen) → IsSeen code s → IsSeen after (seen_after s r w)) (limit : Option RefusalKind) (limits : (s : Seen) → IsSeen after s → limit ≡ limit_refusal s r w) where
-    at_limit : refusal_at (record { past = past }) m.seen r w behind ≡ limit
+  module _ (e : form ≡ None) (after : CodeSeen) (takes : (s : Seen) → IsSeen code s → IsSeen after (seen_after v s r w)) (limit : Option RefusalKind) (limits : (s : Seen) → IsSeen after s → limit ≡ limit_refusal s r w) where
+    at_limit : refusal_at v m.seen r w behind ≡ limit
     at_limit =
-        form_at f m.seen m.stands.names ∙ ap (λ o. or_else o (limit_refusal (seen_after m.seen r w) r w)) e ∙ sym (limits (seen_after m.seen r w) (takes m.seen m.stands))
+        form_at f m.seen m.stands ∙ ap (λ o. or_else o (limit_refusal (seen_after v m.seen r w) r w)) e ∙ sym (limits (seen_after v m.seen r w) (takes m.seen m.stands))
 
     -- a token that passes a limit
     pub ends_by_limit : (k : RefusalKind) → limit ≡ Some k → Judged 0 nothing_seen all (Some (record { kind = k; word = n }))
-    ends_by_limit k g = m.rest _ (refused {v = record { past = past }} f.tells (at_limit ∙ g))
+    ends_by_limit k g = m.rest _ (refused {v = v} f.tells (at_limit ∙ g))
 
     -- a token that isn't refused
     pub goes_on : limit ≡ None → (later : ℕ) → later ≡ arrow_count behind → JudgedTo all (n + 1) after behind later
     goes_on g later a =
         let s = takes m.seen m.stands in
-        let none : limit_refusal (seen_after m.seen r w) r w ≡ None = sym (limits (seen_after m.seen r w) s) ∙ g in
+        let none : limit_refusal (seen_after v m.seen r w) r w ≡ None = sym (limits (seen_after v m.seen r w) s) ∙ g in
         record {
-          seen = seen_after m.seen r w;
+          seen = seen_after v m.seen r w;
           stands = s;
-          within = subst IsWithinLimits (sym s.counts) (no_limit (length (seen_after m.seen r w).opened) (length (seen_after m.seen r w).names.halved) (seen_after m.seen r w).counts (is_past_lsb r w) (is_past_pieces r w) none);
+          within = subst IsWithinLimits (sym s.counts) (no_limit (length (seen_after v m.seen r w).opened) (length (seen_after v m.seen r w).names.halved) (seen_after v m.seen r w).counts (is_past_lsb r w) (is_past_pieces r w) none);
           arrows_left = a;
-          rest = λ found h. m.rest found (passed {v = record { past = past }} f.tells (at_limit ∙ g) h);
+          rest = λ found h. m.rest found (passed {v = v} f.tells (at_limit ∙ g) h);
         }
 
 -- ---- what one token's tests tell
@@ -156,15 +156,13 @@ empty_leaves (r ∷ rs) (w ∷ ws) h = some (length rs)
     some : (n : ℕ) → false ≡ nat_eq (suc n) 0
     some n = grind arith
 
-pub form_told : (past arrow_behind : Bool) (names : NamesSeen) (r : Due) (w : Word) (rs : List Due) (ws : List Word) (is_last wrong_side used split no_pieces : Bool) (answer : Option RefusalKind)
-    → is_last ≡ is_empty (leaves_of rs ws) → wrong_side ≡ is_on_wrong_side r w arrow_behind is_last → used ≡ is_used names (defines r w) (leaves_of rs ws)
-    → split ≡ is_some_among names.defined (split_name r w) → no_pieces ≡ has_no_pieces r w → answer ≡ form_kind wrong_side used split no_pieces past
-    → answer ≡ form_refusal (record { past = past }) names r w arrow_behind (leaves_of rs ws)
-form_told past arrow_behind names r w rs ws is_last wrong_side used split no_pieces answer l a b d p e =
-    e ∙ ap (λ x. form_kind x used split no_pieces past) (a ∙ ap (is_on_wrong_side r w arrow_behind) l)
-    ∙ ap (λ x. form_kind (is_on_wrong_side r w arrow_behind (is_empty (leaves_of rs ws))) x split no_pieces past) b
-    ∙ ap (λ x. form_kind (is_on_wrong_side r w arrow_behind (is_empty (leaves_of rs ws))) (is_used names (defines r w) (leaves_of rs ws)) x no_pieces past) d
-    ∙ ap (λ x. form_kind (is_on_wrong_side r w arrow_behind (is_empty (leaves_of rs ws))) (is_used names (defines r w) (leaves_of rs ws)) (is_some_among names.defined (split_name r w)) x past) p
+pub form_told : (v : Verdict) (arrow_behind : Bool) (seen : Seen) (r : Due) (w : Word) (rs : List Due) (ws : List Word) (is_last wrong_side used bad split no_pieces : Bool) (answer : Option RefusalKind)
+    → is_last ≡ is_empty (leaves_of rs ws) → wrong_side ≡ is_on_wrong_side r w arrow_behind is_last → used ≡ is_used seen.names (defines r w) (leaves_of rs ws)
+    → bad ≡ is_bad_bound seen.bounds v.number → split ≡ is_some_among seen.names.defined (split_name r w) → no_pieces ≡ has_no_pieces r w → answer ≡ form_kind wrong_side used bad split no_pieces v.past
+    → answer ≡ form_refusal v seen r w arrow_behind (leaves_of rs ws)
+form_told v arrow_behind seen r w rs ws is_last wrong_side used bad split no_pieces answer l a b k d p e =
+    let side : wrong_side ≡ is_on_wrong_side r w arrow_behind (is_empty (leaves_of rs ws)) = a ∙ ap (is_on_wrong_side r w arrow_behind) l in
+    e ∙ (λ i. form_kind (side i) (b i) (k i) (d i) (p i) v.past)
 
 pub limit_told : (seen : Seen) (r : Due) (w : Word) (opened halved : ℕ) (counts : Counts) (lsb pieces : Bool) (answer : Option RefusalKind)
     → opened ≡ length seen.opened → halved ≡ length seen.names.halved → counts ≡ seen.counts → lsb ≡ is_past_lsb r w → pieces ≡ is_past_pieces r w

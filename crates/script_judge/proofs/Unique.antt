@@ -1,9 +1,12 @@
 -- A text has one reading, and one first refusal.
-use Rattle.std.proofs.Common.{◌≡◌, ℕ, Bool, true, false, List, length, take, Option, Some, None, IsTrue, ◌↔◌, refl, sym, ap, ◌∙◌, subst, arith}
+use Rattle.std.proofs.Common.{◌≡◌, ℕ, ◌+◌, Bool, true, false, List, length, take, Option, Some, None, IsTrue, ◌↔◌, refl, sym, ap, ◌∙◌, subst, arith}
 use Rattle.std.specs.Str.{IsUtf8, IsValidUpTo}
 use Rattle.std.proofs.lemmas.Str.{utf8_valid_len-IsValidUpTo}
 use Rattle.std.proofs.Math.Seq.{take-length}
+use Rattle.fx_model.specs.Fraction.{Fraction}
 use Rattle.script_words.specs.Lex.{LexesOnce}
+use Rattle.script_words.specs.Words.{Word}
+use Rattle.script_shape.specs.declared.due.Due.{Due}
 use Rattle.script_words.specs.Named.{words_of}
 use Rattle.script_shape.specs.Shape.{start}
 use Rattle.script_shape.specs.Roles.{Leaf}
@@ -15,8 +18,8 @@ use Rattle.script_judge.specs.Reading.{Reading, IsReadingOf, IsReadable, IsTextR
 use Rattle.script_judge.specs.Reading as reading
 use Rattle.script_judge.specs.First.{IsFirstRefusal, first_of, refusal_of}
 use Rattle.script_judge.specs.First as first
-use Rattle.script_judge.specs.Numbers.{Verdict, IsPast, is_number}
-use Rattle.script_judge.specs.Judge.{Seen, nothing_seen, refusal_at, Judged, none_refused, refused, passed}
+use Rattle.script_judge.specs.Numbers.{Verdict, Tells}
+use Rattle.script_judge.specs.Judge.{Seen, nothing_seen, seen_after, refusal_at, Judged, none_refused, refused, passed}
 use Rattle.script_judge.specs.declared.refusal.RefusalKind.TheVariants as kind
 
 -- ---- readings
@@ -76,12 +79,21 @@ same_truth true false P h k = sym (k.1 (h.0 refl))
 same_truth false true P h k = h.1 (k.0 refl)
 same_truth false false P h k = refl
 
-same_verdict : (v w : Verdict) (P : Type 0) → IsTrue v.past ↔ P → IsTrue w.past ↔ P → v ≡ w
-same_verdict v w P h k = ap (λ b. record { past = b }) (same_truth v.past w.past P h k)
+-- a number is told by what it is
+same_number : (a b : Option Fraction) (P : Fraction → Type 0) → ((x : Fraction) → (a ≡ Some x) ↔ P x) → ((x : Fraction) → (b ≡ Some x) ↔ P x) → a ≡ b
+same_number (Some x) b P h k = sym ((k x).1 ((h x).0 refl))
+same_number None (Some y) P h k = (h y).1 ((k y).0 refl)
+same_number None None P h k = refl
 
-same_kind : (i : ℕ) (seen : Seen) (l : Leaf) (ls : List Leaf) (v w : Verdict) (a b : Option RefusalKind) → IsTrue v.past ↔ IsPast (is_number l.role) l.word → IsTrue w.past ↔ IsPast (is_number l.role) l.word
+same_verdict : (r : Due) (w : Word) (ls : List Leaf) (v u : Verdict) → Tells v r w ls → Tells u r w ls → v ≡ u
+same_verdict r w ls v u h k =
+    let past = same_truth v.past u.past _ h.past k.past in
+    let number = same_number v.number u.number _ h.number k.number in
+    λ i. record { past = past i; number = number i }
+
+same_kind : (seen : Seen) (l : Leaf) (ls : List Leaf) (v w : Verdict) (a b : Option RefusalKind) → Tells v l.role l.word ls → Tells w l.role l.word ls
     → refusal_at v seen l.role l.word ls ≡ a → refusal_at w seen l.role l.word ls ≡ b → a ≡ b
-same_kind i seen l ls v w a b h k e f = sym e ∙ ap (λ x. refusal_at x seen l.role l.word ls) (same_verdict v w _ h k) ∙ f
+same_kind seen l ls v w a b h k e f = sym e ∙ ap (λ x. refusal_at x seen l.role l.word ls) (same_verdict l.role l.word ls v w h k) ∙ f
 
 abbrev kind_in : Option RefusalKind → RefusalKind → RefusalKind
 kind_in None k = k
@@ -90,10 +102,11 @@ kind_in (Some j) k = j
 pub judged_once : {i : ℕ} {seen : Seen} {leaves : List Leaf} {a b : Option Fault} → Judged i seen leaves a → Judged i seen leaves b → a ≡ b
 judged_once none_refused none_refused = refl
 judged_once {i} {seen} (refused {l = l} {ls = ls} {v = v} {k = j} t e) (refused {v = w} {k = k} u f) =
-    ap (λ x. Some (record { kind = kind_in x j; word = i })) (same_kind i seen l ls v w (Some j) (Some k) t u e f)
-judged_once {i} {seen} (refused {l = l} {ls = ls} {v = v} {k = j} t e) (passed {v = w} u f r) = let h = same_kind i seen l ls v w (Some j) None t u e f in absurd (cc h)
-judged_once {i} {seen} (passed {l = l} {ls = ls} {v = v} t e r) (refused {v = w} {k = k} u f) = let h = same_kind i seen l ls v w None (Some k) t u e f in absurd (cc h)
-judged_once (passed t e r) (passed u f s) = judged_once r s
+    ap (λ x. Some (record { kind = kind_in x j; word = i })) (same_kind seen l ls v w (Some j) (Some k) t u e f)
+judged_once {i} {seen} (refused {l = l} {ls = ls} {v = v} {k = j} t e) (passed {v = w} u f r) = let h = same_kind seen l ls v w (Some j) None t u e f in absurd (cc h)
+judged_once {i} {seen} (passed {l = l} {ls = ls} {v = v} t e r) (refused {v = w} {k = k} u f) = let h = same_kind seen l ls v w None (Some k) t u e f in absurd (cc h)
+judged_once {i} {seen} (passed {l = l} {ls = ls} {v = v} {found = a} t e r) (passed {v = w} u f s) =
+    judged_once (subst (λ x. Judged (i + 1) (seen_after x seen l.role l.word) ls a) (same_verdict l.role l.word ls v w t u) r) s
 
 module _ (lexes : LexesOnce) (shapes : ShapeIsUnique) (roles : RolesAreUnique) where
   same_first : (text : List ℕ) (x y : Reading) (f g : Option Fault) → x ≡ y → Judged 0 nothing_seen x.leaves f → Judged 0 nothing_seen y.leaves g

@@ -15,6 +15,7 @@ use Rattle.script_judge.specs.declared.nesting.Open.{Open}
 use Rattle.script_judge.specs.declared.fault.Fault.{Fault}
 use Rattle.script_judge.specs.Counts.{one_if, counts_after}
 use Rattle.script_judge.specs.Nesting.{opened_after}
+use Rattle.script_judge.specs.Bounds.{BoundsSeen, no_bounds, bounds_after, is_bad_bound}
 use Rattle.script_judge.specs.Numbers.{Verdict, Tells, has_no_pieces, is_past_lsb, is_past_pieces}
 use Rattle.script_judge.specs.Names.{NamesSeen, no_names, names_after, is_new, is_used, is_some_among, defines, split_name}
 
@@ -23,6 +24,7 @@ pub record Seen : Type 0 where
   pub names : NamesSeen
   pub opened : List Open
   pub counts : Counts
+  pub bounds : BoundsSeen
 
 -- before the first token
 abbrev pub nothing_seen : Seen
@@ -30,14 +32,16 @@ nothing_seen = record {
   names = no_names;
   opened = [];
   counts = record { place = place.Definitions; rounds = false; halves = false; definitions = 0; propositions = 0; hints = 0; nodes = 0; splits = 0; pieces = 0 };
+  bounds = no_bounds;
 }
 
 -- what stands before the next token
-abbrev pub seen_after : Seen → Due → Word → Seen
-seen_after seen r w = record {
+abbrev pub seen_after : Verdict → Seen → Due → Word → Seen
+seen_after v seen r w = record {
   names = names_after seen.names seen.counts.halves r w;
   opened = opened_after seen.opened r w;
   counts = counts_after seen.counts (is_new seen.names r w) r w;
+  bounds = bounds_after seen.bounds v.number r w;
 }
 
 -- ---- `?` in a hypothesis, `@FIX` in a goal: propositions with a `->` of the formula behind them are hypotheses
@@ -80,15 +84,18 @@ first_kind [] = None
 first_kind (p ∷ ps) = if p.0 then Some p.1 else first_kind ps
 
 -- what is refused whatever is counted
-abbrev pub form_kind : Bool → Bool → Bool → Bool → Bool → Option RefusalKind
-form_kind wrong_side used defined_split no_pieces past = first_kind (
-    (wrong_side, kind.FormulaForm) ∷ ((used, kind.NameUsed) ∷ ((defined_split || no_pieces, kind.BadSplit) ∷ ((past, kind.LiteralLimit) ∷ []))))
+abbrev pub form_kind : Bool → Bool → Bool → Bool → Bool → Bool → Option RefusalKind
+form_kind wrong_side used bad_bound defined_split no_pieces past = first_kind (
+    (wrong_side, kind.FormulaForm)
+    ∷ ((used, kind.NameUsed)
+    ∷ ((bad_bound, kind.BadBound)
+    ∷ ((defined_split || no_pieces, kind.BadSplit) ∷ ((past, kind.LiteralLimit) ∷ [])))))
 
 -- the tests of one token, with whether a `->` of the formula stands behind it
-abbrev pub form_refusal : Verdict → NamesSeen → Due → Word → Bool → List Leaf → Option RefusalKind
-form_refusal v names r w arrow_behind behind =
-    form_kind (is_on_wrong_side r w arrow_behind (is_empty behind)) (is_used names (defines r w) behind)
-    (is_some_among names.defined (split_name r w)) (has_no_pieces r w) v.past
+abbrev pub form_refusal : Verdict → Seen → Due → Word → Bool → List Leaf → Option RefusalKind
+form_refusal v seen r w arrow_behind behind =
+    form_kind (is_on_wrong_side r w arrow_behind (is_empty behind)) (is_used seen.names (defines r w) behind) (is_bad_bound seen.bounds v.number)
+    (is_some_among seen.names.defined (split_name r w)) (has_no_pieces r w) v.past
 
 -- the limits that are passed with a token
 abbrev pub limit_kind : ℕ → ℕ → Counts → Bool → Bool → Option RefusalKind
@@ -115,13 +122,13 @@ or_else None other = other
 -- why a token is refused: by its form, or by a limit
 abbrev pub refusal_at : Verdict → Seen → Due → Word → List Leaf → Option RefusalKind
 refusal_at v seen r w behind =
-    or_else (form_refusal v seen.names r w (has_arrow behind) behind) (limit_refusal (seen_after seen r w) r w)
+    or_else (form_refusal v seen r w (has_arrow behind) behind) (limit_refusal (seen_after v seen r w) r w)
 
 -- ---- all tokens
 
 -- The first refused word, counted from i on, or none.
 pub data Judged : ℕ → Seen → List Leaf → Option Fault → Type 0 where
   none_refused : {i : ℕ} {seen : Seen} → Judged i seen [] None
-  refused : {i : ℕ} {seen : Seen} {l : Leaf} {ls : List Leaf} {v : Verdict} {k : RefusalKind} → Tells v l.role l.word → refusal_at v seen l.role l.word ls ≡ Some k → Judged i seen (l ∷ ls) (Some (record { kind = k; word = i }))
-  passed : {i : ℕ} {seen : Seen} {l : Leaf} {ls : List Leaf} {v : Verdict} {found : Option Fault} → Tells v l.role l.word → refusal_at v seen l.role l.word ls ≡ None
-      → Judged (i + 1) (seen_after seen l.role l.word) ls found → Judged i seen (l ∷ ls) found
+  refused : {i : ℕ} {seen : Seen} {l : Leaf} {ls : List Leaf} {v : Verdict} {k : RefusalKind} → Tells v l.role l.word ls → refusal_at v seen l.role l.word ls ≡ Some k → Judged i seen (l ∷ ls) (Some (record { kind = k; word = i }))
+  passed : {i : ℕ} {seen : Seen} {l : Leaf} {ls : List Leaf} {v : Verdict} {found : Option Fault} → Tells v l.role l.word ls → refusal_at v seen l.role l.word ls ≡ None
+      → Judged (i + 1) (seen_after v seen l.role l.word) ls found → Judged i seen (l ∷ ls) found

@@ -6,6 +6,8 @@ pub mod Counts
 pub mod Limits
 pub mod Nesting
 pub mod Names
+pub mod Bounds
 pub mod Numbers
+pub mod BoundViews
 pub mod Judge
 pub mod First

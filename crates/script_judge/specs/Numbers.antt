@@ -1,10 +1,13 @@
 -- What the digits of a token tell.
-use Rattle.std.specs.Prelude.{ℕ, ◌==◌, nat_lt, Bool, true, false, IsTrue, ◌↔◌}
+use Rattle.std.specs.Prelude.{◌≡◌, ℕ, ◌==◌, nat_lt, List, Option, Some, Bool, true, false, IsTrue, ◌↔◌}
 use Rattle.std.specs.Str.Parse.{digits_value}
+use Rattle.fx_model.specs.Fraction.{Fraction}
 use Rattle.literal.specs.Normal.{IsPastLimits}
 use Rattle.script_words.specs.Words.{Word, literal}
 use Rattle.script_shape.specs.declared.due.Due.{Due}
 use Rattle.script_shape.specs.declared.due.Due.TheVariants as d
+use Rattle.script_shape.specs.Roles.{Leaf}
+use Rattle.script_judge.specs.Bounds.{IsBoundOf}
 
 -- ---- digits alone
 
@@ -31,9 +34,11 @@ is_past_pieces r w = false
 
 -- ---- what only a literal's value tells
 
--- what is told of a token: whether it is a literal of an expression or a bound that is past its limits
+-- what is told of a token: whether it is a literal of an expression or a bound that is past its limits, and the value of the
+-- bound that begins there
 pub record Verdict : Type 0 where
   pub past : Bool
+  pub number : Option Fraction
 
 -- what is due where a literal of an expression or a bound stands
 abbrev pub is_number : Due → Bool
@@ -52,6 +57,7 @@ abbrev pub IsPast : Bool → Word → Type 0
 IsPast true w = IsPastWord w
 IsPast false w = ⊥
 
--- The verdict is right for the token.
-abbrev pub Tells : Verdict → Due → Word → Type 0
-Tells v r w = IsTrue v.past ↔ IsPast (is_number r) w
+-- The verdict is right for the token, with these behind it.
+pub record Tells (v : Verdict) (r : Due) (w : Word) (behind : List Leaf) : Type 0 where
+  pub past : IsTrue v.past ↔ IsPast (is_number r) w
+  pub number : (x : Fraction) → (v.number ≡ Some x) ↔ IsBoundOf r w behind x

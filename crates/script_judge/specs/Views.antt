@@ -9,6 +9,8 @@ use Rattle.script_judge.specs.Leaves.{leaves_of}
 use Rattle.script_judge.specs.Reading.{Reading}
 use Rattle.script_judge.specs.Names.{NamesSeen}
 use Rattle.script_judge.specs.Judge.{Seen}
+use Rattle.script_judge.specs.Limits.{IsWithinNumber}
+use Rattle.script_judge.specs.BoundViews.{bounds_of}
 
 -- what the code has read
 abbrev pub reading_of : ReadText → Reading
@@ -33,3 +35,5 @@ pub record IsSeen (code : CodeSeen) (seen : Seen) : Type 0 where
   pub names : AreNames code.names seen.names
   pub opened : reverse code.opened.items ≡ seen.opened
   pub counts : code.counts ≡ seen.counts
+  pub bounds : bounds_of code.bounds ≡ seen.bounds
+  pub within : IsWithinNumber code.bounds.lower

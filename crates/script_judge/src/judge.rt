@@ -5,15 +5,16 @@ ghost use Rattle.script_words.specs.Named.{word_of};
 ghost use Rattle.script_judge.specs.Leaves.{leaves_of};
 ghost use Rattle.script_judge.specs.Judge as spec;
 ghost use Rattle.script_judge.specs.Judge.{Judged};
-ghost use Rattle.script_judge.specs.Limits.{IsWithinLimits};
-ghost use Rattle.script_judge.specs.Names.{NamesSeen};
-ghost use Rattle.script_judge.specs.Views.{AreNames, IsSeen};
+ghost use Rattle.script_judge.specs.Limits.{IsWithinLimits, IsWithinNumber};
+ghost use Rattle.script_judge.specs.BoundViews.{verdict_of};
+ghost use Rattle.script_judge.specs.Views.{IsSeen};
 
+use crate::bounds::Bounds;
 use crate::counts::{Counts, Place, counts_after};
 use crate::fault::Fault;
 use crate::names::Names;
 use crate::nesting::{Open, open_or_close};
-use crate::numbers::{has_no_pieces, is_past, is_past_lsb, is_past_pieces};
+use crate::numbers::{Verdict, has_no_pieces, is_past_lsb, is_past_pieces, verdict_on};
 use crate::refusal::{LimitKind, RefusalKind};
 use crate::sides::{arrow_count, is_arrow, is_on_wrong_side, without};
 use script_shape::due::Due;
@@ -26,21 +27,25 @@ struct Seen<'a> {
     names: Names<'a>,
     opened: Vec<Open>,
     counts: Counts,
+    bounds: Bounds,
 }
 
 fn form_kind(
     wrong_side: bool,
     used: bool,
+    bad_bound: bool,
     defined_split: bool,
     no_pieces: bool,
     past: bool,
 ) -> Option<RefusalKind>
-    ensures { result ≡ spec.form_kind wrong_side used defined_split no_pieces past }
+    ensures { result ≡ spec.form_kind wrong_side used bad_bound defined_split no_pieces past }
 {
     if wrong_side {
         Some(RefusalKind::FormulaForm)
     } else if used {
         Some(RefusalKind::NameUsed)
+    } else if bad_bound {
+        Some(RefusalKind::BadBound)
     } else if defined_split || no_pieces {
         Some(RefusalKind::BadSplit)
     } else if past {
@@ -52,28 +57,32 @@ fn form_kind(
 
 /// What is refused whatever is counted.
 fn form_refusal<'a>(
-    names: &Names<'a>,
+    seen: &Seen<'a>,
     leaf: (Due, Word<'a>),
-    past: bool,
+    verdict: Verdict,
     arrow_behind: bool,
     words: &[Word<'a>],
     roles: &[Due],
 ) -> Option<RefusalKind>
-    requires { length roles.now ≤ length words.now }
-    ensures { (seen : NamesSeen) → AreNames names.now seen → result
-        ≡ spec.form_refusal (record { past = past }) seen leaf.entry.0 (word_of leaf.entry.1) arrow_behind
+    requires words { length roles.now ≤ length words.now }
+    requires lower { IsWithinNumber seen.now.bounds.lower }
+    requires number { IsWithinNumber verdict.number }
+    ensures { (stands : spec.Seen) → IsSeen seen.now stands → result
+        ≡ spec.form_refusal (verdict_of verdict) stands leaf.entry.0 (word_of leaf.entry.1) arrow_behind
         (leaves_of roles.now (map word_of words.now)) }
 {
     let (role, word) = leaf;
     let wrong_side = is_on_wrong_side(role, word, arrow_behind, roles.is_empty());
-    let used = names.is_used(role, word, words, roles);
-    let defined_split = names.splits_defined(role, word);
+    let used = seen.names.is_used(role, word, words, roles);
+    let bad_bound = seen.bounds.is_bad(verdict.number);
+    let defined_split = seen.names.splits_defined(role, word);
     form_kind(
         wrong_side,
         used,
+        bad_bound,
         defined_split,
         has_no_pieces(role, word),
-        past,
+        verdict.past,
     )
 }
 
@@ -140,19 +149,22 @@ impl<'a> Seen<'a> {
                 splits: 0,
                 pieces: 0,
             },
+            bounds: Bounds::new(),
         }
     }
 
     /// Takes a token.
-    fn take(&mut self, role: Due, word: Word<'a>) -> Result<(), AllocError>
-        requires { IsWithinLimits self.old.counts }
+    fn take(&mut self, role: Due, word: Word<'a>, verdict: Verdict) -> Result<(), AllocError>
+        requires counts { IsWithinLimits self.old.counts }
+        requires number { IsWithinNumber verdict.number }
         ensures { OnOk result ((stands : spec.Seen) → IsSeen self.old stands
-            → IsSeen self.new (spec.seen_after stands role (word_of word.entry))) }
+            → IsSeen self.new (spec.seen_after (verdict_of verdict) stands role (word_of word.entry))) }
     {
         let is_new = self.names.is_new(role, word);
         self.names.take(self.counts.halves, role, word)?;
         open_or_close(&mut self.opened, role, word)?;
         self.counts = counts_after(self.counts, is_new, role, word);
+        self.bounds = self.bounds.after(verdict.number, role, word);
         Ok(())
     }
 }
@@ -204,11 +216,11 @@ pub fn judge<'a>(
         let later_words = words_from(words, number + 1);
         let later_roles = roles_from(roles, number + 1);
         let later_arrows = without(arrows, is_arrow(role, word));
-        let past = is_past(role, word);
+        let verdict = verdict_on(role, word, later_words, later_roles);
         let form = form_refusal(
-            &seen.names,
+            &seen,
             (role, word),
-            past,
+            verdict,
             later_arrows > 0,
             later_words,
             later_roles,
@@ -216,7 +228,7 @@ pub fn judge<'a>(
         if let Some(kind) = form {
             return Ok(Some(Fault { kind, word: number }));
         }
-        seen.take(role, word)?;
+        seen.take(role, word, verdict)?;
         if let Some(kind) = limit_refusal(&seen, role, word) {
             return Ok(Some(Fault { kind, word: number }));
         }

@@ -1,6 +1,7 @@
-//! Why a text is no script: the first refusal, as far as it needs no arithmetic of the grid.
+//! Why a text is no script: the first refusal.
 #![tactic(auto)]
 
+pub mod bounds;
 pub mod counts;
 pub mod fault;
 pub mod first;

@@ -1,12 +1,17 @@
 //! What the digits of a token tell.
 
-ghost use Rattle.std.specs.Prelude.{◌≡◌, ◌≤◌, ◌<◌, ◌==◌, nat_lt, IsTrue, ◌↔◌, SomeIff};
+ghost use Rattle.std.specs.Prelude.{◌≡◌, ◌≤◌, ◌<◌, ◌==◌, nat_lt, IsTrue, ◌↔◌, SomeIff, map};
 ghost use Rattle.std.specs.Char.{digit_value};
 ghost use Rattle.std.specs.Str.Parse.{digits_value};
 ghost use Rattle.literal.specs.Normal.{IsPastLimits};
 ghost use Rattle.script_words.specs.Named.{word_of};
+ghost use Rattle.script_judge.specs.BoundViews.{verdict_of};
+ghost use Rattle.script_judge.specs.Leaves.{leaves_of};
+ghost use Rattle.script_judge.specs.Limits.{IsWithinNumber};
 ghost use Rattle.script_judge.specs.Numbers as spec;
 
+use crate::bounds::bound_number;
+use bound_order::Number;
 use literal::{LiteralFault, read_bytes};
 use script_shape::due::Due;
 use script_words::words::Word;
@@ -115,5 +120,26 @@ pub fn is_past(role: Due, word: Word<'_>) -> bool
             text,
         ),
         _ => false,
+    }
+}
+
+/// What the literals of a token tell.
+#[derive(Clone, Copy)]
+pub struct Verdict {
+    /// Whether it is a literal past its limits.
+    pub past: bool,
+    /// The number of the bound that begins with it.
+    pub number: Option<Number>,
+}
+
+/// What the literals of a token tell, with these words behind it.
+pub fn verdict_on(role: Due, word: Word<'_>, words: &[Word<'_>], roles: &[Due]) -> Verdict
+    ensures tells { spec.Tells (verdict_of result) role (word_of word.entry)
+        (leaves_of roles.now (map word_of words.now)) }
+    ensures within { IsWithinNumber result.number }
+{
+    Verdict {
+        past: is_past(role, word),
+        number: bound_number(role, word, words, roles),
     }
 }

@@ -94,13 +94,40 @@ fn refusals(rt: HostRuntime) -> Result<(), Fail> {
 }
 
 #[test]
+fn bad_bounds(rt: HostRuntime) -> Result<(), Fail> {
+    let rows: [(&[u8], RefusalKind, u32); 8] = [
+        (b"{ x in [2,1] -> x in ? }", RefusalKind::BadBound, 10),
+        (b"{ x in [2,+1] -> x in ? }", RefusalKind::BadBound, 10),
+        (b"{ x in [-1,-2", RefusalKind::BadBound, 11),
+        (b"{ x in [-1,-", RefusalKind::Unexpected, 12),
+        (b"{ x in [1b-1,0.4] }", RefusalKind::BadBound, 13),
+        (b"{ x -/ y in [-1,2] }", RefusalKind::BadBound, 13),
+        (
+            b"{ x -/ y in [-0.9999999999999999999999,1] }",
+            RefusalKind::BadBound,
+            13,
+        ),
+        (b"{ x -/ y in [0,-0.5] }", RefusalKind::BadBound, 15),
+    ];
+    for (text, kind, at) in rows {
+        assert_eq!(rt;
+            first_refusal(rt.alloc(), text)?,
+            Some(Refusal { kind, at }),
+            "{text:?}"
+        );
+    }
+    Ok(())
+}
+
+#[test]
 fn scripts(rt: HostRuntime) -> Result<(), Fail> {
-    let rows: [&[u8]; 5] = [
+    let rows: [&[u8]; 6] = [
         b"{ x in ? }",
         b"@q = fixed<-15,dn>; x = q(xx); y q= x * x; My = x * x; { xx in [0,1] -> y - My in ? }",
         b"{ @FIX(a,-15) /\\ a in [0,1] -> |a| -/ 2 in ? } a -> b { b <> 0, a < 1 }; $ a in (0.5, 1);",
         b"y fixed<-4,dn>= x + 1; { fma(x, -y, int<zr>(x)) in ? } x, y + 1 $ x; x ~ y;",
         b"@FIX = int<up>; y = FIX(x); { @FIX(y,3) -> y in ? }",
+        b"{ x in [0.5,1b-1] /\\ y -/ x in [-0.99,-0.5] /\\ x in [-1,1] -> x in [-2,-1] /\\ x <= -1 /\\ x <= -2 }",
     ];
     for text in rows {
         assert_eq!(rt; first_refusal(rt.alloc(), text)?, None, "{text:?}");

@@ -4,6 +4,7 @@ use Rattle.script_shape.specs.Roles.{at}
 use Rattle.script_judge.specs.Counts.{one_if}
 use Rattle.script_judge.specs.Leaves.{leaves_of}
 use Rattle.script_judge.specs.Judge.{Judged, none_refused, is_arrow}
+use Rattle.script_judge.specs.BoundViews.{verdict_of}
 use Rattle.script_judge.proofs.Judging.{JudgedTo, begin_judging, split_at, same_rest, none_left, told, behind_arrow, ends_by_form, ends_by_limit, goes_on}
 use Rattle.script_judge.proofs.judge.judge.Goals as goal
 
@@ -16,6 +17,7 @@ returns-in-Some-clause-judged c =
     let seen = c.loop-number.seen in
     let arrows = c.loop-number.arrows in
     let r = c.role_at-role.result in
+    let v = verdict_of c.verdict_on-verdict.result in
     let w = word_of c.word_at-word.result in
     let all = leaves_of c.args.roles.now (map word_of c.args.words.now) in
     let behind = leaves_of c.roles_from-later_roles.result.now (map word_of c.words_from-later_words.result.now) in
@@ -24,8 +26,8 @@ returns-in-Some-clause-judged c =
     let left : leaves_of (drop n c.args.roles.now) (map word_of (drop n c.args.words.now)) ≡ at r w ∷ behind =
     split_at c.args.roles.now c.args.words.now n r c.word_at-word.result c.role_at-role.ensures c.word_at-word.ensures ∙ ap (λ l. at r w ∷ l) (sym same) in
     let m : JudgedTo all n seen (at r w ∷ behind) arrows = subst (λ ls. JudgedTo all n seen ls arrows) left c.loop-number.invariant in
-    let f = told seen.names c.is_past-past.result r w behind c.form_refusal-form.result arrows c.without-later_arrows.result c.is_arrow.result m.arrows_left c.without-later_arrows.ensures c.is_arrow.ensures c.is_past-past.ensures c.form_refusal-form.ensures in
-    ends_by_form all n seen r w behind arrows m c.is_past-past.result _ c.form_refusal-form.result f c.in-Some.kind c.in-Some.is
+    let f = told seen v r w behind c.form_refusal-form.result arrows c.without-later_arrows.result c.is_arrow.result m.arrows_left c.without-later_arrows.ensures c.is_arrow.ensures c.verdict_on-verdict.ensures.tells c.form_refusal-form.ensures in
+    ends_by_form all n seen r w behind arrows m v _ c.form_refusal-form.result f c.in-Some.kind c.in-Some.is
 
 pub returns-in-Some-limit_refusal-clause-judged : goal.returns-in-Some-limit_refusal-clause-judged
 returns-in-Some-limit_refusal-clause-judged c =
@@ -33,6 +35,7 @@ returns-in-Some-limit_refusal-clause-judged c =
     let seen = c.loop-number.seen in
     let arrows = c.loop-number.arrows in
     let r = c.role_at-role.result in
+    let v = verdict_of c.verdict_on-verdict.result in
     let w = word_of c.word_at-word.result in
     let all = leaves_of c.args.roles.now (map word_of c.args.words.now) in
     let behind = leaves_of c.roles_from-later_roles.result.now (map word_of c.words_from-later_words.result.now) in
@@ -41,8 +44,8 @@ returns-in-Some-limit_refusal-clause-judged c =
     let left : leaves_of (drop n c.args.roles.now) (map word_of (drop n c.args.words.now)) ≡ at r w ∷ behind =
     split_at c.args.roles.now c.args.words.now n r c.word_at-word.result c.role_at-role.ensures c.word_at-word.ensures ∙ ap (λ l. at r w ∷ l) (sym same) in
     let m : JudgedTo all n seen (at r w ∷ behind) arrows = subst (λ ls. JudgedTo all n seen ls arrows) left c.loop-number.invariant in
-    let f = told seen.names c.is_past-past.result r w behind c.form_refusal-form.result arrows c.without-later_arrows.result c.is_arrow.result m.arrows_left c.without-later_arrows.ensures c.is_arrow.ensures c.is_past-past.ensures c.form_refusal-form.ensures in
-    ends_by_limit all n seen r w behind arrows m c.is_past-past.result _ c.form_refusal-form.result f c.in_default.is c.take.new.self c.in_ok-take.ensures c.limit_refusal.result c.limit_refusal.ensures
+    let f = told seen v r w behind c.form_refusal-form.result arrows c.without-later_arrows.result c.is_arrow.result m.arrows_left c.without-later_arrows.ensures c.is_arrow.ensures c.verdict_on-verdict.ensures.tells c.form_refusal-form.ensures in
+    ends_by_limit all n seen r w behind arrows m v _ c.form_refusal-form.result f c.in_default.is c.take.new.self c.in_ok-take.ensures c.limit_refusal.result c.limit_refusal.ensures
     c.in-Some-limit_refusal.kind c.in-Some-limit_refusal.is
 
 pub loop-number-preserved : goal.loop-number-preserved
@@ -51,6 +54,7 @@ loop-number-preserved c =
     let seen = c.loop-number.seen in
     let arrows = c.loop-number.arrows in
     let r = c.role_at-role.result in
+    let v = verdict_of c.verdict_on-verdict.result in
     let w = word_of c.word_at-word.result in
     let all = leaves_of c.args.roles.now (map word_of c.args.words.now) in
     let behind = leaves_of c.roles_from-later_roles.result.now (map word_of c.words_from-later_words.result.now) in
@@ -59,10 +63,10 @@ loop-number-preserved c =
     let left : leaves_of (drop n c.args.roles.now) (map word_of (drop n c.args.words.now)) ≡ at r w ∷ behind =
     split_at c.args.roles.now c.args.words.now n r c.word_at-word.result c.role_at-role.ensures c.word_at-word.ensures ∙ ap (λ l. at r w ∷ l) (sym same) in
     let m : JudgedTo all n seen (at r w ∷ behind) arrows = subst (λ ls. JudgedTo all n seen ls arrows) left c.loop-number.invariant in
-    let f = told seen.names c.is_past-past.result r w behind c.form_refusal-form.result arrows c.without-later_arrows.result c.is_arrow.result m.arrows_left c.without-later_arrows.ensures c.is_arrow.ensures c.is_past-past.ensures c.form_refusal-form.ensures in
+    let f = told seen v r w behind c.form_refusal-form.result arrows c.without-later_arrows.result c.is_arrow.result m.arrows_left c.without-later_arrows.ensures c.is_arrow.ensures c.verdict_on-verdict.ensures.tells c.form_refusal-form.ensures in
     let later : c.without-later_arrows.result ≡ arrows - one_if (is_arrow r w) = c.without-later_arrows.ensures ∙ ap (λ b. arrows - one_if b) c.is_arrow.ensures in
     subst (λ ls. JudgedTo all (n + 1) c.take.new.self ls c.without-later_arrows.result) same
-    (goes_on all n seen r w behind arrows m c.is_past-past.result _ c.form_refusal-form.result f c.in_default.is c.take.new.self c.in_ok-take.ensures c.limit_refusal.result c.limit_refusal.ensures
+    (goes_on all n seen r w behind arrows m v _ c.form_refusal-form.result f c.in_default.is c.take.new.self c.in_ok-take.ensures c.limit_refusal.result c.limit_refusal.ensures
     c.in_default-limit_refusal.is c.without-later_arrows.result (behind_arrow r w behind arrows c.without-later_arrows.result m.arrows_left later))
 
 pub returns-clause-judged : goal.returns-clause-judged
