@@ -1,7 +1,7 @@
 -- Tests of bounds, by their values.
-use Rattle.std.specs.Prelude.{Bool, not}
+use Rattle.std.specs.Prelude.{Bool, not, Option, Some, None}
 use Rattle.fx_model.specs.Fraction.{Fraction, neg_ℚ, one_ℚ, le_ℚ}
-use Rattle.fx_model.specs.Grid.{Bound}
+use Rattle.fx_model.specs.Grid.{Bound, Below, At, Above}
 use Rattle.interval.specs.Intervals.{range_of}
 use Rattle.interval.specs.Results.{point_of}
 use Rattle.facts.specs.Ranges.{is_below}
@@ -21,3 +21,16 @@ up x = (range_of (point_of x)).high
 -- down(x) isn't above -1, so that x is no lower bound of relative errors
 abbrev pub is_too_low : Fraction → Bool
 is_too_low x = not (is_below (neg_ℚ one_ℚ) (down x))
+
+-- the number that an end is, where it is finite
+abbrev pub number_at : Bound → Option Fraction
+number_at Below = None
+number_at (At g) = Some g
+number_at Above = None
+
+-- the number of the grid below x, and above it, where there is one
+abbrev pub down_number : Fraction → Option Fraction
+down_number x = number_at (down x)
+
+abbrev pub up_number : Fraction → Option Fraction
+up_number x = number_at (up x)

@@ -3,12 +3,15 @@
 ghost use Rattle.std.specs.Prelude.{◌≡◌, ◌↔◌, Some, IfSome};
 ghost use Rattle.std.specs.Option.{option_map};
 ghost use Rattle.fx_model.specs.Fraction.{Fraction};
+ghost use Rattle.dyadic.specs.Ends.{bound_of};
+ghost use Rattle.dyadic.specs.Values.{value_of as grid_value};
 ghost use Rattle.interval.specs.Results.{point_of};
 ghost use Rattle.literal.specs.Normal.{IsNormal};
 ghost use Rattle.bound_order.specs.Written.{IsNumber};
 ghost use Rattle.bound_order.specs.Value.{value_of};
 ghost use Rattle.bound_order.specs.Tests as spec;
 
+use dyadic::{Dyadic, End};
 use facts::RelativeError;
 use interval::{Interval, enclose};
 use literal::{Literal, read_bytes};
@@ -29,6 +32,16 @@ pub fn read_number(negative: bool, text: &[u8]) -> Option<Number>
     match read_bytes(text) {
         Ok(literal) => Some(Number { literal, negative }),
         Err(_) => None,
+    }
+}
+
+fn number_at(end: End) -> Option<Dyadic>
+    ensures { option_map grid_value result ≡ spec.number_at (bound_of end) }
+{
+    match end {
+        End::Low => None,
+        End::At(number) => Some(number),
+        End::High => None,
     }
 }
 
@@ -56,5 +69,21 @@ impl Number {
         ensures { result ≡ spec.is_too_low (value_of self) }
     {
         RelativeError::new(self.enclosed()).is_none()
+    }
+
+    /// The greatest number of the grid that isn't above the number, where there is one.
+    pub fn down(self) -> Option<Dyadic>
+        requires { IsNormal self.literal }
+        ensures { option_map grid_value result ≡ spec.down_number (value_of self) }
+    {
+        number_at(self.enclosed().lo())
+    }
+
+    /// The least number of the grid that isn't below the number, where there is one.
+    pub fn up(self) -> Option<Dyadic>
+        requires { IsNormal self.literal }
+        ensures { option_map grid_value result ≡ spec.up_number (value_of self) }
+    {
+        number_at(self.enclosed().hi())
     }
 }

@@ -16,6 +16,7 @@ use Rattle.script_judge.specs.Limits.{IsWithinLimits}
 use Rattle.script_judge.specs.Names.{is_used, is_some_among, defines, split_name}
 use Rattle.script_judge.specs.Leaves.{leaves_of}
 use Rattle.script_judge.specs.Bounds.{is_bad_bound}
+use Rattle.script_judge.specs.Splits.{is_rangeless, is_bad_point}
 use Rattle.script_judge.specs.Numbers.{Verdict, Tells, has_no_pieces, is_past_lsb, is_past_pieces}
 use Rattle.script_judge.specs.Judge.{Seen, nothing_seen, seen_after, is_arrow, has_arrow, arrow_count, is_empty, is_on_wrong_side, form_kind, form_refusal, limit_kind, limit_refusal, or_else, refusal_at, Judged, refused, passed}
 use Rattle.script_judge.specs.Views.{IsSeen}
@@ -156,13 +157,15 @@ empty_leaves (r ∷ rs) (w ∷ ws) h = some (length rs)
     some : (n : ℕ) → false ≡ nat_eq (suc n) 0
     some n = grind arith
 
-pub form_told : (v : Verdict) (arrow_behind : Bool) (seen : Seen) (r : Due) (w : Word) (rs : List Due) (ws : List Word) (is_last wrong_side used bad split no_pieces : Bool) (answer : Option RefusalKind)
+pub form_told : (v : Verdict) (arrow_behind : Bool) (seen : Seen) (r : Due) (w : Word) (rs : List Due) (ws : List Word) (is_last wrong_side used bad rangeless split no_pieces point : Bool) (answer : Option RefusalKind)
     → is_last ≡ is_empty (leaves_of rs ws) → wrong_side ≡ is_on_wrong_side r w arrow_behind is_last → used ≡ is_used seen.names (defines r w) (leaves_of rs ws)
-    → bad ≡ is_bad_bound seen.bounds v.number → split ≡ is_some_among seen.names.defined (split_name r w) → no_pieces ≡ has_no_pieces r w → answer ≡ form_kind wrong_side used bad split no_pieces v.past
+    → bad ≡ is_bad_bound seen.bounds v.number → rangeless ≡ is_rangeless seen.splits.ranges split (split_name r w) → split ≡ is_some_among seen.names.defined (split_name r w) → no_pieces ≡ has_no_pieces r w
+    → point ≡ is_bad_point seen.splits (nat_lt 0 seen.counts.pieces) v.number → answer ≡ form_kind wrong_side used bad rangeless split no_pieces point v.past
     → answer ≡ form_refusal v seen r w arrow_behind (leaves_of rs ws)
-form_told v arrow_behind seen r w rs ws is_last wrong_side used bad split no_pieces answer l a b k d p e =
+form_told v arrow_behind seen r w rs ws is_last wrong_side used bad rangeless split no_pieces point answer l a b k g d p q e =
     let side : wrong_side ≡ is_on_wrong_side r w arrow_behind (is_empty (leaves_of rs ws)) = a ∙ ap (is_on_wrong_side r w arrow_behind) l in
-    e ∙ (λ i. form_kind (side i) (b i) (k i) (d i) (p i) v.past)
+    let range : rangeless ≡ is_rangeless seen.splits.ranges (is_some_among seen.names.defined (split_name r w)) (split_name r w) = g ∙ ap (λ x. is_rangeless seen.splits.ranges x (split_name r w)) d in
+    e ∙ (λ i. form_kind (side i) (b i) (k i) (range i) (d i) (p i) (q i) v.past)
 
 pub limit_told : (seen : Seen) (r : Due) (w : Word) (opened halved : ℕ) (counts : Counts) (lsb pieces : Bool) (answer : Option RefusalKind)
     → opened ≡ length seen.opened → halved ≡ length seen.names.halved → counts ≡ seen.counts → lsb ≡ is_past_lsb r w → pieces ≡ is_past_pieces r w

@@ -89,7 +89,8 @@ same_verdict : (r : Due) (w : Word) (ls : List Leaf) (v u : Verdict) → Tells v
 same_verdict r w ls v u h k =
     let past = same_truth v.past u.past _ h.past k.past in
     let number = same_number v.number u.number _ h.number k.number in
-    λ i. record { past = past i; number = number i }
+    let arrow : v.arrow_behind ≡ u.arrow_behind = h.arrow ∙ sym k.arrow in
+    λ i. record { past = past i; number = number i; arrow_behind = arrow i }
 
 same_kind : (seen : Seen) (l : Leaf) (ls : List Leaf) (v w : Verdict) (a b : Option RefusalKind) → Tells v l.role l.word ls → Tells w l.role l.word ls
     → refusal_at v seen l.role l.word ls ≡ a → refusal_at w seen l.role l.word ls ≡ b → a ≡ b

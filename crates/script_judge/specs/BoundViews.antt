@@ -12,4 +12,4 @@ bounds_of b = record { relative = b.relative; lower_due = b.lower_due; lower = o
 
 -- what is told of a token
 abbrev pub verdict_of : CodeVerdict → Verdict
-verdict_of v = record { past = v.past; number = option_map value_of v.number }
+verdict_of v = record { past = v.past; number = option_map value_of v.number; arrow_behind = v.arrow_behind }

@@ -1,6 +1,5 @@
 -- The refusals that are judged on the words before the reading ends, token by token.
 use Rattle.std.specs.Prelude.{◌≡◌, ℕ, ◌+◌, ◌&&◌, ◌||◌, not, nat_lt, List, [], ◌∷◌, length, Option, Some, None, Bool, true, false, if◌then◌else◌}
-use Rattle.std.specs.List.{list_any}
 use Rattle.script_words.specs.declared.class.Sign.TheVariants as s
 use Rattle.script_words.specs.Words.{Word, sign}
 use Rattle.script_shape.specs.declared.due.Due.{Due}
@@ -16,8 +15,10 @@ use Rattle.script_judge.specs.declared.fault.Fault.{Fault}
 use Rattle.script_judge.specs.Counts.{one_if, counts_after}
 use Rattle.script_judge.specs.Nesting.{opened_after}
 use Rattle.script_judge.specs.Bounds.{BoundsSeen, no_bounds, bounds_after, is_bad_bound}
+pub use Rattle.script_judge.specs.Sides.{is_arrow, has_arrow}
+use Rattle.script_judge.specs.Splits.{SplitsSeen, no_splits, splits_after, ends_between, is_rangeless, is_bad_point}
 use Rattle.script_judge.specs.Numbers.{Verdict, Tells, has_no_pieces, is_past_lsb, is_past_pieces}
-use Rattle.script_judge.specs.Names.{NamesSeen, no_names, names_after, is_new, is_used, is_some_among, defines, split_name}
+use Rattle.script_judge.specs.Names.{NamesSeen, no_names, names_after, is_new, is_used, is_some_among, defines, ended, operand_name, split_name}
 
 -- what stands before a token
 pub record Seen : Type 0 where
@@ -25,6 +26,7 @@ pub record Seen : Type 0 where
   pub opened : List Open
   pub counts : Counts
   pub bounds : BoundsSeen
+  pub splits : SplitsSeen
 
 -- before the first token
 abbrev pub nothing_seen : Seen
@@ -33,6 +35,7 @@ nothing_seen = record {
   opened = [];
   counts = record { place = place.Definitions; rounds = false; halves = false; definitions = 0; propositions = 0; hints = 0; nodes = 0; splits = 0; pieces = 0 };
   bounds = no_bounds;
+  splits = no_splits;
 }
 
 -- what stands before the next token
@@ -42,18 +45,10 @@ seen_after v seen r w = record {
   opened = opened_after seen.opened r w;
   counts = counts_after seen.counts (is_new seen.names r w) r w;
   bounds = bounds_after seen.bounds v.number r w;
+  splits = splits_after seen.splits (ended r seen.names.pending) (is_some_among seen.names.defined (operand_name r w)) v.arrow_behind (ends_between seen.bounds.lower v.number) v.number r w;
 }
 
 -- ---- `?` in a hypothesis, `@FIX` in a goal: propositions with a `->` of the formula behind them are hypotheses
-
--- a `->` of the formula
-abbrev pub is_arrow : Due → Word → Bool
-is_arrow d.Connective (sign s.Arrow) = true
-is_arrow r w = false
-
--- one of these tokens is such a `->`
-abbrev pub has_arrow : List Leaf → Bool
-has_arrow leaves = list_any (λ l. is_arrow l.role l.word) leaves
 
 -- how many of them are
 abbrev pub arrow_count : List Leaf → ℕ
@@ -84,18 +79,20 @@ first_kind [] = None
 first_kind (p ∷ ps) = if p.0 then Some p.1 else first_kind ps
 
 -- what is refused whatever is counted
-abbrev pub form_kind : Bool → Bool → Bool → Bool → Bool → Bool → Option RefusalKind
-form_kind wrong_side used bad_bound defined_split no_pieces past = first_kind (
+abbrev pub form_kind : Bool → Bool → Bool → Bool → Bool → Bool → Bool → Bool → Option RefusalKind
+form_kind wrong_side used bad_bound rangeless defined_split no_pieces bad_point past = first_kind (
     (wrong_side, kind.FormulaForm)
     ∷ ((used, kind.NameUsed)
     ∷ ((bad_bound, kind.BadBound)
-    ∷ ((defined_split || no_pieces, kind.BadSplit) ∷ ((past, kind.LiteralLimit) ∷ [])))))
+    ∷ ((rangeless, kind.SplitRange)
+    ∷ ((defined_split || no_pieces || bad_point, kind.BadSplit) ∷ ((past, kind.LiteralLimit) ∷ []))))))
 
 -- the tests of one token, with whether a `->` of the formula stands behind it
 abbrev pub form_refusal : Verdict → Seen → Due → Word → Bool → List Leaf → Option RefusalKind
 form_refusal v seen r w arrow_behind behind =
     form_kind (is_on_wrong_side r w arrow_behind (is_empty behind)) (is_used seen.names (defines r w) behind) (is_bad_bound seen.bounds v.number)
-    (is_some_among seen.names.defined (split_name r w)) (has_no_pieces r w) v.past
+    (is_rangeless seen.splits.ranges (is_some_among seen.names.defined (split_name r w)) (split_name r w))
+    (is_some_among seen.names.defined (split_name r w)) (has_no_pieces r w) (is_bad_point seen.splits (nat_lt 0 seen.counts.pieces) v.number) v.past
 
 -- the limits that are passed with a token
 abbrev pub limit_kind : ℕ → ℕ → Counts → Bool → Bool → Option RefusalKind

@@ -7,7 +7,10 @@ pub mod Limits
 pub mod Nesting
 pub mod Names
 pub mod Bounds
+pub mod Sides
 pub mod Numbers
 pub mod BoundViews
+pub mod Splits
+pub mod SplitViews
 pub mod Judge
 pub mod First

@@ -8,6 +8,7 @@ use Rattle.script_shape.specs.declared.due.Due.{Due}
 use Rattle.script_shape.specs.declared.due.Due.TheVariants as d
 use Rattle.script_shape.specs.Roles.{Leaf}
 use Rattle.script_judge.specs.Bounds.{IsBoundOf}
+use Rattle.script_judge.specs.Sides.{has_arrow}
 
 -- ---- digits alone
 
@@ -34,11 +35,12 @@ is_past_pieces r w = false
 
 -- ---- what only a literal's value tells
 
--- what is told of a token: whether it is a literal of an expression or a bound that is past its limits, and the value of the
--- bound that begins there
+-- what is told of a token: whether it is a literal of an expression or a bound that is past its limits, the value of the
+-- bound that begins there, and whether a `->` of the formula stands behind it
 pub record Verdict : Type 0 where
   pub past : Bool
   pub number : Option Fraction
+  pub arrow_behind : Bool
 
 -- what is due where a literal of an expression or a bound stands
 abbrev pub is_number : Due → Bool
@@ -61,3 +63,4 @@ IsPast false w = ⊥
 pub record Tells (v : Verdict) (r : Due) (w : Word) (behind : List Leaf) : Type 0 where
   pub past : IsTrue v.past ↔ IsPast (is_number r) w
   pub number : (x : Fraction) → (v.number ≡ Some x) ↔ IsBoundOf r w behind x
+  pub arrow : v.arrow_behind ≡ has_arrow behind

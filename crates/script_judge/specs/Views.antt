@@ -11,6 +11,7 @@ use Rattle.script_judge.specs.Names.{NamesSeen}
 use Rattle.script_judge.specs.Judge.{Seen}
 use Rattle.script_judge.specs.Limits.{IsWithinNumber}
 use Rattle.script_judge.specs.BoundViews.{bounds_of}
+use Rattle.script_judge.specs.SplitViews.{splits_seen}
 
 -- what the code has read
 abbrev pub reading_of : ReadText → Reading
@@ -37,3 +38,4 @@ pub record IsSeen (code : CodeSeen) (seen : Seen) : Type 0 where
   pub counts : code.counts ≡ seen.counts
   pub bounds : bounds_of code.bounds ≡ seen.bounds
   pub within : IsWithinNumber code.bounds.lower
+  pub splits : splits_seen code.splits ≡ seen.splits

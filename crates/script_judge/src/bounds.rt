@@ -145,6 +145,13 @@ impl Bounds {
         }
     }
 
+    /// The lower bound whose upper comes next.
+    pub fn lower(self) -> Option<Number>
+        ensures { result ≡ self.lower }
+    {
+        self.lower
+    }
+
     /// Behind a token, with the number of the bound that begins there.
     pub fn after(self, number: Option<Number>, role: Due, word: Word<'_>) -> Bounds
         ensures value { bounds_of result

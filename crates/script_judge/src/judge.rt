@@ -17,6 +17,7 @@ use crate::nesting::{Open, open_or_close};
 use crate::numbers::{Verdict, has_no_pieces, is_past_lsb, is_past_pieces, verdict_on};
 use crate::refusal::{LimitKind, RefusalKind};
 use crate::sides::{arrow_count, is_arrow, is_on_wrong_side, without};
+use crate::splits::{Splits, Told, ends_between};
 use script_shape::due::Due;
 use script_words::words::Word;
 use std::alloc::{AllocError, Global};
@@ -28,17 +29,21 @@ struct Seen<'a> {
     opened: Vec<Open>,
     counts: Counts,
     bounds: Bounds,
+    splits: Splits<'a>,
 }
 
 fn form_kind(
     wrong_side: bool,
     used: bool,
     bad_bound: bool,
+    rangeless: bool,
     defined_split: bool,
     no_pieces: bool,
+    bad_point: bool,
     past: bool,
 ) -> Option<RefusalKind>
-    ensures { result ≡ spec.form_kind wrong_side used bad_bound defined_split no_pieces past }
+    ensures { result ≡ spec.form_kind wrong_side used bad_bound rangeless defined_split no_pieces
+        bad_point past }
 {
     if wrong_side {
         Some(RefusalKind::FormulaForm)
@@ -46,7 +51,9 @@ fn form_kind(
         Some(RefusalKind::NameUsed)
     } else if bad_bound {
         Some(RefusalKind::BadBound)
-    } else if defined_split || no_pieces {
+    } else if rangeless {
+        Some(RefusalKind::SplitRange)
+    } else if defined_split || no_pieces || bad_point {
         Some(RefusalKind::BadSplit)
     } else if past {
         Some(RefusalKind::LiteralLimit)
@@ -76,12 +83,18 @@ fn form_refusal<'a>(
     let used = seen.names.is_used(role, word, words, roles);
     let bad_bound = seen.bounds.is_bad(verdict.number);
     let defined_split = seen.names.splits_defined(role, word);
+    let rangeless = seen.splits.is_rangeless(defined_split, role, word);
+    let bad_point = seen
+        .splits
+        .is_bad_point(seen.counts.pieces > 0, verdict.number);
     form_kind(
         wrong_side,
         used,
         bad_bound,
+        rangeless,
         defined_split,
         has_no_pieces(role, word),
+        bad_point,
         verdict.past,
     )
 }
@@ -150,17 +163,27 @@ impl<'a> Seen<'a> {
                 pieces: 0,
             },
             bounds: Bounds::new(),
+            splits: Splits::new(alloc),
         }
     }
 
     /// Takes a token.
     fn take(&mut self, role: Due, word: Word<'a>, verdict: Verdict) -> Result<(), AllocError>
         requires counts { IsWithinLimits self.old.counts }
+        requires lower { IsWithinNumber self.old.bounds.lower }
         requires number { IsWithinNumber verdict.number }
         ensures { OnOk result ((stands : spec.Seen) → IsSeen self.old stands
             → IsSeen self.new (spec.seen_after (verdict_of verdict) stands role (word_of word.entry))) }
     {
         let is_new = self.names.is_new(role, word);
+        let told = Told {
+            ended: self.names.ends_definition(role),
+            defined: self.names.uses_defined(role, word),
+            arrow_behind: verdict.arrow_behind,
+            ends: ends_between(self.bounds.lower(), verdict.number),
+            number: verdict.number,
+        };
+        self.splits.take(told, role, word)?;
         self.names.take(self.counts.halves, role, word)?;
         open_or_close(&mut self.opened, role, word)?;
         self.counts = counts_after(self.counts, is_new, role, word);
@@ -216,7 +239,7 @@ pub fn judge<'a>(
         let later_words = words_from(words, number + 1);
         let later_roles = roles_from(roles, number + 1);
         let later_arrows = without(arrows, is_arrow(role, word));
-        let verdict = verdict_on(role, word, later_words, later_roles);
+        let verdict = verdict_on(role, word, later_words, later_roles, later_arrows > 0);
         let form = form_refusal(
             &seen,
             (role, word),

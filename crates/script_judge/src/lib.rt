@@ -13,5 +13,6 @@ pub mod reading;
 pub mod refusal;
 pub mod sets;
 pub mod sides;
+pub mod splits;
 #[cfg(test)]
 mod tests;

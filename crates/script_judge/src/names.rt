@@ -186,6 +186,22 @@ impl<'a> Names<'a> {
         has_some(&self.defined, split_name(role, word))
     }
 
+    /// The name whose definition the token ends.
+    pub fn ends_definition(&self, role: Due) -> Option<&'a [u8]>
+        ensures { (names : NamesSeen) → AreNames self.now names
+            → option_copied result ≡ spec.ended role names.pending }
+    {
+        ended(role, self.pending)
+    }
+
+    /// Whether the token is an operand that has a definition.
+    pub fn uses_defined(&self, role: Due, word: Word<'a>) -> bool
+        ensures { (names : NamesSeen) → AreNames self.now names
+            → result ≡ spec.is_some_among names.defined (spec.operand_name role (word_of word.entry)) }
+    {
+        has_some(&self.defined, operand_name(role, word))
+    }
+
     /// Takes a token.
     pub fn take(&mut self, halves: bool, role: Due, word: Word<'a>) -> Result<(), AllocError>
         ensures { OnOk result ((names : NamesSeen) → AreNames self.old names

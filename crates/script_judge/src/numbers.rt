@@ -9,6 +9,7 @@ ghost use Rattle.script_judge.specs.BoundViews.{verdict_of};
 ghost use Rattle.script_judge.specs.Leaves.{leaves_of};
 ghost use Rattle.script_judge.specs.Limits.{IsWithinNumber};
 ghost use Rattle.script_judge.specs.Numbers as spec;
+ghost use Rattle.script_judge.specs.Sides.{has_arrow};
 
 use crate::bounds::bound_number;
 use bound_order::Number;
@@ -123,23 +124,34 @@ pub fn is_past(role: Due, word: Word<'_>) -> bool
     }
 }
 
-/// What the literals of a token tell.
+/// What is told of a token.
 #[derive(Clone, Copy)]
 pub struct Verdict {
     /// Whether it is a literal past its limits.
     pub past: bool,
     /// The number of the bound that begins with it.
     pub number: Option<Number>,
+    /// Whether a `->` of the formula stands behind it.
+    pub arrow_behind: bool,
 }
 
-/// What the literals of a token tell, with these words behind it.
-pub fn verdict_on(role: Due, word: Word<'_>, words: &[Word<'_>], roles: &[Due]) -> Verdict
+/// What is told of a token, with these words behind it.
+pub fn verdict_on(
+    role: Due,
+    word: Word<'_>,
+    words: &[Word<'_>],
+    roles: &[Due],
+    arrow_behind: bool,
+) -> Verdict
+    requires { arrow_behind ≡ has_arrow (leaves_of roles.now (map word_of words.now)) }
     ensures tells { spec.Tells (verdict_of result) role (word_of word.entry)
         (leaves_of roles.now (map word_of words.now)) }
     ensures within { IsWithinNumber result.number }
+    ensures arrow { result.arrow_behind ≡ arrow_behind }
 {
     Verdict {
         past: is_past(role, word),
         number: bound_number(role, word, words, roles),
+        arrow_behind,
     }
 }

@@ -73,14 +73,14 @@ fn refusals(rt: HostRuntime) -> Result<(), Fail> {
             11,
         ),
         (
-            b"{ x in ? } $ x in 65;",
+            b"{ x in [0,1] -> x in ? } $ x in 65;",
             RefusalKind::Limit(LimitKind::Pieces),
-            18,
+            32,
         ),
         (
-            b"{ x in ? } x $ a,b,c,d,e;",
+            b"{ a in [0,1] /\\ b in [0,1] /\\ c in [0,1] /\\ d in [0,1] /\\ e in [0,1] -> a in ? } a $ a,b,c,d,e;",
             RefusalKind::Limit(LimitKind::Splits),
-            23,
+            93,
         ),
     ];
     for (text, kind, at) in rows {
@@ -120,14 +120,78 @@ fn bad_bounds(rt: HostRuntime) -> Result<(), Fail> {
 }
 
 #[test]
+fn splits(rt: HostRuntime) -> Result<(), Fail> {
+    let rows: [(&[u8], RefusalKind, u32); 12] = [
+        (b"{ x in ? } $ x;", RefusalKind::SplitRange, 13),
+        (b"{ x in [0,1] } $ x;", RefusalKind::SplitRange, 17),
+        (b"{ x in ? } x $ y;", RefusalKind::SplitRange, 15),
+        (
+            b"{ -x in [0,1] /\\ x -/ x in [0,1] /\\ x <= 1 -> x in ? } $ x;",
+            RefusalKind::SplitRange,
+            57,
+        ),
+        (
+            b"{ x in [0,999999999999999999999999999999b512] -> x in ? } $ x;",
+            RefusalKind::SplitRange,
+            60,
+        ),
+        (
+            b"y = x; { y in [0,1] -> y in ? } $ y;",
+            RefusalKind::BadSplit,
+            34,
+        ),
+        (
+            b"y = x + 0; { y in [0,1] -> y in ? } $ x;",
+            RefusalKind::SplitRange,
+            38,
+        ),
+        (
+            b"{ x in [0,1] -> x in ? } $ x in (0);",
+            RefusalKind::BadSplit,
+            33,
+        ),
+        (
+            b"{ x in [0,1] -> x in ? } $ x in (0.5, -0.6);",
+            RefusalKind::BadSplit,
+            38,
+        ),
+        (
+            b"{ x in [0,1] -> x in ? } $ x in (0.5, 1b-1);",
+            RefusalKind::BadSplit,
+            38,
+        ),
+        (
+            b"{ x in [0,1] -> x in ? } $ x in (0.3, 0.3000000000000000000000001);",
+            RefusalKind::BadSplit,
+            38,
+        ),
+        (
+            b"{ x in [0,1] /\\ x in [0,2] -> x in ? } $ x in (1);",
+            RefusalKind::BadSplit,
+            47,
+        ),
+    ];
+    for (text, kind, at) in rows {
+        assert_eq!(rt;
+            first_refusal(rt.alloc(), text)?,
+            Some(Refusal { kind, at }),
+            "{text:?}"
+        );
+    }
+    Ok(())
+}
+
+#[test]
 fn scripts(rt: HostRuntime) -> Result<(), Fail> {
-    let rows: [&[u8]; 6] = [
+    let rows: [&[u8]; 8] = [
         b"{ x in ? }",
         b"@q = fixed<-15,dn>; x = q(xx); y q= x * x; My = x * x; { xx in [0,1] -> y - My in ? }",
-        b"{ @FIX(a,-15) /\\ a in [0,1] -> |a| -/ 2 in ? } a -> b { b <> 0, a < 1 }; $ a in (0.5, 1);",
-        b"y fixed<-4,dn>= x + 1; { fma(x, -y, int<zr>(x)) in ? } x, y + 1 $ x; x ~ y;",
+        b"{ @FIX(a,-15) /\\ a in [0,1] -> |a| -/ 2 in ? } a -> b { b <> 0, a < 1 }; $ a in (0.5, 0.75);",
+        b"y fixed<-4,dn>= x + 1; { x in [0,1] -> fma(x, -y, int<zr>(x)) in ? } x, y + 1 $ x; x ~ y;",
         b"@FIX = int<up>; y = FIX(x); { @FIX(y,3) -> y in ? }",
         b"{ x in [0.5,1b-1] /\\ y -/ x in [-0.99,-0.5] /\\ x in [-1,1] -> x in [-2,-1] /\\ x <= -1 /\\ x <= -2 }",
+        b"@q = int<dn>; y q= (x); { ((y)) in [0,1] -> x in ? } $ x in (1b-3, +0.5); x $ x;",
+        b"{ x in [0,999999999999999999999999999999b512] /\\ (x) in [0,1] -> x in [0,1] -> x in ? } x, x $ x, x;",
     ];
     for text in rows {
         assert_eq!(rt; first_refusal(rt.alloc(), text)?, None, "{text:?}");

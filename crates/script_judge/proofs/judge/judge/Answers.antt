@@ -5,11 +5,28 @@ use Rattle.script_judge.specs.Counts.{one_if}
 use Rattle.script_judge.specs.Leaves.{leaves_of}
 use Rattle.script_judge.specs.Judge.{Judged, none_refused, is_arrow}
 use Rattle.script_judge.specs.BoundViews.{verdict_of}
-use Rattle.script_judge.proofs.Judging.{JudgedTo, begin_judging, split_at, same_rest, none_left, told, behind_arrow, ends_by_form, ends_by_limit, goes_on}
+use Rattle.script_judge.proofs.Judging.{JudgedTo, begin_judging, split_at, same_rest, none_left, told, told_arrow, behind_arrow, ends_by_form, ends_by_limit, goes_on}
 use Rattle.script_judge.proofs.judge.judge.Goals as goal
 
 pub loop-number-init : goal.loop-number-init
 loop-number-init c = begin_judging _ c.new-seen.result c.arrow_count-arrows.result c.new-seen.ensures.seen c.new-seen.ensures.within c.arrow_count-arrows.ensures
+
+pub verdict_on-verdict-requires : goal.verdict_on-verdict-requires
+verdict_on-verdict-requires c =
+    let n = c.loop-number.number in
+    let seen = c.loop-number.seen in
+    let arrows = c.loop-number.arrows in
+    let r = c.role_at-role.result in
+    let w = word_of c.word_at-word.result in
+    let all = leaves_of c.args.roles.now (map word_of c.args.words.now) in
+    let behind = leaves_of c.roles_from-later_roles.result.now (map word_of c.words_from-later_words.result.now) in
+    let same : behind ≡ leaves_of (drop (n + 1) c.args.roles.now) (map word_of (drop (n + 1) c.args.words.now)) =
+    same_rest c.args.roles.now _ c.args.words.now _ (n + 1) c.roles_from-later_roles.ensures c.words_from-later_words.ensures in
+    let left : leaves_of (drop n c.args.roles.now) (map word_of (drop n c.args.words.now)) ≡ at r w ∷ behind =
+    split_at c.args.roles.now c.args.words.now n r c.word_at-word.result c.role_at-role.ensures c.word_at-word.ensures ∙ ap (λ l. at r w ∷ l) (sym same) in
+    let m : JudgedTo all n seen (at r w ∷ behind) arrows = subst (λ ls. JudgedTo all n seen ls arrows) left c.loop-number.invariant in
+    let later : c.without-later_arrows.result ≡ arrows - one_if (is_arrow r w) = c.without-later_arrows.ensures ∙ ap (λ b. arrows - one_if b) c.is_arrow.ensures in
+    told_arrow behind c.without-later_arrows.result (behind_arrow r w behind arrows c.without-later_arrows.result m.arrows_left later)
 
 pub returns-in-Some-clause-judged : goal.returns-in-Some-clause-judged
 returns-in-Some-clause-judged c =

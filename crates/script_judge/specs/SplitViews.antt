@@ -1,0 +1,34 @@
+-- The code's split ranges as those that definitions speak of.
+use Rattle.std.specs.Prelude.{map}
+use Rattle.std.specs.Option.{option_map}
+use Rattle.dyadic.specs.Values.{value_of}
+use Rattle.script_judge.specs.declared.splits.Subject.{Subject as CodeSubject}
+use Rattle.script_judge.specs.declared.splits.Subject.TheVariants as code
+use Rattle.script_judge.specs.declared.splits.Alias.{Alias as CodeAlias}
+use Rattle.script_judge.specs.declared.splits.Ends.{Ends as CodeEnds}
+use Rattle.script_judge.specs.declared.splits.SplitRange.{SplitRange as CodeRange}
+use Rattle.script_judge.specs.declared.splits.Splits.{Splits}
+use Rattle.script_judge.specs.Splits.{Subject, nothing, node_of, other, Alias, Ends, SplitRange, SplitsSeen}
+
+abbrev pub subject_seen : CodeSubject → Subject
+subject_seen code.Nothing = nothing
+subject_seen (code.Variable text) = node_of text.now
+subject_seen code.Other = other
+
+abbrev pub alias_seen : CodeAlias → Alias
+alias_seen a = record { name = a.name.now; variable = a.variable.now }
+
+abbrev pub ends_seen : CodeEnds → Ends
+ends_seen e = record { low = value_of e.low; high = value_of e.high }
+
+abbrev pub range_seen : CodeRange → SplitRange
+range_seen r = record { variable = r.variable.now; ends = ends_seen r.ends }
+
+abbrev pub splits_seen : Splits → SplitsSeen
+splits_seen x = record {
+  subject = subject_seen x.subject;
+  aliases = map alias_seen x.aliases.items;
+  ranges = map range_seen x.ranges.items;
+  cut = option_map ends_seen x.cut;
+  before = option_map value_of x.before;
+}

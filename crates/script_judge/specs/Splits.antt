@@ -1,0 +1,172 @@
+-- Split ranges of variables, and points that split them.
+use Rattle.std.specs.Prelude.{ℕ, ◌&&◌, not, List, [], ◌∷◌, ◌++◌, Option, Some, None, Bool, true, false, if◌then◌else◌}
+use Rattle.std.specs.Str.{bytes_eq}
+use Rattle.fx_model.specs.Fraction.{Fraction}
+use Rattle.script_words.specs.declared.class.Sign.{Sign}
+use Rattle.script_words.specs.declared.class.Sign.TheVariants as s
+use Rattle.script_words.specs.Words.{Word, name, sign}
+use Rattle.script_shape.specs.declared.due.Due.{Due}
+use Rattle.script_shape.specs.declared.due.Due.TheVariants as d
+use Rattle.bound_order.specs.Tests.{is_less, down_number, up_number}
+use Rattle.script_judge.specs.Names.{Name, split_name}
+
+-- ---- what an expression is so far
+
+-- nothing but open parentheses; the node of a variable, which a name in parentheses is; another one
+pub data Subject : Type 0 where
+  nothing : Subject
+  node_of : Name → Subject
+  other : Subject
+
+-- a defined name whose right side is the node of a variable
+pub record Alias : Type 0 where
+  pub name : Name
+  pub variable : Name
+
+-- the variable whose node a defined name stands for
+abbrev pub alias_of : List Alias → Name → Option Name
+alias_of [] text = None
+alias_of (a ∷ ls) text = if bytes_eq a.name text then Some a.variable else alias_of ls text
+
+-- a name as an expression: an alias, a defined name that is none, or a variable
+abbrev pub named : Option Name → Bool → Name → Subject
+named (Some variable) defined text = node_of variable
+named None true text = other
+named None false text = node_of text
+
+-- a name is a whole expression where only parentheses stand before it
+abbrev pub first_name : Subject → List Alias → Bool → Name → Subject
+first_name nothing aliases defined text = named (alias_of aliases text) defined text
+first_name old aliases defined text = other
+
+-- a parenthesis is no part of its own
+abbrev pub signed_subject : Subject → Sign → Subject
+signed_subject old s.OpenParen = old
+signed_subject old g = other
+
+abbrev pub operand_subject : Subject → List Alias → Bool → Word → Subject
+operand_subject old aliases defined (name k text) = first_name old aliases defined text
+operand_subject old aliases defined (sign g) = signed_subject old g
+operand_subject old aliases defined w = other
+
+-- Definitions and propositions begin with nothing. The expression of `x in` stays up to the next one.
+abbrev pub subject_after : Subject → List Alias → Bool → Due → Word → Subject
+subject_after old aliases defined d.Script w = nothing
+subject_after old aliases defined d.Connective w = nothing
+subject_after old aliases defined d.Operand w = operand_subject old aliases defined w
+subject_after old aliases defined d.Tail w = other
+subject_after old aliases defined r w = old
+
+-- the name whose definition ends stands for the variable
+abbrev pub aliases_after : List Alias → Subject → Option Name → List Alias
+aliases_after aliases (node_of variable) (Some text) = aliases ++ (record { name = text; variable = variable } ∷ [])
+aliases_after aliases subject ended = aliases
+
+-- ---- split ranges
+
+-- two numbers of the grid
+pub record Ends : Type 0 where
+  pub low : Fraction
+  pub high : Fraction
+
+pub record SplitRange : Type 0 where
+  pub variable : Name
+  pub ends : Ends
+
+-- bounds rounded outward, where both are finite
+abbrev pub ends_at : Option Fraction → Option Fraction → Option Ends
+ends_at None high = None
+ends_at (Some low) None = None
+ends_at (Some low) (Some high) = Some (record { low = low; high = high })
+
+-- of a lower and an upper bound that are there
+abbrev pub ends_between : Option Fraction → Option Fraction → Option Ends
+ends_between None high = None
+ends_between (Some low) None = None
+ends_between (Some low) (Some high) = ends_at (down_number low) (up_number high)
+
+abbrev pub with_range : List SplitRange → Name → Option Ends → List SplitRange
+with_range ranges variable None = ranges
+with_range ranges variable (Some ends) = ranges ++ (record { variable = variable; ends = ends } ∷ [])
+
+-- a hypothesis of a variable gives a range at its upper bound
+abbrev pub ranges_after : List SplitRange → Subject → Bool → Option Ends → List SplitRange
+ranges_after ranges (node_of variable) true ends = with_range ranges variable ends
+ranges_after ranges subject arrow_behind ends = ranges
+
+-- the range of a variable is that of the first such hypothesis
+abbrev pub range_of : List SplitRange → Name → Option Ends
+range_of [] text = None
+range_of (r ∷ rs) text = if bytes_eq r.variable text then Some r.ends else range_of rs text
+
+-- the range of the split variable that stands before
+abbrev pub cut_after : Option Ends → List SplitRange → Option Name → Option Ends
+cut_after old ranges None = old
+cut_after old ranges (Some text) = range_of ranges text
+
+-- ---- points
+
+-- a number rounded down, where there is one
+abbrev pub some_down : Option Fraction → Option Fraction
+some_down None = None
+some_down (Some x) = down_number x
+
+-- the point before, rounded down
+abbrev pub before_after : Option Fraction → Option Fraction → Due → Option Fraction
+before_after old number d.Cut = None
+before_after old number d.Bound = some_down number
+before_after old number r = old
+
+-- no point stands before, or one below
+abbrev pub is_after : Option Fraction → Fraction → Bool
+is_after None g = true
+is_after (Some before) g = is_less before g
+
+abbrev pub splits_at : Ends → Option Fraction → Option Fraction → Bool
+splits_at ends before None = false
+splits_at ends before (Some g) = is_less ends.low g && is_less g ends.high && is_after before g
+
+-- a point in a range that, rounded down, isn't inside, or not above the one before
+abbrev pub is_no_split : Option Ends → Option Fraction → Option Fraction → Bool
+is_no_split None before number = false
+is_no_split (Some ends) before None = false
+is_no_split (Some ends) before (Some x) = not (splits_at ends before (down_number x))
+
+-- ---- what stands before a token
+
+pub record SplitsSeen : Type 0 where
+  pub subject : Subject
+  pub aliases : List Alias
+  pub ranges : List SplitRange
+  pub cut : Option Ends
+  pub before : Option Fraction
+
+-- before the first token
+abbrev pub no_splits : SplitsSeen
+no_splits = record { subject = nothing; aliases = []; ranges = []; cut = None; before = None }
+
+-- What stands behind a token: `ended` is the name whose definition it ends, `defined` says that it is an operand that has a
+-- definition, `ends` are those of a range whose upper bound begins there.
+abbrev pub splits_after : SplitsSeen → Option Name → Bool → Bool → Option Ends → Option Fraction → Due → Word → SplitsSeen
+splits_after x ended defined arrow_behind ends number r w = record {
+  subject = subject_after x.subject x.aliases defined r w;
+  aliases = aliases_after x.aliases x.subject ended;
+  ranges = ranges_after x.ranges x.subject arrow_behind ends;
+  cut = cut_after x.cut x.ranges (split_name r w);
+  before = before_after x.before number r;
+}
+
+-- ---- what is refused
+
+abbrev pub is_none : Option Ends → Bool
+is_none None = true
+is_none (Some ends) = false
+
+-- a split variable that has no definition and no range
+abbrev pub is_rangeless : List SplitRange → Bool → Option Name → Bool
+is_rangeless ranges defined None = false
+is_rangeless ranges defined (Some text) = not defined && is_none (range_of ranges text)
+
+-- a point of a list that doesn't split
+abbrev pub is_bad_point : SplitsSeen → Bool → Option Fraction → Bool
+is_bad_point x in_points number = in_points && is_no_split x.cut x.before number
