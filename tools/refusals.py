@@ -5,17 +5,21 @@
     refusals.py program > main.rt                   a program over `script_judge` that answers TEXTS on its input
     refusals.py compare REFERENCE TEXTS ANSWERS     ANSWERS: for each text `KIND BYTE` or `None`
 
-REFERENCE is the folder that holds the package `reference`. Of its answers the ranges of split variables and the points of
-splits are left out.
+REFERENCE is the folder that holds the package `reference`.
 """
 
 import random
 import sys
+from fractions import Fraction
 
 NAMES = ["x", "y", "z", "a", "b1", "My", "dn", "FIX", "ne", "q", "rnd", "_t", "float1", "inn"]
 DIRECTIONS = ["zr", "aw", "dn", "up", "od", "ne", "no", "nz", "na", "nd", "nu"]
 LITERALS = ["0", "1", "2", "0.5", "1b-1", "0x1.8p1", "2.5e1", "1e8", "3", "10", "00", "0x0", "7b512", "1e-30",
             "1.00", "0.1e-29", "0x1.8p-508"]
+# Values next to one another, and to -1 with a minus.
+NEAR = ["0.1", "0x0.1999999999999999999999999p0", "0x0.199999999999999999999999ap0", "1b-100", "1e-30", "1b-99",
+        "0.3", "0.30000000000000000000000000001", "0.9999999999999999", "0.999999999999999999999999999999", "1.0000001",
+        "999999999999999999999999999999b512", "1b512", "9" * 30 + "e8", "0.25", "1b-2", "0.75", "3b-2", "0.4999999999"]
 PAST = ["1e9", "1e-31", "1b513", "1b-513", "0x1p513", "1" * 31, "0" * 31 + "b1", "0x" + "f" * 26, "0.1e-30",
         "1." + "0" * 31, "1e99999999999999999999999", "0x1.8p-509", "0e9"]
 FINE = ["0" * 40 + "1", "1." + "0" * 29, "0x" + "0" * 9 + "f" * 25, "9" * 30, "1" * 30 + "b0", "1e08", "1b+0512"]
@@ -61,11 +65,33 @@ fn main(rt: HostRuntime) -> io::Result<()> {
 """
 
 
+def value(text):
+    """The value of a literal that isn't one of `PAST`."""
+    if text.startswith("0x"):
+        body, _, power = text[2:].partition("p")
+        whole, _, fraction = body.partition(".")
+        return Fraction(int(whole + fraction, 16), 16 ** len(fraction)) * Fraction(2) ** int(power or 0)
+    if "b" in text:
+        digits, _, power = text.partition("b")
+        return int(digits) * Fraction(2) ** int(power)
+    body, _, power = text.partition("e")
+    whole, _, fraction = body.partition(".")
+    return Fraction(int(whole + fraction), 10 ** len(fraction)) * Fraction(10) ** int(power or 0)
+
+
+def signed_value(bound):
+    """What a bound stands for; 0 for a literal past its limits."""
+    if bound[-1] in PAST:
+        return Fraction(0)
+    return -value(bound[-1]) if bound[0] == "-" else value(bound[-1])
+
+
 class Maker:
     def __init__(self, rng):
         self.rng = rng
         self.operators, self.values, self.used = [], [], set()
         self.names = list(NAMES)
+        self.ranged = []
 
     def pick(self, xs):
         return self.rng.choice(xs)
@@ -76,7 +102,7 @@ class Maker:
     def literal(self):
         if self.maybe(0.01):
             return self.pick(PAST)
-        return self.pick(FINE if self.maybe(0.05) else LITERALS)
+        return self.pick(FINE if self.maybe(0.05) else NEAR if self.maybe(0.3) else LITERALS)
 
     def whole(self):
         n = self.pick(["0", "3", "15", "512", "0512", "00"]) if self.maybe(0.97) else self.pick(["513", "9999999999999", "0513"])
@@ -84,6 +110,11 @@ class Maker:
 
     def bound(self):
         return ([self.pick("+-")] if self.maybe(0.3) else []) + [self.literal()]
+
+    def bounds(self, many):
+        """Bounds that mostly rise."""
+        out = [self.bound() for _ in range(many)]
+        return sorted(out, key=signed_value) if self.maybe(0.93) else out
 
     def operator(self):
         if self.maybe(0.5):
@@ -140,7 +171,10 @@ class Maker:
             how = self.operator() + [">="]
         else:
             how = self.operator() + [">", "="]
-        e = self.expr() if self.maybe(0.97) else self.expr() + ["+", name]
+        if self.maybe(0.4):
+            e = self.node()
+        else:
+            e = self.expr() if self.maybe(0.97) else self.expr() + ["+", name]
         self.values.append(name)
         return [name] + how + e + [";"]
 
@@ -153,10 +187,21 @@ class Maker:
         if self.maybe(0.7 if goal else 0.02):
             r = ["?"]
         else:
-            r = ["["] + self.bound() + [","] + self.bound() + ["]"]
+            low, high = self.bounds(2)
+            r = ["["] + low + [","] + high + ["]"]
         if k < 0.35:
             return self.expr(1) + ["-/"] + self.expr(1) + ["in"] + r
+        if not goal and self.maybe(0.7):
+            return self.node() + ["in"] + r
         return self.expr(1) + ["in"] + r
+
+    def node(self):
+        """A name in parentheses: mostly that of a variable, or of a definition that may stand for one."""
+        name = self.pick(self.values) if self.values and self.maybe(0.4) else self.variable()
+        depth = self.rng.randint(0, 2) if self.maybe(0.4) else 0
+        if name not in self.values:
+            self.ranged.append(name)
+        return ["("] * depth + [name] + [")"] * depth
 
     def formula(self, many=3):
         out = []
@@ -171,6 +216,8 @@ class Maker:
         return out
 
     def split_name(self):
+        if self.ranged and self.maybe(0.85):
+            return self.pick(self.ranged)
         return self.pick(sorted(self.used) or ["x"]) if self.maybe(0.9) else self.pick(self.names)
 
     def hint(self):
@@ -193,8 +240,8 @@ class Maker:
                 out += ["in", self.pick(["4", "64", "1", "064", "00", "65", "0"])]
             elif self.maybe(0.5):
                 out += ["in", "("]
-                for i in range(self.rng.randint(1, 4)):
-                    out += ([","] if i else []) + self.bound()
+                for i, b in enumerate(self.bounds(self.rng.randint(1, 4))):
+                    out += ([","] if i else []) + b
                 out += [")"]
             return out + [";"]
         out = self.expr(1)
@@ -267,7 +314,7 @@ class Maker:
         if k == 4:
             out += ["$", "x", "in", "("]
             for i in range(self.rng.randint(61, 66)):
-                out += ([","] if i else []) + self.bound()
+                out += ([","] if i else []) + [str(i + 1) + "b-7"]
             out += [")", ";"]
         if k == 5:
             for i in range(self.rng.randint(3, 6)):
@@ -347,7 +394,7 @@ def one(seed):
 
 
 def reference_answer(script, data):
-    """The first refusal of the reference, without those of split ranges and points."""
+    """The first refusal of the reference."""
     try:
         text = script.decode(data)
     except script.Refusal as r:
@@ -359,21 +406,9 @@ def reference_answer(script, data):
         # The reference ends with an AttributeError at a split on a variable of a hypothesis `x in ?`. That `?` is
         # refused before it.
         pass
-    starts = {t.start: i for i, t in enumerate(parser.tokens.list)}
-
-    def stays(refusal):
-        at, number, _ = refusal
-        if number == script.SPLIT_RANGE:
-            return False
-        if number == script.BAD_SPLIT:
-            i = starts[at]
-            return parser.tokens.list[i].kind == "name" or parser.tokens.list[i - 1].text == "in"
-        return True
-
-    left = [r for r in parser.refusals if stays(r)]
-    if not left:
+    if not parser.refusals:
         return "None"
-    at, number, limit = min(left)
+    at, number, limit = min(parser.refusals)
     kind = script.KINDS[number]
     if number == script.LIMIT:
         kind = "Limit(%s)" % script.LIMITS[limit]
