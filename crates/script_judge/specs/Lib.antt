@@ -10,6 +10,7 @@ pub mod Bounds
 pub mod Sides
 pub mod Numbers
 pub mod BoundViews
+pub mod Subject
 pub mod Splits
 pub mod SplitViews
 pub mod Judge

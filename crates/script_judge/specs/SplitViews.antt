@@ -2,13 +2,14 @@
 use Rattle.std.specs.Prelude.{map}
 use Rattle.std.specs.Option.{option_map}
 use Rattle.dyadic.specs.Values.{value_of}
-use Rattle.script_judge.specs.declared.splits.Subject.{Subject as CodeSubject}
-use Rattle.script_judge.specs.declared.splits.Subject.TheVariants as code
-use Rattle.script_judge.specs.declared.splits.Alias.{Alias as CodeAlias}
+use Rattle.script_judge.specs.declared.subject.Subject.{Subject as CodeSubject}
+use Rattle.script_judge.specs.declared.subject.Subject.TheVariants as code
+use Rattle.script_judge.specs.declared.subject.Alias.{Alias as CodeAlias}
 use Rattle.script_judge.specs.declared.splits.Ends.{Ends as CodeEnds}
 use Rattle.script_judge.specs.declared.splits.SplitRange.{SplitRange as CodeRange}
 use Rattle.script_judge.specs.declared.splits.Splits.{Splits}
-use Rattle.script_judge.specs.Splits.{Subject, nothing, node_of, other, Alias, Ends, SplitRange, SplitsSeen}
+use Rattle.script_judge.specs.Subject.{Subject, nothing, node_of, other, Alias}
+use Rattle.script_judge.specs.Splits.{Ends, SplitRange, SplitsSeen}
 
 abbrev pub subject_seen : CodeSubject → Subject
 subject_seen code.Nothing = nothing

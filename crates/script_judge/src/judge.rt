@@ -12,10 +12,11 @@ ghost use Rattle.script_judge.specs.Views.{IsSeen};
 use crate::bounds::Bounds;
 use crate::counts::{Counts, Place, counts_after};
 use crate::fault::Fault;
+use crate::kinds::{form_kind, limit_kind};
 use crate::names::Names;
 use crate::nesting::{Open, open_or_close};
 use crate::numbers::{Verdict, has_no_pieces, is_past_lsb, is_past_pieces, verdict_on};
-use crate::refusal::{LimitKind, RefusalKind};
+use crate::refusal::RefusalKind;
 use crate::sides::{arrow_count, is_arrow, is_on_wrong_side, without};
 use crate::splits::{Splits, Told, ends_between};
 use script_shape::due::Due;
@@ -30,36 +31,6 @@ struct Seen<'a> {
     counts: Counts,
     bounds: Bounds,
     splits: Splits<'a>,
-}
-
-fn form_kind(
-    wrong_side: bool,
-    used: bool,
-    bad_bound: bool,
-    rangeless: bool,
-    defined_split: bool,
-    no_pieces: bool,
-    bad_point: bool,
-    past: bool,
-) -> Option<RefusalKind>
-    ensures { result ≡ spec.form_kind wrong_side used bad_bound rangeless defined_split no_pieces
-        bad_point past }
-{
-    if wrong_side {
-        Some(RefusalKind::FormulaForm)
-    } else if used {
-        Some(RefusalKind::NameUsed)
-    } else if bad_bound {
-        Some(RefusalKind::BadBound)
-    } else if rangeless {
-        Some(RefusalKind::SplitRange)
-    } else if defined_split || no_pieces || bad_point {
-        Some(RefusalKind::BadSplit)
-    } else if past {
-        Some(RefusalKind::LiteralLimit)
-    } else {
-        None
-    }
 }
 
 /// What is refused whatever is counted.
@@ -97,36 +68,6 @@ fn form_refusal<'a>(
         bad_point,
         verdict.past,
     )
-}
-
-fn limit_kind(
-    opened: usize,
-    halved: usize,
-    counts: Counts,
-    past_lsb: bool,
-    past_pieces: bool,
-) -> Option<RefusalKind>
-    ensures { result ≡ spec.limit_kind opened halved counts past_lsb past_pieces }
-{
-    if opened > 64 {
-        Some(RefusalKind::Limit(LimitKind::Nesting))
-    } else if counts.definitions > 256 {
-        Some(RefusalKind::Limit(LimitKind::Definitions))
-    } else if counts.propositions > 128 {
-        Some(RefusalKind::Limit(LimitKind::Propositions))
-    } else if counts.hints > 64 {
-        Some(RefusalKind::Limit(LimitKind::Hints))
-    } else if counts.nodes > 512 {
-        Some(RefusalKind::Limit(LimitKind::Nodes))
-    } else if past_lsb {
-        Some(RefusalKind::Limit(LimitKind::Lsb))
-    } else if counts.splits > 4 || halved > 4 {
-        Some(RefusalKind::Limit(LimitKind::Splits))
-    } else if counts.pieces > 64 || past_pieces {
-        Some(RefusalKind::Limit(LimitKind::Pieces))
-    } else {
-        None
-    }
 }
 
 /// The limit that is passed with the token.

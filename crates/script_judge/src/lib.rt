@@ -6,6 +6,7 @@ pub mod counts;
 pub mod fault;
 pub mod first;
 pub mod judge;
+pub mod kinds;
 pub mod names;
 pub mod nesting;
 pub mod numbers;
@@ -14,5 +15,6 @@ pub mod refusal;
 pub mod sets;
 pub mod sides;
 pub mod splits;
+pub mod subject;
 #[cfg(test)]
 mod tests;
