@@ -1,5 +1,5 @@
 -- What a text that was read stands for.
-use Rattle.std.proofs.Common.{◌≡◌, ℕ, List, Bool, Option, Some, None, Result, Ok, Err, ◌↔◌, refl, sym, ap, ◌∙◌, subst}
+use Rattle.std.proofs.Common.{◌≡◌, ℕ, List, Bool, Some, None, Result, Err, ◌↔◌, refl, sym, ap, ◌∙◌, subst}
 use Rattle.fx_model.specs.Fraction.{Fraction}
 use Rattle.fx_model.specs.Grid.{signed}
 use Rattle.fx_model.specs.Expression.{literal_value}

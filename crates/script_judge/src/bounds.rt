@@ -1,9 +1,8 @@
 //! The bounds of ranges.
 
-ghost use Rattle.std.specs.Prelude.{◌≡◌, ◌≤◌, ◌↔◌, Some, IfSome, length, map};
+ghost use Rattle.std.specs.Prelude.{◌≡◌, ◌↔◌, Some, map};
 ghost use Rattle.std.specs.Option.{option_map};
 ghost use Rattle.fx_model.specs.Fraction.{Fraction};
-ghost use Rattle.literal.specs.Normal.{IsNormal};
 ghost use Rattle.bound_order.specs.Value.{value_of};
 ghost use Rattle.script_words.specs.Named.{word_of};
 ghost use Rattle.script_judge.specs.Bounds as spec;

@@ -7,7 +7,7 @@ ghost use Rattle.bound_order.specs.Value.{value_of};
 ghost use Rattle.bound_order.specs.Tests.{is_less};
 ghost use Rattle.script_words.specs.Named.{word_of};
 ghost use Rattle.script_judge.specs.Limits.{IsWithinNumber};
-ghost use Rattle.script_judge.specs.SplitViews.{subject_seen, alias_seen, ends_seen, range_seen, splits_seen};
+ghost use Rattle.script_judge.specs.SplitViews.{subject_seen, ends_seen, range_seen, splits_seen};
 ghost use Rattle.script_judge.specs.Names as names;
 ghost use Rattle.script_judge.specs.Splits as spec;
 
