@@ -1,4 +1,6 @@
 // Written bounds at values that were worked out by hand.
+ghost use Rattle.script_bounds.specs.Bounds.{IsWritten};
+
 use crate::{Written, above, below, inward, outward};
 use dyadic::{Dyadic, End};
 use interval::Interval;
@@ -6,7 +8,9 @@ use literal::read;
 use std::process::Abort;
 
 // The bound that is written with this text, a minus perhaps before its literal. None for no text.
-fn written(rt: &impl Abort, text: &str) -> Option<Written> {
+fn written(rt: &impl Abort, text: &str) -> Option<Written>
+    ensures { IsWritten result }
+{
     match text.strip_prefix("-") {
         Some(rest) => Some(Written {
             literal: read(rest).expect(rt, "a literal"),
