@@ -1,0 +1,7 @@
+pub mod Hypotheses
+pub mod Goals
+pub mod Formulas
+pub mod Digits
+pub mod NormalParts
+pub mod Braces
+pub mod Grows

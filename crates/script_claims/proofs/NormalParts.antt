@@ -1,0 +1,18 @@
+-- Bounds in normal form stay so.
+use Rattle.std.specs.Prelude.{Some}
+use Rattle.script_bounds.specs.declared.bound.Written.{Written}
+use Rattle.script_bounds.specs.Bounds.{IsWritten}
+use Rattle.script_claims.specs.declared.part.Part.{Part}
+use Rattle.script_claims.specs.declared.part.Part.TheVariants.{Nothing, Against, In, RelativeIn, AtMost, AtLeast, From, RelativeFrom, Made}
+use Rattle.script_claims.specs.Parts.{bounded, IsNormalPart}
+
+pub bounded_normal : (b : Written) (p : Part) → IsWritten (Some b) → IsNormalPart p → IsNormalPart (bounded b p)
+bounded_normal b Nothing h n = tt
+bounded_normal b (Against x) h n = tt
+bounded_normal b (In x) h n = h
+bounded_normal b (RelativeIn x y) h n = h
+bounded_normal b (AtMost x) h n = (tt, h)
+bounded_normal b (AtLeast x) h n = (h, tt)
+bounded_normal b (From x a) h n = (n, h)
+bounded_normal b (RelativeFrom x y a) h n = (n, h)
+bounded_normal b (Made c) h n = n

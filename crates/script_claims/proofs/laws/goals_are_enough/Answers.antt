@@ -1,0 +1,5 @@
+use Rattle.script_claims.proofs.Goals.{goals_inside, goals_zero}
+use Rattle.script_claims.proofs.laws.goals_are_enough.Goals as goal
+
+pub returns : goal.returns
+returns c = record { inside = goals_inside c.inward_is_greatest.ensures.within; zeros = goals_zero }

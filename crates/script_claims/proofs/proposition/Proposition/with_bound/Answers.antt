@@ -1,0 +1,11 @@
+use Rattle.std.proofs.Common.{sym, ap, subst, ◌∙◌}
+use Rattle.script_bounds.specs.declared.bound.Written.{Written}
+use Rattle.script_claims.specs.declared.proposition.Proposition.{Proposition}
+use Rattle.script_claims.specs.Parts.{IsNormalPart}
+use Rattle.script_claims.proofs.NormalParts.{bounded_normal}
+use Rattle.script_claims.proofs.proposition.Proposition.with_bound.Goals as goal
+
+pub returns-clause-normal : goal.returns-clause-normal
+returns-clause-normal c = λ n.
+    let b : Written = record { literal = c.literal_of.result; negative = c.args.negative } in
+    subst IsNormalPart (sym (ap (λ (p : Proposition). p.part) c.with_part.ensures ∙ c.bounded.ensures)) (bounded_normal b c.args.self.part c.literal_of.ensures.normal n)

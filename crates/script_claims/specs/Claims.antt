@@ -1,0 +1,93 @@
+-- What a formula claims, by recursion on its tree.
+use Rattle.std.specs.Prelude.{ℕ, ℤ, pos, neg_ℤ, List, [], ◌∷◌, ◌++◌, Some, None, true, false, nat_lt, if◌then◌else◌}
+use Rattle.std.specs.Str.Parse.{digits_value}
+use Rattle.fx_model.specs.declared.ExprId.{ExprId}
+use Rattle.script_shape.specs.Tree.{Whole, natural, opposite, Bound, unsigned, positive, negative, Range, asked, between, Prop, lies_in, relative_in, at_most, at_least, multiple, Formula, single, and, implies}
+use Rattle.script_nodes.specs.Literals.{literal_of}
+use Rattle.script_nodes.specs.Operators.{digits_text}
+use Rattle.script_nodes.specs.Known.{Known, Placed}
+use Rattle.script_nodes.specs.Values.{expr_value}
+use Rattle.script_bounds.specs.declared.bound.Written.{Written}
+use Rattle.script_claims.specs.declared.claim.Claim.{Claim}
+use Rattle.script_claims.specs.declared.claim.Claim.TheVariants.{Bounded, Asked, Relative, RelativeAsked, Multiple}
+
+-- ---- numbers
+
+-- the literal of a bound, and whether a minus stands before it
+abbrev pub bound_written : Bound → Written
+bound_written (unsigned k text) = record { literal = literal_of text; negative = false }
+bound_written (positive k text) = record { literal = literal_of text; negative = false }
+bound_written (negative k text) = record { literal = literal_of text; negative = true }
+
+-- no more than 1025, which is past each exponent of a multiple, and its negative too
+abbrev pub at_most_1025 : ℕ → ℕ
+at_most_1025 n = if nat_lt n 1025 then n else 1025
+
+-- The number that digits write, and 1025 where they write more: digits may be of any length.
+unfoldable pub exponent_size : List ℕ → ℕ
+exponent_size text = at_most_1025 (digits_value 10 text)
+
+abbrev pub exponent_of : Whole → ℤ
+exponent_of (natural d) = pos (exponent_size (digits_text d))
+exponent_of (opposite d) = neg_ℤ (pos (exponent_size (digits_text d)))
+
+-- ---- propositions
+
+abbrev pub ranged : Range → ExprId → Claim
+ranged asked x = Asked x
+ranged (between a b) x = Bounded x (Some (bound_written a)) (Some (bound_written b))
+
+abbrev pub relative : Range → ExprId → ExprId → Claim
+relative asked x y = RelativeAsked x y
+relative (between a b) x y = Relative x y (bound_written a) (bound_written b)
+
+abbrev pub of_value : (ExprId → Claim) → Placed → Known × Claim
+of_value claim p = (p.0, claim p.1)
+
+-- its claim, and what is known behind it
+abbrev pub prop_claim : Prop → Known → Known × Claim
+prop_claim (lies_in e r) k = of_value (ranged r) (expr_value None e k)
+prop_claim (relative_in a b r) k = of_value (relative r (expr_value None a k).1) (expr_value None b (expr_value None a k).0)
+prop_claim (at_most e b) k = of_value (λ x. Bounded x None (Some (bound_written b))) (expr_value None e k)
+prop_claim (at_least e b) k = of_value (λ x. Bounded x (Some (bound_written b)) None) (expr_value None e k)
+prop_claim (multiple f e w) k = of_value (λ x. Multiple x (exponent_of w)) (expr_value None e k)
+
+-- ---- formulas
+
+-- the claims of some propositions, in the order of writing
+pub record Sides : Type 0 where
+  pub hypotheses : List Claim
+  pub goals : List Claim
+
+abbrev pub no_sides : Sides
+no_sides = record { hypotheses = []; goals = [] }
+
+abbrev pub with_goal : Sides → Claim → Sides
+with_goal s c = record { hypotheses = s.hypotheses; goals = s.goals ++ (c ∷ []) }
+
+-- an arrow makes hypotheses of the goals before it
+abbrev pub behind_arrow : Sides → Sides
+behind_arrow s = record { hypotheses = s.hypotheses ++ s.goals; goals = [] }
+
+-- what is known behind some propositions, and their claims
+pub record Claims : Type 0 where
+  pub known : Known
+  pub sides : Sides
+
+abbrev pub then_goal : Sides → Known × Claim → Claims
+then_goal s p = record { known = p.0; sides = with_goal s p.1 }
+
+abbrev pub then_claimed : Prop → Claims → Claims
+then_claimed p cs = then_goal cs.sides (prop_claim p cs.known)
+
+abbrev pub then_arrow : Claims → Claims
+then_arrow cs = record { known = cs.known; sides = behind_arrow cs.sides }
+
+abbrev pub no_claims : Known → Claims
+no_claims k = record { known = k; sides = no_sides }
+
+-- The last part has the goals, and the parts before it have the hypotheses. With no arrow all are goals.
+abbrev pub formula_claims : Formula → Known → Claims
+formula_claims (single p) k = then_claimed p (no_claims k)
+formula_claims (and f p) k = then_claimed p (formula_claims f k)
+formula_claims (implies f p) k = then_claimed p (then_arrow (formula_claims f k))

@@ -1,0 +1,6 @@
+pub mod Claims
+pub mod Meets
+pub mod Facts
+pub mod Parts
+pub mod Reads
+pub mod Examples

@@ -1,0 +1,104 @@
+-- The claims of a formula, word by word from the left.
+use Rattle.std.specs.Prelude.{◌≡◌, ℕ, suc, ◌+◌, List, [], ◌∷◌, ◌++◌, length, Option, Some, None, Bool, true, false, if◌then◌else◌}
+use Rattle.fx_model.specs.declared.ExprId.{ExprId}
+use Rattle.script_words.specs.declared.class.Sign.TheVariants as s
+use Rattle.script_words.specs.Words.{Word, sign}
+use Rattle.script_shape.specs.declared.due.Due.{Due}
+use Rattle.script_shape.specs.declared.due.Due.TheVariants as d
+use Rattle.script_shape.specs.Tree.{Formula}
+use Rattle.script_shape.specs.Roles.{Leaf, at, formula_leaves}
+use Rattle.script_nodes.specs.Known.{Known}
+use Rattle.script_nodes.specs.Waits.{Reading, Complete, expr_done, read}
+use Rattle.script_claims.specs.declared.claim.Claim.TheVariants.{Multiple}
+use Rattle.script_claims.specs.declared.proposition.Proposition.{Proposition}
+use Rattle.script_claims.specs.declared.part.Part.{Part}
+use Rattle.script_claims.specs.declared.part.Part.TheVariants.{Nothing, Made}
+use Rattle.script_claims.specs.Claims.{Sides, with_goal, behind_arrow, Claims, no_claims, formula_claims}
+use Rattle.script_claims.specs.Parts.{nothing_read, relation_behind, in_behind, proposition_read}
+
+-- the expression in hand, the proposition in hand, and the claims so far
+pub record State : Type 0 where
+  pub reading : Reading
+  pub proposition : Proposition
+  pub sides : Sides
+
+-- between propositions
+abbrev pub state_of : Reading → Sides → State
+state_of r sides = record { reading = r; proposition = nothing_read; sides = sides }
+
+abbrev pub from_claims : Claims → State
+from_claims cs = state_of (record { known = cs.known; waits = [] }) cs.sides
+
+-- ---- an expression ends, and its number goes to the proposition
+
+abbrev pub with_part : (Part → Part) → Proposition → Proposition
+with_part f p = record p { part = f p.part }
+
+abbrev pub taken : (ExprId → Part → Part) → State → Option Complete → State
+taken f st (Some c) = record st { reading = record { known = c.0.0; waits = c.1 }; proposition = with_part (f c.0.1) st.proposition }
+taken f st None = st
+
+abbrev pub expr_taken : (ExprId → Part → Part) → State → State
+expr_taken f st = taken f st (expr_done None st.reading st.reading.waits)
+
+-- ---- a proposition ends
+
+-- what was made of it, or a multiple, whose expression still waits; nothing where it isn't whole
+abbrev pub ended_with : State → Part → Option Complete → State
+ended_with st (Made c) o = state_of st.reading (with_goal st.sides c)
+ended_with st Nothing (Some c) = state_of (record { known = c.0.0; waits = c.1 }) (with_goal st.sides (Multiple c.0.1 st.proposition.exponent))
+ended_with st p o = state_of st.reading st.sides
+
+abbrev pub ended : State → State
+ended st = ended_with st st.proposition.part (expr_done None st.reading st.reading.waits)
+
+-- `/\`, or `->`
+abbrev pub connected : Word → State → State
+connected (sign s.Arrow) st = record st { sides = behind_arrow st.sides }
+connected w st = st
+
+-- ---- words, by their roles
+
+-- what a word is to its proposition
+abbrev pub at_role : Due → Word → State → State
+at_role d.Relation w st = expr_taken (relation_behind w) st
+at_role d.In w st = expr_taken in_behind st
+at_role d.Connective w st = connected w (ended st)
+at_role d.CloseBrace w st = ended st
+at_role r w st = record st { proposition = proposition_read r w st.proposition }
+
+-- Each word goes to the expression first.
+unfoldable pub read_claim : Due → Word → State → State
+read_claim r w st = at_role r w (record st { reading = read None r w st.reading })
+
+unfoldable pub read_claims : List Leaf → State → State
+read_claims [] st = st
+read_claims (l ∷ ls) st = read_claims ls (read_claim l.role l.word st)
+
+-- ---- a whole formula
+
+abbrev pub closes : Due → Bool
+closes d.CloseBrace = true
+closes _ = false
+
+-- the words up to the brace, and the brace
+unfoldable pub read_formula : List Leaf → State → State
+read_formula [] st = st
+read_formula (l ∷ ls) st = if closes l.role then read_claim l.role l.word st else read_formula ls (read_claim l.role l.word st)
+
+-- how many these are
+unfoldable pub formula_length : List Leaf → ℕ
+formula_length [] = 0
+formula_length (l ∷ ls) = if closes l.role then 1 else suc (formula_length ls)
+
+-- the words of a formula, the brace behind it, and others
+abbrev pub then_brace : Formula → List Leaf → List Leaf
+then_brace f rest = formula_leaves f ++ (at d.CloseBrace (sign s.CloseBrace) ∷ rest)
+
+-- Whatever is known and whatever follows, the words of a formula and the brace behind it are read as its claims.
+abbrev pub ReadsFormulas : Type 0
+ReadsFormulas = (f : Formula) (rest : List Leaf) (k : Known) → read_claims (then_brace f rest) (from_claims (no_claims k)) ≡ read_claims rest (from_claims (formula_claims f k))
+
+-- They end at that brace.
+abbrev pub EndsFormulas : Type 0
+EndsFormulas = (f : Formula) (rest : List Leaf) (k : Known) → (read_formula (then_brace f rest) (from_claims (no_claims k)) ≡ from_claims (formula_claims f k)) × (formula_length (then_brace f rest) ≡ length (formula_leaves f) + 1)

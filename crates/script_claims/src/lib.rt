@@ -1,0 +1,19 @@
+//! What the propositions of a formula claim, with their bounds as they are written.
+#![tactic(auto)]
+
+mod claim;
+mod laws;
+mod numbers;
+mod part;
+mod proposition;
+mod reader;
+mod sides;
+#[cfg(test)]
+mod tests;
+
+pub use claim::{Claim, Want};
+pub use laws::{formulas_are_read, goals_are_enough, hypotheses_hold};
+pub use part::Part;
+pub use proposition::{NOTHING_READ, Proposition};
+pub use reader::ClaimReader;
+pub use sides::Sides;

@@ -1,0 +1,133 @@
+-- The hint that is being read, step by step, and the hints before it.
+use Rattle.std.specs.Prelude.{ℕ, List, [], ◌∷◌, ◌++◌, Bool, true, false}
+use Rattle.fx_model.specs.declared.ExprId.{ExprId}
+use Rattle.dyadic.specs.declared.number.Dyadic.{Dyadic}
+use Rattle.facts.specs.declared.hint.Need.{Need}
+use Rattle.facts.specs.declared.hint.Need.TheVariants as need
+use Rattle.script_words.specs.declared.class.Sign.{Sign}
+use Rattle.script_words.specs.declared.class.Sign.TheVariants as s
+use Rattle.script_bounds.specs.declared.bound.Written.{Written}
+use Rattle.script_hints.specs.declared.hint.Cutting.TheVariants as cutting
+use Rattle.script_hints.specs.declared.hint.HintList.{HintList}
+use Rattle.script_hints.specs.declared.stage.Stage.{Stage}
+use Rattle.script_hints.specs.declared.stage.Stage.TheVariants as stage
+use Rattle.script_hints.specs.declared.stage.Bounded.{Bounded}
+use Rattle.script_hints.specs.declared.stage.Bounded.TheVariants as bounded
+use Rattle.script_hints.specs.Hints.{need_below, need_above, with_point, piece_count, ordered, halved, with_cut}
+
+-- How far the hint is read; what its next bound is for, and whether a minus stands before it; its needs and points so far.
+pub record Draft : Type 0 where
+  pub stage : Stage
+  pub bounded : Bounded
+  pub negative : Bool
+  pub needs : List Need
+  pub points : List Dyadic
+  pub list : HintList
+
+-- before a hint
+abbrev pub fresh : HintList → Draft
+fresh l = record { stage = stage.Front; bounded = bounded.Point; negative = false; needs = []; points = []; list = l }
+
+abbrev pub staged : Draft → Stage → Draft
+staged h t = record h { stage = t }
+
+-- ---- expressions that have ended
+
+-- a sign behind an expression at the front of a hint
+abbrev pub side_ended : Sign → ExprId → Draft → Draft
+side_ended s.Arrow x h = staged h (stage.Right x)
+side_ended s.Tilde x h = staged h (stage.Alike x)
+side_ended s.Dollar x h = staged h stage.Halves
+side_ended g x h = h
+
+-- the `{` behind the right side of a rewriting
+abbrev pub needs_opened_as : Stage → ExprId → Draft → Draft
+needs_opened_as (stage.Right a) x h = staged h (stage.Sides a x)
+needs_opened_as t x h = h
+
+abbrev pub needs_opened : ExprId → Draft → Draft
+needs_opened x h = needs_opened_as h.stage x h
+
+abbrev pub with_need : Draft → Need → Draft
+with_need h n = record h { needs = h.needs ++ (n ∷ []) }
+
+-- the relation behind the expression of a need
+abbrev pub related : Sign → ExprId → Draft → Draft
+related s.Unequal x h = with_need h (need.NotZero x)
+related s.Less x h = record h { bounded = bounded.Below x true }
+related s.LessEqual x h = record h { bounded = bounded.Below x false }
+related s.Greater x h = record h { bounded = bounded.Above x true }
+related s.GreaterEqual x h = record h { bounded = bounded.Above x false }
+related g x h = h
+
+-- ---- bounds
+
+abbrev pub bound_signed : Sign → Draft → Draft
+bound_signed s.Minus h = record h { negative = true }
+bound_signed g h = h
+
+-- the next bound stands alone again
+abbrev pub bound_read : Draft → Draft
+bound_read h = record h { bounded = bounded.Point; negative = false }
+
+abbrev pub bounded_as : Bounded → Written → Draft → Draft
+bounded_as bounded.Point w h = record h { points = with_point h.points w }
+bounded_as (bounded.Below x strict) w h = with_need h (need_below x w strict)
+bounded_as (bounded.Above x strict) w h = with_need h (need_above x w strict)
+
+-- the literal of a bound, a minus perhaps before it
+abbrev pub with_bound : Written → Draft → Draft
+with_bound w h = bound_read (bounded_as h.bounded w h)
+
+-- ---- splits
+
+-- the `$` of a cut
+abbrev pub cut_begun : Draft → Draft
+cut_begun h = staged h stage.Cuts
+
+abbrev pub with_variable_as : Stage → ExprId → Draft → Draft
+with_variable_as stage.Cuts x h = record h { stage = stage.Pieces x 4; list = ordered h.list x }
+with_variable_as stage.Halves x h = record h { list = halved h.list x }
+with_variable_as t x h = h
+
+-- a variable of a split
+abbrev pub with_split_variable : ExprId → Draft → Draft
+with_split_variable x h = with_variable_as h.stage x h
+
+abbrev pub cut_into_as : Stage → ℕ → Draft → Draft
+cut_into_as (stage.Pieces x m) n h = staged h (stage.Pieces x (piece_count n))
+cut_into_as t n h = h
+
+-- the digits of a cut
+abbrev pub cut_into : ℕ → Draft → Draft
+cut_into n h = cut_into_as h.stage n h
+
+abbrev pub points_begun_as : Stage → Draft → Draft
+points_begun_as (stage.Pieces x m) h = staged h (stage.Points x)
+points_begun_as t h = h
+
+-- the `(` of a cut
+abbrev pub points_begun : Draft → Draft
+points_begun h = points_begun_as h.stage h
+
+-- ---- the end of a hint
+
+abbrev pub rewriting_added : ExprId → ExprId → List Need → HintList → HintList
+rewriting_added x y ns l = record l { rewrites = l.rewrites ++ (record { left = x; right = y; needs = ns } ∷ []) }
+
+abbrev pub like_added : ExprId → ExprId → HintList → HintList
+like_added x y l = record l { likes = l.likes ++ ((x, y) ∷ []) }
+
+abbrev pub added_as : Stage → ExprId → Draft → HintList
+added_as stage.Front x h = h.list
+added_as (stage.Right a) x h = rewriting_added a x h.needs h.list
+added_as (stage.Sides a b) x h = rewriting_added a b h.needs h.list
+added_as (stage.Alike a) x h = like_added a x h.list
+added_as stage.Cuts x h = h.list
+added_as (stage.Pieces v n) x h = with_cut h.list v (cutting.Pieces n)
+added_as (stage.Points v) x h = with_cut h.list v (cutting.Points h.points)
+added_as stage.Halves x h = h.list
+
+-- The `;` behind a hint, whose last expression has this number.
+abbrev pub hint_ended : ExprId → Draft → Draft
+hint_ended x h = fresh (added_as h.stage x h)

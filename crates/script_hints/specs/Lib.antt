@@ -1,0 +1,5 @@
+pub mod Hints
+pub mod Drafts
+pub mod Reading
+pub mod ReadingLaw
+pub mod Examples

@@ -1,0 +1,12 @@
+//! What a script's hints say, read from the left.
+#![tactic(auto)]
+
+mod draft;
+pub mod hint;
+pub mod hints;
+pub mod laws;
+mod lists;
+pub mod reader;
+pub mod stage;
+#[cfg(test)]
+mod tests;

@@ -1,0 +1,106 @@
+// Hints with what they say, worked out by hand.
+ghost use Rattle.std.specs.Prelude.{◌<◌, length};
+
+use crate::hint::{Cutting, HintList};
+use crate::reader::HintReader;
+use dyadic::{Dyadic, End};
+use facts::Need;
+use fx_model::ExprId;
+use script_nodes::reader::Reader;
+use script_shape::shape::shape_of;
+use script_words::words::read_words;
+use std::alloc::Global;
+use std::process::Abort;
+use std::test::Fail;
+
+// What the hints of a text say. The formula `{ x in ? }` isn't read, so that the hints' own nodes come first.
+fn said(alloc: Global, text: &[u8]) -> Result<HintList, Fail>
+    requires { length text.now < 1000 }
+{
+    let read = read_words(alloc, text)?;
+    let shape = shape_of(alloc, read.words.as_slice())?;
+    let mut reader = HintReader::new(alloc, Reader::new(alloc));
+    let words = read.words.iter().zip(shape.roles.iter());
+    for (word, role) in words.skip(5) {
+        reader.token(*role, *word)?;
+    }
+    let (_, list) = reader.into_parts();
+    Ok(list)
+}
+
+fn number(rt: &impl Abort, mantissa: i64, exponent: i32) -> Dyadic {
+    Dyadic::new(mantissa, exponent).expect(rt, "a number of the grid")
+}
+
+#[test]
+fn rewritings_have_their_needs(rt: HostRuntime) -> Result<(), Fail> {
+    let list = said(
+        rt.alloc(),
+        b"{ x in ? } x -> y { y <> 0, x - y < 0.1, x >= -5 }; y -> x; x -> x { x < 5, y > -5b1, y <= +0.1 };",
+    )?;
+    let at = |mantissa: i64, exponent: i32| End::At(number(&rt, mantissa, exponent));
+    let (x, y, difference) = (ExprId(0), ExprId(1), ExprId(2));
+    // 2^63 / 10 is 922337203685477580.8
+    let below_tenth = at(922337203685477580, -63);
+    let rewrites = list.rewrites.as_slice();
+    assert_eq!(rt; rewrites.len(), 3);
+    assert_eq!(rt; (rewrites[0].left, rewrites[0].right), (x, y));
+    let needs = [
+        Need::NotZero(y),
+        Need::Below(difference, below_tenth, false),
+        Need::Above(x, at(-5, 0), false),
+    ];
+    assert_eq!(rt; rewrites[0].needs.as_slice(), needs.as_slice());
+    assert_eq!(rt; (rewrites[1].left, rewrites[1].right), (y, x));
+    assert_eq!(rt; rewrites[1].needs.as_slice().len(), 0);
+    let needs = [
+        Need::Below(x, at(5, 0), true),
+        Need::Above(y, at(-5, 1), true),
+        Need::Below(y, below_tenth, false),
+    ];
+    assert_eq!(rt; rewrites[2].needs.as_slice(), needs.as_slice());
+    Ok(())
+}
+
+#[test]
+fn cuts_have_their_pieces(rt: HostRuntime) -> Result<(), Fail> {
+    let list = said(
+        rt.alloc(),
+        b"{ x in ? } $ x; $ y in 007; x ~ y; $ z in (-1, 0.1, +2);",
+    )?;
+    let cuts = list.cuts.as_slice();
+    assert_eq!(rt; cuts.len(), 3);
+    assert_eq!(rt;
+        (cuts[0].var, cuts[1].var, cuts[2].var),
+        (ExprId(0), ExprId(1), ExprId(2))
+    );
+    assert!(rt; matches!(cuts[0].cut, Cutting::Pieces(4)));
+    assert!(rt; matches!(cuts[1].cut, Cutting::Pieces(7)));
+    let below_tenth = number(&rt, 922337203685477580, -63);
+    let points = [number(&rt, -1, 0), below_tenth, number(&rt, 2, 0)];
+    match &cuts[2].cut {
+        Cutting::Points(found) => assert_eq!(rt; found.as_slice(), points.as_slice()),
+        Cutting::Pieces(_) => panic!(rt; "no points"),
+    }
+    assert_eq!(rt; list.likes.as_slice(), [(ExprId(0), ExprId(1))].as_slice());
+    assert_eq!(rt;
+        list.order.as_slice(),
+        [ExprId(0), ExprId(1), ExprId(2)].as_slice()
+    );
+    assert_eq!(rt; list.halves.as_slice().len(), 0);
+    Ok(())
+}
+
+#[test]
+fn variables_are_halved_once(rt: HostRuntime) -> Result<(), Fail> {
+    // the nodes are x, y, x + y, z
+    let list = said(
+        rt.alloc(),
+        b"{ x in ? } x + y, x $ y; $ z in 2; x $ x, y, z; $ x in 3;",
+    )?;
+    let (x, y, z) = (ExprId(0), ExprId(1), ExprId(3));
+    assert_eq!(rt; list.halves.as_slice(), [y, x, z].as_slice());
+    assert_eq!(rt; list.order.as_slice(), [y, z, x].as_slice());
+    assert_eq!(rt; list.cuts.as_slice().len(), 2);
+    Ok(())
+}

@@ -1,0 +1,11 @@
+pub mod Literals
+pub mod Operators
+pub mod Known
+pub mod Values
+pub mod OperatorWords
+pub mod Waits
+pub mod ReadingLaw
+pub mod Definitions
+pub mod Defining
+pub mod Examples
+pub mod Sound

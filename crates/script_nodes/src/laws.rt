@@ -1,0 +1,21 @@
+//! What the reading of words gives.
+
+ghost use Rattle.script_nodes.specs.Literals.{ReadsLiterals};
+ghost use Rattle.script_nodes.specs.ReadingLaw.{ReadsTrees};
+ghost use Rattle.script_nodes.specs.Defining.{ReadsDefinition, ReadsDefinitions};
+
+/// Reading the words of an expression from the left gives the nodes and the number of its tree.
+pub fn reads_trees()
+    ensures { ReadsTrees }
+{}
+
+/// The literal of a text is what the text is read as.
+pub fn reads_literals()
+    ensures { ReadsLiterals }
+{}
+
+/// Reading the words of a definition, and those of a script up to its formula, gives what the definitions mean.
+pub fn reads_definitions()
+    ensures one { ReadsDefinition }
+    ensures all { ReadsDefinitions }
+{}

@@ -1,0 +1,14 @@
+//! The nodes of a script's expressions and definitions, read from the left.
+#![tactic(auto)]
+
+pub mod definitions;
+pub mod digits;
+mod expressions;
+pub mod laws;
+pub mod names;
+pub mod reader;
+mod signs;
+#[cfg(test)]
+mod tests;
+pub mod waits;
+mod words;
