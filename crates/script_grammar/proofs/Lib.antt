@@ -1,0 +1,3 @@
+mod WordsRead
+mod Once
+mod Accepted

@@ -1,0 +1,211 @@
+-- The words of a script are read as its tree.
+use Rattle.std.specs.Prelude.{◌≡◌, List, [], ◌∷◌, ◌++◌, None, Bool, true, false, refl}
+use Rattle.std.proofs.Common.{ap, sym, ◌∙◌, append_assoc, append-nil}
+use Rattle.script_words.specs.declared.class.Sign.TheVariants as s
+use Rattle.script_words.specs.declared.class.Spelled.TheVariants as spelled
+use Rattle.script_words.specs.Words.{Word, sign}
+use Rattle.script_shape.specs.declared.due.Due.{Due}
+use Rattle.script_shape.specs.declared.due.Due.TheVariants as d
+use Rattle.script_shape.specs.Tree.{AnyName, plain, operator, Special, free, defined, zero_alone, digits, Whole, natural, opposite, Bound, unsigned, positive, negative, Operator, fixed, int, Expr, term, sum, difference, Term, factor, product, quotient, Factor, negation, atom, Atom, number, variable, parenthesized, absolute, called, rounded, fused, Range, asked, between as range_between, Prop, lies_in, relative_in, at_most, at_least, multiple, Formula, single, and, implies, How, exactly, rounded_by, rounded_apart, rounded_joined, Definition, names_operator, names_value, Hints, Script, formula, define}
+use Rattle.script_shape.specs.Roles.{Leaf, at, name_leaves, special_leaves, whole_leaves, bound_leaves, operator_leaves, expr_leaves, term_leaves, factor_leaves, atom_leaves, range_leaves, prop_leaves, formula_leaves, hints_leaves, how_leaves, definition_leaves, script_leaves}
+use Rattle.script_nodes.specs.Known.{Known, nothing_known}
+use Rattle.script_nodes.specs.Definitions.{definition_value}
+use Rattle.script_nodes.specs.Defining.{Defining, between, define_word, define_all, opens_formula, ReadsDefinition}
+use Rattle.script_claims.specs.Claims.{Sides, Claims, no_claims, formula_claims}
+use Rattle.script_claims.specs.Reads.{State, from_claims, read_claim, read_claims, ReadsFormulas}
+use Rattle.script_hints.specs.Hints.{no_hints, with_hints}
+use Rattle.script_hints.specs.Reading.{HintReading, hints_from, read_hint, read_hints}
+use Rattle.script_hints.specs.ReadingLaw.{ReadsHints}
+use Rattle.script_grammar.specs.Meaning.{Meaning, meaning_from, body_meaning}
+use Rattle.script_grammar.specs.Steps.{Step, defining, claiming, hinting, hints_begun, read_word, read_words, all_read, ReadsScripts}
+
+-- ---- words that neither begin a definition or the formula, nor close it
+
+abbrev StaysAt : Due → Type 0
+StaysAt d.Script = ⊥
+StaysAt d.CloseBrace = ⊥
+StaysAt r = Unit {0}
+
+abbrev AllStay : List Leaf → Type 0
+AllStay [] = Unit {0}
+AllStay (l ∷ ls) = StaysAt l.role × AllStay ls
+
+both : (a b : List Leaf) → AllStay a → AllStay b → AllStay (a ++ b)
+both [] b p q = q
+both (l ∷ a) b p q = (p.0, both a b p.1 q)
+
+special_stays : (r : Due) (x : Special) → StaysAt r → AllStay (special_leaves r spelled.Direction x)
+special_stays r (free t) h = (h, tt)
+special_stays r (defined t) h = (h, tt)
+
+fix_stays : (x : Special) → AllStay (special_leaves d.Fix spelled.Fix x)
+fix_stays (free t) = (tt, tt)
+fix_stays (defined t) = (tt, tt)
+
+whole_stays : (w : Whole) → AllStay (whole_leaves w)
+whole_stays (natural (zero_alone t)) = (tt, tt)
+whole_stays (natural (digits t)) = (tt, tt)
+whole_stays (opposite (zero_alone t)) = (tt, (tt, tt))
+whole_stays (opposite (digits t)) = (tt, (tt, tt))
+
+bound_stays : (b : Bound) → AllStay (bound_leaves b)
+bound_stays (unsigned k t) = (tt, tt)
+bound_stays (positive k t) = (tt, (tt, tt))
+bound_stays (negative k t) = (tt, (tt, tt))
+
+operator_stays : (r : Due) (o : Operator) → StaysAt r → AllStay (operator_leaves r o)
+operator_stays r (fixed l x) h = (h, (tt, both (whole_leaves l) _ (whole_stays l) (tt, special_stays d.Direction x tt)))
+operator_stays r (int x) h = (h, (tt, special_stays d.Direction x tt))
+
+mutual
+  expr_stays : (e : Expr) → AllStay (expr_leaves e)
+  expr_stays (term t) = term_stays t
+  expr_stays (sum e t) = both (expr_leaves e) _ (expr_stays e) (tt, term_stays t)
+  expr_stays (difference e t) = both (expr_leaves e) _ (expr_stays e) (tt, term_stays t)
+
+  term_stays : (t : Term) → AllStay (term_leaves t)
+  term_stays (factor f) = factor_stays f
+  term_stays (product t f) = both (term_leaves t) _ (term_stays t) (tt, factor_stays f)
+  term_stays (quotient t f) = both (term_leaves t) _ (term_stays t) (tt, factor_stays f)
+
+  factor_stays : (f : Factor) → AllStay (factor_leaves f)
+  factor_stays (negation f) = (tt, factor_stays f)
+  factor_stays (atom a) = atom_stays a
+
+  atom_stays : (a : Atom) → AllStay (atom_leaves a)
+  atom_stays (number k t) = (tt, tt)
+  atom_stays (variable k t) = (tt, tt)
+  atom_stays (parenthesized e) = (tt, both (expr_leaves e) _ (expr_stays e) (tt, tt))
+  atom_stays (absolute e) = (tt, both (expr_leaves e) _ (expr_stays e) (tt, tt))
+  atom_stays (called k t e) = (tt, (tt, both (expr_leaves e) _ (expr_stays e) (tt, tt)))
+  atom_stays (rounded o e) = both (operator_leaves d.Operand o) _ (operator_stays d.Operand o tt) (tt, (tt, both (expr_leaves e) _ (expr_stays e) (tt, tt)))
+  atom_stays (fused a b c) = (tt, (tt, both (expr_leaves a) _ (expr_stays a) (tt, both (expr_leaves b) _ (expr_stays b) (tt, both (expr_leaves c) _ (expr_stays c) (tt, tt)))))
+
+range_stays : (r : Range) → AllStay (range_leaves r)
+range_stays asked = (tt, tt)
+range_stays (range_between a b) = (tt, both (bound_leaves a) _ (bound_stays a) (tt, both (bound_leaves b) _ (bound_stays b) (tt, tt)))
+
+prop_stays : (p : Prop) → AllStay (prop_leaves p)
+prop_stays (lies_in e r) = both (expr_leaves e) _ (expr_stays e) (tt, range_stays r)
+prop_stays (relative_in a b r) = both (expr_leaves a) _ (expr_stays a) (tt, both (expr_leaves b) _ (expr_stays b) (tt, range_stays r))
+prop_stays (at_most e b) = both (expr_leaves e) _ (expr_stays e) (tt, bound_stays b)
+prop_stays (at_least e b) = both (expr_leaves e) _ (expr_stays e) (tt, bound_stays b)
+prop_stays (multiple f e k) = (tt, both (special_leaves d.Fix spelled.Fix f) _ (fix_stays f) (tt, both (expr_leaves e) _ (expr_stays e) (tt, both (whole_leaves k) _ (whole_stays k) (tt, tt))))
+
+formula_stays : (f : Formula) → AllStay (formula_leaves f)
+formula_stays (single p) = prop_stays p
+formula_stays (and f p) = both (formula_leaves f) _ (formula_stays f) (tt, prop_stays p)
+formula_stays (implies f p) = both (formula_leaves f) _ (formula_stays f) (tt, prop_stays p)
+
+how_stays : (h : How) → AllStay (how_leaves h)
+how_stays exactly = (tt, tt)
+how_stays (rounded_by k t) = (tt, (tt, tt))
+how_stays (rounded_apart o) = both (operator_leaves d.DefinedBy o) _ (operator_stays d.DefinedBy o tt) (tt, (tt, tt))
+how_stays (rounded_joined o) = both (operator_leaves d.DefinedBy o) _ (operator_stays d.DefinedBy o tt) (tt, tt)
+
+new_name_stays : (n : AnyName) → AllStay (name_leaves d.NewName n)
+new_name_stays (plain k t) = (tt, tt)
+new_name_stays (operator k t) = (tt, tt)
+
+-- ---- definitions
+
+-- no word of a definition opens the formula
+abbrev Shut : List Leaf → Type 0
+Shut [] = Unit {0}
+Shut (l ∷ ls) = (opens_formula l.role l.word ≡ false) × Shut ls
+
+stay_shut : (r : Due) (w : Word) → StaysAt r → opens_formula r w ≡ false
+stay_shut d.Script w h = absurd h
+stay_shut d.CloseBrace w h = absurd h
+stay_shut _ w h = refl
+
+all_shut : (ls : List Leaf) → AllStay ls → Shut ls
+all_shut [] h = tt
+all_shut (l ∷ ls) h = (stay_shut l.role l.word h.0, all_shut ls h.1)
+
+value_name_shut : (n : AnyName) (ls : List Leaf) → Shut ls → Shut (name_leaves d.Script n ++ ls)
+value_name_shut (plain k t) ls h = (refl, h)
+value_name_shut (operator k t) ls h = (refl, h)
+
+definition_shut : (x : Definition) → Shut (definition_leaves x)
+definition_shut (names_operator n o) = (refl, all_shut _ (both (name_leaves d.NewName n) _ (new_name_stays n) (tt, both (operator_leaves d.Operator o) _ (operator_stays d.Operator o tt) (tt, (tt, tt)))))
+definition_shut (names_value n h e) = value_name_shut n _ (all_shut _ (both (how_leaves h) _ (how_stays h) (both (expr_leaves e) _ (expr_stays e) (tt, tt))))
+
+defining_word : (r : Due) (w : Word) (p : Defining) → opens_formula r w ≡ false → read_word r w (defining p) ≡ defining (define_word r w p)
+unfolding read_word
+defining_word r w p e = rw e refl
+
+define_first : (l : Leaf) (ls : List Leaf) (p : Defining) → opens_formula l.role l.word ≡ false → define_all (l ∷ ls) p ≡ define_all ls (define_word l.role l.word p)
+unfolding define_all
+define_first l ls p e = rw e refl
+
+define_words : (ls rest : List Leaf) (p : Defining) → Shut ls → read_words (ls ++ rest) (defining p) ≡ read_words rest (defining (define_all ls p))
+unfolding read_words define_all
+define_words [] rest p h = refl
+define_words (l ∷ ls) rest p h = ap (read_words (ls ++ rest)) (defining_word l.role l.word p h.0) ∙ define_words ls rest (define_word l.role l.word p) h.1
+    ∙ ap (λ q. read_words rest (defining q)) (sym (define_first l ls p h.0))
+
+-- ---- the formula
+
+claiming_word : (r : Due) (w : Word) (st : State) → StaysAt r → read_word r w (claiming st) ≡ claiming (read_claim r w st)
+unfolding read_word
+claiming_word d.Script w st h = absurd h
+claiming_word d.CloseBrace w st h = absurd h
+claiming_word _ w st h = refl
+
+claim_words : (ls rest : List Leaf) (st : State) → AllStay ls → read_words (ls ++ rest) (claiming st) ≡ read_words rest (claiming (read_claims ls st))
+unfolding read_words read_claims
+claim_words [] rest st h = refl
+claim_words (l ∷ ls) rest st h = ap (read_words (ls ++ rest)) (claiming_word l.role l.word st h.0) ∙ claim_words ls rest (read_claim l.role l.word st) h.1
+
+claims_append : (a b : List Leaf) (st : State) → read_claims (a ++ b) st ≡ read_claims b (read_claims a st)
+unfolding read_claims
+claims_append [] b st = refl
+claims_append (l ∷ a) b st = claims_append a b (read_claim l.role l.word st)
+
+-- ---- the hints
+
+hint_words : (ls : List Leaf) (sides : Sides) (h : HintReading) → read_words ls (hinting sides h) ≡ hinting sides (read_hints ls h)
+unfolding read_words read_word read_hints
+hint_words [] sides h = refl
+hint_words (l ∷ ls) sides h = hint_words ls sides (read_hint l.role l.word h)
+
+-- ---- scripts
+
+module _ (one : ReadsDefinition) (formulas : ReadsFormulas) (hints : ReadsHints) where
+  definition_ends : (x : Definition) (k : Known) → define_all (definition_leaves x) (between k) ≡ between (definition_value x k)
+  unfolding define_all
+  definition_ends x k = ap (λ ls. define_all ls (between k)) (sym (append-nil (definition_leaves x))) ∙ one x [] k
+
+  brace : Leaf
+  brace = at d.CloseBrace (sign s.CloseBrace)
+
+  claims_end : (f : Formula) (k : Known) → read_claim d.CloseBrace (sign s.CloseBrace) (read_claims (formula_leaves f) (from_claims (no_claims k))) ≡ from_claims (formula_claims f k)
+  unfolding read_claims
+  claims_end f k = sym (claims_append (formula_leaves f) (at d.CloseBrace (sign s.CloseBrace) ∷ []) (from_claims (no_claims k))) ∙ formulas f [] k
+
+  closing_word : (st : State) → read_word d.CloseBrace (sign s.CloseBrace) (claiming st) ≡ hints_begun (read_claim d.CloseBrace (sign s.CloseBrace) st)
+  unfolding read_word
+  closing_word st = refl
+
+  body_read : (f : Formula) (h : Hints) (k : Known) → read_words (formula_leaves f ++ (at d.CloseBrace (sign s.CloseBrace) ∷ hints_leaves h)) (claiming (from_claims (no_claims k))) ≡ all_read (body_meaning (formula_claims f k) h)
+  unfolding read_words
+  body_read f h k =
+      let cs = formula_claims f k in
+      claim_words (formula_leaves f) (at d.CloseBrace (sign s.CloseBrace) ∷ hints_leaves h) (from_claims (no_claims k)) (formula_stays f)
+      ∙ ap (read_words (hints_leaves h)) (closing_word (read_claims (formula_leaves f) (from_claims (no_claims k))) ∙ ap hints_begun (claims_end f k))
+      ∙ hint_words (hints_leaves h) cs.sides (hints_from cs.known no_hints)
+      ∙ ap (hinting cs.sides) (hints h cs.known no_hints)
+
+  opening : (w : Word) (k : Known) → read_word d.Script (sign s.OpenBrace) (defining (between k)) ≡ claiming (from_claims (no_claims k))
+  unfolding read_word
+  opening w k = refl
+
+  script_read : (tree : Script) (k : Known) → read_words (script_leaves tree) (defining (between k)) ≡ all_read (meaning_from tree k)
+  unfolding read_words
+  script_read (formula f h) k = ap (read_words (formula_leaves f ++ (at d.CloseBrace (sign s.CloseBrace) ∷ hints_leaves h))) (opening (sign s.OpenBrace) k) ∙ body_read f h k
+  script_read (define x rest) k = define_words (definition_leaves x) (script_leaves rest) (between k) (definition_shut x)
+      ∙ ap (λ p. read_words (script_leaves rest) (defining p)) (definition_ends x k) ∙ script_read rest (definition_value x k)
+
+  pub scripts_are_read : ReadsScripts
+  scripts_are_read tree = script_read tree nothing_known

@@ -1,0 +1,13 @@
+//! Whole scripts: exactly what a text spells, or its one refusal.
+#![tactic(auto)]
+
+mod laws;
+mod reading;
+mod script;
+mod stage;
+#[cfg(test)]
+mod tests;
+
+pub use laws::{script_or_refusal, scripts_are_read};
+pub use reading::{ParseStop, parse};
+pub use script::Script;

@@ -1,0 +1,92 @@
+// A script's words, read from the left.
+ghost use Rattle.std.specs.Prelude.{◌≡◌, IfOk, map};
+ghost use Rattle.script_words.specs.Named.{word_of};
+ghost use Rattle.script_judge.specs.Leaves.{leaves_of};
+ghost use Rattle.script_nodes.specs.Defining.{opens_formula};
+ghost use Rattle.script_grammar.specs.Steps as spec;
+ghost use Rattle.script_grammar.specs.Views.{step_of};
+
+use expr_dag::DagFault;
+use script_claims::{ClaimReader, Sides};
+use script_hints::reader::HintReader;
+use script_nodes::definitions::Definitions;
+use script_shape::due::Due;
+use script_words::class::Sign;
+use script_words::words::Word;
+use std::alloc::Global;
+
+// Where the reading stands, with what was read.
+#[derive(Drop)]
+pub enum Stage<'a> {
+    Definitions(Definitions<'a>),
+    Formula(ClaimReader<'a>),
+    // Behind the formula, whose claims these are.
+    Hints(Sides, HintReader<'a>),
+}
+
+// Whether the word is the `{` of the formula.
+fn opens_formula(role: Due, word: Word<'_>) -> bool
+    ensures { result ≡ opens_formula role (word_of word.entry) }
+{
+    matches!((role, word), (Due::Script, Word::Sign(Sign::OpenBrace)))
+}
+
+// Whether the word is the `}` of the formula.
+fn closes_formula(role: Due) -> bool
+    ensures { result ≡ spec.closes_formula role }
+{
+    matches!(role, Due::CloseBrace)
+}
+
+impl<'a> Stage<'a> {
+    // Takes a word by its role.
+    #[tactic(auto, unfolding(crate::specs::Steps::read_word))]
+    fn read(self, alloc: Global, role: Due, word: Word<'a>) -> Result<Stage<'a>, DagFault>
+        ensures { IfOk result (λ next. step_of next ≡ spec.read_word role (word_of word.entry) (step_of self.entry)) }
+    {
+        match self {
+            Stage::Definitions(mut definitions) => {
+                if opens_formula(role, word) {
+                    return Ok(Stage::Formula(ClaimReader::new(alloc, definitions.into_reader())));
+                }
+                definitions.token(role, word)?;
+                Ok(Stage::Definitions(definitions))
+            }
+            Stage::Formula(mut claims) => {
+                claims.token(role, word)?;
+                if closes_formula(role) {
+                    let (reader, sides) = claims.into_parts();
+                    return Ok(Stage::Hints(sides, HintReader::new(alloc, reader)));
+                }
+                Ok(Stage::Formula(claims))
+            }
+            Stage::Hints(sides, mut hints) => {
+                hints.token(role, word)?;
+                Ok(Stage::Hints(sides, hints))
+            }
+        }
+    }
+}
+
+/// What words with their roles say, from the left.
+#[tactic(auto, unfolding(crate::specs::Steps::read_words))]
+pub fn read_words<'a>(
+    alloc: Global,
+    words: &[Word<'a>],
+    roles: &[Due],
+) -> Result<Stage<'a>, DagFault>
+    ensures { IfOk result (λ stage. step_of stage ≡ spec.read_words (leaves_of roles.now (map word_of words.now)) spec.start) }
+{
+    let mut stage = Stage::Definitions(Definitions::new(alloc));
+    let mut words = words;
+    let mut roles = roles;
+    while let [role, later_roles @ ..] = roles {
+        let [word, later_words @ ..] = words else {
+            return Ok(stage);
+        };
+        stage = stage.read(alloc, *role, *word)?;
+        words = later_words;
+        roles = later_roles;
+    }
+    Ok(stage)
+}
