@@ -8,7 +8,7 @@ use Rattle.literal.specs.declared.reading.LiteralFault.{LiteralFault}
 use Rattle.literal.specs.declared.reading.LiteralFault.TheVariants as fault
 use Rattle.literal.specs.Spelling.{Spelling, Spells, IsLiteral, IsWithin, written}
 use Rattle.literal.specs.Normal.{IsReading, IsPastLimits}
-use Rattle.bound_order.specs.Written.{IsNumber}
+use Rattle.bound_order.specs.Texts.{IsNumber}
 
 abbrev failed : LiteralFault → Result Literal LiteralFault
 failed f = Err f

@@ -1,3 +1,2 @@
-pub mod Written
-pub mod Value
+pub mod Texts
 pub mod Tests

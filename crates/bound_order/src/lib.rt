@@ -1,8 +1,8 @@
 //! Bounds as they are written, and the numbers that they stand for.
 #![tactic(auto)]
 
-mod number;
+mod bound;
 #[cfg(test)]
 mod tests;
 
-pub use number::{Number, read_number};
+pub use bound::{down, is_too_low, read_number, up};

@@ -2,7 +2,7 @@
 
 ghost use Rattle.std.specs.Prelude.{◌<◌};
 
-use crate::read_number;
+use crate::{is_too_low, read_number};
 use std::test::Fail;
 
 #[test]
@@ -18,7 +18,7 @@ fn too_low(rt: HostRuntime) -> Result<(), Fail> {
     ];
     for (negative, text, want) in rows {
         let answer = match read_number(negative, text) {
-            Some(number) => Some(number.is_too_low()),
+            Some(number) => Some(is_too_low(number)),
             None => None,
         };
         assert_eq!(rt; answer, want, "{text:?}");

@@ -1,9 +1,10 @@
-//! The exact order of literals with their signs.
+//! Literals with their signs: their exact order, and the least intervals around them.
 #![tactic(auto)]
 
 mod order;
 #[cfg(test)]
 mod tests;
 mod wide;
+mod written;
 
-pub use order::is_below;
+pub use written::Written;

@@ -1,16 +1,23 @@
 //! Rows worked out by hand.
 
-ghost use Rattle.std.specs.Prelude.{◌<◌};
+ghost use Rattle.std.specs.Prelude.{IfOk, Some};
+ghost use Rattle.literal_order.specs.Values.{IsWritten};
 
-use crate::is_below;
-use fx_model::Literal;
+use crate::Written;
 use literal::{LiteralFault, read};
 use std::test::Fail;
 
+fn written(text: &str, negative: bool) -> Result<Written, LiteralFault>
+    ensures { IfOk result (λ w. IsWritten (Some w)) }
+{
+    let literal = read(text)?;
+    Ok(Written { literal, negative })
+}
+
 fn below(a: &str, a_negative: bool, b: &str, b_negative: bool) -> Result<bool, LiteralFault> {
-    let first = read(a)?;
-    let second = read(b)?;
-    Ok(is_below(&first, a_negative, &second, b_negative))
+    let first = written(a, a_negative)?;
+    let second = written(b, b_negative)?;
+    Ok(first.is_below(second))
 }
 
 #[test]
@@ -58,5 +65,14 @@ fn signs(rt: HostRuntime) -> Result<(), Fail> {
     for (a, a_negative, b, b_negative, want) in rows {
         assert_eq!(rt; below(a, a_negative, b, b_negative), Ok(want), "{a} {b}");
     }
+    Ok(())
+}
+
+#[test]
+fn enclosures(rt: HostRuntime) -> Result<(), Fail> {
+    let half = written("0.5", true)?.enclosed();
+    assert!(rt; half == written("1b-1", true)?.enclosed());
+    assert!(rt; half != half.neg());
+    assert!(rt; half.neg() == written("0.5", false)?.enclosed());
     Ok(())
 }

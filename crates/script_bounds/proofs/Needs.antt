@@ -8,8 +8,8 @@ use Rattle.dyadic.specs.Ends.{bound_of}
 use Rattle.dyadic.specs.Order.{le_bound}
 use Rattle.dyadic.specs.Compared.{BoundLe_in, BoundLe_out}
 use Rattle.interval.specs.Results.{point_of}
-use Rattle.script_bounds.specs.declared.bound.Written.{Written}
-use Rattle.script_bounds.specs.Bounds.{written_value}
+use Rattle.literal_order.specs.declared.written.Written.{Written}
+use Rattle.literal_order.specs.Values.{written_value}
 use Rattle.script_bounds.specs.Needs.{is_point, below_of, above_of, IsUnder, IsOver}
 use Rattle.script_bounds.proofs.Rounded.{down_at, up_at}
 

@@ -1,25 +1,14 @@
--- Bounds as they are written, and the intervals that stand for them.
-use Rattle.std.specs.Prelude.{◌≡◌, ⊤, Bool, Option, Some, None}
-use Rattle.fx_model.specs.Fraction.{Fraction}
-use Rattle.fx_model.specs.Grid.{Bound, Below, At, Above, signed}
+-- The intervals that stand for written bounds.
+use Rattle.std.specs.Prelude.{Option, Some, None}
+use Rattle.fx_model.specs.Grid.{Bound, Below, At, Above}
 use Rattle.fx_model.specs.Enclosure.{Range}
-use Rattle.fx_model.specs.Expression.{literal_value}
-use Rattle.literal.specs.Normal.{IsNormal}
 use Rattle.dyadic.specs.declared.number.End.{End}
 use Rattle.dyadic.specs.declared.number.End.TheVariants as end
 use Rattle.interval.specs.declared.interval.Interval.{Interval}
 use Rattle.interval.specs.Results.{point_of}
 use Rattle.interval.specs.Meets.{interval_from}
-use Rattle.script_bounds.specs.declared.bound.Written.{Written}
-
--- the number that is written
-abbrev pub written_value : Written → Fraction
-written_value w = signed w.negative (literal_value w.literal)
-
--- a bound that is there has a literal in normal form
-abbrev pub IsWritten : Option Written → Type 0
-IsWritten None = ⊤
-IsWritten (Some w) = IsNormal w.literal
+use Rattle.literal_order.specs.declared.written.Written.{Written}
+use Rattle.literal_order.specs.Values.{written_value}
 
 -- the bound below and above, open where none is written
 abbrev pub low_of : Option Written → Bound

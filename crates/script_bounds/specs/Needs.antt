@@ -7,8 +7,8 @@ use Rattle.dyadic.specs.Ends.{bound_of}
 use Rattle.dyadic.specs.Order.{le_bound}
 use Rattle.interval.specs.declared.interval.Interval.{Interval}
 use Rattle.interval.specs.Results.{point_of}
-use Rattle.script_bounds.specs.declared.bound.Written.{Written}
-use Rattle.script_bounds.specs.Bounds.{written_value}
+use Rattle.literal_order.specs.declared.written.Written.{Written}
+use Rattle.literal_order.specs.Values.{written_value}
 
 -- both ends are the same number
 abbrev pub is_point : Interval → Bool

@@ -1,20 +1,11 @@
 // Written bounds, rounded outward and inward.
-ghost use Rattle.std.specs.Prelude.{◌≡◌, Some};
-ghost use Rattle.interval.specs.Results.{point_of};
-ghost use Rattle.script_bounds.specs.Bounds.{written_value, IsWritten, low_of, high_of, written_range, down_end, up_end, outward_of, inward_of};
+ghost use Rattle.std.specs.Prelude.{◌≡◌};
+ghost use Rattle.literal_order.specs.Values.{IsWritten};
+ghost use Rattle.script_bounds.specs.Bounds.{low_of, high_of, written_range, down_end, up_end, outward_of, inward_of};
 
 use dyadic::End;
-use fx_model::Literal;
-use interval::{Interval, enclose};
-
-/// A number as a bound is written: a literal, or its negative.
-#[derive(Clone, Copy, PartialEq, Eq, Debug)]
-pub struct Written {
-    /// The literal's normal form.
-    pub literal: Literal,
-    /// Whether a minus stands before it.
-    pub negative: bool,
-}
+use interval::Interval;
+use literal_order::Written;
 
 /// What a hypothesis says: the least interval that holds each number between the bounds. A bound that isn't there
 /// leaves its side open. None exactly where the lower end would lie above the upper.
@@ -36,20 +27,12 @@ pub fn inward(lower: Option<Written>, upper: Option<Written>) -> Option<Interval
     Interval::new(up_of_low(lower), down_of_high(upper))
 }
 
-// The least interval that holds the number.
-pub fn around(bound: Written) -> Interval
-    requires { IsWritten (Some bound) }
-    ensures { result ≡ point_of (written_value bound) }
-{
-    enclose(&bound.literal, bound.negative)
-}
-
 fn down_of_low(lower: Option<Written>) -> End
     requires { IsWritten lower }
     ensures { result ≡ down_end (low_of lower) }
 {
     match lower {
-        Some(bound) => around(bound).lo(),
+        Some(bound) => bound.enclosed().lo(),
         None => End::Low,
     }
 }
@@ -59,7 +42,7 @@ fn up_of_low(lower: Option<Written>) -> End
     ensures { result ≡ up_end (low_of lower) }
 {
     match lower {
-        Some(bound) => around(bound).hi(),
+        Some(bound) => bound.enclosed().hi(),
         None => End::Low,
     }
 }
@@ -69,7 +52,7 @@ fn up_of_high(upper: Option<Written>) -> End
     ensures { result ≡ up_end (high_of upper) }
 {
     match upper {
-        Some(bound) => around(bound).hi(),
+        Some(bound) => bound.enclosed().hi(),
         None => End::High,
     }
 }
@@ -79,7 +62,7 @@ fn down_of_high(upper: Option<Written>) -> End
     ensures { result ≡ down_end (high_of upper) }
 {
     match upper {
-        Some(bound) => around(bound).lo(),
+        Some(bound) => bound.enclosed().lo(),
         None => End::High,
     }
 }

@@ -6,9 +6,10 @@ ghost use Rattle.fx_model.specs.Enclosure.{Range, IsOrdered, Lies, IsEnclosure, 
 ghost use Rattle.dyadic.specs.Ends.{bound_of};
 ghost use Rattle.interval.specs.declared.interval.Interval.{Interval as View};
 ghost use Rattle.interval.specs.Intervals.{range_of};
-ghost use Rattle.script_bounds.specs.Bounds.{written_value, outward_of, inward_of};
+ghost use Rattle.literal_order.specs.Values.{written_value};
+ghost use Rattle.literal_order.specs.declared.written.Written.{Written};
+ghost use Rattle.script_bounds.specs.Bounds.{outward_of, inward_of};
 ghost use Rattle.script_bounds.specs.Needs.{IsUnder, IsOver, below_of, above_of};
-ghost use Rattle.script_bounds.specs.declared.bound.Written.{Written};
 
 /// Nothing is done. The clause tells a caller that bounds in order have an interval, the least that holds each number
 /// between them.

@@ -7,6 +7,7 @@ mod need;
 #[cfg(test)]
 mod tests;
 
-pub use bound::{Written, inward, outward};
+pub use bound::{inward, outward};
 pub use laws::{inward_is_greatest, needs_are_exact, outward_is_least};
+pub use literal_order::Written;
 pub use need::{above, below};

@@ -1,13 +1,13 @@
 // Constraints on one side, as a hint's needs write them.
 ghost use Rattle.std.specs.Prelude.{◌≡◌, Some};
-ghost use Rattle.script_bounds.specs.Bounds.{IsWritten};
+ghost use Rattle.literal_order.specs.Values.{IsWritten};
 ghost use Rattle.dyadic.specs.Ends.{bound_of};
 ghost use Rattle.dyadic.specs.Order.{le_bound};
 ghost use Rattle.script_bounds.specs.Needs.{below_of, above_of, is_point};
 
-use crate::bound::{Written, around};
 use dyadic::End;
 use interval::Interval;
+use literal_order::Written;
 
 /// What numbers of the grid below the bound have in common, or at most the bound where it isn't strict: the end that
 /// they are at most, and whether that end itself is left out.
@@ -15,7 +15,7 @@ pub fn below(bound: Written, strict: bool) -> (End, bool)
     requires { IsWritten (Some bound) }
     ensures { result ≡ below_of bound strict }
 {
-    let point = around(bound);
+    let point = bound.enclosed();
     (point.lo(), strict && is_point(point))
 }
 
@@ -24,7 +24,7 @@ pub fn above(bound: Written, strict: bool) -> (End, bool)
     requires { IsWritten (Some bound) }
     ensures { result ≡ above_of bound strict }
 {
-    let point = around(bound);
+    let point = bound.enclosed();
     (point.hi(), strict && is_point(point))
 }
 

@@ -1,5 +1,5 @@
 // Written bounds at values that were worked out by hand.
-ghost use Rattle.script_bounds.specs.Bounds.{IsWritten};
+ghost use Rattle.literal_order.specs.Values.{IsWritten};
 
 use crate::{Written, above, below, inward, outward};
 use dyadic::{Dyadic, End};

@@ -8,10 +8,9 @@ use Rattle.script_words.specs.declared.lex.Token.{Token}
 use Rattle.script_words.specs.Words.{Word}
 use Rattle.script_words.specs.Named.{word_of}
 use Rattle.script_shape.specs.declared.due.Due.{Due}
-use Rattle.script_shape.specs.Roles.{at}
+use Rattle.script_shape.specs.Roles.{at, leaves_of}
 use Rattle.script_judge.specs.declared.refusal.Refusal.{Refusal}
 use Rattle.script_judge.specs.declared.fault.Fault.{Fault}
-use Rattle.script_judge.specs.Leaves.{leaves_of}
 use Rattle.script_judge.specs.Fault.{fault_of, has_value, has_earlier_value}
 use Rattle.script_judge.specs.Reading.{Reading, IsReadingOf, IsReadable, IsTextRefusal, too_long, not_text, readable, IsFaultOf, read, at_word, fault_at, fault_at_end, fault}
 

@@ -6,7 +6,7 @@ use Rattle.script_words.specs.declared.words.Word.{Word as CodeWord}
 use Rattle.script_words.specs.Words.{Word}
 use Rattle.script_words.specs.Named.{word_of}
 use Rattle.script_shape.specs.declared.due.Due.{Due}
-use Rattle.script_shape.specs.Roles.{Leaf, at}
+use Rattle.script_shape.specs.Roles.{Leaf, at, leaves_of}
 use Rattle.script_judge.specs.declared.refusal.RefusalKind.{RefusalKind}
 use Rattle.script_judge.specs.declared.fault.Fault.{Fault}
 use Rattle.script_judge.specs.declared.judge.Seen.{Seen as CodeSeen}
@@ -14,7 +14,6 @@ use Rattle.script_judge.specs.declared.counts.Counts.{Counts}
 use Rattle.script_judge.specs.Counts.{one_if}
 use Rattle.script_judge.specs.Limits.{IsWithinLimits}
 use Rattle.script_judge.specs.Names.{is_used, is_some_among, defines, split_name}
-use Rattle.script_judge.specs.Leaves.{leaves_of}
 use Rattle.script_judge.specs.Bounds.{is_bad_bound}
 use Rattle.script_judge.specs.Splits.{is_rangeless, is_bad_point}
 use Rattle.script_judge.specs.Numbers.{Verdict, Tells, has_no_pieces, is_past_lsb, is_past_pieces}

@@ -5,9 +5,8 @@ use Rattle.script_words.specs.Words.{Word, class_of}
 use Rattle.script_shape.specs.declared.due.Due.{Due}
 use Rattle.script_shape.specs.Tree.{BeginsScript}
 use Rattle.script_shape.specs.Shape.{step, role_next, start}
-use Rattle.script_shape.specs.Roles.{Leaf, at, script_leaves, HasRoles}
+use Rattle.script_shape.specs.Roles.{Leaf, at, script_leaves, HasRoles, leaves_of}
 use Rattle.script_shape.specs.ShapeLaw.{RolesAreUnique, AreRolesOf, grown, roles_from}
-use Rattle.script_judge.specs.Leaves.{leaves_of}
 
 grown_leaves : (o : Option Due) (w : Word) (s : Option (List Due)) (more : List Due → List Leaf) (rest : List Word) → ((left : List Due) → leaves_of (map (λ l. l.role) (more left)) rest ≡ more left) → leaves_of (map (λ l. l.role) (grown o w s more)) (w ∷ rest) ≡ grown o w s more
 grown_leaves (Some r) w (Some left) more rest h = ap (λ ls. at r w ∷ ls) (h left)

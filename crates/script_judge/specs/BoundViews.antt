@@ -1,6 +1,6 @@
 -- The code's bounds as those that definitions speak of.
 use Rattle.std.specs.Option.{option_map}
-use Rattle.bound_order.specs.Value.{value_of}
+use Rattle.literal_order.specs.Values.{written_value}
 use Rattle.script_judge.specs.declared.bounds.Bounds.{Bounds}
 use Rattle.script_judge.specs.declared.numbers.Verdict.{Verdict as CodeVerdict}
 use Rattle.script_judge.specs.Bounds.{BoundsSeen}
@@ -8,8 +8,8 @@ use Rattle.script_judge.specs.Numbers.{Verdict}
 
 -- what stands before a bound
 abbrev pub bounds_of : Bounds → BoundsSeen
-bounds_of b = record { relative = b.relative; lower_due = b.lower_due; lower = option_map value_of b.lower }
+bounds_of b = record { relative = b.relative; lower_due = b.lower_due; lower = option_map written_value b.lower }
 
 -- what is told of a token
 abbrev pub verdict_of : CodeVerdict → Verdict
-verdict_of v = record { past = v.past; number = option_map value_of v.number; arrow_behind = v.arrow_behind }
+verdict_of v = record { past = v.past; number = option_map written_value v.number; arrow_behind = v.arrow_behind }

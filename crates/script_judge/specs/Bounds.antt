@@ -6,7 +6,7 @@ use Rattle.script_words.specs.Words.{Word, literal, sign}
 use Rattle.script_shape.specs.declared.due.Due.{Due}
 use Rattle.script_shape.specs.declared.due.Due.TheVariants as d
 use Rattle.script_shape.specs.Roles.{Leaf}
-use Rattle.bound_order.specs.Written.{IsNumber}
+use Rattle.bound_order.specs.Texts.{IsNumber}
 use Rattle.bound_order.specs.Tests.{is_less, is_too_low}
 
 -- ---- a bound as a whole, at its first word

@@ -1,4 +1,3 @@
-pub mod Leaves
 pub mod Fault
 pub mod Reading
 pub mod Views
@@ -15,3 +14,4 @@ pub mod Splits
 pub mod SplitViews
 pub mod Judge
 pub mod First
+pub mod Judgement

@@ -5,11 +5,11 @@ use Rattle.script_words.specs.Named.{word_of, HasNames}
 use Rattle.script_judge.specs.declared.names.Names.{Names}
 use Rattle.script_judge.specs.declared.judge.Seen.{Seen as CodeSeen}
 use Rattle.script_judge.specs.declared.reading.ReadText.{ReadText}
-use Rattle.script_judge.specs.Leaves.{leaves_of}
+use Rattle.script_shape.specs.Roles.{leaves_of}
 use Rattle.script_judge.specs.Reading.{Reading}
 use Rattle.script_judge.specs.Names.{NamesSeen}
 use Rattle.script_judge.specs.Judge.{Seen}
-use Rattle.script_judge.specs.Limits.{IsWithinNumber}
+use Rattle.literal_order.specs.Values.{IsWritten}
 use Rattle.script_judge.specs.BoundViews.{bounds_of}
 use Rattle.script_judge.specs.SplitViews.{splits_seen}
 
@@ -37,5 +37,5 @@ pub record IsSeen (code : CodeSeen) (seen : Seen) : Type 0 where
   pub opened : reverse code.opened.items ≡ seen.opened
   pub counts : code.counts ≡ seen.counts
   pub bounds : bounds_of code.bounds ≡ seen.bounds
-  pub within : IsWithinNumber code.bounds.lower
+  pub within : IsWritten code.bounds.lower
   pub splits : splits_seen code.splits ≡ seen.splits

@@ -3,21 +3,21 @@
 ghost use Rattle.std.specs.Prelude.{◌≡◌, ◌↔◌, Some, map};
 ghost use Rattle.std.specs.Option.{option_map};
 ghost use Rattle.fx_model.specs.Fraction.{Fraction};
-ghost use Rattle.bound_order.specs.Value.{value_of};
 ghost use Rattle.script_words.specs.Named.{word_of};
 ghost use Rattle.script_judge.specs.Bounds as spec;
-ghost use Rattle.script_judge.specs.Leaves.{leaves_of};
-ghost use Rattle.script_judge.specs.Limits.{IsWithinNumber};
+ghost use Rattle.script_shape.specs.Roles.{leaves_of};
+ghost use Rattle.literal_order.specs.Values.{written_value, IsWritten};
 ghost use Rattle.script_judge.specs.BoundViews.{bounds_of};
 
-use bound_order::{Number, read_number};
+use bound_order::{is_too_low, read_number};
+use literal_order::Written;
 use script_shape::due::Due;
 use script_words::class::Sign;
 use script_words::words::Word;
 
-fn word_number(negative: bool, word: Word<'_>) -> Option<Number>
-    ensures normal { IsWithinNumber result }
-    ensures value { (x : Fraction) → (option_map value_of result ≡ Some x)
+fn word_number(negative: bool, word: Word<'_>) -> Option<Written>
+    ensures normal { IsWritten result }
+    ensures value { (x : Fraction) → (option_map written_value result ≡ Some x)
         ↔ spec.IsWordNumber negative (word_of word.entry) x }
 {
     match word {
@@ -27,9 +27,9 @@ fn word_number(negative: bool, word: Word<'_>) -> Option<Number>
 }
 
 /// The number of the next word.
-fn magnitude(negative: bool, words: &[Word<'_>], roles: &[Due]) -> Option<Number>
-    ensures normal { IsWithinNumber result }
-    ensures value { (x : Fraction) → (option_map value_of result ≡ Some x)
+fn magnitude(negative: bool, words: &[Word<'_>], roles: &[Due]) -> Option<Written>
+    ensures normal { IsWritten result }
+    ensures value { (x : Fraction) → (option_map written_value result ≡ Some x)
         ↔ spec.IsMagnitude negative (leaves_of roles.now (map word_of words.now)) x }
 {
     let [_role, _later_roles @ ..] = roles else {
@@ -41,9 +41,9 @@ fn magnitude(negative: bool, words: &[Word<'_>], roles: &[Due]) -> Option<Number
     word_number(negative, *word)
 }
 
-fn bound_text(word: Word<'_>, words: &[Word<'_>], roles: &[Due]) -> Option<Number>
-    ensures normal { IsWithinNumber result }
-    ensures value { (x : Fraction) → (option_map value_of result ≡ Some x)
+fn bound_text(word: Word<'_>, words: &[Word<'_>], roles: &[Due]) -> Option<Written>
+    ensures normal { IsWritten result }
+    ensures value { (x : Fraction) → (option_map written_value result ≡ Some x)
         ↔ spec.IsBoundText (word_of word.entry) (leaves_of roles.now (map word_of words.now)) x }
 {
     match word {
@@ -55,9 +55,9 @@ fn bound_text(word: Word<'_>, words: &[Word<'_>], roles: &[Due]) -> Option<Numbe
 }
 
 /// The number of the bound that begins with a token.
-pub fn bound_number(role: Due, word: Word<'_>, words: &[Word<'_>], roles: &[Due]) -> Option<Number>
-    ensures normal { IsWithinNumber result }
-    ensures value { (x : Fraction) → (option_map value_of result ≡ Some x)
+pub fn bound_number(role: Due, word: Word<'_>, words: &[Word<'_>], roles: &[Due]) -> Option<Written>
+    ensures normal { IsWritten result }
+    ensures value { (x : Fraction) → (option_map written_value result ≡ Some x)
         ↔ spec.IsBoundOf role (word_of word.entry) (leaves_of roles.now (map word_of words.now)) x }
 {
     match role {
@@ -74,7 +74,7 @@ pub struct Bounds {
     /// Whether the lower bound of a range comes next.
     lower_due: bool,
     /// The lower bound, up to the upper.
-    lower: Option<Number>,
+    lower: Option<Written>,
 }
 
 fn relative_after(relative: bool, role: Due) -> bool
@@ -94,14 +94,14 @@ fn opens_range(role: Due, word: Word<'_>) -> bool
 }
 
 fn lower_after(
-    lower: Option<Number>,
+    lower: Option<Written>,
     lower_due: bool,
-    number: Option<Number>,
+    number: Option<Written>,
     role: Due,
-) -> Option<Number>
-    ensures value { option_map value_of result
-        ≡ spec.lower_after (option_map value_of lower) lower_due (option_map value_of number) role }
-    ensures normal { IsWithinNumber lower → IsWithinNumber number → IsWithinNumber result }
+) -> Option<Written>
+    ensures value { option_map written_value result
+        ≡ spec.lower_after (option_map written_value lower) lower_due (option_map written_value number) role }
+    ensures normal { IsWritten lower → IsWritten number → IsWritten result }
 {
     match role {
         Due::Bound => { if lower_due { number } else { None } }
@@ -110,10 +110,10 @@ fn lower_after(
 }
 
 /// Whether the upper bound is below the lower.
-fn is_crossed(lower: Option<Number>, upper: Option<Number>) -> bool
-    requires lower { IsWithinNumber lower }
-    requires upper { IsWithinNumber upper }
-    ensures { result ≡ spec.is_crossed (option_map value_of lower) (option_map value_of upper) }
+fn is_crossed(lower: Option<Written>, upper: Option<Written>) -> bool
+    requires lower { IsWritten lower }
+    requires upper { IsWritten upper }
+    ensures { result ≡ spec.is_crossed (option_map written_value lower) (option_map written_value upper) }
 {
     match (lower, upper) {
         (Some(lower), Some(upper)) => upper.is_below(lower),
@@ -121,12 +121,12 @@ fn is_crossed(lower: Option<Number>, upper: Option<Number>) -> bool
     }
 }
 
-fn is_some_too_low(number: Option<Number>) -> bool
-    requires { IsWithinNumber number }
-    ensures { result ≡ spec.is_some_too_low (option_map value_of number) }
+fn is_some_too_low(number: Option<Written>) -> bool
+    requires { IsWritten number }
+    ensures { result ≡ spec.is_some_too_low (option_map written_value number) }
 {
     match number {
-        Some(number) => number.is_too_low(),
+        Some(number) => is_too_low(number),
         None => false,
     }
 }
@@ -135,7 +135,7 @@ impl Bounds {
     /// Before the first token.
     pub fn new() -> Bounds
         ensures value { bounds_of result ≡ spec.no_bounds }
-        ensures normal { IsWithinNumber result.lower }
+        ensures normal { IsWritten result.lower }
     {
         Bounds {
             relative: false,
@@ -145,17 +145,17 @@ impl Bounds {
     }
 
     /// The lower bound whose upper comes next.
-    pub fn lower(self) -> Option<Number>
+    pub fn lower(self) -> Option<Written>
         ensures { result ≡ self.lower }
     {
         self.lower
     }
 
     /// Behind a token, with the number of the bound that begins there.
-    pub fn after(self, number: Option<Number>, role: Due, word: Word<'_>) -> Bounds
+    pub fn after(self, number: Option<Written>, role: Due, word: Word<'_>) -> Bounds
         ensures value { bounds_of result
-            ≡ spec.bounds_after (bounds_of self) (option_map value_of number) role (word_of word.entry) }
-        ensures normal { IsWithinNumber self.lower → IsWithinNumber number → IsWithinNumber result.lower }
+            ≡ spec.bounds_after (bounds_of self) (option_map written_value number) role (word_of word.entry) }
+        ensures normal { IsWritten self.lower → IsWritten number → IsWritten result.lower }
     {
         Bounds {
             relative: relative_after(self.relative, role),
@@ -165,13 +165,11 @@ impl Bounds {
     }
 
     /// Whether the bound is below its lower one, or a lower bound of relative errors that is too low.
-    pub fn is_bad(self, number: Option<Number>) -> bool
-        requires lower { IsWithinNumber self.lower }
-        requires number { IsWithinNumber number }
-        ensures { result ≡ spec.is_bad_bound (bounds_of self) (option_map value_of number) }
+    pub fn is_bad(self, number: Option<Written>) -> bool
+        requires lower { IsWritten self.lower }
+        requires number { IsWritten number }
+        ensures { result ≡ spec.is_bad_bound (bounds_of self) (option_map written_value number) }
     {
-        let crossed = is_crossed(self.lower, number);
-        let too_low = is_some_too_low(number);
-        crossed || self.relative && self.lower_due && too_low
+        is_crossed(self.lower, number) || self.relative && self.lower_due && is_some_too_low(number)
     }
 }

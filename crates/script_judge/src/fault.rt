@@ -3,7 +3,7 @@
 ghost use Rattle.std.specs.Prelude.{◌≡◌, ◌≤◌, length, map, IfOk};
 ghost use Rattle.std.specs.Option.{option_copied, option_map};
 ghost use Rattle.script_words.specs.Named.{word_of};
-ghost use Rattle.script_judge.specs.Leaves.{leaves_of};
+ghost use Rattle.script_shape.specs.Roles.{leaves_of};
 ghost use Rattle.script_judge.specs.Fault as spec;
 
 use crate::refusal::RefusalKind;

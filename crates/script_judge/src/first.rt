@@ -4,6 +4,8 @@ ghost use Rattle.std.specs.Prelude.{◌≡◌, ◌≤◌, length, Option, IfOk};
 ghost use Rattle.script_judge.specs.declared.fault.Fault.{Fault};
 ghost use Rattle.script_judge.specs.First as spec;
 ghost use Rattle.script_judge.specs.First.{FaultsAreUnique, FirstsAreUnique};
+ghost use Rattle.script_judge.specs.Reading.{IsReadable, IsReadingOf};
+ghost use Rattle.script_judge.specs.Judgement.{IsJudgement};
 ghost use Rattle.script_judge.specs.Judge.{Judged, nothing_seen};
 ghost use Rattle.script_judge.specs.Views.{reading_of};
 
@@ -71,17 +73,54 @@ fn judged(alloc: Global, read: &ReadText<'_>) -> Result<Option<Refusal>, AllocEr
     }
 }
 
+/// The first refusal of a text that is read so.
+fn refusal_of(
+    alloc: Global,
+    text: &[u8],
+    read: &ReadText<'_>,
+) -> Result<Option<Refusal>, AllocError>
+    requires readable { IsReadable text.now }
+    requires reading { IsReadingOf text.now (reading_of read.now) }
+    requires taken { length read.now.shape.roles.items ≤ length read.now.words.items }
+    requires places { length read.now.tokens.items ≡ length read.now.words.items }
+    ensures { IfOk result (spec.IsFirstRefusal text.now) }
+{
+    let fault = fault(alloc, text.len() as u32, read)?;
+    let judged = judged(alloc, read)?;
+    Ok(first_of(fault, judged))
+}
+
+/// What becomes of a text.
+#[derive(Drop)]
+pub enum Judgement<'a> {
+    /// It is no script: its first refusal.
+    Refused(Refusal),
+    /// Nothing of it is refused: its words with their roles.
+    Accepted(ReadText<'a>),
+}
+
+/// The first refusal of a text, or its words, which are read once. `Err` only where memory runs out.
+pub fn judge_text<'a>(alloc: Global, text: &'a [u8]) -> Result<Judgement<'a>, AllocError>
+    ensures { IfOk result (IsJudgement text.now) }
+{
+    if let Some(refusal) = text_refusal(text) {
+        return Ok(Judgement::Refused(refusal));
+    }
+    let read = read_text(alloc, text)?;
+    match refusal_of(alloc, text, &read)? {
+        Some(refusal) => Ok(Judgement::Refused(refusal)),
+        None => Ok(Judgement::Accepted(read)),
+    }
+}
+
 /// The first refusal of a text, or none. `Err` only where memory runs out.
 pub fn first_refusal(alloc: Global, text: &[u8]) -> Result<Option<Refusal>, AllocError>
     ensures { IfOk result (spec.IsFirstRefusal text.now) }
 {
-    if let Some(refusal) = text_refusal(text) {
-        return Ok(Some(refusal));
+    match judge_text(alloc, text)? {
+        Judgement::Refused(refusal) => Ok(Some(refusal)),
+        Judgement::Accepted(_) => Ok(None),
     }
-    let read = read_text(alloc, text)?;
-    let fault = fault(alloc, text.len() as u32, &read)?;
-    let judged = judged(alloc, &read)?;
-    Ok(first_of(fault, judged))
 }
 
 /// The reading of a text ends at one refusal at most.

@@ -2,10 +2,11 @@
 
 ghost use Rattle.std.specs.Prelude.{◌≡◌, ◌≤◌, ◌<◌, ◌+◌, ◌∷◌, length, drop, map, IfOk, IfSome, OnOk};
 ghost use Rattle.script_words.specs.Named.{word_of};
-ghost use Rattle.script_judge.specs.Leaves.{leaves_of};
+ghost use Rattle.script_shape.specs.Roles.{leaves_of};
 ghost use Rattle.script_judge.specs.Judge as spec;
 ghost use Rattle.script_judge.specs.Judge.{Judged};
-ghost use Rattle.script_judge.specs.Limits.{IsWithinLimits, IsWithinNumber};
+ghost use Rattle.literal_order.specs.Values.{IsWritten};
+ghost use Rattle.script_judge.specs.Limits.{IsWithinLimits};
 ghost use Rattle.script_judge.specs.BoundViews.{verdict_of};
 ghost use Rattle.script_judge.specs.Views.{IsSeen};
 
@@ -43,8 +44,8 @@ fn form_refusal<'a>(
     roles: &[Due],
 ) -> Option<RefusalKind>
     requires words { length roles.now ≤ length words.now }
-    requires lower { IsWithinNumber seen.now.bounds.lower }
-    requires number { IsWithinNumber verdict.number }
+    requires lower { IsWritten seen.now.bounds.lower }
+    requires number { IsWritten verdict.number }
     ensures { (stands : spec.Seen) → IsSeen seen.now stands → result
         ≡ spec.form_refusal (verdict_of verdict) stands leaf.entry.0 (word_of leaf.entry.1) arrow_behind
         (leaves_of roles.now (map word_of words.now)) }
@@ -111,8 +112,8 @@ impl<'a> Seen<'a> {
     /// Takes a token.
     fn take(&mut self, role: Due, word: Word<'a>, verdict: Verdict) -> Result<(), AllocError>
         requires counts { IsWithinLimits self.old.counts }
-        requires lower { IsWithinNumber self.old.bounds.lower }
-        requires number { IsWithinNumber verdict.number }
+        requires lower { IsWritten self.old.bounds.lower }
+        requires number { IsWritten verdict.number }
         ensures { OnOk result ((stands : spec.Seen) → IsSeen self.old stands
             → IsSeen self.new (spec.seen_after (verdict_of verdict) stands role (word_of word.entry))) }
     {

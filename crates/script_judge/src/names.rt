@@ -3,7 +3,7 @@
 ghost use Rattle.std.specs.Prelude.{◌≡◌, length, map, OnOk};
 ghost use Rattle.std.specs.Option.{option_copied};
 ghost use Rattle.script_words.specs.Named.{word_of};
-ghost use Rattle.script_judge.specs.Leaves.{leaves_of};
+ghost use Rattle.script_shape.specs.Roles.{leaves_of};
 ghost use Rattle.script_judge.specs.Names as spec;
 ghost use Rattle.script_judge.specs.Names.{NamesSeen};
 ghost use Rattle.script_judge.specs.Views.{AreNames};

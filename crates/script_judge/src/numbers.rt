@@ -6,14 +6,14 @@ ghost use Rattle.std.specs.Str.Parse.{digits_value};
 ghost use Rattle.literal.specs.Normal.{IsPastLimits};
 ghost use Rattle.script_words.specs.Named.{word_of};
 ghost use Rattle.script_judge.specs.BoundViews.{verdict_of};
-ghost use Rattle.script_judge.specs.Leaves.{leaves_of};
-ghost use Rattle.script_judge.specs.Limits.{IsWithinNumber};
+ghost use Rattle.script_shape.specs.Roles.{leaves_of};
+ghost use Rattle.literal_order.specs.Values.{IsWritten};
 ghost use Rattle.script_judge.specs.Numbers as spec;
 ghost use Rattle.script_judge.specs.Sides.{has_arrow};
 
 use crate::bounds::bound_number;
-use bound_order::Number;
 use literal::{LiteralFault, read_bytes};
+use literal_order::Written;
 use script_shape::due::Due;
 use script_words::words::Word;
 
@@ -130,7 +130,7 @@ pub struct Verdict {
     /// Whether it is a literal past its limits.
     pub past: bool,
     /// The number of the bound that begins with it.
-    pub number: Option<Number>,
+    pub number: Option<Written>,
     /// Whether a `->` of the formula stands behind it.
     pub arrow_behind: bool,
 }
@@ -146,7 +146,7 @@ pub fn verdict_on(
     requires { arrow_behind ≡ has_arrow (leaves_of roles.now (map word_of words.now)) }
     ensures tells { spec.Tells (verdict_of result) role (word_of word.entry)
         (leaves_of roles.now (map word_of words.now)) }
-    ensures within { IsWithinNumber result.number }
+    ensures within { IsWritten result.number }
     ensures arrow { result.arrow_behind ≡ arrow_behind }
 {
     Verdict {

@@ -4,7 +4,7 @@ ghost use Rattle.std.specs.Prelude.{◌≡◌, ◌-◌, map};
 ghost use Rattle.script_words.specs.Named.{word_of};
 ghost use Rattle.script_judge.specs.Counts.{one_if};
 ghost use Rattle.script_judge.specs.Judge as spec;
-ghost use Rattle.script_judge.specs.Leaves.{leaves_of};
+ghost use Rattle.script_shape.specs.Roles.{leaves_of};
 
 use script_shape::due::Due;
 use script_words::class::Sign;

@@ -3,18 +3,18 @@
 ghost use Rattle.std.specs.Prelude.{◌≡◌, map, OnOk};
 ghost use Rattle.std.specs.Option.{option_copied, option_map};
 ghost use Rattle.dyadic.specs.Values.{value_of as grid_value};
-ghost use Rattle.bound_order.specs.Value.{value_of};
 ghost use Rattle.bound_order.specs.Tests.{is_less};
 ghost use Rattle.script_words.specs.Named.{word_of};
-ghost use Rattle.script_judge.specs.Limits.{IsWithinNumber};
+ghost use Rattle.literal_order.specs.Values.{written_value, IsWritten};
 ghost use Rattle.script_judge.specs.SplitViews.{subject_seen, ends_seen, range_seen, splits_seen};
 ghost use Rattle.script_judge.specs.Names as names;
 ghost use Rattle.script_judge.specs.Splits as spec;
 
 use crate::names::split_name;
 use crate::subject::{Alias, Subject, add_alias, subject_after};
-use bound_order::Number;
+use bound_order::{down, up};
 use dyadic::Dyadic;
+use literal_order::Written;
 use script_shape::due::Due;
 use script_words::words::Word;
 use std::alloc::{AllocError, Global};
@@ -56,14 +56,14 @@ fn ends_at(low: Option<Dyadic>, high: Option<Dyadic>) -> Option<Ends>
 }
 
 /// The bounds rounded outward, where both are there and finite.
-pub fn ends_between(lower: Option<Number>, upper: Option<Number>) -> Option<Ends>
-    requires lower { IsWithinNumber lower }
-    requires upper { IsWithinNumber upper }
+pub fn ends_between(lower: Option<Written>, upper: Option<Written>) -> Option<Ends>
+    requires lower { IsWritten lower }
+    requires upper { IsWritten upper }
     ensures { option_map ends_seen result
-        ≡ spec.ends_between (option_map value_of lower) (option_map value_of upper) }
+        ≡ spec.ends_between (option_map written_value lower) (option_map written_value upper) }
 {
     match (lower, upper) {
-        (Some(lower), Some(upper)) => ends_at(lower.down(), upper.up()),
+        (Some(lower), Some(upper)) => ends_at(down(lower), up(upper)),
         _ => None,
     }
 }
@@ -95,21 +95,21 @@ fn cut_after(cut: Option<Ends>, ranges: &[SplitRange<'_>], name: Option<&[u8]>) 
     }
 }
 
-fn some_down(number: Option<Number>) -> Option<Dyadic>
-    requires { IsWithinNumber number }
-    ensures { option_map grid_value result ≡ spec.some_down (option_map value_of number) }
+fn some_down(number: Option<Written>) -> Option<Dyadic>
+    requires { IsWritten number }
+    ensures { option_map grid_value result ≡ spec.some_down (option_map written_value number) }
 {
     match number {
-        Some(number) => number.down(),
+        Some(number) => down(number),
         None => None,
     }
 }
 
 /// The point before, rounded down.
-fn before_after(before: Option<Dyadic>, number: Option<Number>, role: Due) -> Option<Dyadic>
-    requires { IsWithinNumber number }
+fn before_after(before: Option<Dyadic>, number: Option<Written>, role: Due) -> Option<Dyadic>
+    requires { IsWritten number }
     ensures { option_map grid_value result
-        ≡ spec.before_after (option_map grid_value before) (option_map value_of number) role }
+        ≡ spec.before_after (option_map grid_value before) (option_map written_value number) role }
 {
     match role {
         Due::Cut => None,
@@ -145,13 +145,13 @@ fn splits_at(ends: Ends, before: Option<Dyadic>, point: Option<Dyadic>) -> bool
     }
 }
 
-fn is_no_split(cut: Option<Ends>, before: Option<Dyadic>, number: Option<Number>) -> bool
-    requires { IsWithinNumber number }
+fn is_no_split(cut: Option<Ends>, before: Option<Dyadic>, number: Option<Written>) -> bool
+    requires { IsWritten number }
     ensures { result ≡ spec.is_no_split (option_map ends_seen cut) (option_map grid_value before)
-        (option_map value_of number) }
+        (option_map written_value number) }
 {
     match (cut, number) {
-        (Some(ends), Some(number)) => !splits_at(ends, before, number.down()),
+        (Some(ends), Some(number)) => !splits_at(ends, before, down(number)),
         _ => false,
     }
 }
@@ -168,7 +168,7 @@ pub struct Told<'a> {
     /// The ends of the range whose upper bound begins with it.
     pub ends: Option<Ends>,
     /// The number of the bound that begins with it.
-    pub number: Option<Number>,
+    pub number: Option<Written>,
 }
 
 /// What stands before a token.
@@ -211,19 +211,19 @@ impl<'a> Splits<'a> {
     }
 
     /// Whether the point of a list doesn't split.
-    pub fn is_bad_point(&self, in_points: bool, number: Option<Number>) -> bool
-        requires { IsWithinNumber number }
-        ensures { result ≡ spec.is_bad_point (splits_seen self.now) in_points (option_map value_of number) }
+    pub fn is_bad_point(&self, in_points: bool, number: Option<Written>) -> bool
+        requires { IsWritten number }
+        ensures { result ≡ spec.is_bad_point (splits_seen self.now) in_points (option_map written_value number) }
     {
         in_points && is_no_split(self.cut, self.before, number)
     }
 
     /// Takes a token.
     pub fn take(&mut self, told: Told<'a>, role: Due, word: Word<'a>) -> Result<(), AllocError>
-        requires { IsWithinNumber told.number }
+        requires { IsWritten told.number }
         ensures { OnOk result (splits_seen self.new ≡ spec.splits_after (splits_seen self.old)
             (option_copied told.entry.ended) told.entry.defined told.entry.arrow_behind
-            (option_map ends_seen told.entry.ends) (option_map value_of told.entry.number) role
+            (option_map ends_seen told.entry.ends) (option_map written_value told.entry.number) role
             (word_of word.entry)) }
     {
         let Told {

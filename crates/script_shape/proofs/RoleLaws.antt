@@ -1,12 +1,13 @@
 -- The stack tells the role that each word has in every tree that the words begin.
-use Rattle.std.proofs.Common.{◌≡◌, ℕ, suc, List, [], ◌∷◌, ◌++◌, length, take, Option, Some, None, option_and_then, Bool, true, false, cond, eqb, map, refl, sym, ap, ◌∙◌}
-use Rattle.std.proofs.lemmas.List.{map-append}
+use Rattle.std.proofs.Common.{◌≡◌, ℕ, suc, List, [], ◌∷◌, ◌++◌, length, take, Option, Some, None, option_and_then, Bool, true, false, cond, eqb, map, refl, sym, ap, ◌∙◌, append-nil}
+use Rattle.std.proofs.lemmas.List.{map-append, length-map}
+use Rattle.std.proofs.Math.Seq.{take-length}
 use Rattle.std.proofs.lemmas.Bool.{eqb-true}
 use Rattle.script_shape.specs.declared.due.Due.{Due}
 use Rattle.script_shape.specs.declared.due.Due.TheVariants as due
 use Rattle.script_words.specs.Words.{Word, class_of}
 use Rattle.script_shape.specs.Tree.{AnyName, plain, operator, name_words, Special, free, defined, special_words, Digits, zero_alone, digits, digits_words, Whole, natural, opposite, whole_words, Bound, unsigned, positive, negative, bound_words, Operator, fixed, int, operator_words, Expr, term, sum, difference, Term, factor, product, quotient, Factor, negation, atom, Atom, number, variable, parenthesized, absolute, called, rounded, fused, expr_words, term_words, factor_words, atom_words, Range, asked, between, range_words, Prop, lies_in, relative_in, at_most, at_least, multiple, prop_words, Formula, single, and, implies, formula_words, Need, nonzero, below, not_above, above, not_below, need_words, NeedList, last_need, more_needs, need_list_words, Needs, always, provided, needs_words, Points, last_point, more_points, points_words, Cut, in_four, pieces, at_points, cut_words, Names, last_name, more_names, names_words, Halving, halved_by, with_goal, halving_words, Hint, rewrite, like, split, halving, hint_words, Hints, no_hint, hint, hints_words, How, exactly, rounded_by, rounded_apart, rounded_joined, how_words, Definition, names_operator, names_value, definition_words, Script, formula, define, script_words}
-use Rattle.script_shape.specs.Roles.{Leaf, at, name_leaves, special_leaves, digits_leaves, whole_leaves, bound_leaves, operator_leaves, expr_leaves, term_leaves, factor_leaves, atom_leaves, range_leaves, prop_leaves, formula_leaves, need_leaves, need_list_leaves, needs_leaves, points_leaves, cut_leaves, names_leaves, halving_leaves, hint_leaves, hints_leaves, how_leaves, definition_leaves, script_leaves, HasRoles}
+use Rattle.script_shape.specs.Roles.{Leaf, at, name_leaves, special_leaves, digits_leaves, whole_leaves, bound_leaves, operator_leaves, expr_leaves, term_leaves, factor_leaves, atom_leaves, range_leaves, prop_leaves, formula_leaves, need_leaves, need_list_leaves, needs_leaves, points_leaves, cut_leaves, names_leaves, halving_leaves, hint_leaves, hints_leaves, how_leaves, definition_leaves, script_leaves, HasRoles, LeavesAreOfTrees}
 use Rattle.script_shape.specs.Shape.{step, run, start}
 use Rattle.script_shape.specs.ShapeLaw.{grown, roles_from}
 use Rattle.script_shape.proofs.Checked.{number_of, same_number, role_at, checked, step_as, run_as}
@@ -200,3 +201,11 @@ roles_in tree ws more e = ap (take (length ws)) (sym (tree_roles tree) ∙ ap (�
 
 pub roles_unique : (ws : List Word) (ls : List Leaf) → HasRoles ws ls → ls ≡ roles_from ws start
 roles_unique ws ls h = sym h.roles ∙ roles_in h.tree ws h.words.0 h.words.1
+
+-- ---- all words of a script
+
+as_many : (tree : Script) (ws : List Word) → script_words tree ≡ ws → length ws ≡ length (script_leaves tree)
+as_many tree ws e = sym (ap length (script_spells tree ∙ e)) ∙ length-map (script_leaves tree) (λ (l : Leaf). l.word)
+
+pub leaves_of_trees : LeavesAreOfTrees
+leaves_of_trees tree ws leaves e h = roles_unique ws leaves h ∙ sym (roles_in tree ws [] (e ∙ sym (append-nil ws))) ∙ ap (λ n. take n (script_leaves tree)) (as_many tree ws e) ∙ take-length (script_leaves tree)

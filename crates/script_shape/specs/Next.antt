@@ -1,5 +1,5 @@
 -- Which words may come next.
-use Rattle.std.specs.Prelude.{◌≡◌, List, [], ◌∷◌, ◌++◌, option_and_then, Bool, IsTrue, ◌↔◌}
+use Rattle.std.specs.Prelude.{List, [], ◌∷◌, ◌++◌, option_and_then, Bool, IsTrue, ◌↔◌}
 use Rattle.std.specs.Option.{is_some}
 use Rattle.script_words.specs.declared.class.Class.{Class}
 use Rattle.script_words.specs.Words.{Word, class_of}

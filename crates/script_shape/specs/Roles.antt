@@ -1,6 +1,6 @@
 -- The part that each word of a script has in it: the thing that was due and that the word stands for or begins.
 -- By recursion on the tree, as the words are.
-use Rattle.std.specs.Prelude.{◌≡◌, List, [], ◌∷◌, ◌++◌, take, length}
+use Rattle.std.specs.Prelude.{◌≡◌, List, [], ◌∷◌, ◌++◌, take, length, map}
 use Rattle.script_words.specs.Words.{Word, name, rounding, literal, sign}
 use Rattle.script_shape.specs.declared.due.Due.{Due}
 use Rattle.script_shape.specs.declared.due.Due.TheVariants as d
@@ -144,3 +144,17 @@ pub record HasRoles (ws : List Word) (leaves : List Leaf) : Type 0 where
   pub tree : Script
   pub words : (more : List Word) × (script_words tree ≡ ws ++ more)
   pub roles : take (length ws) (script_leaves tree) ≡ leaves
+
+-- the words that have a role, each with its own
+abbrev pub leaves_of : List Due → List Word → List Leaf
+leaves_of [] ws = []
+leaves_of (r ∷ rs) [] = []
+leaves_of (r ∷ rs) (w ∷ ws) = at r w ∷ leaves_of rs ws
+
+-- The leaves of a script's tree have its words.
+abbrev pub LeavesSpell : Type 0
+LeavesSpell = (tree : Script) → map (λ l. l.word) (script_leaves tree) ≡ script_words tree
+
+-- Where words are all of a script, their leaves are those of its tree.
+abbrev pub LeavesAreOfTrees : Type 0
+LeavesAreOfTrees = (tree : Script) (ws : List Word) (leaves : List Leaf) → script_words tree ≡ ws → HasRoles ws leaves → leaves ≡ script_leaves tree

@@ -3,6 +3,7 @@
 ghost use Rattle.std.specs.Prelude.{◌≡◌, List, length, map, reverse, IfOk};
 ghost use Rattle.script_shape.specs.Shape as spec;
 ghost use Rattle.script_shape.specs.ShapeLaw.{ShapeIsExact, ShapeIsUnique, RolesAreUnique, Steps, IsShapeOf, AreRolesOf};
+ghost use Rattle.script_shape.specs.Roles.{LeavesSpell, LeavesAreOfTrees};
 ghost use Rattle.script_shape.specs.Next as spec_next;
 ghost use Rattle.script_shape.specs.Next.{NextIsExact};
 ghost use Rattle.script_words.specs.Named.{word_of};
@@ -106,4 +107,10 @@ pub fn shape_is_unique()
 /// Words have one list of roles.
 pub fn roles_are_unique()
     ensures { RolesAreUnique }
+{}
+
+/// The leaves of a script's tree have its words, and words that are all of a script have the leaves of its tree.
+pub fn leaves_are_of_trees()
+    ensures spell { LeavesSpell }
+    ensures are { LeavesAreOfTrees }
 {}

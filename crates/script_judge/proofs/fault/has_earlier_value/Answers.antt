@@ -1,7 +1,7 @@
 use Rattle.std.proofs.Common.{◌≡◌, ◌-◌, map, take, ◌∙◌, length, ap, arith}
 use Rattle.std.proofs.lemmas.List.{length-map}
 use Rattle.script_words.specs.Named.{word_of}
-use Rattle.script_judge.specs.Leaves.{leaves_of}
+use Rattle.script_shape.specs.Roles.{leaves_of}
 use Rattle.script_judge.specs.Fault as spec
 use Rattle.script_judge.proofs.Faulted.{earlier}
 use Rattle.script_judge.proofs.fault.has_earlier_value.Goals as goal

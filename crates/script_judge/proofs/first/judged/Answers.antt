@@ -1,6 +1,6 @@
 use Rattle.std.proofs.Common.{◌∙◌, map, Some, sym, ap, subst}
 use Rattle.script_words.specs.Named.{word_of}
-use Rattle.script_judge.specs.Leaves.{leaves_of}
+use Rattle.script_shape.specs.Roles.{leaves_of}
 use Rattle.script_judge.specs.Reading.{at_word}
 use Rattle.script_judge.specs.Judge.{Judged, nothing_seen}
 use Rattle.script_judge.specs.First.{refusal_of}

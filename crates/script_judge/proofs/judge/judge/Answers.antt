@@ -1,8 +1,7 @@
 use Rattle.std.proofs.Common.{◌≡◌, ◌+◌, ◌-◌, ◌∷◌, drop, map, None, sym, ap, ◌∙◌, subst, arith}
 use Rattle.script_words.specs.Named.{word_of}
-use Rattle.script_shape.specs.Roles.{at}
+use Rattle.script_shape.specs.Roles.{at, leaves_of}
 use Rattle.script_judge.specs.Counts.{one_if}
-use Rattle.script_judge.specs.Leaves.{leaves_of}
 use Rattle.script_judge.specs.Judge.{Judged, none_refused, is_arrow}
 use Rattle.script_judge.specs.BoundViews.{verdict_of}
 use Rattle.script_judge.proofs.Judging.{JudgedTo, begin_judging, split_at, same_rest, none_left, told, told_arrow, behind_arrow, ends_by_form, ends_by_limit, goes_on}

@@ -1,6 +1,6 @@
 use Rattle.std.proofs.Common.{drop, map}
 use Rattle.script_words.specs.Named.{word_of}
-use Rattle.script_judge.specs.Leaves.{leaves_of}
+use Rattle.script_shape.specs.Roles.{leaves_of}
 use Rattle.script_judge.proofs.Judging.{JudgedTo}
 use Rattle.script_judge.proofs.judge.judge.Given as goal
 

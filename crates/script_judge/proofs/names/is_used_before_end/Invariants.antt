@@ -1,6 +1,6 @@
 use Rattle.std.proofs.Common.{◌≡◌, length, map}
 use Rattle.script_words.specs.Named.{word_of}
-use Rattle.script_judge.specs.Leaves.{leaves_of}
+use Rattle.script_shape.specs.Roles.{leaves_of}
 use Rattle.script_judge.specs.Names as spec
 use Rattle.script_judge.proofs.names.is_used_before_end.Given as goal
 

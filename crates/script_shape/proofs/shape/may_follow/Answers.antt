@@ -1,12 +1,11 @@
-use Rattle.std.proofs.Common.{◌≡◌, ◌++◌, ◌∷◌, [], length, map, reverse, get_or, Some, None, sym, ap, ◌∙◌, subst, arith}
+use Rattle.std.proofs.Common.{◌≡◌, ◌++◌, ◌∷◌, [], length, map, reverse, get_or, sym, ap, ◌∙◌, arith}
 use Rattle.std.proofs.lemmas.List.{length-map}
-use Rattle.script_words.specs.Words.{class_of}
 use Rattle.script_words.specs.Named.{word_of}
 use Rattle.script_shape.specs.declared.due.Due.TheVariants as due
 use Rattle.script_shape.specs.Shape.{run, start}
 use Rattle.script_shape.specs.Shape as spec
-use Rattle.script_shape.proofs.Shaped.{one_more, all_taken, front_more, steps_none, steps_some}
-use Rattle.script_shape.proofs.Next.{began_run, refused_front, may_step}
+use Rattle.script_shape.proofs.Shaped.{one_more, front_more, steps_none, steps_some}
+use Rattle.script_shape.proofs.Next.{began_run, refused_front}
 use Rattle.script_shape.proofs.shape.may_follow.Goals as goal
 
 pub loop-word-init : goal.loop-word-init

@@ -1,6 +1,6 @@
 use Rattle.std.proofs.Common.{◌≡◌, ◌∙◌, ap, subst}
 use Rattle.std.specs.Option.{option_map}
-use Rattle.bound_order.specs.Value.{value_of}
+use Rattle.literal_order.specs.Values.{written_value}
 use Rattle.script_words.specs.Named.{word_of}
 use Rattle.script_judge.specs.Bounds.{BoundsSeen, bounds_after}
 use Rattle.script_judge.specs.Counts.{counts_after}
@@ -19,7 +19,7 @@ returns c = λ stands h.
     let new = c.is_new-is_new.ensures stands.names h.names in
     let ended = c.ends_definition.ensures stands.names h.names in
     let defined = c.uses_defined.ensures stands.names h.names in
-    let lower : option_map value_of c.lower.result ≡ stands.bounds.lower = ap (option_map value_of) c.lower.ensures ∙ ap (λ (b : BoundsSeen). b.lower) h.bounds in
+    let lower : option_map written_value c.lower.result ≡ stands.bounds.lower = ap (option_map written_value) c.lower.ensures ∙ ap (λ (b : BoundsSeen). b.lower) h.bounds in
     let ends = c.ends_between.ensures ∙ ap (λ x. ends_between x v.number) lower in
     record {
       names = subst (λ k. AreNames c.take-2.new.self (names_after stands.names k r w)) (λ i. (h.counts i).halves) (c.in_ok-take-2.ensures stands.names h.names);
