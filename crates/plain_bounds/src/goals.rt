@@ -1,10 +1,10 @@
 // Goals, and which of them enclosures prove.
-ghost use Rattle.std.specs.Prelude.{◌↔◌, ◌≤◌, IsTrue, IsNone, IfSome, length};
+ghost use Rattle.std.specs.Prelude.{◌↔◌, IsTrue, IsNone, IfSome};
 ghost use Rattle.fx_model.specs.Enclosure.{IsFinite};
 ghost use Rattle.interval.specs.Intervals.{range_of};
 ghost use Rattle.plain_bounds.specs.Goals.{Meets, IsProved, AreProved, IsFirstUnproved};
 
-use crate::nodes::at;
+use crate::nodes::enclosure_at;
 use dyadic::End;
 use fx_model::ExprId;
 use interval::Interval;
@@ -50,18 +50,17 @@ fn meets(want: Want, found: Option<Interval>) -> bool
 fn is_proved(all: &[Option<Interval>], goal: Goal) -> bool
     ensures { IsTrue result ↔ IsProved all.now goal }
 {
-    meets(goal.want, at(all, goal.of))
+    meets(goal.want, enclosure_at(all, goal.of))
 }
 
 /// The number of the first goal that the enclosures don't prove; `None` exactly where they prove all.
-pub fn first_unproved(all: &[Option<Interval>], goals: &[Goal]) -> Option<u16>
-    requires { length goals.now ≤ 65536 }
+pub fn first_unproved(all: &[Option<Interval>], goals: &[Goal]) -> Option<usize>
     ensures none { IsNone result ↔ AreProved all.now goals.now }
     ensures first { IfSome result (IsFirstUnproved all.now goals.now) }
 {
     for (k, goal) in goals.iter().enumerate() {
         if !is_proved(all, *goal) {
-            return Some(k as u16);
+            return Some(k);
         }
     }
     None

@@ -10,4 +10,4 @@ mod tests;
 
 pub use goals::{Goal, Want, first_unproved};
 pub use laws::{enclosures_are_isotone, enclosures_hold, proved_goals_follow};
-pub use nodes::enclosures;
+pub use nodes::{enclosure_at, enclosures};

@@ -1,7 +1,8 @@
 // The enclosures of the nodes of a list.
 ghost use Rattle.std.specs.Prelude.{◌≡◌, IfOk};
 ghost use Rattle.expr_dag.specs.Nodes.{IsInLimits};
-ghost use Rattle.plain_bounds.specs.Plain.{node_enclosure, enclosure_at, plain, or_whole};
+ghost use Rattle.plain_bounds.specs.Plain as spec;
+ghost use Rattle.plain_bounds.specs.Plain.{node_enclosure, plain, or_whole};
 
 use crate::given::bounds;
 use expr_dag::Dag;
@@ -11,8 +12,8 @@ use interval::{Interval, enclose};
 use std::alloc::{AllocError, Global};
 
 /// The enclosure of the expression with this number, if it has one.
-pub fn at(all: &[Option<Interval>], x: ExprId) -> Option<Interval>
-    ensures { result ≡ enclosure_at all.now x }
+pub fn enclosure_at(all: &[Option<Interval>], x: ExprId) -> Option<Interval>
+    ensures { result ≡ spec.enclosure_at all.now x }
 {
     *all.get(usize::from(x.0))?
 }
@@ -30,17 +31,17 @@ fn or_whole(bound: Option<Interval>) -> Interval
 // The enclosure of a node, from the bound on it and the enclosures of the nodes before.
 fn of_node(bound: Option<Interval>, done: &[Option<Interval>], node: Node) -> Option<Interval>
     requires { IsInLimits node }
-    ensures { result ≡ node_enclosure bound (enclosure_at done.now) node }
+    ensures { result ≡ node_enclosure bound (spec.enclosure_at done.now) node }
 {
     match node {
         Node::Var(_) => Some(or_whole(bound)),
         Node::Lit(l) => Some(enclose(&l, false)),
-        Node::Neg(x) => Some(at(done, x)?.neg()),
-        Node::Add(x, y) => Some(at(done, x)?.add(at(done, y)?)),
-        Node::Sub(x, y) => Some(at(done, x)?.sub(at(done, y)?)),
-        Node::Mul(x, y) => Some(at(done, x)?.mul(at(done, y)?)),
-        Node::Div(x, y) => at(done, x)?.div(at(done, y)?),
-        Node::Abs(x) => Some(at(done, x)?.abs()),
+        Node::Neg(x) => Some(enclosure_at(done, x)?.neg()),
+        Node::Add(x, y) => Some(enclosure_at(done, x)?.add(enclosure_at(done, y)?)),
+        Node::Sub(x, y) => Some(enclosure_at(done, x)?.sub(enclosure_at(done, y)?)),
+        Node::Mul(x, y) => Some(enclosure_at(done, x)?.mul(enclosure_at(done, y)?)),
+        Node::Div(x, y) => enclosure_at(done, x)?.div(enclosure_at(done, y)?),
+        Node::Abs(x) => Some(enclosure_at(done, x)?.abs()),
         Node::Round(_, _) => None,
     }
 }

@@ -7,8 +7,9 @@ use Rattle.script_words.specs.declared.class.Spelled.TheVariants as spelled
 use Rattle.script_words.specs.Words.{Word, name, rounding, literal, sign}
 use Rattle.script_shape.specs.declared.due.Due.{Due}
 use Rattle.script_shape.specs.declared.due.Due.TheVariants as d
-use Rattle.script_shape.specs.Tree.{Special, free, defined, zero_alone, digits, Whole, natural, opposite, Operator, fixed, int, Bound, unsigned, positive, negative, Expr, term, sum, difference, Term, factor, product, quotient, Factor, negation, atom, Atom, number, variable, parenthesized, absolute, called, rounded, fused, Range, asked, between, Prop, lies_in, relative_in, at_most, at_least, multiple, Formula, single, and, implies}
-use Rattle.script_shape.specs.Roles.{Leaf, at, special_leaves, whole_leaves, bound_leaves, operator_leaves, expr_leaves, term_leaves, factor_leaves, atom_leaves, range_leaves, prop_leaves, formula_leaves}
+use Rattle.script_shape.specs.Tree.{Special, free, defined, zero_alone, digits, Whole, natural, opposite, Bound, unsigned, positive, negative, Expr, Range, asked, between, Prop, lies_in, relative_in, at_most, at_least, multiple, Formula, single, and, implies}
+use Rattle.script_shape.specs.Roles.{Leaf, at, special_leaves, whole_leaves, bound_leaves, expr_leaves, range_leaves, prop_leaves, formula_leaves}
+use Rattle.script_shape.specs.Inner.{EachRole, IsInner, expr_inner}
 use Rattle.script_nodes.specs.Known.{Known, Placed}
 use Rattle.script_nodes.specs.Values.{expr_value}
 use Rattle.script_nodes.specs.Waits.{Reading, waiting, expr_done, parted as comma_parted, read, read_all}
@@ -24,106 +25,39 @@ use Rattle.script_claims.specs.Reads.{State, from_claims, taken, read_claim, rea
 
 -- ---- the words of an expression leave the proposition as it is
 
-abbrev pub IsQuiet : Due → Type 0
-IsQuiet d.Operand = Unit {0}
-IsQuiet d.Tail = Unit {0}
-IsQuiet d.OpenParen = Unit {0}
-IsQuiet d.CloseParen = Unit {0}
-IsQuiet d.CloseBar = Unit {0}
-IsQuiet d.Comma = Unit {0}
-IsQuiet d.Less = Unit {0}
-IsQuiet d.Greater = Unit {0}
-IsQuiet d.Direction = Unit {0}
-IsQuiet d.Whole = Unit {0}
-IsQuiet d.WholeDigits = Unit {0}
-IsQuiet _ = ⊥
-
-abbrev pub AreQuiet : List Leaf → Type 0
-AreQuiet [] = Unit {0}
-AreQuiet (l ∷ ls) = IsQuiet l.role × AreQuiet ls
-
-quiet_both : (a b : List Leaf) → AreQuiet a → AreQuiet b → AreQuiet (a ++ b)
-quiet_both [] b p q = q
-quiet_both (l ∷ a) b p q = (p.0, quiet_both a b p.1 q)
-
-quiet_special : (x : Special) → AreQuiet (special_leaves d.Direction spelled.Direction x)
-quiet_special (free t) = (tt, tt)
-quiet_special (defined t) = (tt, tt)
-
-quiet_whole : (w : Whole) → AreQuiet (whole_leaves w)
-quiet_whole (natural (zero_alone t)) = (tt, tt)
-quiet_whole (natural (digits t)) = (tt, tt)
-quiet_whole (opposite (zero_alone t)) = (tt, (tt, tt))
-quiet_whole (opposite (digits t)) = (tt, (tt, tt))
-
-quiet_operator : (o : Operator) → AreQuiet (operator_leaves d.Operand o)
-quiet_operator (fixed l x) = (tt, (tt, quiet_both (whole_leaves l) (at d.Comma (sign s.Comma) ∷ special_leaves d.Direction spelled.Direction x) (quiet_whole l) (tt, quiet_special x)))
-quiet_operator (int x) = (tt, (tt, quiet_special x))
-
-mutual
-  pub quiet_expr : (e : Expr) → AreQuiet (expr_leaves e)
-  quiet_expr (term t) = quiet_term t
-  quiet_expr (sum e t) = quiet_both (expr_leaves e) (at d.Tail (sign s.Plus) ∷ term_leaves t) (quiet_expr e) (tt, quiet_term t)
-  quiet_expr (difference e t) = quiet_both (expr_leaves e) (at d.Tail (sign s.Minus) ∷ term_leaves t) (quiet_expr e) (tt, quiet_term t)
-
-  quiet_term : (t : Term) → AreQuiet (term_leaves t)
-  quiet_term (factor f) = quiet_factor f
-  quiet_term (product t f) = quiet_both (term_leaves t) (at d.Tail (sign s.Star) ∷ factor_leaves f) (quiet_term t) (tt, quiet_factor f)
-  quiet_term (quotient t f) = quiet_both (term_leaves t) (at d.Tail (sign s.Slash) ∷ factor_leaves f) (quiet_term t) (tt, quiet_factor f)
-
-  quiet_factor : (f : Factor) → AreQuiet (factor_leaves f)
-  quiet_factor (negation f) = (tt, quiet_factor f)
-  quiet_factor (atom a) = quiet_atom a
-
-  quiet_atom : (a : Atom) → AreQuiet (atom_leaves a)
-  quiet_atom (number kind text) = (tt, tt)
-  quiet_atom (variable kind text) = (tt, tt)
-  quiet_atom (parenthesized e) = (tt, quiet_both (expr_leaves e) (at d.CloseParen (sign s.CloseParen) ∷ []) (quiet_expr e) (tt, tt))
-  quiet_atom (absolute e) = (tt, quiet_both (expr_leaves e) (at d.CloseBar (sign s.Bar) ∷ []) (quiet_expr e) (tt, tt))
-  quiet_atom (called kind text e) = (tt, (tt, quiet_both (expr_leaves e) (at d.CloseParen (sign s.CloseParen) ∷ []) (quiet_expr e) (tt, tt)))
-  quiet_atom (rounded o e) =
-      let inner : AreQuiet (expr_leaves e ++ (at d.CloseParen (sign s.CloseParen) ∷ [])) = quiet_both (expr_leaves e) (at d.CloseParen (sign s.CloseParen) ∷ []) (quiet_expr e) (tt, tt) in
-      quiet_both (operator_leaves d.Operand o) (at d.Greater (sign s.Greater) ∷ (at d.OpenParen (sign s.OpenParen) ∷ (expr_leaves e ++ (at d.CloseParen (sign s.CloseParen) ∷ [])))) (quiet_operator o) (tt, (tt, inner))
-  quiet_atom (fused a b c) =
-      let third = expr_leaves c ++ (at d.CloseParen (sign s.CloseParen) ∷ []) in
-      let second = expr_leaves b ++ (at d.Comma (sign s.Comma) ∷ third) in
-      let last : AreQuiet third = quiet_both (expr_leaves c) (at d.CloseParen (sign s.CloseParen) ∷ []) (quiet_expr c) (tt, tt) in
-      let more : AreQuiet second = quiet_both (expr_leaves b) (at d.Comma (sign s.Comma) ∷ third) (quiet_expr b) (tt, last) in
-      (tt, (tt, quiet_both (expr_leaves a) (at d.Comma (sign s.Comma) ∷ second) (quiet_expr a) (tt, more)))
-
 abbrev exponent_on : Proposition → ℤ → Proposition
 exponent_on p n = record p { exponent = n }
 
 abbrev reading_on : State → Reading → ℤ → State
 reading_on st r n = record { reading = r; proposition = exponent_on st.proposition n; sides = st.sides }
 
-quiet_step : (r : Due) (w : Word) (st : State) → IsQuiet r → (n : ℤ) × (read_claim r w st ≡ reading_on st (read None r w st.reading) n)
+inner_step : (r : Due) (w : Word) (st : State) → IsInner r → (n : ℤ) × (read_claim r w st ≡ reading_on st (read None r w st.reading) n)
 unfolding read_claim
-quiet_step d.Operand w st q = (st.proposition.exponent, refl)
-quiet_step d.Tail w st q = (st.proposition.exponent, refl)
-quiet_step d.OpenParen w st q = (st.proposition.exponent, refl)
-quiet_step d.CloseParen w st q = (st.proposition.exponent, refl)
-quiet_step d.CloseBar w st q = (st.proposition.exponent, refl)
-quiet_step d.Comma w st q = (st.proposition.exponent, refl)
-quiet_step d.Less w st q = (st.proposition.exponent, refl)
-quiet_step d.Greater w st q = (st.proposition.exponent, refl)
-quiet_step d.Direction w st q = (st.proposition.exponent, refl)
-quiet_step d.Whole (literal k text) st q = (_, refl)
-quiet_step d.Whole (name k text) st q = (st.proposition.exponent, refl)
-quiet_step d.Whole (rounding k text) st q = (st.proposition.exponent, refl)
-quiet_step d.Whole (sign g) st q = (st.proposition.exponent, refl)
-quiet_step d.WholeDigits (literal k text) st q = (_, refl)
-quiet_step d.WholeDigits (name k text) st q = (st.proposition.exponent, refl)
-quiet_step d.WholeDigits (rounding k text) st q = (st.proposition.exponent, refl)
-quiet_step d.WholeDigits (sign g) st q = (st.proposition.exponent, refl)
-quiet_step _ w st q = absurd q
+inner_step d.Operand w st q = (st.proposition.exponent, refl)
+inner_step d.Tail w st q = (st.proposition.exponent, refl)
+inner_step d.OpenParen w st q = (st.proposition.exponent, refl)
+inner_step d.CloseParen w st q = (st.proposition.exponent, refl)
+inner_step d.CloseBar w st q = (st.proposition.exponent, refl)
+inner_step d.Comma w st q = (st.proposition.exponent, refl)
+inner_step d.Less w st q = (st.proposition.exponent, refl)
+inner_step d.Greater w st q = (st.proposition.exponent, refl)
+inner_step d.Direction w st q = (st.proposition.exponent, refl)
+inner_step d.Whole (literal k text) st q = (_, refl)
+inner_step d.Whole (name k text) st q = (st.proposition.exponent, refl)
+inner_step d.Whole (rounding k text) st q = (st.proposition.exponent, refl)
+inner_step d.Whole (sign g) st q = (st.proposition.exponent, refl)
+inner_step d.WholeDigits (literal k text) st q = (_, refl)
+inner_step d.WholeDigits (name k text) st q = (st.proposition.exponent, refl)
+inner_step d.WholeDigits (rounding k text) st q = (st.proposition.exponent, refl)
+inner_step d.WholeDigits (sign g) st q = (st.proposition.exponent, refl)
+inner_step _ w st q = absurd q
 
-quiet_reads : (ls rest : List Leaf) (st : State) → AreQuiet ls → (n : ℤ) × (read_claims (ls ++ rest) st ≡ read_claims rest (reading_on st (read_all None ls st.reading) n))
+inner_reads : (ls rest : List Leaf) (st : State) → EachRole IsInner ls → (n : ℤ) × (read_claims (ls ++ rest) st ≡ read_claims rest (reading_on st (read_all None ls st.reading) n))
 unfolding read_all read_claims
-quiet_reads [] rest st q = (st.proposition.exponent, refl)
-quiet_reads (l ∷ ls) rest st q =
-    let m = quiet_step l.role l.word st q.0 in
-    let more = quiet_reads ls rest (reading_on st (read None l.role l.word st.reading) m.0) q.1 in
+inner_reads [] rest st q = (st.proposition.exponent, refl)
+inner_reads (l ∷ ls) rest st q =
+    let m = inner_step l.role l.word st q.0 in
+    let more = inner_reads ls rest (reading_on st (read None l.role l.word st.reading) m.0) q.1 in
     (more.0, ap (read_claims (ls ++ rest)) m.1 ∙ more.1)
 
 -- ---- an expression at the front
@@ -214,7 +148,7 @@ module _ (reads_trees : ReadsTrees) where
       let l = reads_trees None e [] k in
       let start : Reading = record { known = k; waits = [] } in
       let whole : read_all None (expr_leaves e) start ≡ l.after = ap (λ ls. read_all None ls start) (sym (append-nil (expr_leaves e))) ∙ l.same in
-      let m = quiet_reads (expr_leaves e) rest (record st { reading = start }) (quiet_expr e) in
+      let m = inner_reads (expr_leaves e) rest (record st { reading = start }) (expr_inner e) in
       record { after = l.after; exponent = m.0; same = m.1 ∙ ap (λ r. read_claims rest (reading_on st r m.0)) whole; done = l.done }
 
   prop_reads : (p : Prop) (g : Ending) (rest : List Leaf) (cs : Claims) → read_claims (prop_leaves p ++ (ending_leaf g ∷ rest)) (from_claims cs) ≡ read_claims rest (from_claims (ended_by g (then_claimed p cs)))

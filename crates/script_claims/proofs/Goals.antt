@@ -12,7 +12,7 @@ use Rattle.facts.specs.Held.{some-and}
 use Rattle.script_bounds.specs.Bounds.{written_range, inward_of}
 use Rattle.script_claims.specs.declared.claim.Claim.{Claim}
 use Rattle.script_claims.specs.declared.claim.Claim.TheVariants.{Bounded, Asked, Relative, RelativeAsked, Multiple}
-use Rattle.script_claims.specs.declared.claim.Want.TheVariants.{Inside}
+use Rattle.plain_bounds.specs.declared.goals.Want.TheVariants.{Inside}
 use Rattle.script_claims.specs.Meets.{IsRelatedWithin, IsTrueAt, LiesAt, AreZeroAt}
 use Rattle.script_claims.specs.Facts.{want_of, slot_of}
 use Rattle.script_claims.proofs.Hypotheses.{both}

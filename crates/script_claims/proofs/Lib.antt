@@ -3,5 +3,4 @@ pub mod Goals
 pub mod Formulas
 pub mod Digits
 pub mod NormalParts
-pub mod Braces
 pub mod Grows

@@ -6,7 +6,7 @@ use Rattle.script_words.specs.declared.class.Number.TheVariants.{Digits, Other}
 use Rattle.script_shape.specs.Tree.{free, digits, opposite, unsigned, positive, negative, Expr, term, factor, product, atom, Atom, variable, asked, between, lies_in, relative_in, at_most, at_least, multiple, Formula, single, and, implies}
 use Rattle.script_nodes.specs.Literals.{parts_of, tens_out, twos_out, literal_of}
 use Rattle.script_nodes.specs.Known.{nothing_known, put, variable_put, named}
-use Rattle.script_bounds.specs.declared.bound.Written.{Written}
+use Rattle.literal_order.specs.declared.written.Written.{Written}
 use Rattle.script_claims.specs.declared.claim.Claim.TheVariants.{Bounded, Asked, Relative, RelativeAsked, Multiple}
 use Rattle.script_claims.specs.Claims.{Sides, exponent_size, formula_claims}
 

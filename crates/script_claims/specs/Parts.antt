@@ -7,8 +7,8 @@ use Rattle.script_words.specs.Words.{Word, literal, sign}
 use Rattle.script_shape.specs.declared.due.Due.{Due}
 use Rattle.script_shape.specs.declared.due.Due.TheVariants as d
 use Rattle.script_nodes.specs.Literals.{literal_of}
-use Rattle.script_bounds.specs.declared.bound.Written.{Written}
-use Rattle.script_bounds.specs.Bounds.{IsWritten}
+use Rattle.literal_order.specs.declared.written.Written.{Written}
+use Rattle.literal_order.specs.Values.{IsWritten}
 use Rattle.script_claims.specs.declared.claim.Claim.TheVariants as claim
 use Rattle.script_claims.specs.Claims.{exponent_size}
 use Rattle.script_claims.specs.Facts.{HasNormalBounds}

@@ -1,5 +1,5 @@
 -- The claims of a formula, word by word from the left.
-use Rattle.std.specs.Prelude.{◌≡◌, ℕ, suc, ◌+◌, List, [], ◌∷◌, ◌++◌, length, Option, Some, None, Bool, true, false, if◌then◌else◌}
+use Rattle.std.specs.Prelude.{◌≡◌, ◌≤◌, List, [], ◌∷◌, ◌++◌, Option, Some, None}
 use Rattle.fx_model.specs.declared.ExprId.{ExprId}
 use Rattle.script_words.specs.declared.class.Sign.TheVariants as s
 use Rattle.script_words.specs.Words.{Word, sign}
@@ -9,6 +9,7 @@ use Rattle.script_shape.specs.Tree.{Formula}
 use Rattle.script_shape.specs.Roles.{Leaf, at, formula_leaves}
 use Rattle.script_nodes.specs.Known.{Known}
 use Rattle.script_nodes.specs.Waits.{Reading, Complete, expr_done, read}
+use Rattle.script_nodes.specs.Growth.{node_count}
 use Rattle.script_claims.specs.declared.claim.Claim.TheVariants.{Multiple}
 use Rattle.script_claims.specs.declared.proposition.Proposition.{Proposition}
 use Rattle.script_claims.specs.declared.part.Part.{Part}
@@ -75,21 +76,7 @@ unfoldable pub read_claims : List Leaf → State → State
 read_claims [] st = st
 read_claims (l ∷ ls) st = read_claims ls (read_claim l.role l.word st)
 
--- ---- a whole formula
-
-abbrev pub closes : Due → Bool
-closes d.CloseBrace = true
-closes _ = false
-
--- the words up to the brace, and the brace
-unfoldable pub read_formula : List Leaf → State → State
-read_formula [] st = st
-read_formula (l ∷ ls) st = if closes l.role then read_claim l.role l.word st else read_formula ls (read_claim l.role l.word st)
-
--- how many these are
-unfoldable pub formula_length : List Leaf → ℕ
-formula_length [] = 0
-formula_length (l ∷ ls) = if closes l.role then 1 else suc (formula_length ls)
+-- ---- all words
 
 -- the words of a formula, the brace behind it, and others
 abbrev pub then_brace : Formula → List Leaf → List Leaf
@@ -99,6 +86,6 @@ then_brace f rest = formula_leaves f ++ (at d.CloseBrace (sign s.CloseBrace) ∷
 abbrev pub ReadsFormulas : Type 0
 ReadsFormulas = (f : Formula) (rest : List Leaf) (k : Known) → read_claims (then_brace f rest) (from_claims (no_claims k)) ≡ read_claims rest (from_claims (formula_claims f k))
 
--- They end at that brace.
-abbrev pub EndsFormulas : Type 0
-EndsFormulas = (f : Formula) (rest : List Leaf) (k : Known) → (read_formula (then_brace f rest) (from_claims (no_claims k)) ≡ from_claims (formula_claims f k)) × (formula_length (then_brace f rest) ≡ length (formula_leaves f) + 1)
+-- Nodes never go: behind a word there are as many as before it, or more.
+abbrev pub ClaimsGrow : Type 0
+ClaimsGrow = (r : Due) (w : Word) (st : State) → node_count st.reading.known ≤ node_count (read_claim r w st).reading.known

@@ -5,6 +5,7 @@ ghost use Rattle.theorem_fix.specs.Places.{place_from};
 use facts::{Fact, Place, RelativeError, Slot};
 use fx_model::ExprId;
 use interval::Interval;
+use plain_bounds::Want;
 use script_bounds::{Written, inward, outward};
 
 /// What a proposition says of the nodes of its expressions.
@@ -20,15 +21,6 @@ pub enum Claim {
     RelativeAsked(ExprId, ExprId),
     /// `@FIX(e, k)`: the value is a whole multiple of 2^k. Of k past 1025 and -1025 these stand for it.
     Multiple(ExprId, i16),
-}
-
-/// What settles a goal.
-#[derive(Clone, Copy, PartialEq, Eq, Debug)]
-pub enum Want {
-    /// Any interval with finite ends.
-    Ask,
-    /// An interval inside this one. None where nothing lies between the bounds that an interval could hold.
-    Inside(Option<Interval>),
 }
 
 impl Claim {

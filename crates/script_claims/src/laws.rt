@@ -6,13 +6,13 @@ ghost use Rattle.interval.specs.declared.interval.Interval.{Interval};
 ghost use Rattle.facts.specs.declared.fact.Fact.{Fact};
 ghost use Rattle.facts.specs.Holds.{Holds};
 ghost use Rattle.script_claims.specs.declared.claim.Claim.{Claim};
-ghost use Rattle.script_claims.specs.declared.claim.Want.TheVariants.{Inside};
+ghost use Rattle.plain_bounds.specs.declared.goals.Want.TheVariants.{Inside};
 ghost use Rattle.script_claims.specs.Meets.{IsTrueAt, LiesAt, AreZeroAt};
 ghost use Rattle.script_claims.specs.Facts.{hypothesis_fact, IsHypothesis, want_of, slot_of};
-ghost use Rattle.script_claims.specs.Reads.{ReadsFormulas, EndsFormulas};
+ghost use Rattle.script_claims.specs.Reads.{ReadsFormulas, ClaimsGrow};
 
 use script_bounds::{inward_is_greatest, outward_is_least};
-use script_nodes::laws::reads_trees;
+use script_nodes::laws::{nodes_only_grow, reads_trees};
 
 /// Nothing is done. The clauses tell a caller that a claim's fact holds wherever the claim is true, and that a
 /// hypothesis has a fact there.
@@ -32,11 +32,16 @@ pub fn goals_are_enough()
     inward_is_greatest();
 }
 
-/// Nothing is done. The clauses tell a caller that the words of a formula, read from the left, are read as its claims, and
-/// that no brace stands among them.
+/// Nothing is done. The clause tells a caller that the words of a formula, read from the left, are read as its claims.
 pub fn formulas_are_read()
-    ensures read { ReadsFormulas }
-    ensures ended { EndsFormulas }
+    ensures { ReadsFormulas }
 {
     reads_trees();
+}
+
+/// Nothing is done. The clause tells a caller that nodes never go while the words of a formula are read.
+pub fn claims_only_grow()
+    ensures { ClaimsGrow }
+{
+    nodes_only_grow();
 }

@@ -1,8 +1,7 @@
 //! The claims of a formula, read word by word.
 
-ghost use Rattle.std.specs.Prelude.{◌≡◌, ◌<◌, All, length, map, None, Err, IfOk, OnOk, IfErr};
+ghost use Rattle.std.specs.Prelude.{◌≡◌, ◌<◌, All, length, None, Err, OnOk, IfErr};
 ghost use Rattle.script_words.specs.Named.{word_of};
-ghost use Rattle.script_judge.specs.Leaves.{leaves_of};
 ghost use Rattle.script_claims.specs.Facts.{HasNormalBounds};
 ghost use Rattle.script_claims.specs.Claims.{no_sides, with_goal};
 ghost use Rattle.script_claims.specs.Parts as spec_parts;
@@ -167,39 +166,4 @@ impl<'a> ClaimReader<'a> {
             }
         }
     }
-
-    /// Takes the words of a formula up to the brace behind it, each with its role, and says how many these are, the brace
-    /// among them.
-    #[tactic(auto, unfolding(crate::specs::Reads::read_formula, crate::specs::Reads::formula_length))]
-    pub fn formula(&mut self, words: &[Word<'a>], roles: &[Due]) -> Result<usize, DagFault>
-        ensures read { OnOk result (self.new
-            ≡ spec.read_formula (leaves_of roles.now (map word_of words.now)) self.old) }
-        ensures taken { IfOk result (λ n. n ≡ spec.formula_length (leaves_of roles.now (map word_of words.now))) }
-        ensures full { result ≡ Err DagFault.Full → 1024 < length (spec.read_formula
-            (leaves_of roles.now (map word_of words.now)) self.old).reading.known.nodes }
-    {
-        let mut words = words;
-        let mut roles = roles;
-        let mut taken = 0;
-        while let [role, later_roles @ ..] = roles {
-            let [word, later_words @ ..] = words else {
-                return Ok(taken);
-            };
-            self.token(*role, *word)?;
-            taken += 1;
-            if closes(*role) {
-                return Ok(taken);
-            }
-            words = later_words;
-            roles = later_roles;
-        }
-        Ok(taken)
-    }
-}
-
-// Whether the brace behind the formula has this role.
-fn closes(role: Due) -> bool
-    ensures { result ≡ spec.closes role }
-{
-    matches!(role, Due::CloseBrace)
 }

@@ -1,7 +1,7 @@
 //! Claims at values that were worked out by hand.
 
-ghost use Rattle.std.specs.Prelude.{◌<◌, ◌^◌, length, Some};
-ghost use Rattle.script_bounds.specs.Bounds.{IsWritten};
+ghost use Rattle.std.specs.Prelude.{◌<◌, length, Some};
+ghost use Rattle.literal_order.specs.Values.{IsWritten};
 ghost use Rattle.script_claims.specs.Facts.{HasNormalBounds};
 
 use crate::{Claim, ClaimReader, Want, formulas_are_read, goals_are_enough, hypotheses_hold};
@@ -14,7 +14,7 @@ use script_bounds::Written;
 use script_nodes::reader::Reader;
 use script_shape::shape::shape_of;
 use script_words::words::read_words;
-use std::alloc::{AllocError, Global};
+use std::alloc::Global;
 use std::process::Abort;
 use std::test::Fail;
 
@@ -111,29 +111,18 @@ fn relative_errors_and_multiples(rt: HostRuntime) {
     assert!(rt; is_used_as(Claim::Multiple(X, 513), None, nothing, Slot::Fix(X)));
 }
 
-// Whether the hypotheses and the goals of a formula in braces are these.
-fn is_read_as(
-    alloc: Global,
-    text: &[u8],
-    hypotheses: &[Claim],
-    goals: &[Claim],
-) -> Result<bool, AllocError>
-    requires { length text.now < 2 ^ 32 }
+// What the formula of a text in braces claims.
+fn claimed<'a>(alloc: Global, text: &'a [u8]) -> Result<ClaimReader<'a>, Fail>
+    requires { length text.now < 1000 }
 {
     let read = read_words(alloc, text)?;
     let shape = shape_of(alloc, read.words.as_slice())?;
-    let [_, words @ ..] = read.words.as_slice() else {
-        return Ok(false);
-    };
-    let [_, roles @ ..] = shape.roles.as_slice() else {
-        return Ok(false);
-    };
     let mut reader = ClaimReader::new(alloc, Reader::new(alloc));
-    let Ok(taken) = reader.formula(words, roles) else {
-        return Ok(false);
-    };
-    let read_whole = shape.whole && taken == words.len();
-    Ok(read_whole && reader.hypotheses() == hypotheses && reader.goals() == goals)
+    let words = read.words.iter().zip(shape.roles.iter());
+    for (word, role) in words.skip(1) {
+        reader.token(*role, *word)?;
+    }
+    Ok(reader)
 }
 
 #[test]
@@ -185,10 +174,9 @@ fn formulas(rt: HostRuntime) -> Result<(), Fail> {
     ];
     for (text, hypotheses, goals) in rows {
         assert!(rt; text.len() < 1000);
-        assert!(rt;
-            is_read_as(rt.alloc(), text, hypotheses, goals)?,
-            "{text:?}"
-        );
+        let reader = claimed(rt.alloc(), text)?;
+        assert_eq!(rt; reader.hypotheses(), hypotheses, "{text:?}");
+        assert_eq!(rt; reader.goals(), goals, "{text:?}");
     }
     Ok(())
 }

@@ -6,7 +6,7 @@ use Rattle.facts.specs.declared.hint.Need.{Need}
 use Rattle.facts.specs.declared.hint.Need.TheVariants as need
 use Rattle.script_words.specs.declared.class.Sign.{Sign}
 use Rattle.script_words.specs.declared.class.Sign.TheVariants as s
-use Rattle.script_bounds.specs.declared.bound.Written.{Written}
+use Rattle.literal_order.specs.declared.written.Written.{Written}
 use Rattle.script_hints.specs.declared.hint.Cutting.TheVariants as cutting
 use Rattle.script_hints.specs.declared.hint.HintList.{HintList}
 use Rattle.script_hints.specs.declared.stage.Stage.{Stage}

@@ -13,8 +13,8 @@ use Rattle.script_nodes.specs.Literals.{literal_of}
 use Rattle.script_nodes.specs.Operators.{digits_text, number_of}
 use Rattle.script_nodes.specs.Known.{Known, Placed, Name, named}
 use Rattle.script_nodes.specs.Values.{expr_value}
-use Rattle.script_bounds.specs.declared.bound.Written.{Written}
-use Rattle.script_bounds.specs.Bounds.{written_value}
+use Rattle.literal_order.specs.declared.written.Written.{Written}
+use Rattle.literal_order.specs.Values.{written_value}
 use Rattle.script_bounds.specs.Needs.{below_of, above_of}
 use Rattle.script_hints.specs.declared.hint.Cutting.{Cutting}
 use Rattle.script_hints.specs.declared.hint.Cutting.TheVariants as cutting

@@ -1,7 +1,7 @@
 //! The hint that is being read, and what the hints before it say.
 
 ghost use Rattle.std.specs.Prelude.{◌≡◌, OnOk};
-ghost use Rattle.script_bounds.specs.Bounds.{IsWritten};
+ghost use Rattle.literal_order.specs.Values.{IsWritten};
 ghost use Rattle.script_hints.specs.Drafts as spec;
 ghost use Rattle.script_hints.specs.Hints as spec_hints;
 

@@ -3,7 +3,6 @@
 
 mod draft;
 pub mod hint;
-pub mod hints;
 pub mod laws;
 mod lists;
 pub mod reader;

@@ -8,6 +8,7 @@ use Rattle.script_shape.specs.declared.due.Due.{Due}
 use Rattle.script_shape.specs.declared.due.Due.TheVariants as d
 use Rattle.script_shape.specs.Tree.{AnyName, plain, operator, Special, free, defined, Operator, fixed, int, Expr, How, exactly, rounded_by, rounded_apart, rounded_joined, Definition, names_operator, names_value, Script, formula, define}
 use Rattle.script_shape.specs.Roles.{Leaf, at, special_leaves, name_leaves, operator_leaves, expr_leaves, how_leaves, definition_leaves, script_leaves}
+use Rattle.script_shape.specs.Inner.{EachRole, IsInner, expr_inner, operator_rest, operator_inner}
 use Rattle.script_nodes.specs.Known.{Name, Known, nothing_known, no_rounding}
 use Rattle.script_nodes.specs.Operators.{rounding_of, direction_of, special_text}
 use Rattle.script_nodes.specs.Values.{expr_value}
@@ -16,7 +17,6 @@ use Rattle.script_nodes.specs.declared.waits.Waits.TheVariants as wait
 use Rattle.script_nodes.specs.Waits.{Reading, Complete, expr_done, read, read_all}
 use Rattle.script_nodes.specs.Definitions.{with_value, name_text, rounding_by, definition_value, definitions_value}
 use Rattle.script_nodes.specs.Defining.{Defining, between, with_reading, define_word, define_all, value_joined, joined, ReadsDefinitions}
-use Rattle.script_nodes.proofs.Inner.{IsInner, AllInner, expr_inner, operator_rest, operator_inner}
 use Rattle.script_nodes.proofs.TreeReads.{from, whole_reads, expr_reads}
 
 regroup : (a b rest : List Leaf) (p : Defining) → define_all ((a ++ b) ++ rest) p ≡ define_all (a ++ (b ++ rest)) p
@@ -38,7 +38,7 @@ one_inner d.Greater w ls p h = refl
 one_inner _ w ls p h = absurd h
 
 -- words of an expression are read as such
-all_inner : (ls rest : List Leaf) (p : Defining) → AllInner ls → define_all (ls ++ rest) p ≡ define_all rest (with_reading p (read_all p.rounds ls p.reading))
+all_inner : (ls rest : List Leaf) (p : Defining) → EachRole IsInner ls → define_all (ls ++ rest) p ≡ define_all rest (with_reading p (read_all p.rounds ls p.reading))
 unfolding read_all
 all_inner [] rest p h = refl
 all_inner (l ∷ ls) rest p h = one_inner l.role l.word (ls ++ rest) p h.0 ∙ all_inner ls rest (with_reading p (read p.rounds l.role l.word p.reading)) h.1

@@ -3,7 +3,6 @@ pub mod Spelled
 pub mod NormalOnce
 pub mod Readable
 pub mod LiteralReads
-pub mod Inner
 pub mod DefinitionReads
 pub mod Keys
 pub mod Sounds

@@ -9,3 +9,4 @@ pub mod Definitions
 pub mod Defining
 pub mod Examples
 pub mod Sound
+pub mod Growth

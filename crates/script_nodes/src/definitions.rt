@@ -4,8 +4,7 @@ ghost use Rattle.std.specs.Prelude.{◌≡◌, ◌<◌, length, map, Err, IfOk, 
 ghost use Rattle.std.specs.Option.{option_copied};
 ghost use Rattle.script_words.specs.Named.{word_of};
 ghost use Rattle.script_shape.specs.Tree.{Script, script_words};
-ghost use Rattle.script_shape.specs.Roles.{HasRoles};
-ghost use Rattle.script_judge.specs.Leaves.{leaves_of};
+ghost use Rattle.script_shape.specs.Roles.{HasRoles, leaves_of};
 ghost use Rattle.script_nodes.specs.Known as spec_known;
 ghost use Rattle.script_nodes.specs.Definitions.{definitions_value};
 ghost use Rattle.script_nodes.specs.Waits as spec_waits;
@@ -16,6 +15,7 @@ use crate::reader::{NO_ROUNDING, Reader};
 use crate::waits::Waits;
 use expr_dag::{DagFault, Rounding};
 use script_shape::due::Due;
+use script_shape::shape::leaves_are_of_trees;
 use script_words::class::Sign;
 use script_words::words::Word;
 use std::alloc::Global;
@@ -223,5 +223,7 @@ pub fn definitions_of<'a>(
     ensures full { result ≡ Err DagFault.Full → 1024
         < length (spec.read_from_start (leaves_of roles.now (map word_of words.now))).reading.known.nodes }
 {
+    // Words of a script with roles are the leaves of its tree.
+    leaves_are_of_trees();
     read_words(alloc, words, roles)
 }

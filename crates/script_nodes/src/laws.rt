@@ -3,6 +3,7 @@
 ghost use Rattle.script_nodes.specs.Literals.{ReadsLiterals};
 ghost use Rattle.script_nodes.specs.ReadingLaw.{ReadsTrees};
 ghost use Rattle.script_nodes.specs.Defining.{ReadsDefinition, ReadsDefinitions};
+ghost use Rattle.script_nodes.specs.Growth.{NamesGrow, EndsGrow, WordsGrow, DefiningGrows};
 
 /// Reading the words of an expression from the left gives the nodes and the number of its tree.
 pub fn reads_trees()
@@ -18,4 +19,12 @@ pub fn reads_literals()
 pub fn reads_definitions()
     ensures one { ReadsDefinition }
     ensures all { ReadsDefinitions }
+{}
+
+/// Nodes never go while words are read.
+pub fn nodes_only_grow()
+    ensures names { NamesGrow }
+    ensures ends { EndsGrow }
+    ensures words { WordsGrow }
+    ensures definitions { DefiningGrows }
 {}

@@ -1,6 +1,7 @@
 //! Names, in the order in which they were put in.
 
-ghost use Rattle.std.specs.Prelude.{◌≡◌, List, [], length, take, IfOk, OnOk, OnErr};
+ghost use Rattle.std.specs.Prelude.{◌≡◌, List, [], length, take, slice_get, IfOk, OnOk, OnErr};
+ghost use Rattle.std.specs.Option.{option_copied};
 ghost use Rattle.std.specs.List.{position_or_len};
 ghost use Rattle.std.specs.Str.{bytes_eq};
 ghost use Rattle.script_nodes.specs.Known as spec;
@@ -43,6 +44,18 @@ impl<'a> Variables<'a> {
     {
         let (place, _) = self.names.insert_full(name)?;
         Ok(place)
+    }
+
+    /// The name at a place, if there is one.
+    pub fn get(&self, place: usize) -> Option<&'a [u8]>
+        ensures { option_copied result ≡ slice_get self.now place }
+    {
+        let names = self.names.as_slice();
+        if place < names.len() {
+            Some(names[place])
+        } else {
+            None
+        }
     }
 
     /// How many variables there are.

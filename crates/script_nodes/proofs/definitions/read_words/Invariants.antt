@@ -1,6 +1,6 @@
 use Rattle.std.proofs.Common.{◌≡◌, length, map}
 use Rattle.script_words.specs.Named.{word_of}
-use Rattle.script_judge.specs.Leaves.{leaves_of}
+use Rattle.script_shape.specs.Roles.{leaves_of}
 use Rattle.script_nodes.specs.Known.{nothing_known}
 use Rattle.script_nodes.specs.Defining.{between, define_all}
 use Rattle.script_nodes.proofs.definitions.read_words.Given as goal

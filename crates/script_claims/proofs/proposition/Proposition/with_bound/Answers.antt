@@ -1,5 +1,5 @@
 use Rattle.std.proofs.Common.{sym, ap, subst, ◌∙◌}
-use Rattle.script_bounds.specs.declared.bound.Written.{Written}
+use Rattle.literal_order.specs.declared.written.Written.{Written}
 use Rattle.script_claims.specs.declared.proposition.Proposition.{Proposition}
 use Rattle.script_claims.specs.Parts.{IsNormalPart}
 use Rattle.script_claims.proofs.NormalParts.{bounded_normal}
