@@ -1,0 +1,14 @@
+use Rattle.std.proofs.Common.{◌≡◌, ◌+◌, length, map}
+use Rattle.script_words.specs.Named.{word_of}
+use Rattle.script_shape.specs.Roles.{leaves_of}
+use Rattle.goal_spans.specs.Reading as spec
+use Rattle.goal_spans.proofs.reader.goal_spans.Given as goal
+
+abbrev pub invariant-loop-roles : goal.invariant-loop-roles
+invariant-loop-roles l = record {
+  read : spec.read_words (leaves_of l.fn.roles (map word_of l.fn.words)) spec.start ≡ spec.read_words (leaves_of l.roles (map word_of l.words)) l.reader;
+  counted : l.reader.at + length l.roles ≡ length l.fn.roles;
+}
+
+abbrev pub decreases-loop-roles : goal.decreases-loop-roles
+decreases-loop-roles l = length l.roles

@@ -1,0 +1,3 @@
+pub mod Spans
+pub mod Reading
+pub mod Examples

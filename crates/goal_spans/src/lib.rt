@@ -1,0 +1,12 @@
+//! Which words of a script are the expression part of each goal.
+#![tactic(auto)]
+
+mod laws;
+mod reader;
+mod span;
+#[cfg(test)]
+mod tests;
+
+pub use laws::spans_are_read;
+pub use reader::goal_spans;
+pub use span::Span;
