@@ -1,0 +1,221 @@
+-- What the judge keeps: the limit of nodes, that names of operators are defined, and that a variable with a range is a name that was seen.
+use Rattle.std.proofs.Common.{◌≡◌, ℕ, ◌≤◌, nat_lt, List, [], ◌∷◌, ◌++◌, Option, Some, None, Bool, true, false, not, ◌&&◌, ◌||◌, if◌then◌else◌, refl, sym, ap, ◌∙◌}
+use Rattle.std.specs.Option.{is_some}
+use Rattle.std.specs.Str.{bytes_eq}
+use Rattle.std.proofs.lemmas.Bool.{ltb-false}
+use Rattle.std.proofs.lemmas.Slice.Eq.{bytes_eq-Decides}
+use Rattle.script_words.specs.declared.class.Sign.{Sign}
+use Rattle.script_words.specs.declared.class.Sign.TheVariants as s
+use Rattle.script_words.specs.Words.{Word, name, rounding, literal, sign}
+use Rattle.script_shape.specs.declared.due.Due.{Due}
+use Rattle.script_shape.specs.declared.due.Due.TheVariants as d
+use Rattle.script_shape.specs.Roles.{Leaf}
+use Rattle.script_judge.specs.declared.refusal.RefusalKind.{RefusalKind}
+use Rattle.script_judge.specs.declared.counts.Counts.{Counts}
+use Rattle.script_judge.specs.Names.{Name, is_among, is_some_among, is_used, defines, with_some, ended, operand_name, split_name, plain_text}
+use Rattle.script_judge.specs.Bounds.{is_bad_bound}
+use Rattle.script_judge.specs.Subject.{Subject, nothing, node_of, other, Alias, alias_of, named, first_name, signed_subject, operand_subject, subject_after, aliases_after}
+use Rattle.script_judge.specs.Splits.{Ends, SplitRange, with_range, ranges_after, range_of, is_rangeless, is_bad_point}
+use Rattle.script_judge.specs.Splits as splits
+use Rattle.script_judge.specs.Numbers.{Verdict, has_no_pieces}
+use Rattle.script_judge.specs.Judge.{Seen, seen_after, has_arrow, is_empty, is_on_wrong_side, form_kind, form_refusal, limit_kind, limit_refusal, or_else, refusal_at}
+
+-- ---- names that were seen
+
+abbrev pub Among : List Name → Name → Type 0
+Among names text = is_among names text ≡ true
+
+-- names with more before them
+abbrev pub IsMore : List Name → List Name → Type 0
+IsMore old new = (text : Name) → Among old text → Among new text
+
+or_second : (a b : Bool) → b ≡ true → (a || b) ≡ true
+or_second true b h = refl
+or_second false b h = h
+
+more_some : (o : Option Name) (names : List Name) → IsMore names (with_some o names)
+more_some None names text h = h
+more_some (Some n) names text h = or_second (bytes_eq n text) _ h
+
+abbrev SubjectAmong : List Name → Subject → Type 0
+SubjectAmong names nothing = Unit {0}
+SubjectAmong names (node_of variable) = Among names variable
+SubjectAmong names other = Unit {0}
+
+abbrev AliasesAmong : List Name → List Alias → Type 0
+AliasesAmong names [] = Unit {0}
+AliasesAmong names (a ∷ ls) = Among names a.variable × AliasesAmong names ls
+
+abbrev RangesAmong : List Name → List SplitRange → Type 0
+RangesAmong names [] = Unit {0}
+RangesAmong names (r ∷ rs) = Among names r.variable × RangesAmong names rs
+
+module _ (old new : List Name) (more : IsMore old new) where
+  subject_more : (x : Subject) → SubjectAmong old x → SubjectAmong new x
+  subject_more nothing h = tt
+  subject_more (node_of variable) h = more variable h
+  subject_more other h = tt
+
+  aliases_more : (ls : List Alias) → AliasesAmong old ls → AliasesAmong new ls
+  aliases_more [] h = tt
+  aliases_more (a ∷ ls) h = (more a.variable h.0, aliases_more ls h.1)
+
+  ranges_more : (rs : List SplitRange) → RangesAmong old rs → RangesAmong new rs
+  ranges_more [] h = tt
+  ranges_more (r ∷ rs) h = (more r.variable h.0, ranges_more rs h.1)
+
+module _ (names : List Name) where
+  aliases_joined : (a b : List Alias) → AliasesAmong names a → AliasesAmong names b → AliasesAmong names (a ++ b)
+  aliases_joined [] b h k = k
+  aliases_joined (x ∷ a) b h k = (h.0, aliases_joined a b h.1 k)
+
+  ranges_joined : (a b : List SplitRange) → RangesAmong names a → RangesAmong names b → RangesAmong names (a ++ b)
+  ranges_joined [] b h k = k
+  ranges_joined (x ∷ a) b h k = (h.0, ranges_joined a b h.1 k)
+
+  -- ---- ranges and aliases, from the expression before
+
+  new_range : (ranges : List SplitRange) (variable : Name) (ends : Option Ends) → RangesAmong names ranges → Among names variable → RangesAmong names (with_range ranges variable ends)
+  new_range ranges variable None h k = h
+  new_range ranges variable (Some ends) h k = ranges_joined ranges _ h (k, tt)
+
+  more_ranges : (ranges : List SplitRange) (x : Subject) (b : Bool) (ends : Option Ends) → RangesAmong names ranges → SubjectAmong names x → RangesAmong names (ranges_after ranges x b ends)
+  more_ranges ranges nothing b ends h k = h
+  more_ranges ranges (node_of variable) true ends h k = new_range ranges variable ends h k
+  more_ranges ranges (node_of variable) false ends h k = h
+  more_ranges ranges other b ends h k = h
+
+  more_aliases : (ls : List Alias) (x : Subject) (ended : Option Name) → AliasesAmong names ls → SubjectAmong names x → AliasesAmong names (aliases_after ls x ended)
+  more_aliases ls nothing ended h k = h
+  more_aliases ls (node_of variable) (Some text) h k = aliases_joined ls _ h (k, tt)
+  more_aliases ls (node_of variable) None h k = h
+  more_aliases ls other ended h k = h
+
+  -- ---- the expression
+
+  alias_among : (ls : List Alias) (text variable : Name) → AliasesAmong names ls → alias_of ls text ≡ Some variable → Among names variable
+  alias_among [] text variable h e = cc
+  alias_among (a ∷ ls) text variable h e = by_test (bytes_eq a.name text) e (alias_among ls text variable h.1)
+    where
+      by_test : (b : Bool) → (if b then Some a.variable else alias_of ls text) ≡ Some variable → (alias_of ls text ≡ Some variable → Among names variable) → Among names variable
+      by_test true e more = let same : a.variable ≡ variable = cc in ap (is_among names) (sym same) ∙ h.0
+      by_test false e more = more e
+
+  named_among : (o : Option Name) (b : Bool) (text : Name) → ((v : Name) → o ≡ Some v → Among names v) → Among names text → SubjectAmong names (named o b text)
+  named_among (Some v) b text f h = f v refl
+  named_among None true text f h = tt
+  named_among None false text f h = h
+
+  first_among : (x : Subject) (ls : List Alias) (b : Bool) (text : Name) → AliasesAmong names ls → Among names text → SubjectAmong names (first_name x ls b text)
+  first_among nothing ls b text h k = named_among (alias_of ls text) b text (λ v e. alias_among ls text v h e) k
+  first_among (node_of variable) ls b text h k = tt
+  first_among other ls b text h k = tt
+
+  signed_among : (x : Subject) (g : Sign) → SubjectAmong names x → SubjectAmong names (signed_subject x g)
+  signed_among x s.OpenParen h = h
+  signed_among x _ h = tt
+
+text_there : (text : Name) (names : List Name) → Among (text ∷ names) text
+text_there text names = ap (λ b. b || is_among names text) ((bytes_eq-Decides text text).1 refl)
+
+operand_among : (names : List Name) (x : Subject) (ls : List Alias) (b : Bool) (w : Word) → SubjectAmong names x → AliasesAmong names ls → SubjectAmong (with_some (plain_text w) names) (operand_subject x ls b w)
+operand_among names x ls b (literal k text) h a = tt
+operand_among names x ls b (name k text) h a = first_among (text ∷ names) x ls b text (aliases_more names (text ∷ names) (more_some (Some text) names) ls a) (text_there text names)
+operand_among names x ls b (rounding k text) h a = tt
+operand_among names x ls b (sign g) h a = signed_among names x g h
+
+subject_among : (names : List Name) (x : Subject) (ls : List Alias) (b : Bool) (r : Due) (w : Word) → SubjectAmong names x → AliasesAmong names ls → SubjectAmong (with_some (operand_name r w) names) (subject_after x ls b r w)
+subject_among names x ls b d.Script w h a = tt
+subject_among names x ls b d.Connective w h a = tt
+subject_among names x ls b d.Operand w h a = operand_among names x ls b w h a
+subject_among names x ls b d.Tail w h a = tt
+subject_among names x ls b r w h a = h
+
+-- ---- what the judge keeps
+
+pub record IsKept (ops : List Name) (seen : Seen) : Type 0 where
+  pub operators : IsMore ops seen.names.defined
+  pub subject : SubjectAmong seen.names.known seen.splits.subject
+  pub aliases : AliasesAmong seen.names.known seen.splits.aliases
+  pub ranges : RangesAmong seen.names.known seen.splits.ranges
+  pub nodes : seen.counts.nodes ≤ 512
+
+fails : (b : Bool) (k : RefusalKind) (rest : Option RefusalKind) → (if b then Some k else rest) ≡ None → (b ≡ false) × (rest ≡ None)
+fails true k rest e = absurd (cc e)
+fails false k rest e = (refl, e)
+
+neither : (a b : Bool) → (a || b) ≡ false → (a ≡ false) × (b ≡ false)
+neither true b e = absurd (cc e)
+neither false b e = (refl, e)
+
+both_none : (a b : Option RefusalKind) → or_else a b ≡ None → (a ≡ None) × (b ≡ None)
+both_none None b h = (refl, h)
+both_none (Some k) b h = absurd (cc h)
+
+within_limits : (opened halved : ℕ) (c : Counts) (lsb pieces : Bool) → limit_kind opened halved c lsb pieces ≡ None → c.nodes ≤ 512
+within_limits opened halved c lsb pieces h =
+    let nesting = fails (nat_lt 64 opened) _ _ h in
+    let definitions = fails (nat_lt 256 c.definitions) _ _ nesting.1 in
+    let propositions = fails (nat_lt 128 c.propositions) _ _ definitions.1 in
+    let hints = fails (nat_lt 64 c.hints) _ _ propositions.1 in
+    let nodes = fails (nat_lt 512 c.nodes) _ _ hints.1 in
+    ltb-false 512 c.nodes nodes.0
+
+pub kept_after : (ops : List Name) (v : Verdict) (seen : Seen) (r : Due) (w : Word) (behind : List Leaf) → refusal_at v seen r w behind ≡ None → IsKept ops seen → IsKept ops (seen_after v seen r w)
+kept_after ops v seen r w behind e k =
+    let after = seen_after v seen r w in
+    let known = seen.names.known in
+    let old = with_some (ended r seen.names.pending) known in
+    let joined : IsMore known old = more_some (ended r seen.names.pending) known in
+    let more : IsMore known after.names.known = λ text h. more_some (operand_name r w) old text (joined text h) in
+    let limits = both_none (form_refusal v seen r w (has_arrow behind) behind) (limit_refusal after r w) e in
+    let within = within_limits _ _ after.counts _ _ limits.1 in
+    record {
+      operators = λ text h. more_some (ended r seen.names.pending) seen.names.defined text (k.operators text h);
+      subject = subject_among old seen.splits.subject seen.splits.aliases _ r w (subject_more known old joined seen.splits.subject k.subject) (aliases_more known old joined seen.splits.aliases k.aliases);
+      aliases = aliases_more known after.names.known more _ (more_aliases known seen.splits.aliases seen.splits.subject _ k.aliases k.subject);
+      ranges = ranges_more known after.names.known more _ (more_ranges known seen.splits.ranges seen.splits.subject _ _ k.ranges k.subject);
+      nodes = within;
+    }
+
+-- ---- split variables
+
+ranged_among : (names : List Name) (ranges : List SplitRange) (text : Name) → RangesAmong names ranges → is_some (range_of ranges text) ≡ true → Among names text
+ranged_among names [] text h e = cc
+ranged_among names (r ∷ rs) text h e = by_test (bytes_eq r.variable text) refl e (ranged_among names rs text h.1)
+  where
+    by_test : (b : Bool) → bytes_eq r.variable text ≡ b → is_some (if b then Some r.ends else range_of rs text) ≡ true → (is_some (range_of rs text) ≡ true → Among names text) → Among names text
+    by_test true same e more = ap (is_among names) (sym ((bytes_eq-Decides r.variable text).0 same)) ∙ h.0
+    by_test false same e more = more e
+
+has_range : (defined : Bool) (found : Option Ends) → defined ≡ false → (not defined && splits.is_none found) ≡ false → is_some found ≡ true
+has_range true found h e = absurd (cc h)
+has_range false (Some ends) h e = refl
+has_range false None h e = absurd (cc e)
+
+none_more : (a b : Bool) → (a ≡ true → b ≡ true) → b ≡ false → a ≡ false
+none_more true b f h = sym (f refl) ∙ h
+none_more false b f h = refl
+
+split_tests : (side used bad rangeless defined none point past : Bool) → form_kind side used bad rangeless defined none point past ≡ None → (rangeless ≡ false) × (defined ≡ false)
+split_tests side used bad rangeless defined none point past e =
+    let a = fails side _ _ e in
+    let b = fails used _ _ a.1 in
+    let c = fails bad _ _ b.1 in
+    let d = fails rangeless _ _ c.1 in
+    let f = fails (defined || none || point) _ _ d.1 in
+    let g = neither (defined || none) point f.0 in
+    let h = neither defined none g.0 in
+    (d.0, h.0)
+
+-- a split variable that isn't refused was seen, and is no operator's name
+pub split_among : (ops : List Name) (v : Verdict) (seen : Seen) (w : Word) (behind : List Leaf) (text : Name) → refusal_at v seen d.SplitName w behind ≡ None → IsKept ops seen → split_name d.SplitName w ≡ Some text → Among seen.names.known text × (is_among ops text ≡ false)
+split_among ops v seen w behind text e k n =
+    let named = split_name d.SplitName w in
+    let form = both_none (form_refusal v seen d.SplitName w (has_arrow behind) behind) (limit_refusal (seen_after v seen d.SplitName w) d.SplitName w) e in
+    let tests = split_tests (is_on_wrong_side d.SplitName w (has_arrow behind) (is_empty behind)) (is_used seen.names (defines d.SplitName w) behind) (is_bad_bound seen.bounds v.number)
+    (is_rangeless seen.splits.ranges (is_some_among seen.names.defined named) named) (is_some_among seen.names.defined named) (has_no_pieces d.SplitName w) (is_bad_point seen.splits (nat_lt 0 seen.counts.pieces) v.number) v.past form.0 in
+    let plain : is_some_among seen.names.defined (Some text) ≡ false = ap (is_some_among seen.names.defined) (sym n) ∙ tests.1 in
+    let ranged : is_rangeless seen.splits.ranges (is_some_among seen.names.defined (Some text)) (Some text) ≡ false =
+    ap (λ o. is_rangeless seen.splits.ranges (is_some_among seen.names.defined o) o) (sym n) ∙ tests.0 in
+    (ranged_among seen.names.known seen.splits.ranges text k.ranges (has_range (is_among seen.names.defined text) (range_of seen.splits.ranges text) plain ranged), none_more (is_among ops text) (is_among seen.names.defined text) (k.operators text) plain)

@@ -1,0 +1,11 @@
+mod There
+mod Marks
+mod Sizes
+mod Weights
+mod Kept
+mod Passing
+mod ExpressionCounts
+mod DefinitionCounts
+mod FormulaCounts
+mod HintCounts
+mod ScriptCounts

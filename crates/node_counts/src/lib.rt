@@ -1,0 +1,20 @@
+//! Whole scripts have few nodes: what the judge lets pass has room in the list.
+#![tactic(auto)]
+
+ghost use Rattle.node_counts.specs.Counted.{NodesAreCounted};
+
+use script_claims::formulas_are_read;
+use script_hints::laws::reads_hints;
+use script_nodes::laws::reads_trees;
+use script_shape::shape::{leaves_are_of_trees, roles_are_unique};
+
+/// Nothing is done. The clause tells a caller that a script of a text whose words pass the judge has no more than 512 nodes.
+pub fn nodes_are_counted()
+    ensures { NodesAreCounted }
+{
+    reads_trees();
+    formulas_are_read();
+    reads_hints();
+    leaves_are_of_trees();
+    roles_are_unique();
+}
