@@ -1,20 +1,21 @@
 -- What is read of a text that isn't refused is the script that it spells.
-use Rattle.std.specs.Prelude.{◌≡◌, ℕ, List, [], ◌++◌, length, take, Option, Some, None, Result, Ok, Err, IfOk, IfErr, Bool, true, false, refl}
-use Rattle.std.proofs.Common.{sym, ap, ◌∙◌, subst, append-nil}
+use Rattle.std.specs.Prelude.{◌≡◌, ℕ, List, length, take, None, Result, Ok, Err, IfOk, IfErr, Bool, true, false, refl}
+use Rattle.std.proofs.Common.{sym, ap, ◌∙◌, subst}
 use Rattle.std.proofs.Math.Seq.{take-length}
-use Rattle.script_words.specs.declared.lex.Token.{Token}
 use Rattle.script_words.specs.Lex.{Lexes, LexesOnce}
 use Rattle.script_words.specs.Words.{Word}
 use Rattle.script_words.specs.Named.{words_of}
 use Rattle.script_shape.specs.Tree.{Script, script_words, IsScript}
-use Rattle.script_shape.specs.Roles.{Leaf, script_leaves, HasRoles}
-use Rattle.script_shape.specs.Shape as shape
-use Rattle.script_shape.specs.ShapeLaw.{RolesAreUnique, IsShapeOf, roles_from}
+use Rattle.script_shape.specs.Roles.{script_leaves, HasRoles, LeavesAreOfTrees}
+use Rattle.script_shape.specs.ShapeLaw.{IsShapeOf}
 use Rattle.script_judge.specs.declared.refusal.Refusal.{Refusal}
 use Rattle.script_judge.specs.Reading.{Reading, IsReadingOf}
 use Rattle.script_judge.specs.First.{IsFirstRefusal}
 use Rattle.script_claims.specs.Claims.{Sides}
 use Rattle.script_hints.specs.Reading.{HintReading}
+use Rattle.goal_spans.specs.declared.span.Span.{Span}
+use Rattle.goal_spans.specs.Spans.{goal_spans}
+use Rattle.goal_spans.specs.Reading.{spans_read, ReadsSpans}
 use Rattle.script_grammar.specs.declared.stage.Stage.{Stage}
 use Rattle.script_grammar.specs.declared.stage.Stage.TheVariants as stage
 use Rattle.script_grammar.specs.declared.reading.ParseStop.{ParseStop}
@@ -24,7 +25,7 @@ use Rattle.script_grammar.specs.Steps as steps
 use Rattle.script_grammar.specs.Steps.{Step, defining, claiming, hinting, read_words, all_read, ReadsScripts}
 use Rattle.script_grammar.specs.Spells.{View, view_of, Spells, IsSpelled, SpellsOnce, SpellsAll}
 use Rattle.script_grammar.specs.Views.{step_of}
-use Rattle.script_grammar.proofs.Once.{meaning_at, tree_leaves}
+use Rattle.script_grammar.proofs.Once.{meaning_at}
 
 -- words that are a script are taken whole
 all_taken : (ws : List Word) (n : ℕ) (b : Bool) → IsShapeOf ws n b → IsScript ws → n ≡ length ws
@@ -32,28 +33,29 @@ all_taken ws n true s i = (s.whole refl).0
 all_taken ws n false s i = absurd (s.not_whole refl i)
 
 -- the reading of a text that spells a script has the leaves of its tree
-reading_leaves : RolesAreUnique → (r : Reading) (text : List ℕ) (tree : Script) → IsReadingOf text r → script_words tree ≡ r.words → r.leaves ≡ script_leaves tree
-reading_leaves once r text tree h e =
+pub reading_leaves : LeavesAreOfTrees → (r : Reading) (text : List ℕ) (tree : Script) → IsReadingOf text r → script_words tree ≡ r.words → r.leaves ≡ script_leaves tree
+reading_leaves are r text tree h e =
     let n : r.taken ≡ length r.words = all_taken r.words r.taken r.whole h.shape (tree, e) in
     let w : take r.taken r.words ≡ r.words = ap (λ k. take k r.words) n ∙ take-length r.words in
     let roles : HasRoles r.words r.leaves = subst (λ ws. HasRoles ws r.leaves) w h.roles in
-    once r.words r.leaves roles ∙ ap (λ ws. roles_from ws shape.start) (sym e) ∙ sym (tree_leaves once tree)
+    are tree r.words r.leaves e roles
 
 -- what was read behind the formula
 abbrev pub behind : Sides → HintReading → Meaning
 behind sides h = record { known = h.reading.known; hypotheses = sides.hypotheses; goals = sides.goals; hints = h.draft.list }
 
 pub record IsAccepted (text : List ℕ) (r : Reading) (m : Meaning) : Type 0 where
-  pub spells : Spells text (view_of text r.tokens m)
+  pub spells : Spells text (view_of text r.tokens m (spans_read r.leaves))
   pub read : read_words r.leaves steps.start ≡ all_read m
 
-pub accepted_reading : LexesOnce → RolesAreUnique → ReadsScripts → SpellsAll → (text : List ℕ) (r : Reading) → IsFirstRefusal text None → IsReadingOf text r → (m : Meaning) × IsAccepted text r m
-accepted_reading lexes once reads all text r a h =
+pub accepted_reading : LexesOnce → LeavesAreOfTrees → ReadsScripts → ReadsSpans → SpellsAll → (text : List ℕ) (r : Reading) → IsFirstRefusal text None → IsReadingOf text r → (m : Meaning) × IsAccepted text r m
+accepted_reading lexes are reads spans all text r a h =
     let found = all text a in
     let s = found.0 in
     let p = found.1 in
     let same = lexes text r.tokens s.tokens r.bad None h.lexed p.lexed in
-    let e : script_words p.tree ≡ r.words = p.words ∙ ap (words_of text) (sym same.tokens) ∙ h.words in (
+    let e : script_words p.tree ≡ r.words = p.words ∙ ap (words_of text) (sym same.tokens) ∙ h.words in
+    let leaves : r.leaves ≡ script_leaves p.tree = reading_leaves are r text p.tree h e in (
       meaning_of p.tree,
       record {
         spells = record {
@@ -61,17 +63,19 @@ accepted_reading lexes once reads all text r a h =
           lexed = subst (λ ts. Lexes 0 text ts None) (sym same.tokens) p.lexed;
           tree = p.tree;
           words = e ∙ sym h.words;
-          says = refl;
+          says = ap (view_of text r.tokens (meaning_of p.tree)) (ap spans_read leaves ∙ spans p.tree);
         };
-        read = ap (λ ls. read_words ls steps.start) (reading_leaves once r text p.tree h e) ∙ reads p.tree;
+        read = ap (λ ls. read_words ls steps.start) leaves ∙ reads p.tree;
       },
     )
 
 -- the reading ends behind the formula, with the script's parts
-pub spelled_behind : (text : List ℕ) (r : Reading) (m : Meaning) (sides : Sides) (h : HintReading) → IsAccepted text r m → hinting sides h ≡ read_words r.leaves steps.start → IsSpelled text r.tokens h.reading.known sides h.draft.list
-spelled_behind text r m sides h a e =
+pub spelled_behind : (text : List ℕ) (r : Reading) (m : Meaning) (sides : Sides) (h : HintReading) → IsAccepted text r m → hinting sides h ≡ read_words r.leaves steps.start
+    → (spans : List Span) → spans ≡ spans_read r.leaves → IsSpelled text r.tokens h.reading.known sides spans h.draft.list
+spelled_behind text r m sides h a e spans f =
     let q : behind sides h ≡ m = ap meaning_at (e ∙ a.read) in
-    subst (λ n. Spells text (view_of text r.tokens n)) (sym q) a.spells
+    subst (λ ss. Spells text (view_of text r.tokens (behind sides h) ss)) (sym f)
+    (subst (λ n. Spells text (view_of text r.tokens n (spans_read r.leaves))) (sym q) a.spells)
 
 pub ends_in_hints : (st : Stage) (m : Meaning) → step_of st ≡ all_read m → ((x : Sides) (y : HintReading) → st ≡ stage.Hints x y → ⊥) → ⊥
 ends_in_hints (stage.Definitions p) m e n = cc e

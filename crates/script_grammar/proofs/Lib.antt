@@ -1,3 +1,6 @@
 mod WordsRead
 mod Once
 mod Accepted
+mod GoalSpans
+mod StepsGrow
+mod Short

@@ -1,29 +1,21 @@
 -- A text spells one script, or has one refusal.
-use Rattle.std.specs.Prelude.{◌≡◌, ℕ, List, [], ◌++◌, length, take, map, Option, Some, None, Bool, true, false, if◌then◌else◌, refl}
+use Rattle.std.specs.Prelude.{◌≡◌, ℕ, List, [], length, take, Option, Some, None, Bool, true, false, if◌then◌else◌, refl}
 use Rattle.std.proofs.Common.{sym, ap, ◌∙◌, subst, append-nil}
-use Rattle.std.proofs.lemmas.List.{length-map}
-use Rattle.std.proofs.Math.Seq.{take-length}
-use Rattle.fx_model.specs.declared.Node.{Node}
-use Rattle.script_words.specs.declared.lex.Token.{Token}
-use Rattle.script_words.specs.Lex.{Lexes, LexesOnce}
-use Rattle.script_words.specs.Words.{Word}
+use Rattle.script_words.specs.Lex.{LexesOnce}
 use Rattle.script_words.specs.Named.{words_of}
 use Rattle.script_shape.specs.Tree.{Script, script_words}
-use Rattle.script_shape.specs.Roles.{Leaf, script_leaves, HasRoles}
-use Rattle.script_shape.specs.Shape as shape
-use Rattle.script_shape.specs.ShapeLaw.{RolesAreUnique, roles_from}
-use Rattle.script_shape.proofs.RoleLaws.{script_spells}
+use Rattle.script_shape.specs.Roles.{script_leaves, HasRoles, LeavesAreOfTrees}
 use Rattle.script_judge.specs.declared.refusal.Refusal.{Refusal}
-use Rattle.script_judge.specs.declared.fault.Fault.{Fault}
 use Rattle.script_judge.specs.Reading as reading
 use Rattle.script_judge.specs.Reading.{Reading, IsReadable, IsReadingOf, IsFaultOf, IsScriptText, fault}
-use Rattle.script_judge.specs.Judge.{Judged, nothing_seen}
 use Rattle.script_judge.specs.First.{IsFirstRefusal, unread, read, first_of, refusal_of, FirstsAreUnique}
 use Rattle.script_nodes.specs.Known.{nothing_known}
+use Rattle.goal_spans.specs.Spans.{goal_spans}
+use Rattle.goal_spans.specs.Reading.{spans_read, ReadsSpans}
 use Rattle.script_grammar.specs.Meaning.{Meaning, meaning_of}
 use Rattle.script_grammar.specs.Steps as steps
 use Rattle.script_grammar.specs.Steps.{Step, defining, claiming, hinting, read_words, all_read, ReadsScripts}
-use Rattle.script_grammar.specs.Spells.{View, view_of, Spells, IsRefused, SpellsOnce, NeverBoth, SpellsAll}
+use Rattle.script_grammar.specs.Spells.{view_of, SpellsOnce, NeverBoth, SpellsAll}
 
 -- what was read, behind all words
 abbrev pub meaning_at : Step → Meaning
@@ -31,27 +23,27 @@ meaning_at (defining p) = record { known = p.reading.known; hypotheses = []; goa
 meaning_at (claiming st) = record { known = st.reading.known; hypotheses = st.sides.hypotheses; goals = st.sides.goals; hints = record { rewrites = []; likes = []; cuts = []; halves = []; order = [] } }
 meaning_at (hinting sides h) = record { known = h.reading.known; hypotheses = sides.hypotheses; goals = sides.goals; hints = h.draft.list }
 
-leaf_count : (tree : Script) → length (script_words tree) ≡ length (script_leaves tree)
-leaf_count tree = ap length (sym (script_spells tree)) ∙ length-map (script_leaves tree) (λ (l : Leaf). l.word)
+-- trees of the same words have the same leaves
+same_leaves : LeavesAreOfTrees → (a b : Script) → script_words a ≡ script_words b → script_leaves a ≡ script_leaves b
+same_leaves are a b e =
+    let ws = script_words a in
+    let leaves = take (length ws) (script_leaves a) in
+    let h : HasRoles ws leaves = record { tree = a; words = ([], sym (append-nil ws)); roles = refl } in
+    sym (are a ws leaves refl h) ∙ are b ws leaves (sym e) h
 
--- the words of a tree tell its leaves
-pub tree_leaves : RolesAreUnique → (tree : Script) → script_leaves tree ≡ roles_from (script_words tree) shape.start
-tree_leaves once tree =
-    let ws = script_words tree in
-    let h : HasRoles ws (take (length ws) (script_leaves tree)) = record { tree = tree; words = ([], sym (append-nil ws)); roles = refl } in
-    sym (take-length (script_leaves tree)) ∙ ap (λ n. take n (script_leaves tree)) (sym (leaf_count tree)) ∙ once ws (take (length ws) (script_leaves tree)) h
+same_meaning : LeavesAreOfTrees → ReadsScripts → (a b : Script) → script_words a ≡ script_words b → meaning_of a ≡ meaning_of b
+same_meaning are reads a b e = ap meaning_at (sym (reads a) ∙ ap (λ ls. read_words ls steps.start) (same_leaves are a b e) ∙ reads b)
 
-pub same_leaves : RolesAreUnique → (a b : Script) → script_words a ≡ script_words b → script_leaves a ≡ script_leaves b
-same_leaves once a b e = tree_leaves once a ∙ ap (λ ws. roles_from ws shape.start) e ∙ sym (tree_leaves once b)
+same_spans : LeavesAreOfTrees → ReadsSpans → (a b : Script) → script_words a ≡ script_words b → goal_spans a ≡ goal_spans b
+same_spans are spans a b e = sym (spans a) ∙ ap spans_read (same_leaves are a b e) ∙ spans b
 
-same_meaning : RolesAreUnique → ReadsScripts → (a b : Script) → script_words a ≡ script_words b → meaning_of a ≡ meaning_of b
-same_meaning once reads a b e = ap meaning_at (sym (reads a) ∙ ap (λ ls. read_words ls steps.start) (same_leaves once a b e) ∙ reads b)
-
-pub spells_once : LexesOnce → RolesAreUnique → ReadsScripts → SpellsOnce
-spells_once lexes once reads text s t p q =
+pub spells_once : LexesOnce → LeavesAreOfTrees → ReadsScripts → ReadsSpans → SpellsOnce
+spells_once lexes are reads spans text s t p q =
     let e : s.tokens ≡ t.tokens = let same = lexes text s.tokens t.tokens None None p.lexed q.lexed in same.tokens in
     let w : script_words p.tree ≡ script_words q.tree = p.words ∙ ap (words_of text) e ∙ sym q.words in
-    p.says ∙ ap (λ ts. view_of text ts (meaning_of p.tree)) e ∙ ap (view_of text t.tokens) (same_meaning once reads p.tree q.tree w) ∙ sym q.says
+    p.says ∙ ap (λ ts. view_of text ts (meaning_of p.tree) (goal_spans p.tree)) e
+    ∙ ap (λ m. view_of text t.tokens m (goal_spans p.tree)) (same_meaning are reads p.tree q.tree w)
+    ∙ ap (view_of text t.tokens (meaning_of q.tree)) (same_spans are spans p.tree q.tree w) ∙ sym q.says
 
 pub never_both : FirstsAreUnique → NeverBoth
 never_both firsts text s r p q = absurd (cc (firsts text None (Some r) p.accepted q))
@@ -74,4 +66,4 @@ pub spells_all : reading.ReadsScripts → SpellsAll
 spells_all reads text a =
     let s : IsScriptText text = (reads text).0 (reads_to_end text None a refl) in
     let tree = s.script.0 in
-    (view_of text s.words.tokens (meaning_of tree), record { accepted = a; lexed = s.words.lexed; tree = tree; words = s.script.1 ∙ sym s.words.words; says = refl })
+    (view_of text s.words.tokens (meaning_of tree) (goal_spans tree), record { accepted = a; lexed = s.words.lexed; tree = tree; words = s.script.1 ∙ sym s.words.words; says = refl })

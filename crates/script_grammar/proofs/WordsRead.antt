@@ -1,23 +1,24 @@
 -- The words of a script are read as its tree.
-use Rattle.std.specs.Prelude.{◌≡◌, List, [], ◌∷◌, ◌++◌, None, Bool, true, false, refl}
-use Rattle.std.proofs.Common.{ap, sym, ◌∙◌, append_assoc, append-nil}
+use Rattle.std.specs.Prelude.{◌≡◌, List, [], ◌∷◌, ◌++◌, false, refl}
+use Rattle.std.proofs.Common.{ap, sym, ◌∙◌, append-nil}
 use Rattle.script_words.specs.declared.class.Sign.TheVariants as s
 use Rattle.script_words.specs.declared.class.Spelled.TheVariants as spelled
 use Rattle.script_words.specs.Words.{Word, sign}
 use Rattle.script_shape.specs.declared.due.Due.{Due}
 use Rattle.script_shape.specs.declared.due.Due.TheVariants as d
-use Rattle.script_shape.specs.Tree.{AnyName, plain, operator, Special, free, defined, zero_alone, digits, Whole, natural, opposite, Bound, unsigned, positive, negative, Operator, fixed, int, Expr, term, sum, difference, Term, factor, product, quotient, Factor, negation, atom, Atom, number, variable, parenthesized, absolute, called, rounded, fused, Range, asked, between as range_between, Prop, lies_in, relative_in, at_most, at_least, multiple, Formula, single, and, implies, How, exactly, rounded_by, rounded_apart, rounded_joined, Definition, names_operator, names_value, Hints, Script, formula, define}
-use Rattle.script_shape.specs.Roles.{Leaf, at, name_leaves, special_leaves, whole_leaves, bound_leaves, operator_leaves, expr_leaves, term_leaves, factor_leaves, atom_leaves, range_leaves, prop_leaves, formula_leaves, hints_leaves, how_leaves, definition_leaves, script_leaves}
+use Rattle.script_shape.specs.Tree.{AnyName, plain, operator, Whole, Bound, Operator, Expr, Range, asked, between as range_between, Prop, lies_in, relative_in, at_most, at_least, multiple, Formula, single, and, implies, How, exactly, rounded_by, rounded_apart, rounded_joined, Definition, names_operator, names_value, Hints, Script, formula, define}
+use Rattle.script_shape.specs.Roles.{Leaf, at, name_leaves, special_leaves, whole_leaves, bound_leaves, operator_leaves, expr_leaves, range_leaves, prop_leaves, formula_leaves, hints_leaves, how_leaves, definition_leaves, script_leaves}
+use Rattle.script_shape.specs.Inner.{EachRole, each_of_both, each_as, IsInner, name_roles, special_roles, bound_roles, whole_inner, operator_roles, expr_inner}
 use Rattle.script_nodes.specs.Known.{Known, nothing_known}
 use Rattle.script_nodes.specs.Definitions.{definition_value}
 use Rattle.script_nodes.specs.Defining.{Defining, between, define_word, define_all, opens_formula, ReadsDefinition}
-use Rattle.script_claims.specs.Claims.{Sides, Claims, no_claims, formula_claims}
+use Rattle.script_claims.specs.Claims.{Sides, no_claims, formula_claims}
 use Rattle.script_claims.specs.Reads.{State, from_claims, read_claim, read_claims, ReadsFormulas}
-use Rattle.script_hints.specs.Hints.{no_hints, with_hints}
+use Rattle.script_hints.specs.Hints.{no_hints}
 use Rattle.script_hints.specs.Reading.{HintReading, hints_from, read_hint, read_hints}
 use Rattle.script_hints.specs.ReadingLaw.{ReadsHints}
-use Rattle.script_grammar.specs.Meaning.{Meaning, meaning_from, body_meaning}
-use Rattle.script_grammar.specs.Steps.{Step, defining, claiming, hinting, hints_begun, read_word, read_words, all_read, ReadsScripts}
+use Rattle.script_grammar.specs.Meaning.{meaning_from, body_meaning}
+use Rattle.script_grammar.specs.Steps.{defining, claiming, hinting, hints_begun, read_word, read_words, all_read, ReadsScripts}
 
 -- ---- words that neither begin a definition or the formula, nor close it
 
@@ -27,59 +28,27 @@ StaysAt d.CloseBrace = ⊥
 StaysAt r = Unit {0}
 
 abbrev AllStay : List Leaf → Type 0
-AllStay [] = Unit {0}
-AllStay (l ∷ ls) = StaysAt l.role × AllStay ls
+AllStay ls = EachRole StaysAt ls
 
 both : (a b : List Leaf) → AllStay a → AllStay b → AllStay (a ++ b)
-both [] b p q = q
-both (l ∷ a) b p q = (p.0, both a b p.1 q)
+both a b p q = each_of_both StaysAt a b p q
 
-special_stays : (r : Due) (x : Special) → StaysAt r → AllStay (special_leaves r spelled.Direction x)
-special_stays r (free t) h = (h, tt)
-special_stays r (defined t) h = (h, tt)
-
-fix_stays : (x : Special) → AllStay (special_leaves d.Fix spelled.Fix x)
-fix_stays (free t) = (tt, tt)
-fix_stays (defined t) = (tt, tt)
+inner_stays : (r : Due) → IsInner r → StaysAt r
+inner_stays d.Script i = absurd i
+inner_stays d.CloseBrace i = absurd i
+inner_stays _ i = tt
 
 whole_stays : (w : Whole) → AllStay (whole_leaves w)
-whole_stays (natural (zero_alone t)) = (tt, tt)
-whole_stays (natural (digits t)) = (tt, tt)
-whole_stays (opposite (zero_alone t)) = (tt, (tt, tt))
-whole_stays (opposite (digits t)) = (tt, (tt, tt))
+whole_stays w = each_as IsInner StaysAt inner_stays (whole_leaves w) (whole_inner w)
 
 bound_stays : (b : Bound) → AllStay (bound_leaves b)
-bound_stays (unsigned k t) = (tt, tt)
-bound_stays (positive k t) = (tt, (tt, tt))
-bound_stays (negative k t) = (tt, (tt, tt))
+bound_stays b = bound_roles StaysAt b tt tt
 
 operator_stays : (r : Due) (o : Operator) → StaysAt r → AllStay (operator_leaves r o)
-operator_stays r (fixed l x) h = (h, (tt, both (whole_leaves l) _ (whole_stays l) (tt, special_stays d.Direction x tt)))
-operator_stays r (int x) h = (h, (tt, special_stays d.Direction x tt))
+operator_stays r o h = operator_roles StaysAt r o h inner_stays
 
-mutual
-  expr_stays : (e : Expr) → AllStay (expr_leaves e)
-  expr_stays (term t) = term_stays t
-  expr_stays (sum e t) = both (expr_leaves e) _ (expr_stays e) (tt, term_stays t)
-  expr_stays (difference e t) = both (expr_leaves e) _ (expr_stays e) (tt, term_stays t)
-
-  term_stays : (t : Term) → AllStay (term_leaves t)
-  term_stays (factor f) = factor_stays f
-  term_stays (product t f) = both (term_leaves t) _ (term_stays t) (tt, factor_stays f)
-  term_stays (quotient t f) = both (term_leaves t) _ (term_stays t) (tt, factor_stays f)
-
-  factor_stays : (f : Factor) → AllStay (factor_leaves f)
-  factor_stays (negation f) = (tt, factor_stays f)
-  factor_stays (atom a) = atom_stays a
-
-  atom_stays : (a : Atom) → AllStay (atom_leaves a)
-  atom_stays (number k t) = (tt, tt)
-  atom_stays (variable k t) = (tt, tt)
-  atom_stays (parenthesized e) = (tt, both (expr_leaves e) _ (expr_stays e) (tt, tt))
-  atom_stays (absolute e) = (tt, both (expr_leaves e) _ (expr_stays e) (tt, tt))
-  atom_stays (called k t e) = (tt, (tt, both (expr_leaves e) _ (expr_stays e) (tt, tt)))
-  atom_stays (rounded o e) = both (operator_leaves d.Operand o) _ (operator_stays d.Operand o tt) (tt, (tt, both (expr_leaves e) _ (expr_stays e) (tt, tt)))
-  atom_stays (fused a b c) = (tt, (tt, both (expr_leaves a) _ (expr_stays a) (tt, both (expr_leaves b) _ (expr_stays b) (tt, both (expr_leaves c) _ (expr_stays c) (tt, tt)))))
+expr_stays : (e : Expr) → AllStay (expr_leaves e)
+expr_stays e = each_as IsInner StaysAt inner_stays (expr_leaves e) (expr_inner e)
 
 range_stays : (r : Range) → AllStay (range_leaves r)
 range_stays asked = (tt, tt)
@@ -90,7 +59,7 @@ prop_stays (lies_in e r) = both (expr_leaves e) _ (expr_stays e) (tt, range_stay
 prop_stays (relative_in a b r) = both (expr_leaves a) _ (expr_stays a) (tt, both (expr_leaves b) _ (expr_stays b) (tt, range_stays r))
 prop_stays (at_most e b) = both (expr_leaves e) _ (expr_stays e) (tt, bound_stays b)
 prop_stays (at_least e b) = both (expr_leaves e) _ (expr_stays e) (tt, bound_stays b)
-prop_stays (multiple f e k) = (tt, both (special_leaves d.Fix spelled.Fix f) _ (fix_stays f) (tt, both (expr_leaves e) _ (expr_stays e) (tt, both (whole_leaves k) _ (whole_stays k) (tt, tt))))
+prop_stays (multiple f e k) = (tt, both (special_leaves d.Fix spelled.Fix f) _ (special_roles StaysAt d.Fix spelled.Fix f tt) (tt, both (expr_leaves e) _ (expr_stays e) (tt, both (whole_leaves k) _ (whole_stays k) (tt, tt))))
 
 formula_stays : (f : Formula) → AllStay (formula_leaves f)
 formula_stays (single p) = prop_stays p
@@ -102,10 +71,6 @@ how_stays exactly = (tt, tt)
 how_stays (rounded_by k t) = (tt, (tt, tt))
 how_stays (rounded_apart o) = both (operator_leaves d.DefinedBy o) _ (operator_stays d.DefinedBy o tt) (tt, (tt, tt))
 how_stays (rounded_joined o) = both (operator_leaves d.DefinedBy o) _ (operator_stays d.DefinedBy o tt) (tt, tt)
-
-new_name_stays : (n : AnyName) → AllStay (name_leaves d.NewName n)
-new_name_stays (plain k t) = (tt, tt)
-new_name_stays (operator k t) = (tt, tt)
 
 -- ---- definitions
 
@@ -128,7 +93,7 @@ value_name_shut (plain k t) ls h = (refl, h)
 value_name_shut (operator k t) ls h = (refl, h)
 
 definition_shut : (x : Definition) → Shut (definition_leaves x)
-definition_shut (names_operator n o) = (refl, all_shut _ (both (name_leaves d.NewName n) _ (new_name_stays n) (tt, both (operator_leaves d.Operator o) _ (operator_stays d.Operator o tt) (tt, (tt, tt)))))
+definition_shut (names_operator n o) = (refl, all_shut _ (both (name_leaves d.NewName n) _ (name_roles StaysAt d.NewName n tt) (tt, both (operator_leaves d.Operator o) _ (operator_stays d.Operator o tt) (tt, (tt, tt)))))
 definition_shut (names_value n h e) = value_name_shut n _ (all_shut _ (both (how_leaves h) _ (how_stays h) (both (expr_leaves e) _ (expr_stays e) (tt, tt))))
 
 defining_word : (r : Due) (w : Word) (p : Defining) → opens_formula r w ≡ false → read_word r w (defining p) ≡ defining (define_word r w p)

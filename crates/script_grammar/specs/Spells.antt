@@ -1,5 +1,5 @@
 -- What a text spells: a script, or a refusal.
-use Rattle.std.specs.Prelude.{◌≡◌, ℕ, List, None, Some}
+use Rattle.std.specs.Prelude.{◌≡◌, ℕ, ◌≤◌, List, length, None, Some}
 use Rattle.fx_model.specs.declared.Node.{Node}
 use Rattle.script_words.specs.declared.lex.Token.{Token}
 use Rattle.script_words.specs.Lex.{Lexes}
@@ -11,10 +11,12 @@ use Rattle.script_nodes.specs.Known.{Name, Known}
 use Rattle.script_claims.specs.declared.claim.Claim.{Claim}
 use Rattle.script_claims.specs.Claims.{Sides}
 use Rattle.script_hints.specs.declared.hint.HintList.{HintList}
+use Rattle.goal_spans.specs.declared.span.Span.{Span}
+use Rattle.goal_spans.specs.Spans.{goal_spans}
 use Rattle.script_grammar.specs.Meaning.{Meaning, meaning_of}
 
 -- A script as it is read: its text, its tokens, the nodes of its expressions, the names of its variables (`Var i` is the i-th), what
--- its formula claims, and what its hints say.
+-- its formula claims, which of its tokens are the expressions of the goals, and what its hints say.
 pub record View : Type 0 where
   pub text : List ℕ
   pub tokens : List Token
@@ -22,10 +24,11 @@ pub record View : Type 0 where
   pub variables : List Name
   pub hypotheses : List Claim
   pub goals : List Claim
+  pub spans : List Span
   pub hints : HintList
 
-abbrev pub view_of : List ℕ → List Token → Meaning → View
-view_of text tokens m = record { text = text; tokens = tokens; nodes = m.known.nodes; variables = m.known.variables; hypotheses = m.hypotheses; goals = m.goals; hints = m.hints }
+abbrev pub view_of : List ℕ → List Token → Meaning → List Span → View
+view_of text tokens m spans = record { text = text; tokens = tokens; nodes = m.known.nodes; variables = m.known.variables; hypotheses = m.hypotheses; goals = m.goals; spans = spans; hints = m.hints }
 
 -- The text spells the script: it is refused nowhere, and its tokens are the words of a tree that says this.
 pub record Spells (text : List ℕ) (s : View) : Type 0 where
@@ -33,11 +36,11 @@ pub record Spells (text : List ℕ) (s : View) : Type 0 where
   pub lexed : Lexes 0 text s.tokens None
   pub tree : Script
   pub words : script_words tree ≡ words_of text s.tokens
-  pub says : s ≡ view_of text s.tokens (meaning_of tree)
+  pub says : s ≡ view_of text s.tokens (meaning_of tree) (goal_spans tree)
 
 -- The text spells the script of these parts.
-abbrev pub IsSpelled : List ℕ → List Token → Known → Sides → HintList → Type 0
-IsSpelled text tokens k sides hints = Spells text (record { text = text; tokens = tokens; nodes = k.nodes; variables = k.variables; hypotheses = sides.hypotheses; goals = sides.goals; hints = hints })
+abbrev pub IsSpelled : List ℕ → List Token → Known → Sides → List Span → HintList → Type 0
+IsSpelled text tokens k sides spans hints = Spells text (record { text = text; tokens = tokens; nodes = k.nodes; variables = k.variables; hypotheses = sides.hypotheses; goals = sides.goals; spans = spans; hints = hints })
 
 -- the text is refused so
 abbrev pub IsRefused : List ℕ → Refusal → Type 0
@@ -54,3 +57,11 @@ NeverBoth = (text : List ℕ) (s : View) (r : Refusal) → Spells text s → IsR
 -- A text that is refused nowhere spells a script.
 abbrev pub SpellsAll : Type 0
 SpellsAll = (text : List ℕ) → IsFirstRefusal text None → (s : View) × Spells text s
+
+-- Each goal of a script has its words.
+abbrev pub GoalsHaveSpans : Type 0
+GoalsHaveSpans = (text : List ℕ) (s : View) → Spells text s → length s.spans ≡ length s.goals
+
+-- A script that a text spells has no more than 512 nodes.
+abbrev pub SpelledAreShort : Type 0
+SpelledAreShort = (text : List ℕ) (s : View) → Spells text s → length s.nodes ≤ 512

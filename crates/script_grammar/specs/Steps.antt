@@ -1,5 +1,6 @@
 -- What a script says, word by word from the left.
 use Rattle.std.specs.Prelude.{◌≡◌, List, [], ◌∷◌, Bool, true, false, if◌then◌else◌}
+use Rattle.fx_model.specs.declared.Node.{Node}
 use Rattle.script_words.specs.Words.{Word}
 use Rattle.script_shape.specs.declared.due.Due.{Due}
 use Rattle.script_shape.specs.declared.due.Due.TheVariants as d
@@ -40,6 +41,12 @@ read_words (l ∷ ls) st = read_words ls (read_word l.role l.word st)
 
 abbrev pub start : Step
 start = defining (between nothing_known)
+
+-- the nodes so far
+abbrev pub nodes_at : Step → List Node
+nodes_at (defining p) = p.reading.known.nodes
+nodes_at (claiming st) = st.reading.known.nodes
+nodes_at (hinting sides h) = h.reading.known.nodes
 
 -- behind all words
 abbrev pub all_read : Meaning → Step

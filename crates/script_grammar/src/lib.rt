@@ -8,6 +8,6 @@ mod stage;
 #[cfg(test)]
 mod tests;
 
-pub use laws::{script_or_refusal, scripts_are_read};
+pub use laws::{script_or_refusal, scripts_are_read, spelled_are_short};
 pub use reading::{ParseStop, parse};
 pub use script::Script;

@@ -1,15 +1,19 @@
 // From a text to its script, or to its refusal.
 ghost use Rattle.std.specs.Prelude.{◌≡◌, ℕ, List, None, Err, IfOk, IfErr};
 ghost use Rattle.script_judge.specs.First.{IsFirstRefusal};
+ghost use Rattle.script_judge.specs.Reading.{IsReadingOf};
+ghost use Rattle.script_judge.specs.Views.{reading_of};
 ghost use Rattle.script_grammar.specs.Spells.{View, Spells, IsRefused};
 
-use crate::laws::{script_or_refusal, scripts_are_read};
+use crate::laws::{script_or_refusal, scripts_are_read, spelled_are_short};
 use crate::script::Script;
 use crate::stage::{Stage, read_words};
-use script_judge::first::first_refusal;
-use script_judge::reading::{ReadText, read_text};
+use expr_dag::DagFault;
+use goal_spans::{goal_spans, spans_are_read};
+use script_judge::first::{Judgement, judge_text};
+use script_judge::reading::ReadText;
 use script_judge::refusal::Refusal;
-use script_shape::shape::roles_are_unique;
+use script_shape::shape::leaves_are_of_trees;
 use script_words::lex::lexed_once;
 use std::alloc::Global;
 
@@ -31,39 +35,46 @@ pub fn parse<'a>(alloc: Global, text: &'a [u8]) -> Result<Script<'a>, ParseStop>
     ensures answered { (s : View) → Spells text.now s → IfOk result (λ t. t ≡ s) × ((r : Refusal) → ¬ (result ≡ Err (ParseStop.Refused r))) }
 {
     script_or_refusal();
-    match first_refusal(alloc, text) {
-        Ok(Some(refusal)) => Err(ParseStop::Refused(refusal)),
-        Ok(None) => accepted(alloc, text),
+    match judge_text(alloc, text) {
+        Ok(Judgement::Refused(refusal)) => Err(ParseStop::Refused(refusal)),
+        Ok(Judgement::Accepted(read)) => accepted(alloc, text, read),
         Err(_) => Err(ParseStop::OutOfMemory),
     }
 }
 
-// The script of a text that isn't refused.
-fn accepted<'a>(alloc: Global, text: &'a [u8]) -> Result<Script<'a>, ParseStop>
-    requires { IsFirstRefusal text.now None }
+// The script of a text that isn't refused, and is read so.
+fn accepted<'a>(alloc: Global, text: &'a [u8], read: ReadText<'a>) -> Result<Script<'a>, ParseStop>
+    requires accepted { IsFirstRefusal text.now None }
+    requires reading { IsReadingOf text.now (reading_of read) }
     ensures spelled { IfOk result (Spells text.now) }
     ensures memory { IfErr result (λ stop. stop ≡ ParseStop.OutOfMemory) }
 {
     scripts_are_read();
+    spans_are_read();
     script_or_refusal();
+    spelled_are_short();
     lexed_once();
-    roles_are_unique();
-    let Ok(read) = read_text(alloc, text) else {
-        return Err(ParseStop::OutOfMemory);
-    };
+    leaves_are_of_trees();
     let ReadText {
         words,
         tokens,
         shape,
         ..
     } = read;
-    let Ok(stage) = read_words(alloc, words.as_slice(), shape.roles.as_slice()) else {
+    let words = words.as_slice();
+    let roles = shape.roles.as_slice();
+    let Ok(spans) = goal_spans(alloc, words, roles) else {
         return Err(ParseStop::OutOfMemory);
+    };
+    let stage = match read_words(alloc, words, roles) {
+        Ok(stage) => stage,
+        Err(DagFault::Full) => unreachable!(),
+        Err(DagFault::OutOfMemory) => return Err(ParseStop::OutOfMemory),
     };
     match stage {
         Stage::Hints(sides, hints) => {
             let (nodes, hints) = hints.into_parts();
-            Ok(Script::new(text, tokens, nodes, sides, hints))
+            Ok(Script::new(text, tokens, nodes, sides, spans, hints))
         }
         _ => unreachable!(),
     }

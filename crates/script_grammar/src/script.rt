@@ -1,7 +1,11 @@
 // A script as it is read.
-ghost use Rattle.std.specs.Prelude.{◌≡◌};
+ghost use Rattle.std.specs.Prelude.{◌≡◌, All, slice_get};
+ghost use Rattle.std.specs.Option.{option_copied};
+ghost use Rattle.script_claims.specs.Facts.{HasNormalBounds};
+ghost use Rattle.fx_model.specs.Expression.{IsOrdered};
 
 use expr_dag::Dag;
+use goal_spans::Span;
 use script_claims::{Claim, Sides};
 use script_hints::hint::HintList;
 use script_nodes::reader::Reader;
@@ -16,6 +20,8 @@ pub struct Script<'a> {
     // Its nodes, and the names of its variables.
     nodes: Reader<'a>,
     sides: Sides,
+    // Which tokens are the expression of each goal.
+    spans: Vec<Span>,
     hints: HintList,
 }
 
@@ -31,6 +37,7 @@ impl<'a> Model for Script<'a> {
       variables = s.nodes.known.variables;
       hypotheses = s.sides.hypotheses;
       goals = s.sides.goals;
+      spans = s.spans.items;
       hints = s.hints;
     } };
 
@@ -41,6 +48,7 @@ impl<'a> Model for Script<'a> {
       variables = s.nodes.known.variables;
       hypotheses = s.sides.hypotheses;
       goals = s.sides.goals;
+      spans = s.spans.items;
       hints = s.hints;
     }) };
 }
@@ -54,9 +62,10 @@ impl<'a> Script<'a> {
         tokens: Vec<Token>,
         nodes: Reader<'a>,
         sides: Sides,
+        spans: Vec<Span>,
         hints: HintList,
     ) -> Script<'a>
-        requires { IsSpelled text.now tokens.items nodes.known sides hints }
+        requires { IsSpelled text.now tokens.items nodes.known sides spans.items hints }
         ensures { Spells text.now result }
     {
         Script {
@@ -64,6 +73,7 @@ impl<'a> Script<'a> {
             tokens,
             nodes,
             sides,
+            spans,
             hints,
         }
     }
@@ -89,18 +99,42 @@ impl<'a> Script<'a> {
         self.nodes.dag()
     }
 
+    /// The name of the variable with this number (`Var` of `Node`), if there is one.
+    pub fn variable(&self, number: u16) -> Option<&'a [u8]>
+        ensures { option_copied result ≡ slice_get self.now.variables number }
+    {
+        self.nodes.variables().get(usize::from(number))
+    }
+
     /// What its formula claims before the last arrow.
     pub fn hypotheses(&self) -> &[Claim]
-        ensures { result.now ≡ self.now.hypotheses }
+        ensures value { result.now ≡ self.now.hypotheses }
+        ensures normal { All HasNormalBounds result.now }
     {
         self.sides.hypotheses()
     }
 
     /// What its formula claims behind the last arrow, or all that it claims where there is none.
     pub fn goals(&self) -> &[Claim]
-        ensures { result.now ≡ self.now.goals }
+        ensures value { result.now ≡ self.now.goals }
+        ensures normal { All HasNormalBounds result.now }
     {
         self.sides.goals()
+    }
+
+    /// Which of its tokens are the expression of each goal, with both sides of a relative one.
+    pub fn goal_spans(&self) -> &[Span]
+        ensures { result.now ≡ self.now.spans }
+    {
+        self.spans.as_slice()
+    }
+
+    /// Nothing is done. The clauses tell a caller that the text spells the script, and that each node is made of earlier ones.
+    pub fn laws(&self)
+        ensures spelled { Spells self.now.text self.now }
+        ensures ordered { IsOrdered self.now.nodes }
+    {
+        self.nodes.dag().laws();
     }
 
     /// What its hints say.

@@ -1,15 +1,17 @@
 // A script's words, read from the left.
-ghost use Rattle.std.specs.Prelude.{◌≡◌, IfOk, map};
+ghost use Rattle.std.specs.Prelude.{◌≡◌, ◌<◌, length, map, Err, IfOk};
 ghost use Rattle.script_words.specs.Named.{word_of};
-ghost use Rattle.script_judge.specs.Leaves.{leaves_of};
+ghost use Rattle.script_shape.specs.Roles.{leaves_of};
 ghost use Rattle.script_nodes.specs.Defining.{opens_formula};
 ghost use Rattle.script_grammar.specs.Steps as spec;
 ghost use Rattle.script_grammar.specs.Views.{step_of};
 
 use expr_dag::DagFault;
-use script_claims::{ClaimReader, Sides};
+use script_claims::{ClaimReader, Sides, claims_only_grow};
+use script_hints::laws::hints_only_grow;
 use script_hints::reader::HintReader;
 use script_nodes::definitions::Definitions;
+use script_nodes::laws::nodes_only_grow;
 use script_shape::due::Due;
 use script_words::class::Sign;
 use script_words::words::Word;
@@ -42,7 +44,9 @@ impl<'a> Stage<'a> {
     // Takes a word by its role.
     #[tactic(auto, unfolding(crate::specs::Steps::read_word))]
     fn read(self, alloc: Global, role: Due, word: Word<'a>) -> Result<Stage<'a>, DagFault>
-        ensures { IfOk result (λ next. step_of next ≡ spec.read_word role (word_of word.entry) (step_of self.entry)) }
+        ensures read { IfOk result (λ next. step_of next ≡ spec.read_word role (word_of word.entry) (step_of self.entry)) }
+        ensures full { result ≡ Err DagFault.Full
+            → 1024 < length (spec.nodes_at (spec.read_word role (word_of word.entry) (step_of self.entry))) }
     {
         match self {
             Stage::Definitions(mut definitions) => {
@@ -68,15 +72,21 @@ impl<'a> Stage<'a> {
     }
 }
 
-/// What words with their roles say, from the left.
+/// What words with their roles say, from the left. `Full` only where they have more than 1,024 nodes, and else an `Err` only
+/// where memory runs out.
 #[tactic(auto, unfolding(crate::specs::Steps::read_words))]
 pub fn read_words<'a>(
     alloc: Global,
     words: &[Word<'a>],
     roles: &[Due],
 ) -> Result<Stage<'a>, DagFault>
-    ensures { IfOk result (λ stage. step_of stage ≡ spec.read_words (leaves_of roles.now (map word_of words.now)) spec.start) }
+    ensures read { IfOk result (λ stage. step_of stage ≡ spec.read_words (leaves_of roles.now (map word_of words.now)) spec.start) }
+    ensures full { result ≡ Err DagFault.Full → 1024
+        < length (spec.nodes_at (spec.read_words (leaves_of roles.now (map word_of words.now)) spec.start)) }
 {
+    nodes_only_grow();
+    claims_only_grow();
+    hints_only_grow();
     let mut stage = Stage::Definitions(Definitions::new(alloc));
     let mut words = words;
     let mut roles = roles;

@@ -1,6 +1,6 @@
 use Rattle.std.proofs.Common.{◌≡◌, length, map}
 use Rattle.script_words.specs.Named.{word_of}
-use Rattle.script_judge.specs.Leaves.{leaves_of}
+use Rattle.script_shape.specs.Roles.{leaves_of}
 use Rattle.script_grammar.specs.Steps as spec
 use Rattle.script_grammar.specs.Views.{step_of}
 use Rattle.script_grammar.proofs.stage.read_words.Given as goal

@@ -1,0 +1,65 @@
+-- A script that a text spells has few nodes.
+use Rattle.std.specs.Prelude.{◌≡◌, ℕ, ◌≤◌, List, length, Option, Some, None, Bool, true, false, if◌then◌else◌, refl}
+use Rattle.std.proofs.Common.{◌<◌, sym, ap, ◌∙◌, subst, arith}
+use Rattle.script_words.specs.Lex.{LexesOnce}
+use Rattle.script_words.specs.Named.{words_of}
+use Rattle.script_shape.specs.Tree.{Script, script_words, formula, define}
+use Rattle.script_shape.specs.Roles.{Leaf, LeavesAreOfTrees}
+use Rattle.script_judge.specs.declared.refusal.Refusal.{Refusal}
+use Rattle.script_judge.specs.declared.fault.Fault.{Fault}
+use Rattle.script_judge.specs.Reading.{Reading, IsReadingOf, fault}
+use Rattle.script_judge.specs.First.{IsFirstRefusal, unread, read, first_of, refusal_of}
+use Rattle.script_judge.specs.Judge.{Judged, nothing_seen}
+use Rattle.script_nodes.specs.Known.{Known, nothing_known}
+use Rattle.script_nodes.specs.Definitions.{definition_value}
+use Rattle.node_counts.specs.Counted.{known_behind, NodesAreCounted}
+use Rattle.goal_spans.specs.Reading.{spans_read}
+use Rattle.script_grammar.specs.Meaning.{Meaning, meaning_from}
+use Rattle.script_grammar.specs.Steps.{start, nodes_at, read_words}
+use Rattle.script_grammar.specs.Spells.{View, view_of, SpelledAreShort}
+use Rattle.script_grammar.proofs.Accepted.{reading_leaves, IsAccepted}
+
+known_of : (tree : Script) (k : Known) → length (meaning_from tree k).known.nodes ≡ length (known_behind tree k).nodes
+known_of (formula f h) k = refl
+known_of (define x rest) k = known_of rest (definition_value x k)
+
+-- ---- the words of a text that isn't refused pass the judge
+
+record IsPassed (text : List ℕ) (r : Reading) : Type 0 where
+  reading : IsReadingOf text r
+  judged : Judged 0 nothing_seen r.leaves None
+
+second_none : (a b : Option Refusal) → first_of a b ≡ None → b ≡ None
+second_none None b e = e
+second_none (Some x) None e = refl
+second_none (Some x) (Some y) e = absurd (by_test _ e)
+  where
+    by_test : (t : Bool) → (if t then Some y else Some x) ≡ None → ⊥
+    by_test true e = cc e
+    by_test false e = cc e
+
+none_found : (r : Reading) (o : Option Fault) → refusal_of r o ≡ None → o ≡ None
+none_found r None e = refl
+none_found r (Some f) e = absurd (cc e)
+
+all_passed : (text : List ℕ) (o : Option Refusal) → IsFirstRefusal text o → o ≡ None → (r : Reading) × IsPassed text r
+all_passed text o (unread h) e = absurd (cc e)
+all_passed text o (read {r = r} {found = found} k h j) e = (r, record { reading = h; judged = subst (Judged 0 nothing_seen r.leaves) (none_found r found (second_none (fault (length text) r) (refusal_of r found) e)) j })
+
+pub spelled_short : NodesAreCounted → LexesOnce → LeavesAreOfTrees → SpelledAreShort
+spelled_short counted lexes are text s p =
+    let found = all_passed text None p.accepted refl in
+    let r = found.0 in
+    let passed = found.1 in
+    let h = passed.reading in
+    let same = lexes text s.tokens r.tokens None r.bad p.lexed h.lexed in
+    let words : script_words p.tree ≡ r.words = p.words ∙ ap (words_of text) same.tokens ∙ h.words in
+    let judged = subst (λ ls. Judged 0 nothing_seen ls None) (reading_leaves are r text p.tree h words) passed.judged in
+    subst (λ n. n ≤ 512) (sym (known_of p.tree nothing_known) ∙ ap (λ (v : View). length v.nodes) (sym p.says)) (counted text s.tokens p.tree (sym p.words) judged)
+
+-- ---- so the list is never full
+
+pub never_full : SpelledAreShort → (text : List ℕ) (r : Reading) (m : Meaning) → IsAccepted text r m → (leaves : List Leaf) → leaves ≡ r.leaves → 1024 < length (nodes_at (read_words leaves start)) → ⊥
+never_full short text r m a leaves e h =
+    let n = short text (view_of text r.tokens m (spans_read r.leaves)) a.spells in
+    omega (arith, ap (λ ls. length (nodes_at (read_words ls start))) e, ap (λ st. length (nodes_at st)) a.read)
