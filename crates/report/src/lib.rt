@@ -1,0 +1,9 @@
+//! The printed lines, exactly, as bytes.
+#![tactic(auto)]
+
+pub mod answers;
+pub mod parts;
+pub mod refusals;
+pub mod runs;
+#[cfg(test)]
+mod tests;

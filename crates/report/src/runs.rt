@@ -1,0 +1,28 @@
+//! Lines of runs that come to no answer.
+
+ghost use Rattle.std.specs.Prelude.{◌≡◌, IfOk};
+ghost use Rattle.report.specs.Lines as spec;
+
+use std::alloc::{AllocError, Global};
+
+/// The line of a script that isn't built.
+pub fn not_built() -> &'static [u8]
+    ensures { result.now ≡ spec.not_built_line }
+{
+    "script: NotBuilt\n".as_bytes()
+}
+
+/// The line of a wrong command line.
+pub fn usage() -> &'static [u8]
+    ensures { result.now ≡ spec.usage_line }
+{
+    "usage: fixprove prove SCRIPT\n".as_bytes()
+}
+
+/// The line of a file that wasn't read whole, by its name. `Err` only where memory runs out.
+pub fn read_fault_line(alloc: Global, name: &str) -> Result<Vec<u8>, AllocError>
+    ensures { IfOk result (λ line. line.items ≡ spec.read_fault_line name.now) }
+{
+    let line = format!(in alloc; "read fault: {name}\n")?;
+    Ok(line.into_bytes())
+}
