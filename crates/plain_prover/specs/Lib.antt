@@ -1,0 +1,4 @@
+pub mod Built
+pub mod Plain
+pub mod Answers
+pub mod Examples
