@@ -38,20 +38,24 @@ impl Folder for Endless {
     }
 }
 
-fn asks_for_4097_bytes(rt: &impl Abort, alloc: Global, most: usize) -> Result<(), Fail> {
+fn asks_for_one_byte_more(rt: &impl Abort, alloc: Global, most: usize) -> Result<(), Fail> {
     let mut folder = Endless { most, asked: 0 };
     let mut out = SureSink::new(alloc, 4096)?;
     let words = words_of(alloc, &["prove", "a"])?;
     let ended = fx_run(alloc, &words, &mut folder, &mut out);
     assert_eq!(rt; ended, Status::Script);
-    assert_eq!(rt; folder.asked, 4097);
+    assert_eq!(rt; folder.asked, 1_048_577);
+    assert_eq!(rt;
+        out.bytes(),
+        b"script: Limit(Bytes) at 1048576\n".as_slice()
+    );
     Ok(())
 }
 
 #[test]
-fn no_byte_past_4097_is_asked_for(rt: HostRuntime) -> Result<(), Fail> {
+fn no_byte_past_the_limit_is_asked_for(rt: HostRuntime) -> Result<(), Fail> {
     for most in [1, 1000, 1024, 9000] {
-        asks_for_4097_bytes(&rt, rt.alloc(), most)?;
+        asks_for_one_byte_more(&rt, rt.alloc(), most)?;
     }
     Ok(())
 }

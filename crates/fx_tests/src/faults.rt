@@ -1,11 +1,48 @@
-// Runs whose outside fails: a name that isn't there, a sink without room, and each line that no answer is.
-use crate::runs::{Run, ends_on, room_ends};
+// Runs whose outside fails: each read and each put of each line, a name that isn't there, a sink without room.
+use crate::runs::{Run, ends, ends_on, room_ends};
 use fx_top::Status;
 use std::test::Fail;
 
-const WIDE: &[u8] = b"{ x in [999999999999999999,999999999999999999] -> x*x*x*x*x*x*x*x*x*x in ? }";
-
 const PRODUCT: &[u8] = b"{ x in [1,2] /\\ y in [3,5] -> x * y in ? }";
+
+const PRODUCT_LINE: &str = "x * y in [3, 5b1]\n";
+
+#[test]
+fn each_call_may_move_one_byte(rt: HostRuntime) -> Result<(), Fail> {
+    let run = Run {
+        text: PRODUCT,
+        failing_reads: &[],
+        failing_puts: &[],
+        most: 1,
+    };
+    ends(&rt, rt.alloc(), &run, Status::Answered, PRODUCT_LINE)
+}
+
+// The text has 42 bytes and its end, so that there are 43 reads of one byte.
+#[test]
+fn each_read_may_fail(rt: HostRuntime) -> Result<(), Fail> {
+    for number in 1..44u64 {
+        let run = Run {
+            text: PRODUCT,
+            failing_reads: &[number],
+            failing_puts: &[],
+            most: 1,
+        };
+        ends(&rt, rt.alloc(), &run, Status::ReadFault, "read fault: a\n")?;
+    }
+    Ok(())
+}
+
+#[test]
+fn a_failing_refusal_is_a_write_fault(rt: HostRuntime) -> Result<(), Fail> {
+    let run = Run {
+        text: b"!",
+        failing_reads: &[],
+        failing_puts: &[2],
+        most: 7,
+    };
+    ends(&rt, rt.alloc(), &run, Status::WriteFault, "script:")
+}
 
 #[test]
 fn an_absent_name_is_a_read_fault(rt: HostRuntime) -> Result<(), Fail> {
@@ -29,16 +66,29 @@ fn an_absent_name_is_a_read_fault(rt: HostRuntime) -> Result<(), Fail> {
     Ok(())
 }
 
-// Words, a text, the reads that fail, and the line that is then put a byte a call.
-const LINES: [(&[&str], &[u8], &[u64], &str); 4] = [
+// Words, a text, the reads that fail, and the text that is then put a byte a call.
+const LINES: [(&[&str], &[u8], &[u64], &str); 7] = [
     (&["prove"], PRODUCT, &[], "usage: fixprove prove SCRIPT\n"),
     (&["prove", "a"], PRODUCT, &[7], "read fault: a\n"),
-    (&["prove", "a"], b"", &[], "script: NotBuilt\n"),
+    (&["prove", "a"], b"", &[], "script: Unexpected at 0\n"),
     (
         &["prove", "a"],
-        WIDE,
+        b"{ x in ? } x ~ y;",
+        &[],
+        "script: NotBuilt\n",
+    ),
+    (
+        &["prove", "a"],
+        b"{ x in ? }",
         &[],
         "unproved: goal 1 at the whole box\n",
+    ),
+    (&["prove", "a"], PRODUCT, &[], PRODUCT_LINE),
+    (
+        &["prove", "a"],
+        b"{ x in [1,2] -> x in ? /\\ x*x in ? }",
+        &[],
+        "x in [1, 1b1]\nx * x in [1, 1b2]\n",
     ),
 ];
 

@@ -2,10 +2,20 @@
 #![tactic(auto)]
 
 #[cfg(test)]
+mod answers;
+#[cfg(test)]
 mod asked;
 #[cfg(test)]
 mod faults;
 #[cfg(test)]
-mod rows;
+mod limits;
+#[cfg(test)]
+mod literals;
+#[cfg(test)]
+mod refusals;
 #[cfg(test)]
 mod runs;
+#[cfg(test)]
+mod unbuilt;
+#[cfg(test)]
+mod words;

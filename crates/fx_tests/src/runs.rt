@@ -83,6 +83,30 @@ pub fn words_end(
     Ok(())
 }
 
+/// `prove` on each text ends with this status and the line beside it.
+pub fn texts_end(
+    rt: &impl Abort,
+    alloc: Global,
+    status: Status,
+    rows: &[(&str, &str)],
+) -> Result<(), Fail> {
+    for (text, line) in rows {
+        words_end(rt, alloc, &["prove", "a"], text.as_bytes(), status, line)?;
+    }
+    Ok(())
+}
+
+/// The text of the pieces, each with how often it stands there.
+pub fn text_of(alloc: Global, pieces: &[(&str, usize)]) -> Result<Vec<u8>, AllocError> {
+    let mut text = Vec::new(alloc);
+    for (piece, count) in pieces {
+        for _ in 0..*count {
+            text.extend_from_slice(piece.as_bytes())?;
+        }
+    }
+    Ok(text)
+}
+
 /// `prove a` over a sure folder and a sure sink with this room ends with this status and line.
 pub fn room_ends(
     rt: &impl Abort,

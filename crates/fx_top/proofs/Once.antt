@@ -1,64 +1,82 @@
 -- One answer is defined for a text.
 use Rattle.std.specs.Prelude.{◌⊎◌}
-use Rattle.std.proofs.Common.{◌≡◌, ◌≢◌, inl, inr, List, Option, Some, None, refl, sym, ap, ◌∙◌, subst}
-use Rattle.fx_model.specs.Fraction.{Fraction}
-use Rattle.fx_model.specs.Grid.{Bound, At}
-use Rattle.fx_model.specs.Enclosure.{Range, IsFinite}
-use Rattle.dyadic.specs.declared.number.Dyadic.{Dyadic}
-use Rattle.dyadic.specs.Values.{value_of, same_value}
-use Rattle.small_script.specs.Small.{Bytes, Script, Spells, IsSound}
+use Rattle.std.proofs.Common.{◌≡◌, ◌≢◌, ◌<◌, inl, inr, ℕ, List, Bool, true, false, Option, Some, None, refl, sym, ap, ◌∙◌, subst, ⊎_elim}
+use Rattle.std.proofs.lemmas.Bool.{cases_lt}
+use Rattle.std.proofs.Math.Nat.{eq-or-lt_of_le}
+use Rattle.interval.specs.declared.interval.Interval.{Interval}
+use Rattle.plain_bounds.specs.Goals.{AreProved, IsFirstUnproved}
+use Rattle.script_judge.specs.declared.refusal.Refusal.{Refusal}
+use Rattle.script_judge.specs.First.{FirstsAreUnique}
+use Rattle.script_grammar.specs.Spells.{View, Spells, IsRefused, SpellsOnce, NeverBoth}
+use Rattle.plain_prover.specs.Built.{is_built}
+use Rattle.plain_prover.specs.Plain.{goals_of, enclosures_of, ranges_of}
+use Rattle.plain_prover.specs.Answers.{IsAnswerTo}
+use Rattle.plain_prover.specs.declared.prover.Answer.TheVariants as answer
+use Rattle.report.specs.Lines.{Bytes, usage_line, unproved_line, refusal_line, not_built_line}
 use Rattle.fx_top.specs.Command.{Command, reading}
 use Rattle.fx_top.specs.Command.Command.{Prove}
-use Rattle.fx_top.specs.Meaning.{IsPlain}
-use Rattle.fx_top.specs.Run.{Told, IsTold, IsTelling, ProvePrints, CommandPrints, Prints, IsAnswer, between}
-use Rattle.fx_top.specs.Texts.{answer_line, usage_line}
+use Rattle.fx_top.specs.Run.{Told, IsTold, IsTelling, ProvePrints, CommandPrints, Prints}
+use Rattle.fx_top.specs.Texts.{answer_text}
 use Rattle.fx_top.specs.declared.run.Status.{Status}
 use Rattle.fx_top.specs.declared.run.Status.TheVariants.{Answered, Unproved, Usage, ReadFault, WriteFault, OutOfMemory}
 use Rattle.fx_top.specs.declared.run.Status.TheVariants as status
-use Rattle.fx_top.proofs.Plain.{plain_once}
-
--- what is spelled is sound
-pub sound_of : (text : Bytes) (s : Script) → Spells text s → IsSound s
-sound_of text s spells = subst IsSound spells.said spells.sound
-
--- a text spells one script
-abbrev pub SpellsOnce : Type 0
-SpellsOnce = (text : Bytes) (s t : Script) → Spells text s → Spells text t → s ≡ t
 
 abbrev Twice : Status → Status → Bytes → Bytes → Type 0
 Twice s t line other = (s ≡ t) × (line ≡ other)
 
-module _ (spells_once : SpellsOnce) where
-  same_plain : (text : Bytes) (s t : Script) (r u : Range) → Spells text s → Spells text t → IsPlain s.hyps s.goal r → IsPlain t.hyps t.goal u → r ≡ u
-  same_plain text s t r u a b p q =
-      let e : t ≡ s = spells_once text t s b a in
-      plain_once s.hyps (sound_of text s a).names_differ s.goal r u p (subst (λ (v : Script). IsPlain v.hyps v.goal u) e q)
+-- a goal that isn't proved stands in the way of all being so
+not_all : (s t : View) (k : ℕ) → s ≡ t → AreProved (enclosures_of s) (goals_of s) → ¬ IsFirstUnproved (enclosures_of t) (goals_of t) k
+not_all s t k e all one =
+    let u = subst (λ (v : View). IsFirstUnproved (enclosures_of v) (goals_of v) k) (sym e) one in
+    u.unproved (all k u.goal u.there)
 
-  abbrev at_value : Bound → Fraction → Fraction
-  at_value (At g) f = g
-  at_value b f = f
+-- two first goals that aren't proved are one
+not_before : (s : View) (k m : ℕ) → IsFirstUnproved (enclosures_of s) (goals_of s) k → IsFirstUnproved (enclosures_of s) (goals_of s) m → ¬ (k < m)
+not_before s k m a b l = a.unproved (b.before k a.goal l a.there)
 
-  same_line : (text : Bytes) (s t : Script) (a b c d : Dyadic) (line other : Bytes) → Spells text s → Spells text t → IsAnswer s a b line → IsAnswer t c d other → line ≡ other
-  same_line text s t a b c d line other p q i j =
-      let r : between a b ≡ between c d = same_plain text s t (between a b) (between c d) p q i.plain j.plain in
-      let low : a ≡ c = same_value a c (ap (λ (w : Range). at_value w.low (value_of a)) r) in
-      let high : b ≡ d = same_value b d (ap (λ (w : Range). at_value w.high (value_of b)) r) in
-      let one : s ≡ t = spells_once text s t p q in
-      i.text ∙ ap (λ (v : Script). answer_line v a b) one ∙ ap (λ (v : Dyadic). answer_line t v b) low ∙ ap (λ (v : Dyadic). answer_line t c v) high ∙ sym j.text
+first_once : (s : View) (k m : ℕ) → IsFirstUnproved (enclosures_of s) (goals_of s) k → IsFirstUnproved (enclosures_of s) (goals_of s) m → k ≡ m
+first_once s k m a b = ⊎_elim (λ l. absurd (not_before s k m a b l)) (λ g. ⊎_elim (λ e. sym e) (λ l. absurd (not_before s m k b a l)) (eq-or-lt_of_le g)) (cases_lt k m)
 
-  finite_not : (text : Bytes) (s t : Script) (a b : Dyadic) (r : Range) → Spells text s → Spells text t → IsPlain s.hyps s.goal (between a b) → IsPlain t.hyps t.goal r → IsFinite r
-  finite_not text s t a b r p q i j = subst IsFinite (same_plain text s t (between a b) r p q i j) (value_of a, value_of b, refl, refl)
+pub differ : (a b : Bool) → a ≡ b → a ≡ true → ¬ (b ≡ false)
+differ a b e p q = let f : true ≡ false = sym p ∙ e ∙ q in cc f
+
+module _ (spells_once : SpellsOnce) (both : NeverBoth) (refused_once : FirstsAreUnique) where
+  answered_once : (text line other : Bytes) (s t : View) (rs us : List Interval) → Spells text s → Spells text t → rs ≡ ranges_of s → us ≡ ranges_of t → line ≡ answer_text s rs → other ≡ answer_text t us → line ≡ other
+  answered_once text line other s t rs us p q a b e f =
+      e ∙ ap (answer_text s) a ∙ ap (λ (v : View). answer_text v (ranges_of v)) (spells_once text s t p q) ∙ sym (ap (answer_text t) b) ∙ sym f
+
+  unproved_once : (text line other : Bytes) (s t : View) (k m : ℕ) → Spells text s → Spells text t → IsAnswerTo s (answer.Unproved k) → IsAnswerTo t (answer.Unproved m) → line ≡ unproved_line k → other ≡ unproved_line m → line ≡ other
+  unproved_once text line other s t k m p q a b e f =
+      let one = subst (λ (v : View). IsFirstUnproved (enclosures_of v) (goals_of v) m) (spells_once text t s q p) b in
+      e ∙ ap unproved_line (first_once s k m a one) ∙ sym f
+
+  Unread : Bytes → Bytes → Type 0
+  Unread text line = ((r : Refusal) × IsRefused text r × (line ≡ refusal_line r)) ⊎ ((s : View) × Spells text s × (is_built s ≡ false) × (line ≡ not_built_line))
+
+  -- a script that is built isn't refused
+  not_unread : (text line : Bytes) (s : View) → Spells text s → is_built s ≡ true → ¬ (Unread text line)
+  unfolding Unread
+  not_unread text line s p b (inl (r, q, e)) = both text s r p q
+  not_unread text line s p b (inr (t, q, n, e)) = differ (is_built s) (is_built t) (ap is_built (spells_once text s t p q)) b n
+
+  unread_once : (text line other : Bytes) → Unread text line → Unread text other → line ≡ other
+  unfolding Unread
+  unread_once text line other (inl (r, p, e)) (inl (t, q, f)) = let same : r ≡ t = cc (refused_once text (Some r) (Some t) p q) in e ∙ ap refusal_line same ∙ sym f
+  unread_once text line other (inl (r, p, e)) (inr (t, q, n, f)) = absurd (both text t r q p)
+  unread_once text line other (inr (s, p, n, e)) (inl (r, q, f)) = absurd (both text s r p q)
+  unread_once text line other (inr (s, p, n, e)) (inr (t, q, m, f)) = e ∙ sym f
 
   prove_once : (text : Bytes) (s t : Status) (line other : Bytes) → ProvePrints text s line → ProvePrints text t other → Twice s t line other
-  prove_once text Answered Answered line other (s, a, b, p, i) (t, c, d, q, j) = (refl, same_line text s t a b c d line other p q i j)
-  prove_once text Answered Unproved line other (s, a, b, p, i) (t, r, q, j, infinite, e) = absurd (infinite (finite_not text s t a b r p q i.plain j))
-  prove_once text Answered status.Script line other (s, a, b, p, i) (none, e) = absurd (none s p)
-  prove_once text Unproved Answered line other (t, r, q, j, infinite, e) (s, a, b, p, i) = absurd (infinite (finite_not text s t a b r p q i.plain j))
-  prove_once text Unproved Unproved line other (t, r, q, j, infinite, e) (s, u, p, k, endless, f) = (refl, e ∙ sym f)
-  prove_once text Unproved status.Script line other (t, r, q, j, infinite, e) (none, f) = absurd (none t q)
-  prove_once text status.Script Answered line other (none, e) (s, a, b, p, i) = absurd (none s p)
-  prove_once text status.Script Unproved line other (none, f) (t, r, q, j, infinite, e) = absurd (none t q)
-  prove_once text status.Script status.Script line other (none, e) (never, f) = (refl, e ∙ sym f)
+  unfolding Unread
+  prove_once text Answered Answered line other (s, rs, p, b, i, e) (t, us, q, c, j, f) = (refl, answered_once text line other s t rs us p q i.1 j.1 e f)
+  prove_once text Answered Unproved line other (s, rs, p, b, i, e) (t, m, q, c, j, f) = absurd (not_all s t m (spells_once text s t p q) i.0 j)
+  prove_once text Answered status.Script line other (s, rs, p, b, i, e) u = absurd (not_unread text other s p b u)
+  prove_once text Unproved Answered line other (s, k, p, b, i, e) (t, us, q, c, j, f) = absurd (not_all t s k (spells_once text t s q p) j.0 i)
+  prove_once text Unproved Unproved line other (s, k, p, b, i, e) (t, m, q, c, j, f) = (refl, unproved_once text line other s t k m p q i j e f)
+  prove_once text Unproved status.Script line other (s, k, p, b, i, e) u = absurd (not_unread text other s p b u)
+  prove_once text status.Script Answered line other u (t, us, q, c, j, f) = absurd (not_unread text line t q c u)
+  prove_once text status.Script Unproved line other u (t, m, q, c, j, f) = absurd (not_unread text line t q c u)
+  prove_once text status.Script status.Script line other u v = (refl, unread_once text line other u v)
   prove_once text Answered Usage line other p q = absurd q
   prove_once text Answered ReadFault line other p q = absurd q
   prove_once text Answered WriteFault line other p q = absurd q

@@ -1,16 +1,18 @@
 -- What a run of the program prints, reads and answers.
-use Rattle.std.specs.Prelude.{◌≡◌, ◌⊎◌, ℕ, List, ⊤, Bool, false, Option, Some, None}
+use Rattle.std.specs.Prelude.{◌≡◌, ◌⊎◌, ℕ, List, ⊤, Bool, true, false, length, Option, Some, None}
 use Rattle.std.specs.Io.KnownBytes.{Appends, Keeps}
-use Rattle.fx_model.specs.Grid.{At}
-use Rattle.fx_model.specs.Enclosure.{Range, IsFinite, Lies}
-use Rattle.dyadic.specs.declared.number.Dyadic.{Dyadic}
-use Rattle.dyadic.specs.Values.{value_of}
-use Rattle.small_script.specs.Small.{Bytes, Script, Spells}
+use Rattle.fx_model.specs.Expression.{Assignment}
+use Rattle.interval.specs.declared.interval.Interval.{Interval}
+use Rattle.script_judge.specs.declared.refusal.Refusal.{Refusal}
+use Rattle.script_grammar.specs.Spells.{View, Spells, IsRefused}
+use Rattle.plain_prover.specs.Built.{is_built}
+use Rattle.plain_prover.specs.Answers.{IsAnswerTo, Meets, AreBoundedBy}
+use Rattle.plain_prover.specs.declared.prover.Answer.TheVariants as answer
+use Rattle.report.specs.Lines.{Bytes, unproved_line, refusal_line, not_built_line, read_fault_line, usage_line}
 use Rattle.fx_top.specs.Command.{Command, reading}
 use Rattle.fx_top.specs.Command.Command.{Prove}
 use Rattle.fx_top.specs.Outside.{AppendsFront}
-use Rattle.fx_top.specs.Meaning.{Assignment, Meets, value, IsPlain}
-use Rattle.fx_top.specs.Texts.{answer_line, unproved_line, not_built_line, read_fault_line, usage_line}
+use Rattle.fx_top.specs.Texts.{answer_text}
 use Rattle.fx_top.specs.declared.run.Status.{Status}
 use Rattle.fx_top.specs.declared.run.Status.TheVariants as status
 
@@ -35,22 +37,14 @@ exit_code status.OutOfMemory = 8
 
 -- ---- the answer to a text
 
-abbrev pub between : Dyadic → Dyadic → Range
-between low high = record { low = At (value_of low); high = At (value_of high) }
-
--- the printed line of a script whose goal's plain enclosure has these finite ends, which as all numbers are in canonical form
-pub record IsAnswer (s : Script) (low high : Dyadic) (line : Bytes) : Type 0 where
-  pub plain : IsPlain s.hyps s.goal (between low high)
-  pub text : line ≡ answer_line s low high
-
 -- `prove` answers a text with this status and this line
 abbrev pub ProvePrints : Bytes → Status → Bytes → Type 0
--- the plain enclosure of the goal is finite
-ProvePrints text status.Answered line = (s : Script) × (low : Dyadic) × (high : Dyadic) × Spells text s × IsAnswer s low high line
--- the plain enclosure of the goal has an infinite end
-ProvePrints text status.Unproved line = (s : Script) × (r : Range) × Spells text s × IsPlain s.hyps s.goal r × ¬ (IsFinite r) × (line ≡ unproved_line)
--- the text isn't of the small form
-ProvePrints text status.Script line = ((s : Script) → ¬ Spells text s) × (line ≡ not_built_line)
+-- the text spells a script that is built, whose plain enclosures prove all goals
+ProvePrints text status.Answered line = (s : View) × (ranges : List Interval) × Spells text s × (is_built s ≡ true) × IsAnswerTo s (answer.Proved ranges) × (line ≡ answer_text s ranges)
+-- they don't prove a goal; the first is named
+ProvePrints text status.Unproved line = (s : View) × (k : ℕ) × Spells text s × (is_built s ≡ true) × IsAnswerTo s (answer.Unproved k) × (line ≡ unproved_line k)
+-- the text spells no script, but is refused; or a script that isn't built
+ProvePrints text status.Script line = ((r : Refusal) × IsRefused text r × (line ≡ refusal_line r)) ⊎ ((s : View) × Spells text s × (is_built s ≡ false) × (line ≡ not_built_line))
 ProvePrints text _ line = ⊥
 
 -- a command answers with this status and this line. Each further command is a case here.
@@ -89,18 +83,24 @@ PutsLine before after line s result = ((result ≡ s) × Appends before after li
 
 -- ---- the headline
 
--- the words ask for this script
-abbrev pub IsAsked : List Bytes → Told → Script → Type 0
-IsAsked words told s = (name : Bytes) × (text : Bytes) × (reading words ≡ Some (Prove name)) × IsTold (told name) text × Spells text s
+-- The text spells a script; the line has an interval for each goal; and every assignment of fractions that meets the hypotheses, with bounds
+-- exactly as they are written, gives each goal's expression a value in its interval and makes the goal true.
+pub record IsBoundedText (text line : Bytes) : Type 0 where
+  pub script : View
+  pub ranges : List Interval
+  pub spelled : Spells text script
+  pub words : length script.spans ≡ length script.goals
+  pub each : length ranges ≡ length script.goals
+  pub printed : line ≡ answer_text script ranges
+  pub holds : (a : Assignment) → Meets a script → AreBoundedBy script.nodes a script.goals ranges
 
--- the sink took the line of an interval, in which the goal's value lies under every assignment that meets the hypotheses
+-- the words ask for this text, and the sink took such a line
 abbrev pub IsBounded : List Bytes → Told → Option Bytes → Option Bytes → Type 0
-IsBounded words told before after = (s : Script) × (low : Dyadic) × (high : Dyadic) × IsAsked words told s × Appends before after (answer_line s low high)
-    × ((a : Assignment) → Meets a s.hyps → Lies (between low high) (value a s.goal))
+IsBounded words told before after = (name : Bytes) × (text : Bytes) × (line : Bytes) × (reading words ≡ Some (Prove name)) × IsTold (told name) text × IsBoundedText text line × Appends before after line
 
--- the words ask for a told text of the small form
-abbrev pub IsOfForm : List Bytes → Told → Type 0
-IsOfForm words told = (name : Bytes) × (text : Bytes) × (s : Script) × (reading words ≡ Some (Prove name)) × (told name ≡ Some text) × Spells text s
+-- the words ask for a told text, which spells a script that is built
+abbrev pub IsAsked : List Bytes → Told → Type 0
+IsAsked words told = (name : Bytes) × (text : Bytes) × (s : View) × (reading words ≡ Some (Prove name)) × (told name ≡ Some text) × Spells text s × (is_built s ≡ true)
 
 -- the folder tells the text that the words ask for
 abbrev pub IsTelling : List Bytes → Told → Type 0

@@ -1,78 +1,72 @@
-// The status and the line for a text.
+// The status and the lines for a text.
 ghost use Rattle.std.specs.Prelude.{◌≡◌, IfOk};
-ghost use Rattle.dyadic.specs.Texts.{number_text};
-ghost use Rattle.small_script.specs.Views.{script_of, atom_of, step_of};
-ghost use Rattle.fx_top.specs.Texts as spec;
-ghost use Rattle.fx_top.specs.Run.{ProvePrints};
+ghost use Rattle.fx_top.specs.Texts.{answer_text};
+ghost use Rattle.fx_top.specs.Run.{ProvePrints, IsBoundedText};
+ghost use Rattle.script_grammar.specs.Spells.{Spells};
 
-use crate::enclosure::plain_enclosure;
 use crate::run::Status;
-use dyadic::{Dyadic, End};
-use small_script::{Atom, Op, Script, read};
+use interval::Interval;
+use plain_prover::{Answer, answers_hold, is_built, prove};
+use report::answers::{put_goal_line, unproved_line};
+use report::parts::part;
+use report::refusals::refusal_line;
+use report::runs::not_built;
+use script_grammar::{ParseStop, Script, parse, script_or_refusal};
 use std::alloc::{AllocError, Global};
 
-const UNPROVED: &str = "unproved: goal 1 at the whole box\n";
-
-const NOT_BUILT: &str = "script: NotBuilt\n";
-
-fn text_of<'a>(atom: Atom<'a>) -> &'a [u8]
-    ensures { result.now ≡ spec.atom_text (atom_of atom.entry) }
-{
-    match atom {
-        Atom::Variable(name) => name,
-        Atom::Number(number) => number.text,
-    }
-}
-
-fn sign_of(op: Op) -> &'static str
-    ensures { result.now ≡ spec.op_text op }
-{
-    match op {
-        Op::Add => " + ",
-        Op::Sub => " - ",
-        Op::Mul => " * ",
-    }
-}
-
-// The goal's words, joined by one space.
-fn goal_text(alloc: Global, script: &Script<'_>) -> Result<Vec<u8>, AllocError>
-    ensures { IfOk result (λ line. line.items ≡ spec.expr_text (script_of script.now).goal) }
-{
-    let mut line = Vec::new(alloc);
-    line.extend_from_slice(text_of(script.first))?;
-    for step in script.rest.as_slice() {
-        line.extend_from_slice(sign_of(step.op).as_bytes())?;
-        line.extend_from_slice(text_of(step.atom))?;
-    }
-    Ok(line)
-}
-
-fn answer_line(
+// A line for each goal.
+#[tactic(auto, unfolding(crate::specs::Texts::goal_lines))]
+fn answer_lines(
     alloc: Global,
     script: &Script<'_>,
-    low: Dyadic,
-    high: Dyadic,
+    ranges: &[Interval],
 ) -> Result<Vec<u8>, AllocError>
-    ensures { IfOk result (λ line. line.items ≡ spec.answer_line (script_of script.now) low high) }
+    ensures { IfOk result (λ lines. lines.items ≡ answer_text script.now ranges.now) }
 {
-    let mut line = goal_text(alloc, script)?;
-    let interval = format!(in alloc; " in [{low}, {high}]\n")?;
-    line.extend_from_slice(interval.as_bytes())?;
-    Ok(line)
+    let text = script.text();
+    let tokens = script.tokens();
+    let mut spans = script.goal_spans();
+    let mut ranges = ranges;
+    let mut lines = Vec::new(alloc);
+    while let [span, later_spans @ ..] = spans {
+        let [range, later_ranges @ ..] = ranges else {
+            return Ok(lines);
+        };
+        put_goal_line(&mut lines, text, part(tokens, span.first, span.end), *range)?;
+        spans = later_spans;
+        ranges = later_ranges;
+    }
+    Ok(lines)
 }
 
-/// What `prove` answers to a text: the status and the whole line.
-pub fn answer(alloc: Global, text: &[u8]) -> Result<(Status, Vec<u8>), AllocError>
-    ensures { IfOk result (λ r. ProvePrints text.now r.0 r.1.items) }
+// What `prove` answers to a script.
+fn script_answer(alloc: Global, script: &Script<'_>) -> Result<(Status, Vec<u8>), AllocError>
+    ensures prints { IfOk result (λ r. ProvePrints script.now.text r.0 r.1.items) }
+    ensures bounded { IfOk result (λ r. r.0 ≡ Status.Answered → IsBoundedText script.now.text r.1.items) }
 {
-    let Some(script) = read(alloc, text)? else {
-        return Ok((Status::Script, NOT_BUILT.as_bytes().to_vec(alloc)?));
-    };
-    let interval = plain_enclosure(&script);
-    if let End::At(low) = interval.lo() {
-        if let End::At(high) = interval.hi() {
-            return Ok((Status::Answered, answer_line(alloc, &script, low, high)?));
-        }
+    script.laws();
+    script_or_refusal();
+    answers_hold();
+    if !is_built(script) {
+        return Ok((Status::Script, not_built().to_vec(alloc)?));
     }
-    Ok((Status::Unproved, UNPROVED.as_bytes().to_vec(alloc)?))
+    match prove(alloc, script)? {
+        Answer::Proved(ranges) => {
+            let lines = answer_lines(alloc, script, ranges.as_slice())?;
+            Ok((Status::Answered, lines))
+        }
+        Answer::Unproved(goal) => Ok((Status::Unproved, unproved_line(alloc, goal)?)),
+    }
+}
+
+/// What `prove` answers to a text: the status and all lines.
+pub fn answer(alloc: Global, text: &[u8]) -> Result<(Status, Vec<u8>), AllocError>
+    ensures prints { IfOk result (λ r. ProvePrints text.now r.0 r.1.items) }
+    ensures bounded { IfOk result (λ r. r.0 ≡ Status.Answered → IsBoundedText text.now r.1.items) }
+{
+    match parse(alloc, text) {
+        Ok(script) => script_answer(alloc, &script),
+        Err(ParseStop::Refused(refusal)) => Ok((Status::Script, refusal_line(alloc, refusal)?)),
+        Err(ParseStop::OutOfMemory) => Err(AllocError),
+    }
 }

@@ -1,8 +1,7 @@
-//! The top call of the prover: reads a script, encloses its goal and prints the answer.
+//! The top call of the prover: reads a script, encloses its goals and prints the answer.
 #![tactic(auto)]
 
 mod answer;
-mod enclosure;
 mod outside;
 mod run;
 mod words;
