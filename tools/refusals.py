@@ -12,6 +12,8 @@ import random
 import sys
 from fractions import Fraction
 
+import hex_lines
+
 NAMES = ["x", "y", "z", "a", "b1", "My", "dn", "FIX", "ne", "q", "rnd", "_t", "float1", "inn"]
 DIRECTIONS = ["zr", "aw", "dn", "up", "od", "ne", "no", "nz", "na", "nd", "nu"]
 LITERALS = ["0", "1", "2", "0.5", "1b-1", "0x1.8p1", "2.5e1", "1e8", "3", "10", "00", "0x0", "7b512", "1e-30",
@@ -36,22 +38,7 @@ use script_judge::first::first_refusal;
 use std::alloc::{AllocError, Global};
 use std::io;
 
-fn nibble(b: u8) -> u8 {
-    match b {
-        b'0'..=b'9' => b - b'0',
-        b'a'..=b'f' => b - b'a' + 10,
-        _ => 0,
-    }
-}
-
-fn bytes_of(alloc: Global, line: &str) -> Result<Vec<u8>, AllocError> {
-    let mut bytes = Vec::new(alloc);
-    for pair in line.as_bytes().chunks_exact(2) {
-        bytes.push(nibble(pair[0]) * 16 + nibble(pair[1]))?;
-    }
-    Ok(bytes)
-}
-
+""" + hex_lines.READING + """
 fn main(rt: HostRuntime) -> io::Result<()> {
     for line in rt.lines(rt.alloc()) {
         let text = bytes_of(rt.alloc(), line?.as_str())?;

@@ -11,6 +11,8 @@ REFERENCE is the folder that holds the package `reference`.
 
 import sys
 
+import hex_lines
+
 PROGRAM = """\
 // Prints what each text says, which stands on a line in hexadecimal digits.
 #![tactic(auto)]
@@ -20,22 +22,7 @@ use script_hints::hint::Cutting;
 use std::alloc::{AllocError, Global};
 use std::io;
 
-fn nibble(b: u8) -> u8 {
-    match b {
-        b'0'..=b'9' => b - b'0',
-        b'a'..=b'f' => b - b'a' + 10,
-        _ => 0,
-    }
-}
-
-fn bytes_of(alloc: Global, line: &str) -> Result<Vec<u8>, AllocError> {
-    let mut bytes = Vec::new(alloc);
-    for pair in line.as_bytes().chunks_exact(2) {
-        bytes.push(nibble(pair[0]) * 16 + nibble(pair[1]))?;
-    }
-    Ok(bytes)
-}
-
+""" + hex_lines.READING + """
 fn main(rt: HostRuntime) -> io::Result<()> {
     for line in rt.lines(rt.alloc()) {
         let text = bytes_of(rt.alloc(), line?.as_str())?;

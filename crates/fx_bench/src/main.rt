@@ -3,10 +3,13 @@
 //! The one argument names the measure. Nothing is asserted of a figure.
 #![tactic(auto)]
 
+mod filled;
 mod hints;
 mod numbers;
 mod operations;
+mod reading;
 mod rules;
+mod scripts;
 mod texts;
 
 use anyhow::Result;
@@ -14,24 +17,27 @@ use operations::Operation;
 use std::env;
 use std::rt::{Clock, Env};
 
-// Prints the figures of one measure, or the names of all where none is named so.
-fn measure(rt: &(impl Clock + Print + AllocGlobal), name: &str) -> Result<()> {
+// Prints the figures of one measure, or the names of all where none is named so. Of `parse` a second word names one text.
+fn measure(rt: &(impl Clock + Print + AllocGlobal), name: &str, text: Option<&str>) -> Result<()> {
     match name {
         "product" => operations::measure(rt, Operation::Product),
         "sum" => operations::measure(rt, Operation::Sum),
         "quotient" => operations::measure(rt, Operation::Quotient),
         "rule" => rules::measure(rt),
         "words" => texts::measure(rt),
+        "parse" => scripts::measure(rt, text),
         "hint" => hints::measure(rt),
-        _ => Ok(println!(rt; "measures: product, sum, quotient, rule, words, hint")?),
+        _ => Ok(println!(rt; "measures: product, sum, quotient, rule, words, parse, hint")?),
     }
 }
 
 fn run(rt: &(impl Env + Clock + Print + AllocGlobal)) -> Result<()> {
-    match env::args(rt)?.nth(1) {
-        Some(name) => measure(rt, name.as_str()),
-        None => Ok(()),
-    }
+    let mut words = env::args(rt)?;
+    let Some(name) = words.nth(1) else {
+        return Ok(());
+    };
+    let text = words.next();
+    measure(rt, name.as_str(), text.as_deref())
 }
 
 fn main(rt: HostRuntime) -> Result<()> {

@@ -1,26 +1,14 @@
 //! The time of reading a text of 2^20 bytes: its words, and how far they go with the grammar.
 
+use crate::filled::{Filling, copies, filled};
 use anyhow::Result;
 use script_shape::shape::shape_of;
 use script_words::words::read_words;
-use std::alloc::{AllocError, Global};
 use std::rt::Clock;
 use std::time::Instant;
 
 /// How long a text is, in bytes.
 const LENGTH: u32 = 1048576;
-
-// The first part and then copies of another, up to the length.
-fn text(alloc: Global, first: &[u8], repeated: &[u8]) -> Result<Vec<u8>, AllocError> {
-    let mut text = Vec::from_slice(alloc, first)?;
-    for _ in 0..LENGTH {
-        if text.len() + repeated.len() > LENGTH as usize {
-            break;
-        }
-        text.extend_from_slice(repeated)?;
-    }
-    Ok(text)
-}
 
 // Prints how many bytes a millisecond reads, which is kB per second.
 fn measure_one(
@@ -29,7 +17,11 @@ fn measure_one(
     first: &[u8],
     repeated: &[u8],
 ) -> Result<()> {
-    let text = text(rt.alloc(), first, repeated)?;
+    let filling = Filling {
+        first,
+        ..copies(repeated)
+    };
+    let text = filled(rt.alloc(), &filling, LENGTH, LENGTH as usize)?;
     if text.len() > LENGTH as usize {
         return Ok(());
     }
