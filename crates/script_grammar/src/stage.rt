@@ -1,5 +1,5 @@
 // A script's words, read from the left.
-ghost use Rattle.std.specs.Prelude.{◌≡◌, ◌<◌, length, map, Err, IfOk};
+ghost use Rattle.std.specs.Prelude.{◌≡◌, ◌<◌, length, map, false, Err, IfOk, OnOk};
 ghost use Rattle.script_words.specs.Named.{word_of};
 ghost use Rattle.script_shape.specs.Roles.{leaves_of};
 ghost use Rattle.script_nodes.specs.Defining.{opens_formula};
@@ -41,6 +41,22 @@ fn closes_formula(role: Due) -> bool
 }
 
 impl<'a> Stage<'a> {
+    // Takes a word that neither opens the formula nor closes it. The stage stays where it is in memory.
+    #[tactic(auto, unfolding(crate::specs::Steps::read_word))]
+    fn stay(&mut self, role: Due, word: Word<'a>) -> Result<(), DagFault>
+        requires opens { opens_formula role (word_of word) ≡ false }
+        requires closes { spec.closes_formula role ≡ false }
+        ensures read { OnOk result (step_of self.new ≡ spec.read_word role (word_of word.entry) (step_of self.old)) }
+        ensures full { result ≡ Err DagFault.Full
+            → 1024 < length (spec.nodes_at (spec.read_word role (word_of word.entry) (step_of self.old))) }
+    {
+        match self {
+            Stage::Definitions(definitions) => definitions.token(role, word),
+            Stage::Formula(claims) => claims.token(role, word),
+            Stage::Hints(_, hints) => hints.token(role, word),
+        }
+    }
+
     // Takes a word by its role.
     #[tactic(auto, unfolding(crate::specs::Steps::read_word))]
     fn read(self, alloc: Global, role: Due, word: Word<'a>) -> Result<Stage<'a>, DagFault>
@@ -94,7 +110,11 @@ pub fn read_words<'a>(
         let [word, later_words @ ..] = words else {
             return Ok(stage);
         };
-        stage = stage.read(alloc, *role, *word)?;
+        if opens_formula(*role, *word) || closes_formula(*role) {
+            stage = stage.read(alloc, *role, *word)?;
+        } else {
+            stage.stay(*role, *word)?;
+        }
         words = later_words;
         roles = later_roles;
     }
