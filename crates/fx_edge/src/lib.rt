@@ -6,6 +6,7 @@ mod calls;
 mod disk;
 mod files;
 mod folder;
+mod gate;
 mod items;
 mod ledger;
 mod outside;
@@ -14,6 +15,7 @@ mod sink;
 
 pub use disk::{DiskFolder, StdSink};
 pub use folder::{MemFolder, SureFolder};
+pub use gate::{Gate, OpenGate};
 pub use items::Items;
 pub use ledger::Ledger;
 pub use outside::{Failed, Folder, Sink};

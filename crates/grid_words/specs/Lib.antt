@@ -7,3 +7,4 @@ pub mod Signs
 pub mod Sizes
 pub mod Corners
 pub mod Products
+pub mod FractionLaws

@@ -46,16 +46,16 @@ not_zero x h e = lt_not zero_ℚ x h (subst (λ y. y ≤ℚ zero_ℚ) (sym e) (l
 below_not_zero : (x : Fraction) → x <ℚ zero_ℚ → ¬ (x ≡ zero_ℚ)
 below_not_zero x h e = lt_not x zero_ℚ h (subst (λ y. zero_ℚ ≤ℚ y) (sym e) (le_refl zero_ℚ))
 
-inverse_up : (x : Fraction) → zero_ℚ <ℚ x → zero_ℚ ≤ℚ inverse_ℚ x
+pub inverse_up : (x : Fraction) → zero_ℚ <ℚ x → zero_ℚ ≤ℚ inverse_ℚ x
 inverse_up x h = ⊎_elim (λ l. l) (λ l. absurd (lt_not zero_ℚ one_ℚ zero_one
     (subst (λ y. y ≤ℚ zero_ℚ) (mul-inverse x (not_zero x h)) (subst (λ y. (x *ℚ inverse_ℚ x) ≤ℚ y) (mul_comm x zero_ℚ ∙ zero-mul x) (mul-le x (inverse_ℚ x) zero_ℚ (lt_le zero_ℚ x h) (lt_le (inverse_ℚ x) zero_ℚ l)))))) (le_or_lt zero_ℚ (inverse_ℚ x))
 
 -- a greater divisor above 0 has a smaller inverse
-inverse_le : (x y : Fraction) → zero_ℚ <ℚ x → x ≤ℚ y → inverse_ℚ y ≤ℚ inverse_ℚ x
+pub inverse_le : (x y : Fraction) → zero_ℚ <ℚ x → x ≤ℚ y → inverse_ℚ y ≤ℚ inverse_ℚ x
 inverse_le x y h k = let p : zero_ℚ <ℚ y = lt_le_trans zero_ℚ x y h k in
     mul-le_cancel x (inverse_ℚ y) (inverse_ℚ x) h (subst (λ z. (x *ℚ inverse_ℚ y) ≤ℚ z) (mul-inverse y (not_zero y p) ∙ sym (mul-inverse x (not_zero x h))) (times_up x y (inverse_ℚ y) k (inverse_up y p)))
 
-inverse-neg : (y : Fraction) → ¬ (y ≡ zero_ℚ) → inverse_ℚ (neg_ℚ y) ≡ neg_ℚ (inverse_ℚ y)
+pub inverse-neg : (y : Fraction) → ¬ (y ≡ zero_ℚ) → inverse_ℚ (neg_ℚ y) ≡ neg_ℚ (inverse_ℚ y)
 inverse-neg y h = sym (one-mul (inverse_ℚ (neg_ℚ y))) ∙ ap (λ z. z *ℚ inverse_ℚ (neg_ℚ y)) (sym product) ∙ mul_assoc (neg_ℚ (inverse_ℚ y)) (neg_ℚ y) (inverse_ℚ (neg_ℚ y)) ∙ ap (λ z. neg_ℚ (inverse_ℚ y) *ℚ z) (mul-inverse (neg_ℚ y) other) ∙ mul_comm (neg_ℚ (inverse_ℚ y)) one_ℚ ∙ one-mul (neg_ℚ (inverse_ℚ y))
   where
     other : ¬ (neg_ℚ y ≡ zero_ℚ)
