@@ -3,9 +3,9 @@ use Rattle.std.proofs.Common.{◌≡◌, ℕ, ℤ, pos, negsuc, ◌+ℤ◌, ◌�
 use Rattle.std.specs.Int.RustNames.{unsigned_abs}
 use Rattle.std.proofs.lemmas.Int.{ints}
 use lib.IntN.{neg_ℤ}
-use Rattle.fx_model.specs.Fraction.{Fraction, neg_ℚ, neg-neg}
+use Rattle.fx_model.specs.Fraction.{Fraction, neg_ℚ, neg-neg, le_refl}
 use Rattle.fx_model.specs.Powers.{scaled, scaled-shift, scaled-zero}
-use Rattle.fx_model.specs.Grid.{IsOnGrid, scaled-neg, Below, At, Above, IsDown, IsUp, IsDown-neg, IsUp-neg, signed}
+use Rattle.fx_model.specs.Grid.{IsOnGrid, scaled-neg, Below, At, Above, IsDown, IsUp, IsDown-neg, IsUp-neg, signed, signed-signed}
 use Rattle.fx_model.specs.Cut.{Cuts, Full, down_is, up_is, up_is_exact}
 use Rattle.dyadic.specs.Canonical.{IsCanonical}
 
@@ -61,3 +61,13 @@ known_cut x q e i j c p = subst (λ i. Cuts x q e i) p c
 
 pub same_cut : (x : Fraction) (q : ℕ) (e : ℤ) (i : Bool) (q' : ℕ) (e' : ℤ) (i' : Bool) → Cuts x q e i → q' ≡ q → e' ≡ e → i' ≡ i → Cuts x q' e' i'
 same_cut x q e i q' e' i' c f g h = subst (λ q. Cuts x q e' i') (sym f) (subst (λ e. Cuts x q e i') (sym g) (subst (λ i. Cuts x q e i) (sym h) c))
+
+-- ---- a number that needs no rounding
+pub sign_exact : (n : Bool) (x g y : Fraction) → signed n x ≡ g → y ≡ signed n g → y ≡ x
+sign_exact n x g y e p = p ∙ ap (signed n) (sym e) ∙ signed-signed n x
+
+pub exact_down : (x y : Fraction) → IsOnGrid y → y ≡ x → IsDown x (At y)
+exact_down x y g e = subst (λ x. IsDown x (At y)) e (g, le_refl y, λ h o t. t)
+
+pub exact_up : (x y : Fraction) → IsOnGrid y → y ≡ x → IsUp x (At y)
+exact_up x y g e = subst (λ x. IsUp x (At y)) e (g, le_refl y, λ h o t. t)

@@ -1,8 +1,9 @@
 -- How numbers compare, by their mantissas at one place.
-use Rattle.std.proofs.Common.{◌≡◌, ◌⊎◌, ℕ, ℤ, pos, negsuc, ◌+ℤ◌, ◌*ℤ◌, ◌<ℤ◌, ◌<◌, ◌≤◌, ◌*◌, ◌+◌, ◌^◌, min, Bool, true, false, cond, arith, ap, sym, ◌∙◌, refl, ⊎_elim, inl, inr, lit≤}
+use Rattle.std.proofs.Common.{◌≡◌, ◌⊎◌, ℕ, ℤ, pos, negsuc, ◌+ℤ◌, ◌*ℤ◌, ◌<ℤ◌, ◌≤ℤ◌, ◌<◌, ◌≤◌, ◌*◌, ◌+◌, ◌^◌, min, Bool, true, false, cond, arith, ap, sym, subst, ◌∙◌, refl, ⊎_elim, inl, inr, lit≤}
 use Rattle.std.specs.Int.RustNames.{unsigned_abs, int_lt}
 use Rattle.std.proofs.lemmas.Int.{ints, by_lt_z}
 use Rattle.std.proofs.lemmas.Bool.{cases_lt}
+use Rattle.std.proofs.lemmas.Nat.{pow_pos}
 use Rattle.std.proofs.Math.Nat.{pow-le-pow_right, mul-le-mul_right}
 use Rattle.std.specs.declared.cmp.Ordering.{Ordering}
 use Rattle.std.specs.declared.cmp.Ordering.TheVariants.{Less, Equal, Greater}
@@ -10,8 +11,8 @@ use Rattle.std.specs.Ordering.{int_cmp, is_eq, is_lt, is_le, ordering_reverse, e
 use Rattle.std.specs.Bool.{Decides, one_answer}
 use Rattle.std.specs.Cmp.{tied_itself}
 use borrow.Author.Differences.{product_is}
-use Rattle.fx_model.specs.Fraction.{Fraction, le_ℚ, ◌≤ℚ◌, ◌<ℚ◌, le_refl}
-use Rattle.fx_model.specs.Powers.{scaled, scaled-le, scaled-lt, scaled-shift}
+use Rattle.fx_model.specs.Fraction.{Fraction, le_ℚ, ◌≤ℚ◌, ◌<ℚ◌, le_refl, zero_ℚ}
+use Rattle.fx_model.specs.Powers.{scaled, scaled-le, scaled-lt, scaled-shift, scaled-zero, scaled-le_out}
 use Rattle.dyadic.specs.declared.number.Dyadic.{Dyadic}
 use Rattle.dyadic.specs.Values.{value_of}
 use Rattle.fx_model.specs.Enclosure.{BoundLe}
@@ -73,6 +74,27 @@ compare_far h l gap f = ⊎_elim
     ap (λ n. int_cmp (h *ℤ pos (2 ^ n)) l) e ∙ far_cmp h l (2 ^ 60) (2 ^ gap) f (omega arith) p)
     (λ k. let e : min gap 60 ≡ gap = omega arith in ap (λ n. int_cmp (h *ℤ pos (2 ^ n)) l) e)
     (cases_lt 60 gap)
+
+-- ---- where the signs decide
+pub signs_above : (h l : ℤ) (gap : ℕ) → l ≤ℤ pos 0 → pos 0 <ℤ h → int_cmp (h *ℤ pos (2 ^ gap)) l ≡ Greater
+signs_above h l gap p q = int_greater (h *ℤ pos (2 ^ gap)) l (above h q)
+  where
+    above : (h : ℤ) → pos 0 <ℤ h → l <ℤ (h *ℤ pos (2 ^ gap))
+    above (pos h) q = let k : 1 * 2 ^ gap ≤ h * 2 ^ gap = mul-le-mul_right {m = 1} (2 ^ gap) (omega (arith, ints)) in let r = pow_pos gap in omega (arith, ints)
+    above (negsuc h) q = absurd (omega (arith, ints))
+
+-- ---- signs
+pub scaled_up : (m e : ℤ) → pos 0 ≤ℤ m → zero_ℚ ≤ℚ scaled m e
+scaled_up m e h = subst (λ z. z ≤ℚ scaled m e) (scaled-zero e) (scaled-le (pos 0) m e h)
+
+pub scaled_down : (m e : ℤ) → m ≤ℤ pos 0 → scaled m e ≤ℚ zero_ℚ
+scaled_down m e h = subst (λ z. scaled m e ≤ℚ z) (scaled-zero e) (scaled-le m (pos 0) e h)
+
+pub scaled_up_out : (m e : ℤ) → zero_ℚ ≤ℚ scaled m e → pos 0 ≤ℤ m
+scaled_up_out m e h = scaled-le_out (pos 0) m e (subst (λ z. z ≤ℚ scaled m e) (sym (scaled-zero e)) h)
+
+pub scaled_down_out : (m e : ℤ) → scaled m e ≤ℚ zero_ℚ → m ≤ℤ pos 0
+scaled_down_out m e h = scaled-le_out m (pos 0) e (subst (λ z. scaled m e ≤ℚ z) (sym (scaled-zero e)) h)
 
 -- ---- the test of equal values
 tied : (r : Ordering) → is_eq r ≡ true → r ≡ Equal

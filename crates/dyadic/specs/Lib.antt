@@ -8,5 +8,6 @@ pub mod Middle
 pub mod Odd
 pub mod Order
 pub mod Rising
+pub mod SmallNumbers
 pub mod Texts
 pub mod Values

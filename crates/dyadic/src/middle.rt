@@ -100,7 +100,7 @@ pub fn part_down(a: Dyadic, b: Dyadic, i: u8, n: u8) -> Dyadic
         a,
         Signed {
             negative: total.negative,
-            size: total.size.divided(n as u128),
+            size: total.size.divided(n as u128).long(),
         },
     )
 }

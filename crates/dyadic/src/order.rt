@@ -5,11 +5,12 @@ ghost use Rattle.std.proofs.Common.{rules};
 ghost use Rattle.std.specs.Cmp.{partial_order_from_own_ties, eq_by_cmp_equiv, on_total};
 ghost use Rattle.std.specs.Cmp.Rules.{comparing};
 ghost use Rattle.std.specs.Ordering.{as_partial_cmp, eq_by_cmp, int_cmp, on};
-ghost use Rattle.fx_model.specs.Fraction.{◌≤ℚ◌, ◌<ℚ◌};
+ghost use Rattle.fx_model.specs.Fraction.{◌≤ℚ◌, ◌<ℚ◌, zero_ℚ};
+ghost use Rattle.fx_model.specs.Grid as grid;
 ghost use Rattle.fx_model.specs.Enclosure.{BoundLe};
 ghost use Rattle.dyadic.specs.Ends.{bound_of};
 ghost use Rattle.dyadic.specs.Extremes.{greater_end, lesser_end};
-ghost use Rattle.dyadic.specs.Order.{value_cmp, value_cmp_total, end_cmp, end_cmp_total};
+ghost use Rattle.dyadic.specs.Order.{value_cmp, value_cmp_total, end_cmp, end_cmp_total, le_bound};
 ghost use Rattle.dyadic.specs.Values.{value_of};
 
 use crate::number::{Dyadic, End};
@@ -22,6 +23,15 @@ fn compare_at(high: i64, gap: u32, low: i64) -> Ordering
     requires low_small { unsigned_abs low < 1152921504606846976 }
     ensures { result ≡ int_cmp (high *ℤ pos (2 ^ gap)) low }
 {
+    if gap == 0 {
+        return high.cmp(&low);
+    }
+    if high <= 0 && 0 < low {
+        return Ordering::Less;
+    }
+    if low <= 0 && 0 < high {
+        return Ordering::Greater;
+    }
     // From 60 places on the sign of the higher decides.
     shifted(high as i128, gap.min(60)).cmp(&(low as i128))
 }
@@ -61,6 +71,20 @@ impl Dyadic {
         ensures { IsTrue result ↔ value_of self ≤ℚ value_of other }
     {
         self <= other
+    }
+
+    /// Whether the number is 0 or above.
+    pub fn is_from_zero(self) -> bool
+        ensures { IsTrue result ↔ zero_ℚ ≤ℚ value_of self }
+    {
+        0 <= self.mantissa()
+    }
+
+    /// Whether the number is 0 or below.
+    pub fn is_up_to_zero(self) -> bool
+        ensures { IsTrue result ↔ value_of self ≤ℚ zero_ℚ }
+    {
+        self.mantissa() <= 0
     }
 
     /// Whether the number is below the other.
@@ -113,9 +137,34 @@ impl PartialOrd for Dyadic {
 impl End {
     /// Whether the end is at most the other.
     pub fn is_at_most(self, other: End) -> bool
-        ensures { IsTrue result ↔ BoundLe (bound_of self) (bound_of other) }
+        ensures at_most { IsTrue result ↔ BoundLe (bound_of self) (bound_of other) }
+        ensures is { result ≡ le_bound (bound_of self) (bound_of other) }
     {
         self <= other
+    }
+
+    /// Whether the end is 0 or above.
+    pub fn is_from_zero(self) -> bool
+        ensures from { IsTrue result ↔ BoundLe (grid.At zero_ℚ) (bound_of self) }
+        ensures is { result ≡ le_bound (grid.At zero_ℚ) (bound_of self) }
+    {
+        match self {
+            End::Low => false,
+            End::At(number) => number.is_from_zero(),
+            End::High => true,
+        }
+    }
+
+    /// Whether the end is 0 or below.
+    pub fn is_up_to_zero(self) -> bool
+        ensures up_to { IsTrue result ↔ BoundLe (bound_of self) (grid.At zero_ℚ) }
+        ensures is { result ≡ le_bound (bound_of self) (grid.At zero_ℚ) }
+    {
+        match self {
+            End::Low => true,
+            End::At(number) => number.is_up_to_zero(),
+            End::High => false,
+        }
     }
 }
 
@@ -125,7 +174,12 @@ impl PartialEq for End {
     ghost laws = { Prim.search (comparing, end_cmp_total, rules) };
 
     fn eq(&self, other: &End) -> bool {
-        self.cmp(other) == Ordering::Equal
+        match (*self, *other) {
+            (End::Low, End::Low) => true,
+            (End::At(a), End::At(b)) => a.is_same(b),
+            (End::High, End::High) => true,
+            _ => false,
+        }
     }
 }
 

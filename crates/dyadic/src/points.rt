@@ -2,7 +2,7 @@
 ghost use Rattle.std.specs.Prelude.{◌≡◌, ◌↔◌, ◌<◌, ◌≤◌, [], ◌∷◌, ◌++◌, length, IsTrue, IsSome, IfSome};
 ghost use Rattle.dyadic.specs.Rising.{point_of, IsRising, IsAboveLast};
 
-use crate::number::{Dyadic, zero};
+use crate::number::Dyadic;
 use std::marker::Model;
 
 /// Up to 63 rising numbers. In contracts it is their list.
@@ -35,7 +35,7 @@ impl Points {
         ensures { result ≡ [] }
     {
         Points {
-            numbers: [zero(); 63],
+            numbers: [Dyadic::zero(); 63],
             len: 0,
         }
     }

@@ -1,5 +1,5 @@
 // Products and quotients.
-ghost use Rattle.std.specs.Prelude.{◌≡◌, ◌≢◌, ◌⊎◌, ◌≤◌, ◌<◌, ◌≤ℤ◌, pos, negsuc, false};
+ghost use Rattle.std.specs.Prelude.{◌≡◌, ◌≢◌, ◌⊎◌, ◌≤◌, ◌<◌, ◌≤ℤ◌, pos, negsuc, true, false};
 ghost use Rattle.std.specs.Int.RustNames.{unsigned_abs, int_lt};
 ghost use Rattle.fx_model.specs.Fraction.{Fraction, ◌*ℚ◌, ◌/ℚ◌, zero_ℚ};
 ghost use Rattle.fx_model.specs.Powers.{whole, scaled};
@@ -10,7 +10,7 @@ ghost use Rattle.dyadic.specs.Values.{value_of};
 
 use crate::cut::Cut;
 use crate::number::{Dyadic, End};
-use crate::rounding::{round_down, round_up};
+use crate::rounding::{down, up};
 
 // A value as its sign and its size.
 #[derive(Clone, Copy)]
@@ -48,7 +48,7 @@ fn product(a: Dyadic, b: Dyadic) -> Signed
 fn quotient(a: Dyadic, b: Dyadic) -> Signed
     requires { value_of b ≢ zero_ℚ }
     ensures cuts { IsSigned result (value_of a /ℚ value_of b) }
-    ensures long { IsLong result.size }
+    ensures long { result.size.inexact ≡ true → IsLong result.size }
     ensures low { negsuc 2999 ≤ℤ result.size.two }
     ensures high { result.size.two ≤ℤ pos 3000 }
 {
@@ -62,16 +62,14 @@ fn quotient(a: Dyadic, b: Dyadic) -> Signed
 pub fn mul_down(a: Dyadic, b: Dyadic) -> End
     ensures { IsDown (value_of a *ℚ value_of b) (bound_of result) }
 {
-    let product = product(a, b);
-    round_down(product.negative, product.size.long())
+    down(product(a, b))
 }
 
 /// The least grid number that is at least the product.
 pub fn mul_up(a: Dyadic, b: Dyadic) -> End
     ensures { IsUp (value_of a *ℚ value_of b) (bound_of result) }
 {
-    let product = product(a, b);
-    round_up(product.negative, product.size.long())
+    up(product(a, b))
 }
 
 /// The greatest grid number that is at most the quotient.
@@ -79,8 +77,7 @@ pub fn div_down(a: Dyadic, b: Dyadic) -> End
     requires { value_of b ≢ zero_ℚ }
     ensures { IsDown (value_of a /ℚ value_of b) (bound_of result) }
 {
-    let quotient = quotient(a, b);
-    round_down(quotient.negative, quotient.size)
+    down(quotient(a, b))
 }
 
 /// The least grid number that is at least the quotient.
@@ -88,8 +85,25 @@ pub fn div_up(a: Dyadic, b: Dyadic) -> End
     requires { value_of b ≢ zero_ℚ }
     ensures { IsUp (value_of a /ℚ value_of b) (bound_of result) }
 {
-    let quotient = quotient(a, b);
-    round_up(quotient.negative, quotient.size)
+    up(quotient(a, b))
+}
+
+// n * 2^two / d, with enough digits to be rounded.
+fn ratio(n: i128, d: u128, two: i32) -> Signed
+    requires numerator { unsigned_abs n ≤ 100000000000000000000000000000000000000 }
+    requires not_zero { 0 < d }
+    requires divisor { d ≤ 1000000000000000000000000000000 }
+    requires low { negsuc 611 ≤ℤ two }
+    requires high { two ≤ℤ pos 612 }
+    ensures cuts { (x : Fraction) → whole (pos d) *ℚ x ≡ scaled n two → IsSigned result x }
+    ensures long { result.size.inexact ≡ true → IsLong result.size }
+    ensures low { negsuc 2999 ≤ℤ result.size.two }
+    ensures high { result.size.two ≤ℤ pos 3000 }
+{
+    Signed {
+        negative: n < 0,
+        size: Cut::exact(n.unsigned_abs(), two).divided(d),
+    }
 }
 
 /// The greatest grid number that is at most `n * 2^two / d`.
@@ -101,7 +115,7 @@ pub fn ratio_down(n: i128, d: u128, two: i32) -> End
     requires high { two ≤ℤ pos 612 }
     ensures { (x : Fraction) → whole (pos d) *ℚ x ≡ scaled n two → IsDown x (bound_of result) }
 {
-    round_down(n < 0, Cut::exact(n.unsigned_abs(), two).divided(d))
+    down(ratio(n, d, two))
 }
 
 /// The least grid number that is at least `n * 2^two / d`.
@@ -113,5 +127,5 @@ pub fn ratio_up(n: i128, d: u128, two: i32) -> End
     requires high { two ≤ℤ pos 612 }
     ensures { (x : Fraction) → whole (pos d) *ℚ x ≡ scaled n two → IsUp x (bound_of result) }
 {
-    round_up(n < 0, Cut::exact(n.unsigned_abs(), two).divided(d))
+    up(ratio(n, d, two))
 }

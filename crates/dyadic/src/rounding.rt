@@ -1,14 +1,61 @@
 // Rounding a cut value to the grid.
-ghost use Rattle.std.specs.Prelude.{◌≡◌, ◌⊎◌, ◌≤◌, ◌<◌, ◌≤ℤ◌, pos, negsuc};
+ghost use Rattle.std.specs.Prelude.{◌≡◌, ◌⊎◌, ◌≤◌, ◌<◌, ◌≤ℤ◌, pos, negsuc, true, IfSome};
 ghost use Rattle.fx_model.specs.Fraction.{Fraction, ◌≤ℚ◌};
 ghost use Rattle.fx_model.specs.Grid.{IsDown, IsUp, signed};
 ghost use Rattle.fx_model.specs.Grid as grid;
-ghost use Rattle.dyadic.specs.Cut.{IsLong, IsSize};
+ghost use Rattle.dyadic.specs.Cut.{IsLong, IsSigned, IsSize};
 ghost use Rattle.dyadic.specs.Ends.{bound_of, upper};
 ghost use Rattle.dyadic.specs.Values.{value_of};
 
 use crate::cut::Cut;
 use crate::number::{Dyadic, End, canonical};
+use crate::products::Signed;
+
+// The number that a cut is as it stands: it is exact, and its digits and its place are of the grid.
+fn exact_number(cut: Cut) -> Option<Dyadic>
+    ensures { IfSome result (λ number. (x : Fraction) → IsSize cut x → x ≡ value_of number) }
+{
+    if cut.inexact || 1152921504606846975 < cut.digits {
+        return None;
+    }
+    if cut.two < -512 || 512 < cut.two {
+        return None;
+    }
+    Some(canonical(cut.digits as u64, cut.two))
+}
+
+// The number with a sign.
+fn with_sign(negative: bool, size: Dyadic) -> Dyadic
+    ensures { value_of result ≡ signed negative (value_of size) }
+{
+    if negative { size.neg() } else { size }
+}
+
+// The rounding down of a value.
+pub fn down(value: Signed) -> End
+    requires long { value.size.inexact ≡ true → IsLong value.size }
+    requires low { negsuc 2999 ≤ℤ value.size.two }
+    requires high { value.size.two ≤ℤ pos 3000 }
+    ensures { (x : Fraction) → IsSigned value x → IsDown x (bound_of result) }
+{
+    match exact_number(value.size) {
+        Some(size) => End::At(with_sign(value.negative, size)),
+        None => round_down(value.negative, value.size.long()),
+    }
+}
+
+// The rounding up of a value.
+pub fn up(value: Signed) -> End
+    requires long { value.size.inexact ≡ true → IsLong value.size }
+    requires low { negsuc 2999 ≤ℤ value.size.two }
+    requires high { value.size.two ≤ℤ pos 3000 }
+    ensures { (x : Fraction) → IsSigned value x → IsUp x (bound_of result) }
+{
+    match exact_number(value.size) {
+        Some(size) => End::At(with_sign(value.negative, size)),
+        None => round_up(value.negative, value.size.long()),
+    }
+}
 
 // The greatest grid number that is at most the value of a cut.
 fn toward_zero(cut: Cut) -> Dyadic

@@ -11,7 +11,7 @@ ghost use Rattle.dyadic.specs.Values.{value_of};
 use crate::cut::{Cut, split};
 use crate::number::{Dyadic, End};
 use crate::products::Signed;
-use crate::rounding::{round_down, round_up};
+use crate::rounding::{down, up};
 use crate::shift::shifted;
 
 // m * 2^e, with a mantissa of up to 66 bits.
@@ -226,14 +226,12 @@ pub fn term_of(a: Dyadic) -> Term
 pub fn add_down(a: Dyadic, b: Dyadic) -> End
     ensures { IsDown (value_of a +ℚ value_of b) (bound_of result) }
 {
-    let total = sum(term_of(a), term_of(b));
-    round_down(total.negative, total.size.long())
+    down(sum(term_of(a), term_of(b)))
 }
 
 /// The least grid number that is at least the sum.
 pub fn add_up(a: Dyadic, b: Dyadic) -> End
     ensures { IsUp (value_of a +ℚ value_of b) (bound_of result) }
 {
-    let total = sum(term_of(a), term_of(b));
-    round_up(total.negative, total.size.long())
+    up(sum(term_of(a), term_of(b)))
 }

@@ -59,6 +59,12 @@ fn answers_the_rows(rt: HostRuntime) {
             at(-768614336404564651, -61),
         ),
         ("ten quarters up", ratio_up(10, 4, 0), at(5, -1)),
+        (
+            "few digits",
+            mul_down(number(-3, 5), number(5, -7)),
+            at(-15, -2),
+        ),
+        ("nine thirds", div_up(number(9, 0), three), at(3, 0)),
         ("lesser", lesser(End::Low, End::At(one)), End::Low),
         ("greater", greater(at(-3, 0), End::At(one)), End::At(one)),
     ];
@@ -86,7 +92,7 @@ fn a_third(a: Dyadic, b: Dyadic) -> Option<Dyadic> {
 #[test]
 fn keeps_numbers_in_order(rt: HostRuntime) {
     let number = |m: i64, e: i32| Dyadic::new(m, e).expect(&rt, "a grid number");
-    let one = number(1, 0);
+    let one = Dyadic::one();
     let eight = number(-8, 3);
     for (m, e) in [(1, 572), (3, 571), (1, -513)] {
         assert!(rt; Dyadic::new(m, e).is_none(), "{m} at {e}");
@@ -95,10 +101,21 @@ fn keeps_numbers_in_order(rt: HostRuntime) {
     assert_eq!(rt; eight.neg(), number(64, 0));
     assert!(rt; eight < one && eight.is_at_most(one) && eight.is_below(one) && !eight.is_same(one));
     assert!(rt; End::High.is_at_most(End::High));
-    assert_eq!(rt; halved(one, number(2, 0)), Some(number(3, -1)));
-    assert_eq!(rt; halved(number(1, -512), number(1, -511)), None);
+    assert!(rt; one.is_from_zero() && !one.is_up_to_zero() && End::At(eight).is_up_to_zero());
+    assert!(rt; !End::Low.is_from_zero() && End::At(Dyadic::zero()).is_from_zero());
+    let least = number(1, -512);
+    let halves = [
+        (one, number(2, 0), Some(number(3, -1))),
+        (number(-1, 0), number(2, 0), Some(number(1, -1))),
+        (one, number(576460752303423489, -59), None),
+        (Dyadic::zero(), least, None),
+        (least, number(1, -511), None),
+    ];
+    for (a, b, wanted) in halves {
+        assert_eq!(rt; halved(a, b), wanted, "{a} to {b}");
+    }
     assert_eq!(rt;
-        a_third(number(0, 0), one),
+        a_third(Dyadic::zero(), one),
         Some(number(384307168202282325, -60))
     );
     let points = Points::new()

@@ -1,18 +1,32 @@
 // Numbers in their canonical form.
 ghost use Rattle.std.specs.Prelude.{◌≡◌, pos};
+ghost use Rattle.fx_model.specs.Fraction.{zero_ℚ, one_ℚ};
 ghost use Rattle.fx_model.specs.Powers.{scaled};
 ghost use Rattle.fx_model.specs.Grid.{IsOnGrid};
 ghost use Rattle.dyadic.specs.Values.{value_of, zero_number};
 
 use super::{Dyadic, odd_part};
 
-// The number 0.
-pub fn zero() -> Dyadic
-    ensures { result ≡ zero_number }
-{
-    Dyadic {
-        mantissa: 0,
-        exponent: 0,
+impl Dyadic {
+    /// The number 0.
+    pub fn zero() -> Dyadic
+        ensures is { result ≡ zero_number }
+        ensures value { value_of result ≡ zero_ℚ }
+    {
+        Dyadic {
+            mantissa: 0,
+            exponent: 0,
+        }
+    }
+
+    /// The number 1.
+    pub fn one() -> Dyadic
+        ensures { value_of result ≡ one_ℚ }
+    {
+        Dyadic {
+            mantissa: 1,
+            exponent: 0,
+        }
     }
 }
 
@@ -22,7 +36,7 @@ pub fn canonical(digits: u64, two: i32) -> Dyadic
     ensures { value_of result ≡ scaled (pos digits) two }
 {
     if digits == 0 {
-        return zero();
+        return Dyadic::zero();
     }
     let part = odd_part(digits);
     Dyadic {

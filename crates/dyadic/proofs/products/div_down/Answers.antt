@@ -3,4 +3,4 @@ use Rattle.dyadic.specs.Values.{value_of}
 use Rattle.dyadic.proofs.products.div_down.Goals as goal
 
 pub returns : goal.returns
-returns c = c.round_down.ensures (value_of c.args.a /ℚ value_of c.args.b) c.quotient-quotient.ensures.cuts
+returns c = c.down.ensures (value_of c.args.a /ℚ value_of c.args.b) c.quotient.ensures.cuts

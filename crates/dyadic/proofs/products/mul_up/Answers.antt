@@ -3,4 +3,4 @@ use Rattle.dyadic.specs.Values.{value_of}
 use Rattle.dyadic.proofs.products.mul_up.Goals as goal
 
 pub returns : goal.returns
-returns c = c.round_up.ensures (value_of c.args.a *ℚ value_of c.args.b) (c.long.ensures.cuts _ c.product-product.ensures.cuts)
+returns c = c.up.ensures (value_of c.args.a *ℚ value_of c.args.b) c.product.ensures.cuts

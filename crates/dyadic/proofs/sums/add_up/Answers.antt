@@ -8,7 +8,6 @@ use Rattle.dyadic.proofs.sums.add_up.Goals as goal
 
 pub returns : goal.returns
 returns c =
-    let size = c.sum-total.result.size in
-    c.round_up.ensures (value_of c.args.a +ℚ value_of c.args.b)
-    (c.long.ensures.cuts (signed c.sum-total.result.negative (value_of c.args.a +ℚ value_of c.args.b))
-    (subst (λ (x : Fraction). Cuts (signed c.sum-total.result.negative x) size.digits size.two size.inexact) (terms_are c.args.a c.args.b _ _ _ _ c.term_of.ensures.mantissa c.term_of.ensures.exponent c.term_of-2.ensures.mantissa c.term_of-2.ensures.exponent) c.sum-total.ensures.cuts))
+    let size = c.sum.result.size in
+    c.up.ensures (value_of c.args.a +ℚ value_of c.args.b)
+    (subst (λ (x : Fraction). Cuts (signed c.sum.result.negative x) size.digits size.two size.inexact) (terms_are c.args.a c.args.b _ _ _ _ c.term_of.ensures.mantissa c.term_of.ensures.exponent c.term_of-2.ensures.mantissa c.term_of-2.ensures.exponent) c.sum.ensures.cuts)

@@ -9,7 +9,7 @@ use Rattle.dyadic.proofs.NumberLemmas.{zero_value}
 use Rattle.dyadic.proofs.number.form.canonical.Goals as goal
 
 pub returns-then-digits-eq0 : goal.returns-then-digits-eq0
-returns-then-digits-eq0 c = ap value_of c.zero.ensures ∙ zero_value c.args.digits c.args.two c.if-digits-eq0.true
+returns-then-digits-eq0 c = ap value_of c.zero.ensures.is ∙ zero_value c.args.digits c.args.two c.if-digits-eq0.true
 
 -- the odd part at its place
 kept : (odd shift digits : ℕ) (two : ℤ) → odd % 2 ≡ 1 → odd * 2 ^ shift ≡ digits → IsOnGrid (scaled (pos digits) two) → IsCanonical (pos odd) (two +ℤ pos shift)
