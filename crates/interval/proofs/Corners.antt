@@ -5,8 +5,9 @@ use Rattle.fx_model.specs.Fraction.{Fraction, ◌*ℚ◌, ◌≤ℚ◌, ◌<ℚ�
 use Rattle.fx_model.specs.Grid.{Bound, At, IsDown, neg_bound}
 use Rattle.fx_model.specs.Enclosure.{Range, Lies, Products, IsInfimum, IsSupremum, IsOrdered, BoundLe, infimum_at, member_of}
 use Rattle.interval.specs.Ends.{mirror}
-use Rattle.interval.proofs.Inequalities.{times_up, times_down, factor_down, down-le, bound_antisymm}
-use Rattle.interval.proofs.Enclosures.{lies_mirror, lies_mirrored, supremum_neg, enclosure_ordered}
+use Rattle.grid_words.specs.Signs.{times_up, times_down, factor_down}
+use Rattle.interval.proofs.Inequalities.{down-le, bound_antisymm}
+use Rattle.interval.specs.Enclosures.{lies_mirror, lies_mirrored, supremum_neg, enclosure_ordered}
 
 least_is : (e f g : Bound) → BoundLe f g → BoundLe e f → (e ≡ f) ⊎ (e ≡ g) → e ≡ f
 least_is e f g h s (inl p) = p

@@ -1,37 +1,13 @@
 -- The least quotient, and what changes with the signs of both parts.
 use Rattle.std.specs.Prelude.{◌≡◌}
-use Rattle.std.proofs.Common.{refl, sym, subst, ap, ◌∙◌, ⊎_elim}
-use Rattle.fx_model.specs.Fraction.{Fraction, ◌*ℚ◌, ◌/ℚ◌, ◌≤ℚ◌, ◌<ℚ◌, zero_ℚ, one_ℚ, neg_ℚ, inverse_ℚ, mul-inverse, mul-le, mul-le_cancel, mul_comm, mul_assoc, one-mul, zero-mul, neg-mul, neg-neg, le_trans, le_refl, le_or_lt, lt_le, lt_not, lt_le_trans, lt_by}
+use Rattle.std.proofs.Common.{refl, sym, subst, ap, ◌∙◌}
+use Rattle.fx_model.specs.Fraction.{Fraction, ◌*ℚ◌, ◌/ℚ◌, ◌≤ℚ◌, ◌<ℚ◌, zero_ℚ, neg_ℚ, inverse_ℚ, mul-le, neg-mul, neg-neg, le_trans, le_refl, lt_le_trans, lt_by}
 use Rattle.fx_model.specs.Grid.{Bound, IsDown, neg_bound}
 use Rattle.fx_model.specs.Enclosure.{Range, Lies, Quotients, IsInfimum, IsSupremum, IsEnclosure, IsOrdered, infimum_at, member_of}
 use Rattle.interval.specs.Ends.{mirror}
-use Rattle.interval.proofs.Inequalities.{times_up, factor_down, neg_zero, mul-neg, neg_up, zero_one}
-use Rattle.interval.proofs.Enclosures.{lies_mirror, lies_mirrored, supremum_neg, enclosure_same, enclosure_ordered}
+use Rattle.grid_words.specs.Signs.{times_up, factor_down, neg_zero, mul-neg, neg_up, inverse_up, inverse_le, inverse-neg}
+use Rattle.interval.specs.Enclosures.{lies_mirror, lies_mirrored, supremum_neg, enclosure_same, enclosure_ordered}
 use Rattle.interval.proofs.Corners.{closed}
-
-pub not_zero : (x : Fraction) → zero_ℚ <ℚ x → ¬ (x ≡ zero_ℚ)
-not_zero x h e = lt_not zero_ℚ x h (subst (λ y. y ≤ℚ zero_ℚ) (sym e) (le_refl zero_ℚ))
-
-mul-zero : (x : Fraction) → x *ℚ zero_ℚ ≡ zero_ℚ
-mul-zero x = mul_comm x zero_ℚ ∙ zero-mul x
-
-inverse_up : (x : Fraction) → zero_ℚ <ℚ x → zero_ℚ ≤ℚ inverse_ℚ x
-inverse_up x h = ⊎_elim (λ l. l) (λ l. absurd (lt_not zero_ℚ one_ℚ zero_one
-    (subst (λ y. y ≤ℚ zero_ℚ) (mul-inverse x (not_zero x h)) (subst (λ y. (x *ℚ inverse_ℚ x) ≤ℚ y) (mul-zero x) (mul-le x (inverse_ℚ x) zero_ℚ (lt_le zero_ℚ x h) (lt_le (inverse_ℚ x) zero_ℚ l)))))) (le_or_lt zero_ℚ (inverse_ℚ x))
-
--- a greater divisor has a smaller inverse
-inverse_le : (x y : Fraction) → zero_ℚ <ℚ x → x ≤ℚ y → inverse_ℚ y ≤ℚ inverse_ℚ x
-inverse_le x y h k = let p : zero_ℚ <ℚ y = lt_le_trans zero_ℚ x y h k in
-    mul-le_cancel x (inverse_ℚ y) (inverse_ℚ x) h (subst (λ z. (x *ℚ inverse_ℚ y) ≤ℚ z) (mul-inverse y (not_zero y p) ∙ sym (mul-inverse x (not_zero x h))) (times_up x y (inverse_ℚ y) k (inverse_up y p)))
-
-inverse-neg : (y : Fraction) → ¬ (y ≡ zero_ℚ) → inverse_ℚ (neg_ℚ y) ≡ neg_ℚ (inverse_ℚ y)
-inverse-neg y h = sym (one-mul (inverse_ℚ (neg_ℚ y))) ∙ ap (λ z. z *ℚ inverse_ℚ (neg_ℚ y)) (sym product) ∙ mul_assoc (neg_ℚ (inverse_ℚ y)) (neg_ℚ y) (inverse_ℚ (neg_ℚ y)) ∙ ap (λ z. neg_ℚ (inverse_ℚ y) *ℚ z) (mul-inverse (neg_ℚ y) other) ∙ mul_comm (neg_ℚ (inverse_ℚ y)) one_ℚ ∙ one-mul (neg_ℚ (inverse_ℚ y))
-  where
-    other : ¬ (neg_ℚ y ≡ zero_ℚ)
-    other e = h (sym (neg-neg y) ∙ ap neg_ℚ e ∙ neg_zero)
-
-    product : neg_ℚ (inverse_ℚ y) *ℚ neg_ℚ y ≡ one_ℚ
-    product = neg-mul (inverse_ℚ y) (neg_ℚ y) ∙ ap neg_ℚ (mul-neg (inverse_ℚ y) y) ∙ neg-neg (inverse_ℚ y *ℚ y) ∙ mul_comm (inverse_ℚ y) y ∙ mul-inverse y h
 
 -- the divisor is above 0
 module _ (a b c d : Fraction) (i : a ≤ℚ b) (j : c ≤ℚ d) (p : zero_ℚ <ℚ c) where

@@ -1,39 +1,10 @@
 -- The order of fractions and ends.
 use Rattle.std.specs.Prelude.{◌≡◌, ℤ, pos, ◌≤ℤ◌, Bool, true, false, IsTrue}
-use Rattle.std.proofs.Common.{arith, refl, sym, subst, ap, ◌∙◌, ⊎_elim}
-use Rattle.std.proofs.lemmas.Int.{ints}
-use Rattle.fx_model.specs.Fraction.{Fraction, ◌*ℚ◌, ◌≤ℚ◌, zero_ℚ, neg_ℚ, le_trans, le_antisymm, le_or_lt, lt_le, mul-le, mul_comm, neg-le, neg-neg, neg-mul, add-neg, zero-add, ◌<ℚ◌, one_ℚ, plus_one}
+use Rattle.std.proofs.Common.{refl, sym, subst, ap, ◌∙◌, ⊎_elim}
+use Rattle.fx_model.specs.Fraction.{Fraction, ◌≤ℚ◌, zero_ℚ, le_trans, le_antisymm, le_or_lt, lt_le}
 use Rattle.fx_model.specs.Powers.{scaled, scaled-le, scaled-zero, scaled-le_out}
-use Rattle.fx_model.specs.Grid.{Bound, Below, At, Above, IsOnGrid, IsDown}
+use Rattle.fx_model.specs.Grid.{Bound, Below, At, Above, IsDown}
 use Rattle.fx_model.specs.Enclosure.{BoundLe, IsFrom, IsUpTo, within_in}
-
-pub zero_one : zero_ℚ <ℚ one_ℚ
-zero_one = subst (λ y. zero_ℚ <ℚ y) (zero-add one_ℚ) (plus_one zero_ℚ)
-
--- ---- factors
-pub times_up : (x u v : Fraction) → x ≤ℚ u → zero_ℚ ≤ℚ v → (x *ℚ v) ≤ℚ (u *ℚ v)
-times_up x u v h p = rw (mul_comm x v, mul_comm u v) (mul-le v x u p h)
-
-pub neg_zero : neg_ℚ zero_ℚ ≡ zero_ℚ
-neg_zero = sym (zero-add (neg_ℚ zero_ℚ)) ∙ add-neg zero_ℚ
-
-pub neg_up : (v : Fraction) → v ≤ℚ zero_ℚ → zero_ℚ ≤ℚ neg_ℚ v
-neg_up v h = subst (λ z. z ≤ℚ neg_ℚ v) neg_zero (neg-le v zero_ℚ h)
-
-pub neg_down : (v : Fraction) → zero_ℚ ≤ℚ v → neg_ℚ v ≤ℚ zero_ℚ
-neg_down v h = subst (λ z. neg_ℚ v ≤ℚ z) neg_zero (neg-le zero_ℚ v h)
-
-pub neg-le_out : (x y : Fraction) → neg_ℚ x ≤ℚ neg_ℚ y → y ≤ℚ x
-neg-le_out x y h = subst (λ z. z ≤ℚ x) (neg-neg y) (subst (λ z. neg_ℚ (neg_ℚ y) ≤ℚ z) (neg-neg x) (neg-le (neg_ℚ x) (neg_ℚ y) h))
-
-pub mul-neg : (x y : Fraction) → x *ℚ neg_ℚ y ≡ neg_ℚ (x *ℚ y)
-mul-neg x y = mul_comm x (neg_ℚ y) ∙ neg-mul y x ∙ ap neg_ℚ (mul_comm y x)
-
-pub times_down : (x u v : Fraction) → x ≤ℚ u → v ≤ℚ zero_ℚ → (u *ℚ v) ≤ℚ (x *ℚ v)
-times_down x u v h p = neg-le_out (x *ℚ v) (u *ℚ v) (rw (← mul-neg x v, ← mul-neg u v) (times_up x u (neg_ℚ v) h (neg_up v p)))
-
-pub factor_down : (z x u : Fraction) → z ≤ℚ zero_ℚ → x ≤ℚ u → (z *ℚ u) ≤ℚ (z *ℚ x)
-factor_down z x u p h = rw (mul_comm z u, mul_comm z x) (times_down x u z h p)
 
 -- ---- signs of written numbers
 pub scaled_up : (m e : ℤ) → pos 0 ≤ℤ m → zero_ℚ ≤ℚ scaled m e
@@ -90,14 +61,3 @@ up_to-le b c x l f = (within_in (record { low = Below; high = b }) (record { low
 
 pub bound_by : (b c : Bound) (t : Bool) → (BoundLe b c → IsTrue t) → t ≡ false → BoundLe c b
 bound_by b c t f e = bound_total b c (λ l. let k = f l in let n : true ≡ false = sym k ∙ e in cc)
-
-pub zero_grid : IsOnGrid (scaled (pos 0) (pos 0))
-zero_grid = record {
-  mantissa = pos 0;
-  exponent = pos 0;
-  above = omega (arith, ints);
-  below = omega (arith, ints);
-  lowest = omega (arith, ints);
-  highest = omega (arith, ints);
-  is = refl;
-}

@@ -1,10 +1,8 @@
 pub mod Inequalities
-pub mod Enclosures
 pub mod Corners
 pub mod Sums
 pub mod Pairs
 pub mod Unique
 pub mod Sizes
 pub mod Divisors
-pub mod Written
 pub mod Shrunk

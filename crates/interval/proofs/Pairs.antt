@@ -9,7 +9,7 @@ use Rattle.dyadic.specs.Ends.{bound_of}
 use Rattle.dyadic.specs.Made.{IsGridBound}
 use Rattle.interval.specs.Pairs.{AreApart, IsCommon, Union, IsHull}
 use Rattle.interval.proofs.Inequalities.{from-le, up_to-le}
-use Rattle.interval.proofs.Enclosures.{interval_enclosure, enclosure_ordered}
+use Rattle.interval.specs.Enclosures.{interval_enclosure, enclosure_ordered}
 
 -- an end is one of two, at or outside each
 abbrev IsOne : Bound → Bound → Bound → Type 0

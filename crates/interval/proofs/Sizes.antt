@@ -6,8 +6,9 @@ use Rattle.fx_model.specs.Grid.{Bound, Below, At, Above, neg_bound}
 use Rattle.fx_model.specs.Enclosure.{Range, IsFrom, IsUpTo, Lies, Negations, Sizes, Squares, IsSquare, IsInfimum, IsSupremum, IsEnclosure, IsOrdered, BoundLe, infimum_at, supremum_at, member_of, ordered_by}
 use Rattle.interval.specs.Exact.{IsExact}
 use Rattle.interval.specs.Squares.{LowSquare, HighSquare}
-use Rattle.interval.proofs.Inequalities.{from-le, up_to-le, bound_by, neg_zero, neg_up, neg_down, mul-neg, times_up, zero_one}
-use Rattle.interval.proofs.Enclosures.{deep, far, low_lies, high_lies, from_neg, up_to_neg, neg_bound-neg, enclosure_same, enclosure_ordered}
+use Rattle.grid_words.specs.Signs.{neg_zero, neg_up, neg_down, mul-neg, times_up, zero_one}
+use Rattle.interval.proofs.Inequalities.{from-le, up_to-le, bound_by}
+use Rattle.interval.specs.Enclosures.{deep, far, low_lies, high_lies, from_neg, up_to_neg, neg_bound-neg, enclosure_same, enclosure_ordered}
 
 abs_down : (x : Fraction) → x ≤ℚ zero_ℚ → abs_ℚ x ≡ neg_ℚ x
 abs_down x h = ⊎_elim (λ l. let e : x ≡ zero_ℚ = le_antisymm x zero_ℚ h l in ap abs_ℚ e ∙ abs-from zero_ℚ (le_refl zero_ℚ) ∙ sym neg_zero ∙ ap neg_ℚ (sym e)) (λ l. abs-below x l) (le_or_lt zero_ℚ x)

@@ -122,3 +122,18 @@ lies-common i j x p q =
     let hi : IsUpTo (bound_of (lesser_end i.hi j.hi)) x = to_lesser i.hi j.hi x p.1 q.1 in
     let o : AreEnds (greater_end i.lo j.lo) (lesser_end i.hi j.hi) = ordered_by (bound_of (greater_end i.lo j.lo)) (bound_of (lesser_end i.hi j.hi)) x lo hi in
     (with_ends (greater_end i.lo j.lo, lesser_end i.hi j.hi) o, interval_from-some (greater_end i.lo j.lo) (lesser_end i.hi j.hi) o, (lo, hi))
+
+-- ---- the hull
+pub hull_ends : (i j : Interval) → AreEnds (lesser_end i.lo j.lo) (greater_end i.hi j.hi)
+hull_ends i j = ordered_between (bound_of (lesser_end i.lo j.lo)) (bound_of i.lo) (bound_of i.hi) (bound_of (greater_end i.hi j.hi)) (lesser_below i.lo j.lo).0 i.ordered (greater_above i.hi j.hi).0
+
+-- the least interval that holds two others
+abbrev pub hull_of : Interval → Interval → Interval
+hull_of i j = record { lo = lesser_end i.lo j.lo; hi = greater_end i.hi j.hi; ordered = hull_ends i j }
+
+-- it holds what lies in either
+pub lies-hull_left : (i j : Interval) (x : Fraction) → Lies (range_of i) x → Lies (range_of (hull_of i j)) x
+lies-hull_left i j x l = within_in (range_of i) (range_of (hull_of i j)) x ((lesser_below i.lo j.lo).0, (greater_above i.hi j.hi).0) l
+
+pub lies-hull_right : (i j : Interval) (x : Fraction) → Lies (range_of j) x → Lies (range_of (hull_of i j)) x
+lies-hull_right i j x l = within_in (range_of j) (range_of (hull_of i j)) x ((lesser_below i.lo j.lo).1, (greater_above i.hi j.hi).1) l

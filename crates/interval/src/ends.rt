@@ -3,7 +3,7 @@ ghost use Rattle.std.specs.Prelude.{◌≡◌};
 ghost use Rattle.fx_model.specs.Grid.{neg_bound};
 ghost use Rattle.fx_model.specs.Enclosure.{LowSum, HighSum};
 ghost use Rattle.dyadic.specs.Ends.{bound_of};
-ghost use Rattle.fx_model.specs.Fraction.{zero_ℚ};
+ghost use Rattle.fx_model.specs.Fraction.{zero_ℚ, one_ℚ};
 ghost use Rattle.fx_model.specs.Grid as grid;
 ghost use Rattle.interval.specs.Squares.{LowSquare, HighSquare};
 ghost use Rattle.interval.specs.Ends.{IsNumberOf};
@@ -20,7 +20,7 @@ pub fn finite(end: End) -> Option<Dyadic>
     }
 }
 
-// The end on the other side of 0.
+/// The end on the other side of 0.
 pub fn opposite(end: End) -> End
     ensures { bound_of result ≡ neg_bound (bound_of end) }
 {
@@ -81,8 +81,12 @@ pub fn high_square(a: End) -> End
 pub fn zero() -> End
     ensures { bound_of result ≡ grid.At zero_ℚ }
 {
-    match Dyadic::new(0, 0) {
-        Some(zero) => End::At(zero),
-        None => End::Low,
-    }
+    End::At(Dyadic::zero())
+}
+
+// The end 1.
+pub fn one() -> End
+    ensures { bound_of result ≡ grid.At one_ℚ }
+{
+    End::At(Dyadic::one())
 }

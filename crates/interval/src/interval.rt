@@ -22,7 +22,7 @@ impl Interval {
     ghost use Rattle.interval.specs.Spans.{IsSpan, span_of};
     ghost use Rattle.interval.specs.Exact.{IsExact};
     ghost use Rattle.interval.specs.Results.{negation_of, size_of, sum_of, difference_of, product_of, quotient_of};
-    ghost use Rattle.interval.specs.Meets.{interval_from, common_of};
+    ghost use Rattle.interval.specs.Meets.{interval_from, common_of, hull_of};
     ghost use Rattle.interval.specs.Pairs.{AreApart, IsCommon, IsHull};
     ghost use Rattle.fx_model.specs.Fraction.{zero_ℚ, ◌<ℚ◌};
     ghost use Rattle.dyadic.specs.Values.{value_of};
@@ -182,7 +182,8 @@ impl Interval {
 
     /// The least interval that holds both.
     pub fn hull(self, other: Interval) -> Interval
-        ensures { IsHull (range_of self) (range_of other) (range_of result) }
+        ensures best { IsHull (range_of self) (range_of other) (range_of result) }
+        ensures is { result ≡ hull_of self other }
     {
         Interval {
             lo: lesser(self.lo, other.lo),
@@ -197,7 +198,7 @@ impl Interval {
         ensures quotient { IfSome result (λ made. IsQuotient (range_of self) (range_of other) (range_of made)) }
         ensures is { result ≡ quotient_of self other }
     {
-        if other.holds_zero() {
+        if other.has_zero() {
             return None;
         }
         Some(self.quotient_by(other))
@@ -215,13 +216,6 @@ impl Interval {
             return Interval::whole();
         };
         Interval::quotient(&x, &y)
-    }
-
-    // Whether 0 lies in the interval.
-    fn holds_zero(&self) -> bool
-        ensures { IsTrue result ↔ Lies (range_of self.now) zero_ℚ }
-    {
-        up_to_zero(&self.lo) && from_zero(&self.hi)
     }
 
     // The quotient by an interval without 0.

@@ -1,6 +1,7 @@
 //! Outward intervals: the least interval with grid ends that holds every result.
 #![tactic(auto)]
 
+mod beside;
 mod ends;
 mod interval;
 mod laws;
@@ -14,6 +15,7 @@ mod span;
 #[cfg(test)]
 mod tests;
 
+pub use ends::opposite;
 pub use interval::Interval;
 pub use laws::one_result;
 pub use literals::enclose;

@@ -1,5 +1,6 @@
 // Single intervals.
 ghost use Rattle.std.specs.Prelude.{◌≡◌};
+ghost use Rattle.fx_model.specs.Fraction.{zero_ℚ, one_ℚ};
 ghost use Rattle.dyadic.specs.Values.{value_of};
 
 use crate::ends::zero;
@@ -32,6 +33,20 @@ impl Interval {
             lo: End::At(number),
             hi: End::At(number),
         }
+    }
+
+    /// 0 alone.
+    pub fn zero() -> Interval
+        ensures { result ≡ point_of zero_ℚ }
+    {
+        Interval::point(Dyadic::zero())
+    }
+
+    /// 1 alone.
+    pub fn one() -> Interval
+        ensures { result ≡ point_of one_ℚ }
+    {
+        Interval::point(Dyadic::one())
     }
 
     /// The numbers from 0 to plus infinity.

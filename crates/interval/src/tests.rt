@@ -92,6 +92,11 @@ fn compares_intervals(rt: HostRuntime) {
     assert!(rt; of(1, 3).inside(of(1, HIGH)));
     assert!(rt; !of(1, 3).inside(of(2, 5)));
     assert!(rt; of(LOW, 3).has(three));
+    assert!(rt; Interval::zero().has_zero() && !Interval::zero().has_one());
+    assert!(rt; Interval::one().has_one() && !Interval::one().has_zero());
+    let signs = |i: Interval| (i.is_positive(), i.is_not_negative(), i.is_not_positive());
+    assert!(rt; signs(Interval::one()) == (true, true, false));
+    assert!(rt; signs(of(-1, 0)) == (false, false, true));
     assert!(rt; !of(4, HIGH).has(three));
     assert!(rt; of(1, 3).meet(of(3, 5)) == Some(of(3, 3)));
     assert!(rt; of(1, 2).meet(of(3, 5)).is_none());
@@ -106,6 +111,7 @@ fn divides(rt: HostRuntime) {
         (of(4, 8), of(-2, -1), Some(of(-8, -2))),
         (of(-8, -4), of(-2, -1), Some(of(2, 8))),
         (of(4, 8), of(0, 1), None),
+        (of(1, 1), of(0, 2), None),
         (of(4, 8), of(-1, 0), None),
         (of(0, 0), of(LOW, HIGH), None),
         (of(4, 8), of(1, HIGH), Some(of(LOW, HIGH))),

@@ -8,7 +8,8 @@ use Rattle.literal.specs.Spelling.{Exponent, Spelling, opening, point_bytes, sca
 use denote.Ref.{Bor}
 use borrow.Author.Tests.{eqb-true, eqb-false}
 use Rattle.literal.specs.Parts.{FindsOne, BeginsWithNo, StandsBehind, StandsBehindOpening, IsFrontDigits, Scale, IsScale, IsBody, FindsBody, FindsParts, spelling_of}
-use Rattle.literal.proofs.Front.{same_front, tail_ends, scale_ends, scale_no_point, tail_no_x}
+use Rattle.literal.proofs.Front.{same_front, scale_no_point, tail_no_x}
+use Rattle.literal.specs.Tails.{tail_ends, scale_ends}
 
 abbrev pub spelling : Form → List ℕ → List ℕ → Option Exponent → Spelling
 spelling f w p e = record { form = f; whole = w; fraction = p; exponent = e }

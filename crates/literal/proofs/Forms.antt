@@ -1,15 +1,13 @@
 -- What is left once every factor is taken out is the normal form.
-use Rattle.std.proofs.Common.{◌≡◌, ℕ, ◌*◌, ◌^◌, ◌<◌, ℤ, pos, negsuc, ◌+ℤ◌, ◌-ℤ◌, refl, sym, ap, subst, ◌∙◌, arith, inl, inr}
+use Rattle.std.proofs.Common.{◌≡◌, ℕ, ◌*◌, ◌^◌, ◌<◌, ℤ, pos, negsuc, ◌+ℤ◌, ◌-ℤ◌, refl, sym, subst, ◌∙◌, arith, inl, inr}
 use Rattle.std.proofs.lemmas.Int.{ints}
-use Rattle.fx_model.specs.Fraction.{◌*ℚ◌, zero_ℚ, zero-mul}
-use Rattle.fx_model.specs.Powers.{whole, two_to, zero-whole}
-use Rattle.fx_model.specs.Expression.{literal_value, ten_to}
+use Rattle.fx_model.specs.Expression.{literal_value}
 use Rattle.fx_model.specs.declared.Literal.{Literal}
 use Rattle.literal.specs.declared.scan.Form.{Form}
 use Rattle.literal.specs.declared.scan.Form.TheVariants.{Decimal, Binary, Hexadecimal}
 use Rattle.literal.specs.Spelling.{IsBetween}
 use Rattle.literal.specs.Normal.{nought, IsNormalOf, IsNormal, TakesTensOut, TakesTwosOut, IsSmall}
-use Rattle.literal.proofs.Tens.{tens_moved, twos_moved}
+use Rattle.literal.specs.Tens.{tens_moved, twos_moved, zero_value}
 
 same_literal : (l : Literal) (n : ℕ) (two ten : ℤ) → l.num ≡ n → l.two ≡ two → l.ten ≡ ten → literal_value l ≡ literal_value (record { num = n; two = two; ten = ten })
 same_literal l n two ten a b c = subst (λ (z : ℤ). literal_value l ≡ literal_value (record { num = n; two = two; ten = z })) c (subst (λ (z : ℤ). literal_value l ≡ literal_value (record { num = n; two = z; ten = l.ten })) b
@@ -50,9 +48,6 @@ normal_binary number l s t = inr (inr (record {
 }))
 
 -- ---- by form
-pub zero_value : (l : Literal) → l.num ≡ 0 → literal_value l ≡ zero_ℚ
-zero_value l h = ap (λ n. (whole (pos n) *ℚ two_to l.two) *ℚ ten_to l.ten) h ∙ ap (λ y. (y *ℚ two_to l.two) *ℚ ten_to l.ten) (sym zero-whole) ∙ ap (λ y. y *ℚ ten_to l.ten) (zero-mul (two_to l.two)) ∙ zero-mul (ten_to l.ten)
-
 pub normal_zero : (form : Form) (number : Literal) → number.num ≡ 0 → IsNormalOf form number nought
 normal_zero form number h = record { value = zero_value nought refl ∙ sym (zero_value number h); reduced = inl refl }
 

@@ -1,10 +1,10 @@
--- Where the digits at the front of a text end, and what stands behind them.
-use Rattle.std.proofs.Common.{◌≡◌, ℕ, ◌<◌, ◌≤◌, List, [], ◌∷◌, ◌++◌, Option, Some, None, Bool, true, false, refl, sym, ap, arith, lit<, lit≤}
+-- Where the digits at the front of a text end.
+use Rattle.std.proofs.Common.{◌≡◌, ℕ, ◌<◌, ◌≤◌, List, [], ◌∷◌, ◌++◌, Option, Some, None, refl, sym, ap, arith, lit<, lit≤}
 use Rattle.std.specs.Char.{digit_value}
 use Rattle.std.specs.Str.Parse.{AllDigits}
 use Rattle.literal.specs.declared.scan.Form.{Form}
 use Rattle.literal.specs.declared.scan.Form.TheVariants.{Decimal, Binary, Hexadecimal}
-use Rattle.literal.specs.Spelling.{Exponent, base, is_hexadecimal, point_bytes, scale_bytes}
+use Rattle.literal.specs.Spelling.{Exponent, point_bytes, scale_bytes}
 use Rattle.literal.specs.Parts.{IsNoDigitFirst}
 
 pub clash : (radix a b : ℕ) → a ≡ b → radix ≤ a → b < radix → ⊥
@@ -23,21 +23,6 @@ same_front radix (x ∷ a) r (y ∷ b) s p q u v e =
     let t : a ++ r ≡ b ++ s = cc in
     let i = same_front radix a r b s p.1 q u.1 v t in
     let k : a ≡ b = i.0 in (cc, i.1)
-
--- what follows the digits of a literal begins with none
-pub tail_ends : (h : Bool) (f : Form) (p : List ℕ) (e : Option Exponent) → is_hexadecimal f ≡ h → IsNoDigitFirst (base h) (point_bytes p ++ scale_bytes f e)
-tail_ends true f (d ∷ p) e k = lit≤ tt
-tail_ends false f (d ∷ p) e k = lit≤ tt
-tail_ends h f [] None k = tt
-tail_ends true Decimal [] (Some e) k = cc
-tail_ends true Binary [] (Some e) k = cc
-tail_ends true Hexadecimal [] (Some e) k = lit≤ tt
-tail_ends false Decimal [] (Some e) k = lit≤ tt
-tail_ends false Binary [] (Some e) k = lit≤ tt
-tail_ends false Hexadecimal [] (Some e) k = cc
-
-pub scale_ends : (h : Bool) (f : Form) (e : Option Exponent) → is_hexadecimal f ≡ h → IsNoDigitFirst (base h) (scale_bytes f e)
-scale_ends h f e k = tail_ends h f [] e k
 
 -- no letter is a point, or the `x` of `0x`
 pub scale_no_point : (f : Form) (e : Option Exponent) (t : List ℕ) → scale_bytes f e ≡ 46 ∷ t → ⊥

@@ -1,7 +1,6 @@
 pub mod Front
 pub mod Exponents
 pub mod Bodies
-pub mod Tens
 pub mod Forms
 pub mod Numbers
 pub mod Multiples

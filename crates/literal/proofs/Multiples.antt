@@ -9,7 +9,7 @@ use Rattle.fx_model.specs.Expression.{literal_value}
 use Rattle.fx_model.specs.Cut.Gaps.{gap_le}
 use Rattle.fx_model.specs.declared.Literal.{Literal}
 use Rattle.literal.specs.Normal.{IsFix, IsCapped}
-use Rattle.literal.proofs.Tens.{whole_positive, pow_positive, not_zero, mul_one}
+use Rattle.literal.specs.Tens.{whole_positive, pow_positive, not_zero, mul_one}
 
 -- ---- an odd number times 2^k is a multiple of 2^j where j is at most k, and of no other
 scaled_same : (m n e : ℤ) → scaled m e ≡ scaled n e → m ≡ n

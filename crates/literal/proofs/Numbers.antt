@@ -3,10 +3,9 @@ use Rattle.std.proofs.Common.{◌≡◌, ℕ, zero, suc, ◌+◌, ◌*◌, ◌/�
 use Rattle.std.proofs.Math.Nat.{mul-le-mul_left, mul-le-mul_right, pow-le-pow_right}
 use Rattle.std.proofs.lemmas.Nat.{mul-le, mod-pow-add, shr_split}
 use Rattle.std.proofs.lemmas.Bool.{cases_lt}
-use Rattle.std.proofs.lemmas.Int.Digits.{digits_value-lt}
-use Rattle.literal.proofs.Tens.{pow_step}
+use Rattle.literal.specs.Tens.{pow_step}
 use Rattle.std.specs.Char.{digit_value}
-use Rattle.std.specs.Str.Parse.{AllDigits, digits_value, digits_value_after}
+use Rattle.std.specs.Str.Parse.{digits_value, digits_value_after}
 
 pub after_step : (r n i : ℕ) (ds : List ℕ) → i < length ds → digits_value_after r n (drop i ds) ≡ digits_value_after r (n * r + digit_value (get_or ds i 0)) (drop (i + 1) ds)
 after_step r n i ds h =
@@ -57,13 +56,6 @@ joined_past r limit w f p n h = n (omega (arith, after_append r 0 w f, after_ge 
 
 pub joined_is : (r num : ℕ) (w f : List ℕ) → num ≡ digits_value_after r 0 w → digits_value_after r num f ≡ digits_value r (w ++ f)
 joined_is r num w f e = ap (λ n. digits_value_after r n f) e ∙ sym (after_append r 0 w f)
-
--- 30 digits write a number below 10^30
-pub few_digits : (w : List ℕ) → AllDigits 10 w → length w ≤ 30 → digits_value 10 w < 10 ^ 30
-few_digits w d h =
-    let a : digits_value 10 w < 10 ^ length w = digits_value-lt 10 w d in
-    let b : 10 ^ length w ≤ 10 ^ 30 = pow-le-pow_right {n = 10} (lit< tt) h in
-    omega arith
 
 -- ---- the places below the lowest bit of a number are empty
 low_bits : (t n : ℕ) → ((i : ℕ) → i < t → n / 2 ^ i % 2 ≡ 0) → n % 2 ^ t ≡ 0

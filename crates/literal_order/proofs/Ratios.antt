@@ -3,15 +3,13 @@ use Rattle.std.proofs.Common.{◌≡◌, ℕ, ℤ, pos, ◌+ℤ◌, ◌*◌, ◌
 use Rattle.std.proofs.lemmas.Int.{ints}
 use Rattle.std.proofs.lemmas.Bool.{ltb-true, lt-ltb}
 use Rattle.fx_model.specs.Fraction.{Fraction, ◌*ℚ◌, ◌≤ℚ◌, ◌<ℚ◌, zero_ℚ, lt_by, lt_not, lt_le, mul-le_cancel, mul-lt_cancel, mul_comm, mul_assoc, zero-mul}
-use Rattle.fx_model.specs.Powers.{whole, two_to, scaled, whole-mul, whole-lt, zero-whole, scaled-lt, scaled-lt_out, scaled-le, scaled-shift, scaled-zero}
+use Rattle.literal.specs.Tens.{whole_positive}
+use Rattle.fx_model.specs.Powers.{whole, two_to, scaled, whole-mul, scaled-lt, scaled-lt_out, scaled-le, scaled-shift, scaled-zero}
 
 -- the value is n * 2^t / d
 pub record IsRatio (v : Fraction) (n d : ℕ) (t : ℤ) : Type 0 where
   pub value : whole (pos d) *ℚ v ≡ scaled (pos n) t
   pub some : 0 < d
-
-whole_some : (n : ℕ) → 0 < n → zero_ℚ <ℚ whole (pos n)
-whole_some n h = subst (λ y. y <ℚ whole (pos n)) (sym zero-whole) (whole-lt (pos 0) (pos n) (omega (arith, ints)))
 
 times_whole : (n d : ℕ) (t : ℤ) → whole (pos d) *ℚ scaled (pos n) t ≡ scaled (pos (n * d)) t
 times_whole n d t = sym (mul_assoc (whole (pos d)) (whole (pos n)) (two_to t)) ∙ ap (λ x. x *ℚ two_to t) (mul_comm (whole (pos d)) (whole (pos n)) ∙ sym (whole-mul (pos n) (pos d)))
@@ -22,8 +20,8 @@ lt_times z x y p l = lt_by (z *ℚ x) (z *ℚ y) (λ h. lt_not x y l (mul-le_can
 -- two of them compare as their numbers across, at their places
 pub across : (x y : Fraction) (n d m e : ℕ) (t u : ℤ) → IsRatio x n d t → IsRatio y m e u → scaled (pos (n * e)) t <ℚ scaled (pos (m * d)) u ↔ x <ℚ y
 across x y n d m e t u a b =
-    let p = whole_some d a.some in
-    let q = whole_some e b.some in
+    let p = whole_positive d a.some in
+    let q = whole_positive e b.some in
     let f : whole (pos e) *ℚ (whole (pos d) *ℚ x) ≡ scaled (pos (n * e)) t = ap (λ z. whole (pos e) *ℚ z) a.value ∙ times_whole n e t in
     let g : whole (pos e) *ℚ (whole (pos d) *ℚ y) ≡ scaled (pos (m * d)) u =
     sym (mul_assoc (whole (pos e)) (whole (pos d)) y) ∙ ap (λ z. z *ℚ y) (mul_comm (whole (pos e)) (whole (pos d))) ∙ mul_assoc (whole (pos d)) (whole (pos e)) y ∙ ap (λ z. whole (pos d) *ℚ z) b.value ∙ times_whole m d u in (
@@ -55,11 +53,11 @@ times_zero d = mul_comm (whole (pos d)) zero_ℚ ∙ zero-mul (whole (pos d))
 pub from_zero : (x : Fraction) (n d : ℕ) (t : ℤ) → IsRatio x n d t → zero_ℚ ≤ℚ x
 from_zero x n d t a =
     let h : zero_ℚ ≤ℚ scaled (pos n) t = subst (λ z. z ≤ℚ scaled (pos n) t) (scaled-zero t) (scaled-le (pos 0) (pos n) t (omega (arith, ints))) in
-    mul-le_cancel (whole (pos d)) zero_ℚ x (whole_some d a.some) (subst (λ z. z ≤ℚ whole (pos d) *ℚ x) (sym (times_zero d)) (subst (λ z. zero_ℚ ≤ℚ z) (sym a.value) h))
+    mul-le_cancel (whole (pos d)) zero_ℚ x (whole_positive d a.some) (subst (λ z. z ≤ℚ whole (pos d) *ℚ x) (sym (times_zero d)) (subst (λ z. zero_ℚ ≤ℚ z) (sym a.value) h))
 
 pub some_size : (x : Fraction) (n d : ℕ) (t : ℤ) → IsRatio x n d t → 0 < n ↔ zero_ℚ <ℚ x
 some_size x n d t a =
-    let p = whole_some d a.some in
+    let p = whole_positive d a.some in
     let s = at_place 0 n t in (
       λ h. mul-lt_cancel (whole (pos d)) zero_ℚ x (lt_le zero_ℚ (whole (pos d)) p) (subst (λ z. z <ℚ whole (pos d) *ℚ x) (sym (times_zero d)) (subst (λ z. zero_ℚ <ℚ z) (sym a.value) (subst (λ z. z <ℚ scaled (pos n) t) (scaled-zero t) (s.0 h)))),
       λ h. s.1 (subst (λ z. z <ℚ scaled (pos n) t) (sym (scaled-zero t)) (subst (λ z. zero_ℚ <ℚ z) a.value (subst (λ z. z <ℚ whole (pos d) *ℚ x) (times_zero d) (lt_times (whole (pos d)) zero_ℚ x p h)))),

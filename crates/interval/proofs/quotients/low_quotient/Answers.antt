@@ -1,5 +1,6 @@
+use Rattle.interval.proofs.Divisors.{quotient_up, quotient_down}
 use Rattle.interval.proofs.Inequalities.{below_by}
-use Rattle.interval.proofs.Divisors.{not_zero, quotient_up, quotient_down}
+use Rattle.grid_words.specs.Signs.{not_zero}
 use Rattle.interval.proofs.quotients.low_quotient.Goals as goal
 
 pub div_down-requires-else-not_negative : goal.div_down-requires-else-not_negative

@@ -9,7 +9,7 @@ use Rattle.interval.specs.Ends.{AreEnds, range_from}
 use Rattle.dyadic.specs.Made.{grid_bound}
 use Rattle.interval.specs.Intervals.{range_of}
 use Rattle.interval.specs.Multiples.{IsEndUp, IsEndDown}
-use Rattle.interval.proofs.Shrunk.{shrunk_ordered, some_multiple, shrunk_is}
+use Rattle.interval.specs.Shrunk.{shrunk_ordered, some_multiple, shrunk_is}
 use Rattle.interval.proofs.interval.Interval.shrink.Goals as goal
 
 pub returns-clause-none : goal.returns-clause-none

@@ -4,7 +4,7 @@ use Rattle.dyadic.specs.Made.{grid_bound}
 use Rattle.interval.specs.Exact.{IsExact}
 use Rattle.interval.specs.Intervals.{range_of}
 use Rattle.interval.proofs.Pairs.{one_bound}
-use Rattle.interval.proofs.Enclosures.{exact_enclosure}
+use Rattle.interval.specs.Enclosures.{exact_enclosure}
 use Rattle.interval.proofs.Sizes.{sizes_up, sizes_down, sizes_between, sizes_ordered}
 use Rattle.interval.proofs.interval.Interval.sizes.Goals as goal
 

@@ -1,8 +1,10 @@
 -- Powers of ten and of two may stand in the whole number or in the exponent.
-use Rattle.std.proofs.Common.{◌≡◌, ℕ, zero, suc, ◌+◌, ◌*◌, ◌^◌, ◌<◌, ℤ, pos, negsuc, ◌+ℤ◌, sym, ap, subst, ◌∙◌, arith}
+use Rattle.std.proofs.Common.{◌≡◌, ℕ, zero, suc, ◌+◌, ◌*◌, ◌^◌, ◌<◌, ◌≤◌, List, length, lit<, ℤ, pos, negsuc, ◌+ℤ◌, sym, ap, subst, ◌∙◌, arith}
 use Rattle.std.proofs.lemmas.Int.{ints}
-use Rattle.std.proofs.Math.Nat.{one-le-pow, pow-succ'}
-use Rattle.fx_model.specs.Fraction.{Fraction, ◌*ℚ◌, ◌<ℚ◌, zero_ℚ, one_ℚ, ◌≤ℚ◌, inverse_ℚ, mul-inverse, mul_comm, mul_assoc, mul_cancel, one-mul, lt_not, le_refl}
+use Rattle.std.proofs.Math.Nat.{one-le-pow, pow-succ', pow-le-pow_right}
+use Rattle.std.proofs.lemmas.Int.Digits.{digits_value-lt}
+use Rattle.std.specs.Str.Parse.{AllDigits, digits_value}
+use Rattle.fx_model.specs.Fraction.{Fraction, ◌*ℚ◌, ◌<ℚ◌, zero_ℚ, one_ℚ, ◌≤ℚ◌, inverse_ℚ, mul-inverse, mul_comm, mul_assoc, mul_cancel, one-mul, zero-mul, lt_not, le_refl}
 use Rattle.fx_model.specs.Powers.{whole, two_to, scaled-shift, whole-mul, whole-lt, zero-whole, one-whole}
 use Rattle.fx_model.specs.Expression.{ten_to, literal_value}
 use Rattle.fx_model.specs.declared.Literal.{Literal}
@@ -74,3 +76,14 @@ tens_moved (suc k) n e =
 
 pub twos_moved : (lost n : ℕ) (e : ℤ) → literal_value (binary (n * 2 ^ lost) e) ≡ literal_value (binary n (e +ℤ pos lost))
 twos_moved lost n e = ap (λ u. u *ℚ ten_to (pos 0)) (sym (scaled-shift (pos n) e lost))
+
+-- with no digits but zeros the value is 0
+pub zero_value : (l : Literal) → l.num ≡ 0 → literal_value l ≡ zero_ℚ
+zero_value l h = ap (λ n. (whole (pos n) *ℚ two_to l.two) *ℚ ten_to l.ten) h ∙ ap (λ y. (y *ℚ two_to l.two) *ℚ ten_to l.ten) (sym zero-whole) ∙ ap (λ y. y *ℚ ten_to l.ten) (zero-mul (two_to l.two)) ∙ zero-mul (ten_to l.ten)
+
+-- 30 digits write a number below 10^30
+pub few_digits : (w : List ℕ) → AllDigits 10 w → length w ≤ 30 → digits_value 10 w < 10 ^ 30
+few_digits w d h =
+    let a : digits_value 10 w < 10 ^ length w = digits_value-lt 10 w d in
+    let b : 10 ^ length w ≤ 10 ^ 30 = pow-le-pow_right {n = 10} (lit< tt) h in
+    omega arith

@@ -3,10 +3,10 @@ use Rattle.std.specs.Prelude.{◌≡◌, ℕ, ℤ, pos, negsuc, ◌*◌, ◌*ℤ
 use Rattle.std.proofs.Common.{arith, refl, sym, subst, ap, ◌∙◌, ◌≤◌, to_z, of_z, w32}
 use Rattle.std.specs.Int.RustNames.{unsigned_abs}
 use Rattle.std.proofs.lemmas.Int.{ints}
-use Rattle.std.proofs.Math.Nat.{one-le-pow, pow-le-pow_right}
+use Rattle.std.proofs.Math.Nat.{pow-le-pow_right}
 use lib.IntN.{neg_ℤ}
-use Rattle.fx_model.specs.Fraction.{Fraction, ◌*ℚ◌, ◌≤ℚ◌, ◌<ℚ◌, zero_ℚ, one_ℚ, neg_ℚ, inverse_ℚ, le_refl, mul_comm, mul_assoc, one-mul, mul-inverse}
-use Rattle.fx_model.specs.Powers.{whole, two_to, scaled, whole-mul, whole-lt, one-whole, zero-whole}
+use Rattle.fx_model.specs.Fraction.{Fraction, ◌*ℚ◌, ◌≤ℚ◌, zero_ℚ, one_ℚ, neg_ℚ, inverse_ℚ, le_refl, mul_comm, mul_assoc, one-mul, mul-inverse}
+use Rattle.fx_model.specs.Powers.{whole, two_to, scaled, whole-mul, one-whole}
 use Rattle.fx_model.specs.Grid.{Bound, IsDown, IsUp, signed, scaled-neg}
 use Rattle.fx_model.specs.Enclosure.{IsEnclosure, IsOrdered, infimum_at, supremum_at}
 use Rattle.fx_model.specs.Expression.{literal_value, ten_to}
@@ -14,9 +14,9 @@ use Rattle.fx_model.specs.declared.Literal.{Literal}
 use Rattle.literal.specs.Normal.{IsNormal}
 use Rattle.literal.specs.Limits.{bounded}
 use Rattle.interval.specs.Literals.{Alone}
-use Rattle.interval.proofs.Inequalities.{mul-neg}
-use Rattle.interval.proofs.Enclosures.{enclosure_ordered}
-use Rattle.interval.proofs.Divisors.{not_zero}
+use Rattle.literal.specs.Tens.{whole_positive, pow_positive}
+use Rattle.grid_words.specs.Signs.{mul-neg, not_zero}
+use Rattle.interval.specs.Enclosures.{enclosure_ordered}
 
 -- ---- the value as a quotient
 parts_up : (l : Literal) (k n : ℕ) → l.ten ≡ pos k → n ≡ l.num * 10 ^ k → whole (pos 1) *ℚ literal_value l ≡ scaled (pos n) l.two
@@ -28,21 +28,15 @@ parts_up l k n e p = ap (λ y. y *ℚ literal_value l) (sym one-whole) ∙ one-m
     product : pos l.num *ℤ pos (10 ^ k) ≡ pos n
     product = ap pos (sym p)
 
-whole_some : (n : ℕ) → 0 < n → zero_ℚ <ℚ whole (pos n)
-whole_some n h = subst (λ y. y <ℚ whole (pos n)) (sym zero-whole) (whole-lt (pos 0) (pos n) (omega (arith, ints)))
-
-power_some : (k : ℕ) → 0 < 10 ^ k
-power_some k = let p = one-le-pow k 10 (omega arith) in omega arith
-
 quotient_back : (w s : Fraction) → ¬ (w ≡ zero_ℚ) → w *ℚ (s *ℚ inverse_ℚ w) ≡ s
 quotient_back w s n = mul_comm w (s *ℚ inverse_ℚ w) ∙ mul_assoc s (inverse_ℚ w) w ∙ ap (λ y. s *ℚ y) (mul_comm (inverse_ℚ w) w ∙ mul-inverse w n) ∙ mul_comm s one_ℚ ∙ one-mul s
 
 over_whole : (n : ℕ) (s : Fraction) → 0 < n → whole (pos n) *ℚ (s *ℚ inverse_ℚ (whole (pos n))) ≡ s
-over_whole n s h = quotient_back (whole (pos n)) s (not_zero (whole (pos n)) (whole_some n h))
+over_whole n s h = quotient_back (whole (pos n)) s (not_zero (whole (pos n)) (whole_positive n h))
 
 parts_down : (l : Literal) (k n : ℕ) → l.ten ≡ negsuc k → n ≡ 10 ^ (k + 1) → whole (pos n) *ℚ literal_value l ≡ scaled (pos l.num) l.two
 parts_down l k n e p = ap (λ m. whole (pos m) *ℚ literal_value l) p ∙ ap (λ t. whole (pos (10 ^ (k + 1))) *ℚ (scaled (pos l.num) l.two *ℚ ten_to t)) e
-    ∙ over_whole (10 ^ (k + 1)) (scaled (pos l.num) l.two) (power_some (k + 1))
+    ∙ over_whole (10 ^ (k + 1)) (scaled (pos l.num) l.two) (pow_positive 10 (k + 1) (omega arith))
 
 -- ---- by the sign of the tens
 pub value_down : (l : Literal) (n : ℕ) → l.ten <ℤ pos 0 → n ≡ 10 ^ unsigned_abs l.ten → whole (pos n) *ℚ literal_value l ≡ scaled (pos l.num) l.two
@@ -73,7 +67,7 @@ pub divisor_fits : (k : ℕ) → k ≤ 30 → 10 ^ k ≤ 10000000000000000000000
 divisor_fits k h = pow-le-pow_right {n = 10} (omega arith) h
 
 pub divisor_some : (n k : ℕ) → n ≡ 10 ^ k → 0 < n
-divisor_some n k e = rw e (power_some k)
+divisor_some n k e = rw e (pow_positive 10 k (omega arith))
 
 pub signed_ratio : (b : Bool) (d v : Fraction) (n : ℤ) (size : ℕ) (two : ℤ) → (b ≡ false → n ≡ pos size) → (b ≡ true → n ≡ neg_ℤ (pos size)) → d *ℚ v ≡ scaled (pos size) two → d *ℚ signed b v ≡ scaled n two
 signed_ratio false d v n size two p q e = e ∙ ap (λ m. scaled m two) (sym (p refl))

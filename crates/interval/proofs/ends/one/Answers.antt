@@ -1,0 +1,6 @@
+use Rattle.std.proofs.Common.{ap}
+use Rattle.fx_model.specs.Grid.{At}
+use Rattle.interval.proofs.ends.one.Goals as goal
+
+pub returns : goal.returns
+returns c = ap At c.one.ensures
