@@ -3,3 +3,4 @@ pub mod Nodes
 pub mod Same
 pub mod Shapes
 pub mod Lifted
+pub mod Operands

@@ -1,5 +1,5 @@
 -- Which node an expression is.
-use Rattle.std.specs.Prelude.{◌≡◌, Bool, true, false, List, Option, Some, None, slice_get, nat_lt, length}
+use Rattle.std.specs.Prelude.{◌≡◌, ◌&&◌, Bool, true, false, List, Option, Some, None, slice_get, nat_lt, length}
 use Rattle.std.proofs.Common.{ap, ◌∙◌}
 use Rattle.std.proofs.lemmas.Option.{slice_get_within, get_or_from_slice_get}
 use Rattle.fx_model.specs.declared.ExprId.{ExprId}
@@ -19,6 +19,10 @@ is_at nodes x n = is_node (slice_get nodes x.0) n
 -- the list has an expression x
 abbrev pub is_known : List Node → ExprId → Bool
 is_known nodes x = nat_lt x.0 (length nodes)
+
+-- the list has both expressions
+abbrev pub are_known : List Node → ExprId → ExprId → Bool
+are_known nodes x y = is_known nodes x && is_known nodes y
 
 is_node_out : (o : Option Node) (n : Node) → is_node o n ≡ true → o ≡ Some n
 is_node_out None n e = cc

@@ -4,7 +4,7 @@ ghost use Rattle.std.specs.Prelude.{◌≡◌, ℕ, ◌<◌, ◌≤◌, ◌↔�
 ghost use Rattle.fx_model.specs.declared.Node.{Node};
 ghost use Rattle.fx_model.specs.declared.ExprId.{ExprId};
 ghost use Rattle.fx_model.specs.Expression.{IsOrdered};
-ghost use Rattle.expr_dag.specs.Shapes.{is_at, is_known};
+ghost use Rattle.expr_dag.specs.Shapes.{is_at, is_known, are_known};
 ghost use Rattle.expr_dag.specs.Nodes.{IsLawful, IsAt, IsAbsent, IsFull, IsPlaced, IsKept, place_of, with_node};
 
 use crate::key::Key;
@@ -121,8 +121,8 @@ impl Dag {
     pub fn is_at(&self, id: ExprId, node: Node) -> bool
         ensures { result ≡ is_at self.now id node }
     {
-        match self.get(id) {
-            Some(found) => found == node,
+        match self.set.get_index(usize::from(id.0)) {
+            Some(key) => key.is(&node),
             None => false,
         }
     }
@@ -132,6 +132,13 @@ impl Dag {
         ensures { result ≡ is_known self.now id }
     {
         id.0 < self.len()
+    }
+
+    /// Whether expressions have both numbers.
+    pub fn know_both(&self, x: ExprId, y: ExprId) -> bool
+        ensures { result ≡ are_known self.now x y }
+    {
+        self.knows(x) && self.knows(y)
     }
 
     /// How many nodes there are.

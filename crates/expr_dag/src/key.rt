@@ -4,6 +4,7 @@ ghost use Rattle.std.specs.Prelude.{◌≡◌};
 ghost use Rattle.std.specs.Cmp.Rules.{hashing};
 ghost use Rattle.std.proofs.Common.{rules};
 ghost use Rattle.expr_dag.specs.Hashed.{hashed};
+ghost use Rattle.expr_dag.specs.Nodes.{same_node};
 
 use fx_model::Node;
 use std::hash::{Hash, Hasher};
@@ -30,6 +31,13 @@ impl Key {
         ensures { result ≡ node }
     {
         Key { node }
+    }
+
+    // Whether it is of this node. Nothing is copied.
+    pub fn is(&self, node: &Node) -> bool
+        ensures { result ≡ same_node self.now node.now }
+    {
+        self.node == *node
     }
 
     pub fn node(self) -> Node

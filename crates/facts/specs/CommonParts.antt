@@ -1,7 +1,7 @@
 -- What two sizes, two relative errors or two places have in common.
-use Rattle.std.specs.Prelude.{◌≡◌, ◌&&◌, ◌≤ℤ◌, Bool, true, false, Option, Some, None, if◌then◌else◌, refl}
+use Rattle.std.specs.Prelude.{◌≡◌, ◌⊎◌, ◌&&◌, ◌||◌, ◌≤ℤ◌, Bool, true, false, Option, Some, None, if◌then◌else◌, refl}
 use Rattle.std.specs.Int.RustNames.{int_lt}
-use Rattle.std.proofs.Common.{sym, ◌∙◌, ap, subst, arith}
+use Rattle.std.proofs.Common.{sym, ◌∙◌, ap, subst, arith, inl, inr}
 use Rattle.std.proofs.lemmas.Int.{ints}
 use Rattle.std.proofs.lemmas.Bool.{eqb-true, eq-eqb}
 use Rattle.fx_model.specs.declared.ExprId.{ExprId}
@@ -33,6 +33,15 @@ if-some false v f e = cc
 pub and_both : (a b : Bool) → (a && b) ≡ true → (a ≡ true) × (b ≡ true)
 and_both true b e = (refl, e)
 and_both false b e = cc
+
+-- a conjunction holds where its second part follows
+pub and_rises : (a b c : Bool) → (b ≡ true → c ≡ true) → (a && b) ≡ true → (a && c) ≡ true
+and_rises true b c h e = h e
+and_rises false b c h e = cc
+
+pub or_out : (b c : Bool) → (b || c) ≡ true → (b ≡ true) ⊎ (c ≡ true)
+or_out true c e = inl refl
+or_out false c e = inr e
 
 pub expr_same : (x y : ExprId) → is_same x y ≡ true → x ≡ y
 expr_same x y e = ap (λ n. record { 0 = n }) (eqb-true x.0 y.0 e)

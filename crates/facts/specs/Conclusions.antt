@@ -45,6 +45,10 @@ given false o f e = cc
 abbrev pub Improves : Option Fact → Option Fact → Type 0
 Improves u v = (c : Fact) → u ≡ Some c → Gives v c
 
+-- smaller intervals have a smaller result
+abbrev pub IsRising : (Interval → Interval → Interval) → Type 0
+IsRising op = (i j k l : Interval) → IsWithin i k → IsWithin j l → IsWithin (op i j) (op k l)
+
 -- behind a test that holds where the other does
 pub improves_if : (b d : Bool) (f g : Fact) → (b ≡ true → d ≡ true) → IsStronger g f → Improves (only_if b f) (only_if d g)
 improves_if true true f g t s c e = (g, refl, subst (IsStronger g) (let h : f ≡ c = cc in h) s)

@@ -1,5 +1,6 @@
 pub mod Ranges
 pub mod Parts
+pub mod Places
 pub mod Holds
 pub mod Order
 pub mod CommonParts
@@ -8,7 +9,11 @@ pub mod Meets
 pub mod Within
 pub mod Held
 pub mod Promises
-pub mod SmallNumbers
 pub mod SizesWithin
 pub mod Premises
 pub mod Conclusions
+pub mod Known
+pub mod RelatedZeros
+pub mod RelativePremises
+pub mod RelativeConclusions
+pub mod Rows

@@ -99,6 +99,11 @@ two_fix ps x k y n s =
     let c = one_fix a.1 y n a.2.others in
     (b.0, c.0, a.2.is ∙ ap (λ p. p ∷ a.1) b.1 ∙ ap (λ l. fact.Fix x b.0 ∷ l) c.1, b.2, c.2)
 
+pub two_nzr : (ps : List Fact) (x y : ExprId) → EachStronger ps (fact.Nzr x ∷ fact.Nzr y ∷ []) → ps ≡ fact.Nzr x ∷ fact.Nzr y ∷ []
+two_nzr ps x y s =
+    let a = first_premise ps (fact.Nzr x) (fact.Nzr y ∷ []) s in
+    a.2.is ∙ ap (λ p. p ∷ a.1) (strong_nzr a.0 x a.2.not_void a.2.first) ∙ ap (λ l. fact.Nzr x ∷ l) (one_nzr a.1 y a.2.others)
+
 pub bnd_then_abs : (ps : List Fact) (x : ExprId) (i : Interval) (y : ExprId) (k : Size) → EachStronger ps (fact.Bnd x i ∷ fact.Abs y k ∷ []) →
     (j : Interval) × (l : Size) × (ps ≡ fact.Bnd x j ∷ fact.Abs y l ∷ []) × IsWithin j i × IsWithin l.interval k.interval
 bnd_then_abs ps x i y k s =
@@ -112,3 +117,20 @@ bnd_then_nzr ps x i y s =
     let a = first_premise ps (fact.Bnd x i) (fact.Nzr y ∷ []) s in
     let b = strong_bnd a.0 x i a.2.not_void a.2.first in
     (b.0, a.2.is ∙ ap (λ p. p ∷ a.1) b.1 ∙ ap (λ l. fact.Bnd x b.0 ∷ l) (one_nzr a.1 y a.2.others), b.2)
+
+-- ---- lists that begin with BND, and lists of three and four
+pub first_bnd : (ps : List Fact) (x : ExprId) (i : Interval) (qs : List Fact) → EachStronger ps (fact.Bnd x i ∷ qs) → (j : Interval) × (rest : List Fact) × (ps ≡ fact.Bnd x j ∷ rest) × IsWithin j i × EachStronger rest qs
+first_bnd ps x i qs s =
+    let a = first_premise ps (fact.Bnd x i) qs s in
+    let b = strong_bnd a.0 x i a.2.not_void a.2.first in
+    (b.0, a.1, a.2.is ∙ ap (λ p. p ∷ a.1) b.1, b.2, a.2.others)
+
+pub three_bnd : (ps : List Fact) (x y z : ExprId) (i j k : Interval) → EachStronger ps (fact.Bnd x i ∷ fact.Bnd y j ∷ fact.Bnd z k ∷ []) →
+    (f : Interval) × (g : Interval) × (m : Interval) × (ps ≡ fact.Bnd x f ∷ fact.Bnd y g ∷ fact.Bnd z m ∷ []) × IsWithin f i × IsWithin g j × IsWithin m k
+three_bnd ps x y z i j k s = let a = first_bnd ps x i (fact.Bnd y j ∷ fact.Bnd z k ∷ []) s in let b = two_bnd a.1 y j z k a.4 in
+    (a.0, b.0, b.1, a.2 ∙ ap (λ r. fact.Bnd x a.0 ∷ r) b.2, a.3, b.3, b.4)
+
+pub four_bnd : (ps : List Fact) (x y z w : ExprId) (i j k l : Interval) → EachStronger ps (fact.Bnd x i ∷ fact.Bnd y j ∷ fact.Bnd z k ∷ fact.Bnd w l ∷ []) →
+    (f : Interval) × (g : Interval) × (m : Interval) × (n : Interval) × (ps ≡ fact.Bnd x f ∷ fact.Bnd y g ∷ fact.Bnd z m ∷ fact.Bnd w n ∷ []) × IsWithin f i × IsWithin g j × IsWithin m k × IsWithin n l
+four_bnd ps x y z w i j k l s = let a = first_bnd ps x i (fact.Bnd y j ∷ fact.Bnd z k ∷ fact.Bnd w l ∷ []) s in let b = three_bnd a.1 y z w j k l a.4 in
+    (a.0, b.0, b.1, b.2, a.2 ∙ ap (λ r. fact.Bnd x a.0 ∷ r) b.3, a.3, b.4, b.5, b.6)

@@ -9,7 +9,7 @@ use Rattle.interval.specs.Intervals.{range_of}
 use Rattle.interval.specs.Results.{half_line}
 use Rattle.interval.specs.Meets.{common_of, common-within, lies-common}
 use Rattle.facts.specs.declared.size.Size.{Size}
-use Rattle.facts.specs.SmallNumbers.{zero_value}
+use Rattle.dyadic.specs.SmallNumbers.{zero_value}
 use Rattle.facts.specs.Parts.{size_from-some, size_from_out, size_of_part, size_within}
 use Rattle.facts.specs.CommonParts.{at_option, some-inj}
 

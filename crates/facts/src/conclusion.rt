@@ -1,9 +1,11 @@
 // Facts of parts that may be missing.
 ghost use Rattle.std.specs.Prelude.{◌≡◌};
 ghost use Rattle.facts.specs.Conclusions.{bnd_of, abs_of, fix_of};
+ghost use Rattle.facts.specs.RelativeConclusions.{rel_of, void_only};
 
 use crate::fact::Fact;
 use crate::place::Place;
+use crate::relative::RelativeError;
 use crate::size::Size;
 use fx_model::ExprId;
 use interval::Interval;
@@ -36,6 +38,26 @@ impl Fact {
         match place {
             Some(k) => Some(Fact::Fix(x, k)),
             None => None,
+        }
+    }
+
+    /// A relative error of the first over the second, where there is one.
+    pub fn rel(x: ExprId, y: ExprId, error: Option<RelativeError>) -> Option<Fact>
+        ensures { result ≡ rel_of x y error }
+    {
+        match error {
+            Some(e) => Some(Fact::Rel(x, y, Some(e))),
+            None => None,
+        }
+    }
+
+    /// VOID, where the conclusion is that.
+    pub fn void_only(conclusion: Option<Fact>) -> Option<Fact>
+        ensures { result ≡ void_only conclusion }
+    {
+        match conclusion {
+            Some(Fact::Void) => Some(Fact::Void),
+            _ => None,
         }
     }
 }

@@ -4,6 +4,7 @@
 mod conclusion;
 mod fact;
 mod hint;
+mod instance;
 mod law;
 mod order;
 mod place;
@@ -14,6 +15,7 @@ mod tests;
 
 pub use fact::{Fact, Slot};
 pub use hint::{HintMark, HintRow, Need};
+pub use instance::Instance;
 pub use law::{
     held_facts, meet_is_the_weakest_as_strong_as_both, sizes_within_an_interval,
     stronger_is_an_order, void_and_none_are_strongest,

@@ -10,11 +10,13 @@ pub struct Place {
 
 impl Place {
     ghost use Rattle.facts.specs.Parts.{greater_place};
+    ghost use Rattle.facts.specs.Places.{place_from};
 
     /// The place of 2^exponent. None exactly where the exponent isn't from -1024 to 512.
     pub fn new(exponent: i16) -> Option<Place>
         ensures refused { IsNone result ↔ (¬ ((negsuc 1023 ≤ℤ exponent) × (exponent ≤ℤ pos 512))) }
         ensures made { IfSome result (λ place. place.exponent ≡ exponent) }
+        ensures is { result ≡ place_from exponent }
     {
         if -1024 <= exponent && exponent <= 512 {
             Some(Place { exponent })

@@ -1,12 +1,7 @@
-ghost use Rattle.std.specs.Prelude.{◌↔◌, ◌≡◌, IsTrue, IsNone, IfSome};
-ghost use Rattle.fx_model.specs.Fraction.{zero_ℚ};
-ghost use Rattle.fx_model.specs.Grid as grid;
-ghost use Rattle.fx_model.specs.Enclosure.{BoundLe};
-ghost use Rattle.dyadic.specs.Ends.{bound_of};
+ghost use Rattle.std.specs.Prelude.{◌↔◌, ◌≡◌, IsNone, IfSome};
 ghost use Rattle.interval.specs.Intervals.{range_of};
 ghost use Rattle.facts.specs.Ranges.{IsFromZero, IsFromZero-prop};
 
-use dyadic::{Dyadic, End};
 use interval::Interval;
 
 /// An interval of absolute values: its lower end is at least 0.
@@ -25,7 +20,7 @@ impl Size {
         ensures made { IfSome result (λ size. size.interval ≡ interval) }
         ensures is { result ≡ size_from interval }
     {
-        if is_from_zero(interval.lo()) {
+        if interval.lo().is_from_zero() {
             Some(Size { interval })
         } else {
             None
@@ -47,15 +42,5 @@ impl Size {
         ensures { result ≡ self.interval }
     {
         self.interval
-    }
-}
-
-// Whether an end is at least 0.
-fn is_from_zero(end: End) -> bool
-    ensures { IsTrue result ↔ BoundLe (grid.At zero_ℚ) (bound_of end) }
-{
-    match Dyadic::new(0, 0) {
-        Some(zero) => End::At(zero).is_at_most(end),
-        None => false,
     }
 }

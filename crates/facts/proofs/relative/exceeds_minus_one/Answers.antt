@@ -3,7 +3,7 @@ use Rattle.std.proofs.Common.{arith, subst, sym, ◌∙◌}
 use Rattle.std.proofs.lemmas.Int.{ints}
 use Rattle.fx_model.specs.Fraction.{◌<ℚ◌}
 use Rattle.dyadic.specs.Values.{value_of}
-use Rattle.facts.specs.SmallNumbers.{small_grid, minus_one_value}
+use Rattle.dyadic.specs.SmallNumbers.{small_grid, minus_one_value}
 use Rattle.facts.proofs.relative.exceeds_minus_one.Goals as goal
 
 pub returns-in-Some : goal.returns-in-Some
