@@ -1,0 +1,5 @@
+use Rattle.goals.proofs.Stronger.{of_goal, settles_stronger}
+use Rattle.goals.proofs.laws.settling_facts.Goals as goal
+
+pub returns : goal.returns
+returns c = record { kind = of_goal; stronger = settles_stronger }

@@ -1,0 +1,5 @@
+pub mod Settles
+pub mod Lies
+pub mod Joined
+pub mod Holds
+pub mod Stronger
