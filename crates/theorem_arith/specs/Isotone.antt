@@ -10,11 +10,10 @@ use Rattle.interval.specs.Monotone.{negation_of-within, sum_of-within, differenc
 use Rattle.expr_dag.specs.Shapes.{is_at}
 use Rattle.facts.specs.declared.fact.Fact.TheVariants as fact
 use Rattle.facts.specs.declared.fact.Slot.TheVariants as slot
-use Rattle.facts.specs.Order.{IsWithin}
 use Rattle.facts.specs.Laws.{IsStronger-refl}
 use Rattle.facts.specs.Promises.{IsIsotone}
 use Rattle.facts.specs.Premises.{Gives, no_premises, one_bnd, one_abs, one_nzr, two_bnd, bnd_then_nzr}
-use Rattle.facts.specs.Conclusions.{bnd_of, improves_bnd, improves_given, improves_only}
+use Rattle.facts.specs.Conclusions.{IsRising, bnd_of, improves_bnd, improves_given, improves_only}
 use Rattle.theorem_arith.specs.Bounds.{literal_rule, negation_rule, binary_rule, sum_rule, difference_rule, product_rule, difference_with_itself_rule, square_rule, quotient_rule, quotient_by_nonzero_rule, quotient_by_itself_rule}
 
 -- ---- literals
@@ -29,10 +28,6 @@ negation_rule-isotone nodes (fact.Bnd x i ∷ []) (slot.Bnd e) ps c s q =
     subst (λ l. Gives (negation_rule nodes l (slot.Bnd e)) c) (sym a.1)
     (improves_only (is_at nodes e (node.Neg x)) (fact.Bnd e (negation_of i)) (fact.Bnd e (negation_of a.0)) (refl, negation_of-within a.0 i a.2) c q)
 negation_rule-isotone nodes _ _ ps c s q = cc
-
--- smaller intervals have a smaller result
-abbrev pub IsRising : (Interval → Interval → Interval) → Type 0
-IsRising op = (i j k l : Interval) → IsWithin i k → IsWithin j l → IsWithin (op i j) (op k l)
 
 pub binary_rule-isotone : (make : ExprId → ExprId → Node) (op : Interval → Interval → Interval) → IsRising op → IsIsotone (binary_rule make op)
 binary_rule-isotone make op w nodes (fact.Bnd x i ∷ fact.Bnd y j ∷ []) (slot.Bnd e) ps c s q =

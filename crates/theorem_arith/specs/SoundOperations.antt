@@ -1,7 +1,7 @@
 -- The rules on absolute values of operations are sound.
-use Rattle.std.specs.Prelude.{◌≡◌, ◌≢◌, ◌⊎◌, ◌||◌, Bool, true, false, List, [], ◌∷◌, Option, Some, None, refl}
+use Rattle.std.specs.Prelude.{◌≡◌, ◌≢◌, ◌⊎◌, ◌||◌, List, [], ◌∷◌, Option, Some, None, refl}
 use Rattle.std.specs.Option.{IsSomeAnd}
-use Rattle.std.proofs.Common.{sym, ap, subst, ◌∙◌, ⊎_elim, inl, inr}
+use Rattle.std.proofs.Common.{sym, ap, subst, ◌∙◌, ⊎_elim}
 use Rattle.fx_model.specs.Fraction.{Fraction, ◌+ℚ◌, ◌-ℚ◌, ◌*ℚ◌, ◌≤ℚ◌, neg_ℚ, abs_ℚ, zero_ℚ, abs-from, le_refl}
 use Rattle.fx_model.specs.Enclosure.{IsFrom, IsUpTo, Lies, Sums, Differences, in_enclosure, product_holds, ordered_by}
 use Rattle.fx_model.specs.Expression.{Assignment, value, lift₂}
@@ -26,7 +26,7 @@ use Rattle.facts.specs.declared.fact.Slot.TheVariants as slot
 use Rattle.facts.specs.Parts.{size_within}
 use Rattle.facts.specs.Within.{on_half_line}
 use Rattle.facts.specs.Holds.{Holds}
-use Rattle.facts.specs.CommonParts.{if-some}
+use Rattle.facts.specs.CommonParts.{if-some, or_out}
 use Rattle.facts.specs.Promises.{IsSound}
 use Rattle.facts.specs.Conclusions.{abs_of, given}
 use Rattle.expr_dag.specs.Lifted.{at_node, lifted_quotient, lifted_twice, lifted₁, lifted₂}
@@ -107,10 +107,6 @@ sum_given nodes a e s t f g (Some x) (Some y) b q w l m =
   where
     some_same : (i j : Interval) → Some i ≡ Some j → i ≡ j
     some_same i j p = cc
-
-or_out : (b c : Bool) → (b || c) ≡ true → (b ≡ true) ⊎ (c ≡ true)
-or_out true c e = inl refl
-or_out false c e = inr e
 
 pub size_of_sum_rule-sound : IsSound size_of_sum_rule
 size_of_sum_rule-sound nodes (fact.Abs x s ∷ fact.Abs y t ∷ []) (slot.Abs e) f o q = λ a h.

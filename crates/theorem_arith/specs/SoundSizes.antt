@@ -15,6 +15,7 @@ use Rattle.dyadic.specs.Order.{le_bound}
 use Rattle.dyadic.specs.Compared.{BoundLe_out}
 use Rattle.interval.specs.declared.interval.Interval.{Interval}
 use Rattle.interval.specs.Intervals.{range_of}
+use Rattle.interval.specs.Members.{between}
 use Rattle.interval.specs.Meets.{interval_from_out}
 use Rattle.interval.specs.Results.{negation_of, negation_of-is, size_of, size_of-is}
 use Rattle.expr_dag.specs.Shapes.{is_at, is_at_out, node_at-value}
@@ -31,12 +32,8 @@ use Rattle.facts.specs.Held.{some-and}
 use Rattle.facts.specs.Promises.{IsSound}
 use Rattle.facts.specs.Conclusions.{abs_of, bnd_of, given}
 use Rattle.expr_dag.specs.Lifted.{at_node, lifted₁}
-use Rattle.theorem_arith.specs.Shapes.{is_one}
+use Rattle.theorem_arith.specs.Shapes.{is_one, one_same}
 use Rattle.theorem_arith.specs.Sizes.{size_rule, around, value_rule, is_less, is_above, is_below, signed_fact, sign_rule, absolute_value_rule, abs_or_void, void_if_none, is_absolute_value, size_of_value_rule}
-
--- both are one expression
-one_same : (nodes : List Node) (x y : ExprId) → is_one nodes x y ≡ true → x ≡ y
-one_same nodes x y e = expr_same x y (and_both (is_same x y) _ e).0
 
 -- an ABS fact of what of an interval is at least 0 holds where the absolute value lies in the interval
 pub abs_given : (nodes : List Node) (a : Assignment) (e : ExprId) (i : Interval) (f : Fact) → abs_of e (size_within i) ≡ Some f → IsSomeAnd (value nodes a e) (λ v. Lies (range_of i) (abs_ℚ v)) → Holds nodes a f
@@ -97,16 +94,6 @@ not_le : (b c : Bound) → is_less b c ≡ true → BoundLe c b → ⊥
 not_le b c e l = let h : le_bound c b ≡ true = BoundLe_out c b l in
     let g : (if le_bound c b then false else true) ≡ false = ap (λ (t : Bool). if t then false else true) h in
     let k : true ≡ false = sym e ∙ g in cc
-
--- x at or above b and at or below c: b is at most c
-between : (b c : Bound) (x : Fraction) → IsFrom b x → IsUpTo c x → BoundLe b c
-between Below c x p q = tt
-between (At g) Below x p q = q
-between (At g) (At h) x p q = le_trans g x h p q
-between (At g) Above x p q = tt
-between Above Below x p q = p
-between Above (At h) x p q = p
-between Above Above x p q = tt
 
 upper_side : (b : Bound) (x : Fraction) → IsFrom b x → IsUpTo (neg_bound b) (neg_ℚ x)
 upper_side Below x p = tt

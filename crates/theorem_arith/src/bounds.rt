@@ -2,10 +2,7 @@
 ghost use Rattle.std.specs.Prelude.{◌≡◌};
 ghost use Rattle.theorem_arith.specs.Bounds.{literal_rule, literal_at, negation_rule, sum_rule, difference_rule, product_rule, difference_with_itself_rule, square_rule};
 ghost use Rattle.std.specs.Prelude.{slice_get};
-ghost use Rattle.fx_model.specs.Fraction.{zero_ℚ};
-ghost use Rattle.interval.specs.Results.{point_of};
 
-use dyadic::Dyadic;
 use expr_dag::{Dag, ExprId, Node};
 use facts::{Fact, Slot};
 use interval::{Interval, enclose};
@@ -97,7 +94,7 @@ pub fn rule_5(dag: &Dag, premises: &[Fact], target: Slot) -> Option<Fact>
     match (*first, target) {
         (Fact::Bnd(x, _), Slot::Bnd(e)) => {
             if dag.is_at(e, Node::Sub(x, x)) {
-                Some(Fact::Bnd(e, zero()))
+                Some(Fact::Bnd(e, Interval::zero()))
             } else {
                 None
             }
@@ -141,15 +138,5 @@ pub fn rule_7(dag: &Dag, premises: &[Fact], target: Slot) -> Option<Fact>
             }
         }
         _ => None,
-    }
-}
-
-// 0 alone.
-fn zero() -> Interval
-    ensures { result ≡ point_of zero_ℚ }
-{
-    match Dyadic::new(0, 0) {
-        Some(zero) => Interval::point(zero),
-        None => Interval::whole(),
     }
 }

@@ -1,10 +1,7 @@
 // Bounds of quotients.
 ghost use Rattle.std.specs.Prelude.{◌≡◌};
-ghost use Rattle.fx_model.specs.Fraction.{one_ℚ};
-ghost use Rattle.interval.specs.Results.{point_of};
 ghost use Rattle.theorem_arith.specs.Bounds.{quotient_rule, quotient_by_nonzero_rule, quotient_by_itself_rule};
 
-use dyadic::Dyadic;
 use expr_dag::{Dag, Node};
 use facts::{Fact, Slot};
 use interval::Interval;
@@ -57,21 +54,11 @@ pub fn rule_10(dag: &Dag, premises: &[Fact], target: Slot) -> Option<Fact>
     match (*first, target) {
         (Fact::Nzr(x), Slot::Bnd(e)) => {
             if dag.is_at(e, Node::Div(x, x)) {
-                Some(Fact::Bnd(e, one()))
+                Some(Fact::Bnd(e, Interval::one()))
             } else {
                 None
             }
         }
         _ => None,
-    }
-}
-
-// 1 alone.
-fn one() -> Interval
-    ensures { result ≡ point_of one_ℚ }
-{
-    match Dyadic::new(1, 0) {
-        Some(one) => Interval::point(one),
-        None => Interval::whole(),
     }
 }

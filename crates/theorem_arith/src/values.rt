@@ -2,13 +2,12 @@
 ghost use Rattle.std.specs.Prelude.{◌≡◌};
 ghost use Rattle.std.specs.Prelude.{slice_get};
 ghost use Rattle.dyadic.specs.Ends.{bound_of};
-ghost use Rattle.fx_model.specs.Grid.{neg_bound};
 ghost use Rattle.theorem_arith.specs.Sizes.{size_rule, around, value_rule, is_less, is_above, is_below, signed_fact, sign_rule, absolute_value_rule, abs_or_void, void_if_none, is_absolute_value, size_of_value_rule};
 
 use dyadic::End;
 use expr_dag::{Dag, ExprId, Node};
 use facts::{Fact, Size, Slot};
-use interval::Interval;
+use interval::{Interval, opposite};
 
 /// From BND(x, I): ABS(x, abs I) (Gappa: `abs_of_bnd`).
 pub fn rule_11(dag: &Dag, premises: &[Fact], target: Slot) -> Option<Fact>
@@ -98,17 +97,6 @@ fn is_less(a: End, b: End) -> bool
     ensures { result ≡ is_less (bound_of a) (bound_of b) }
 {
     !b.is_at_most(a)
-}
-
-// The end on the other side of 0.
-fn opposite(end: End) -> End
-    ensures { bound_of result ≡ neg_bound (bound_of end) }
-{
-    match end {
-        End::Low => End::High,
-        End::At(number) => End::At(number.neg()),
-        End::High => End::Low,
-    }
 }
 
 // Whether the lower end of I is above -p.

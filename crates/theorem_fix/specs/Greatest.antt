@@ -8,7 +8,7 @@ use Rattle.fx_model.specs.Rounded.{rounded}
 use Rattle.fx_model.specs.declared.Direction.TheVariants.{Dn}
 use Rattle.rounding.specs.Rounded.{rounded_multiple, rounded-multiple}
 use Rattle.facts.specs.declared.place.Place.{Place}
-use Rattle.theorem_fix.specs.Places.{place_from, place_from_out, place_from_self}
+use Rattle.facts.specs.Places.{place_from, place_from_out, place_from_self}
 use Rattle.theorem_fix.specs.Beside.{rounded_below}
 
 -- rounding it down to a multiple of 2^k changes nothing

@@ -27,7 +27,7 @@ use Rattle.facts.specs.Premises.{Gives, no_premises, one_bnd, one_fix, two_fix}
 use Rattle.rounding.specs.Places.{less, not_less}
 use Rattle.facts.specs.Conclusions.{fix_of, improves_fix, improves_given, improves_only}
 use Rattle.theorem_arith.specs.Shapes.{is_one}
-use Rattle.theorem_fix.specs.Places.{place_from-some, place_from_out, kept, sum_place, lesser_place}
+use Rattle.facts.specs.Places.{place_from-some, place_from_out, kept, sum_place, lesser_place}
 use Rattle.theorem_fix.specs.Shapes.{rounding_at}
 use Rattle.theorem_fix.specs.Multiples.{literal_multiple_rule, multiple_of_negation_rule, multiple_of_sum_rule, multiple_of_product_rule, rounded_multiple_rule, untouched, untouched_multiple_rule, number_place, point_place, number_multiple_rule}
 

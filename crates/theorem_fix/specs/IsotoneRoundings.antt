@@ -20,7 +20,7 @@ use Rattle.facts.specs.Laws.{IsStronger-refl}
 use Rattle.facts.specs.Promises.{IsIsotone}
 use Rattle.facts.specs.Premises.{Gives, one_bnd, one_fix}
 use Rattle.facts.specs.Conclusions.{improves_bnd}
-use Rattle.theorem_fix.specs.Outward.{outward_of-within}
+use Rattle.interval.specs.Outward.{outward_of-within}
 use Rattle.theorem_fix.specs.Shapes.{rounding_at, error_rounding_at}
 use Rattle.theorem_fix.specs.Ranges.{rounded_range_ordered, rounded_range-within, error_range_ordered, zero_errors, multiple_errors-falls}
 use Rattle.theorem_fix.specs.Roundings.{rounded_range, rounded_interval, rounded_bound_rule, errors_of, error_rule, sign_by, sign_of, sided, signed_errors_of, signed_error_rule, multiple_error_rule}

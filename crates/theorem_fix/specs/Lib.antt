@@ -1,6 +1,4 @@
-pub mod Places
 pub mod Shapes
-pub mod Outward
 pub mod Beside
 pub mod Greatest
 pub mod Multiples

@@ -19,7 +19,7 @@ use Rattle.facts.specs.declared.fact.Fact.TheVariants as fact
 use Rattle.facts.specs.declared.fact.Slot.TheVariants as slot
 use Rattle.facts.specs.Conclusions.{fix_of, given_if, only_if}
 use Rattle.theorem_arith.specs.Shapes.{is_one}
-use Rattle.theorem_fix.specs.Places.{place_from, kept, sum_place, lesser_place}
+use Rattle.facts.specs.Places.{place_from, kept, sum_place, lesser_place}
 use Rattle.theorem_fix.specs.Greatest.{greatest_place}
 use Rattle.theorem_fix.specs.Shapes.{rounding_at}
 

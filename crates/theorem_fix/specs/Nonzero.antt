@@ -7,7 +7,7 @@ use Rattle.fx_model.specs.declared.Node.{Node}
 use Rattle.fx_model.specs.declared.Node.TheVariants as node
 use Rattle.interval.specs.Intervals.{range_of}
 use Rattle.interval.specs.Results.{has_zero}
-use Rattle.expr_dag.specs.Shapes.{is_at, is_known}
+use Rattle.expr_dag.specs.Shapes.{is_at, are_known}
 use Rattle.facts.specs.declared.relative.RelativeError.{RelativeError}
 use Rattle.facts.specs.declared.fact.Fact.{Fact}
 use Rattle.facts.specs.declared.fact.Slot.{Slot}
@@ -16,6 +16,7 @@ use Rattle.facts.specs.declared.fact.Slot.TheVariants as slot
 use Rattle.facts.specs.Order.{is_same}
 use Rattle.facts.specs.Ranges.{is_below}
 use Rattle.facts.specs.Conclusions.{given_if, only_if}
+use Rattle.facts.specs.RelativeConclusions.{void_only}
 use Rattle.theorem_arith.specs.Shapes.{is_one}
 
 -- 31: from BND(x, I), where 0 isn't in I: NZR(x)   (Gappa: `nzr_of_bnd`)
@@ -46,10 +47,6 @@ abbrev pub nonzero_negation_rule : List Node → List Fact → Slot → Option F
 nonzero_negation_rule nodes (fact.Nzr a ∷ []) (slot.Nzr e) = only_if (is_at nodes e (node.Neg a)) (fact.Nzr e)
 nonzero_negation_rule nodes _ _ = None
 
--- both are expressions of the list
-abbrev pub are_known : List Node → ExprId → ExprId → Bool
-are_known nodes x y = is_known nodes x && is_known nodes y
-
 -- z is one of x and y, and e the other
 abbrev pub are_sides : ExprId → ExprId → ExprId → ExprId → Bool
 are_sides x y z e = (is_same z x && is_same e y) || (is_same z y && is_same e x)
@@ -59,12 +56,8 @@ abbrev pub nonzero_or_void : ExprId → Option RelativeError → Fact
 nonzero_or_void e (Some d) = fact.Nzr e
 nonzero_or_void e None = fact.Void
 
-abbrev pub void_of : Option RelativeError → Option Fact
-void_of (Some d) = None
-void_of None = Some fact.Void
-
 -- 36: from REL(x, y, I), NZR of one of x, y: NZR of the other; VOID where I is `none`   (`nzr_of_nzr_rel`, `nzr_of_nzr_rel_rev`)
 abbrev pub nonzero_side_rule : List Node → List Fact → Slot → Option Fact
 nonzero_side_rule nodes (fact.Rel x y d ∷ fact.Nzr z ∷ []) (slot.Nzr e) = only_if (are_known nodes x y && are_sides x y z e) (nonzero_or_void e d)
-nonzero_side_rule nodes (fact.Rel x y d ∷ fact.Nzr z ∷ []) slot.Void = given_if (are_known nodes x y && (is_same z x || is_same z y)) (void_of d)
+nonzero_side_rule nodes (fact.Rel x y d ∷ fact.Nzr z ∷ []) slot.Void = given_if (are_known nodes x y && (is_same z x || is_same z y)) (void_only (Some (nonzero_or_void z d)))
 nonzero_side_rule nodes _ _ = None

@@ -8,7 +8,7 @@ use Rattle.fx_model.specs.declared.Node.TheVariants as node
 use Rattle.interval.specs.declared.interval.Interval.{Interval}
 use Rattle.interval.specs.Intervals.{range_of}
 use Rattle.interval.specs.Results.{has_zero}
-use Rattle.expr_dag.specs.Shapes.{is_at}
+use Rattle.expr_dag.specs.Shapes.{is_at, are_known}
 use Rattle.rounding.specs.declared.sign.Sign.TheVariants.{Unknown}
 use Rattle.facts.specs.declared.relative.RelativeError.{RelativeError}
 use Rattle.facts.specs.declared.fact.Fact.TheVariants as fact
@@ -17,11 +17,12 @@ use Rattle.facts.specs.Order.{slot_of, is_same}
 use Rattle.facts.specs.Ranges.{is_below}
 use Rattle.facts.specs.Promises.{IsOnTarget}
 use Rattle.facts.specs.Conclusions.{StandsOn, bnd_of, bnd_stands, fact_stands, fix_of, fix_stands, given_stands, only_stands}
+use Rattle.facts.specs.RelativeConclusions.{void_only, void_only_stands}
 use Rattle.theorem_arith.specs.Shapes.{is_one}
-use Rattle.theorem_fix.specs.Places.{lesser_place, sum_place}
+use Rattle.facts.specs.Places.{lesser_place, sum_place}
 use Rattle.theorem_fix.specs.Shapes.{rounding_at, error_rounding_at}
 use Rattle.theorem_fix.specs.Multiples.{literal_place, literal_multiple_rule, multiple_of_negation_rule, multiple_of_sum_rule, multiple_of_product_rule, last_place, rounded_multiple_rule, untouched, untouched_multiple_rule, point_place, number_multiple_rule}
-use Rattle.theorem_fix.specs.Nonzero.{nonzero_bound_rule, nonzero_size_rule, nonzero_binary_rule, nonzero_product_rule, nonzero_quotient_rule, nonzero_negation_rule, are_known, are_sides, nonzero_or_void, void_of, nonzero_side_rule}
+use Rattle.theorem_fix.specs.Nonzero.{nonzero_bound_rule, nonzero_size_rule, nonzero_binary_rule, nonzero_product_rule, nonzero_quotient_rule, nonzero_negation_rule, are_sides, nonzero_or_void, nonzero_side_rule}
 use Rattle.theorem_fix.specs.Roundings.{rounded_interval, rounded_bound_rule, errors_of, error_rule, sign_of, signed_errors_of, signed_error_rule, multiple_error_rule}
 use Rattle.theorem_fix.specs.Shrunk.{shrunk_of, shrinking_rule, void_without, no_multiple_rule}
 
@@ -85,15 +86,11 @@ nonzero_or_void_stands : (x : ExprId) (d : Option RelativeError) → (slot_of (n
 nonzero_or_void_stands x (Some d) = inl refl
 nonzero_or_void_stands x None = inr refl
 
-void_stands : (d : Option RelativeError) → StandsOn slot.Void (void_of d)
-void_stands (Some d) f e = cc
-void_stands None f e = fact_stands slot.Void fact.Void (inr refl) f e
-
 pub nonzero_side_rule-target : IsOnTarget nonzero_side_rule
 nonzero_side_rule-target nodes (fact.Rel x y d ∷ fact.Nzr z ∷ []) (slot.Nzr e) f q =
     only_stands (slot.Nzr e) (are_known nodes x y && are_sides x y z e) (nonzero_or_void e d) (nonzero_or_void_stands e d) f q
 nonzero_side_rule-target nodes (fact.Rel x y d ∷ fact.Nzr z ∷ []) slot.Void f q =
-    given_stands slot.Void (are_known nodes x y && (is_same z x || is_same z y)) (void_of d) (void_stands d) f q
+    given_stands slot.Void (are_known nodes x y && (is_same z x || is_same z y)) (void_only (Some (nonzero_or_void z d))) (void_only_stands (Some (nonzero_or_void z d))) f q
 nonzero_side_rule-target nodes _ _ f q = cc
 
 -- ---- roundings

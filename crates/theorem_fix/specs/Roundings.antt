@@ -20,7 +20,7 @@ use Rattle.facts.specs.declared.fact.Slot.{Slot}
 use Rattle.facts.specs.declared.fact.Fact.TheVariants as fact
 use Rattle.facts.specs.declared.fact.Slot.TheVariants as slot
 use Rattle.facts.specs.Conclusions.{bnd_of}
-use Rattle.theorem_fix.specs.Outward.{outward_of}
+use Rattle.interval.specs.Outward.{outward_of}
 use Rattle.theorem_fix.specs.Shapes.{rounding_at, error_rounding_at}
 
 -- ---- rounded values

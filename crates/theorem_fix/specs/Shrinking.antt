@@ -19,10 +19,9 @@ use Rattle.facts.specs.Order.{IsWithin, is_same}
 use Rattle.facts.specs.Promises.{IsSound, IsIsotone, EachStronger}
 use Rattle.facts.specs.Premises.{Gives, strong_bnd, first_premise, one_fix}
 use Rattle.facts.specs.Conclusions.{bnd_of, given, given_if, improves_bnd, improves_given}
-use Rattle.theorem_arith.specs.Shapes.{is_one}
+use Rattle.theorem_arith.specs.Shapes.{is_one, one_same}
 use Rattle.theorem_fix.specs.EachRule.{IsIsotoneOrVoid}
-use Rattle.theorem_fix.specs.Outward.{outward_of_lies}
-use Rattle.theorem_fix.specs.SoundMultiples.{one_same}
+use Rattle.interval.specs.Outward.{outward_of_lies}
 use Rattle.theorem_fix.specs.SoundRoundings.{bnd_given}
 use Rattle.theorem_fix.specs.Shrunk.{shrunk_range, shrunk_of, shrinking_rule, void_without, no_multiple_rule}
 use Rattle.theorem_fix.specs.ShrunkRanges.{shrunk_ends, shrunk_some, shrunk_ordered, multiple_lies, shrunk_within}

@@ -14,7 +14,7 @@ use Rattle.facts.specs.declared.place.Place.{Place}
 use Rattle.facts.specs.Order.{is_same}
 use Rattle.facts.specs.Conclusions.{bnd_of, given_if}
 use Rattle.theorem_arith.specs.Shapes.{is_one}
-use Rattle.theorem_fix.specs.Outward.{outward_of}
+use Rattle.interval.specs.Outward.{outward_of}
 use Rattle.theorem_fix.specs.Roundings.{rounded_end}
 
 -- the lower end rounded up to a multiple of 2^k, the upper one down; infinite ends stay

@@ -20,7 +20,7 @@ use Rattle.rounding.specs.OnGrid.{rounded_on_grid}
 use Rattle.facts.specs.declared.place.Place.{Place}
 use Rattle.facts.specs.Order.{IsWithin}
 use Rattle.theorem_fix.specs.Beside.{rounded_below, rounded_above, multiple_below, multiple_above}
-use Rattle.theorem_fix.specs.Outward.{outward_of-some, low_end, high_end, low_bound_self, high_bound_self}
+use Rattle.interval.specs.Outward.{outward_of-some, low_end, high_end, low_bound_self, high_bound_self}
 use Rattle.theorem_fix.specs.Roundings.{rounded_end}
 use Rattle.theorem_fix.specs.Shrunk.{shrunk_range, shrunk_of}
 

@@ -2,7 +2,7 @@
 use Rattle.std.specs.Prelude.{◌≡◌, ◌⊎◌, ◌||◌, ℤ, pos, ◌≤ℤ◌, ◌+ℤ◌, ◌*ℤ◌, Bool, true, false, List, [], ◌∷◌, Option, Some, None, slice_get, if◌then◌else◌, refl}
 use Rattle.std.specs.Int.RustNames.{int_lt, unsigned_abs}
 use Rattle.std.specs.Option.{IsSomeAnd}
-use Rattle.std.proofs.Common.{sym, ap, subst, ◌∙◌, inl, inr, ⊎_elim, arith}
+use Rattle.std.proofs.Common.{sym, ap, subst, ◌∙◌, ⊎_elim, arith}
 use Rattle.std.proofs.lemmas.Int.{ints}
 use Rattle.std.proofs.lemmas.Bool.{eqb-true}
 use lib.IntN.{neg_ℤ}
@@ -30,7 +30,7 @@ use Rattle.facts.specs.declared.fact.Fact.{Fact}
 use Rattle.facts.specs.declared.fact.Fact.TheVariants as fact
 use Rattle.facts.specs.declared.fact.Slot.TheVariants as slot
 use Rattle.facts.specs.Holds.{Holds}
-use Rattle.facts.specs.CommonParts.{if-some, and_both, expr_same}
+use Rattle.facts.specs.CommonParts.{if-some, expr_same, or_out}
 use Rattle.facts.specs.Held.{multiple-lower, some-and}
 use Rattle.facts.specs.Order.{is_same}
 use Rattle.facts.specs.Promises.{IsSound}
@@ -39,8 +39,8 @@ use Rattle.rounding.specs.Rounded.{rounded_multiple, rounded-finer}
 use Rattle.rounding.specs.Places.{less, not_less}
 use Rattle.facts.specs.Conclusions.{fix_of, given}
 use Rattle.expr_dag.specs.Lifted.{at_node, lifted₁, lifted₂}
-use Rattle.theorem_arith.specs.Shapes.{is_one}
-use Rattle.theorem_fix.specs.Places.{place_from_out, kept, sum_place, lesser_place}
+use Rattle.theorem_arith.specs.Shapes.{is_one, one_same}
+use Rattle.facts.specs.Places.{place_from_out, kept, sum_place, lesser_place}
 use Rattle.theorem_fix.specs.Greatest.{greatest_place_out}
 use Rattle.theorem_fix.specs.Shapes.{rounding_of, rounding_at}
 use Rattle.theorem_fix.specs.Multiples.{literal_place, literal_multiple_rule, multiple_of_negation_rule, multiple_of_sum_rule, multiple_of_product_rule, last_place, rounded_multiple_rule, untouched, untouched_multiple_rule, is_zero, number_place, point_place, number_multiple_rule}
@@ -108,10 +108,6 @@ multiple_of_negation_rule-sound nodes (fact.Fix x k ∷ []) (slot.Fix e) f o q =
     (lifted₁ neg_ℚ (value nodes a x) (IsMultiple k.exponent) (IsMultiple k.exponent) (λ v m. multiple-neg k.exponent v m) h.0))
 multiple_of_negation_rule-sound nodes _ _ f o q = cc
 
-pub or_out : (b c : Bool) → (b || c) ≡ true → (b ≡ true) ⊎ (c ≡ true)
-or_out true c e = inl refl
-or_out false c e = inr e
-
 pub multiple_of_sum_rule-sound : IsSound multiple_of_sum_rule
 multiple_of_sum_rule-sound nodes (fact.Fix x k ∷ fact.Fix y n ∷ []) (slot.Fix e) f o q = λ a h.
     let p = lesser_place k n in
@@ -169,10 +165,6 @@ untouched_multiple_rule-sound nodes (fact.Fix x k ∷ []) (slot.Fix e) f o q = �
     (lifted₁ (rounded r.0.dir r.0.lsb) (value nodes a x) (IsMultiple k.exponent) (IsMultiple p.exponent)
     (λ v m. subst (λ (n : Place). IsMultiple n.exponent (rounded r.0.dir r.0.lsb v)) r.3 (subst (IsMultiple k.exponent) (sym (rounded-finer r.0.dir k.exponent r.0.lsb v r.2 m)) m)) h.0))
 untouched_multiple_rule-sound nodes _ _ f o q = cc
-
--- both are one expression
-pub one_same : (nodes : List Node) (x y : ExprId) → is_one nodes x y ≡ true → x ≡ y
-one_same nodes x y e = expr_same x y (and_both (is_same x y) _ e).0
 
 -- ---- one number
 no_size : (z : ℤ) → unsigned_abs z ≡ 0 → z ≡ pos 0

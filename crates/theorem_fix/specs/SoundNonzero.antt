@@ -2,33 +2,33 @@
 use Rattle.std.specs.Prelude.{◌≡◌, ◌≢◌, ◌⊎◌, ◌&&◌, ◌||◌, not, Bool, true, false, List, [], ◌∷◌, Option, Some, None}
 use Rattle.std.specs.Option.{IsSomeAnd}
 use Rattle.std.proofs.Common.{sym, ap, subst, ◌∙◌, inl, inr, ⊎_elim}
-use Rattle.fx_model.specs.Fraction.{Fraction, ◌*ℚ◌, ◌-ℚ◌, ◌/ℚ◌, neg_ℚ, abs_ℚ, zero_ℚ, one_ℚ, inverse_ℚ, abs-from, le_refl, lt_not, mul_comm, mul_assoc, mul-inverse, one-mul, zero-mul, zero-add, neg-neg, add-neg, div-mul}
+use Rattle.fx_model.specs.Fraction.{Fraction, ◌*ℚ◌, ◌/ℚ◌, neg_ℚ, abs_ℚ, zero_ℚ, one_ℚ, inverse_ℚ, abs-from, le_refl, lt_not, mul_comm, mul_assoc, mul-inverse, one-mul, zero-mul, zero-add, neg-neg, add-neg, div-mul}
 use Rattle.fx_model.specs.Grid.{Bound, Below, At, Above}
-use Rattle.fx_model.specs.Enclosure.{IsFrom, IsUpTo, Lies, BoundLe}
+use Rattle.fx_model.specs.Enclosure.{IsFrom, Lies}
 use Rattle.fx_model.specs.Expression.{Assignment, value}
 use Rattle.fx_model.specs.declared.ExprId.{ExprId}
 use Rattle.fx_model.specs.declared.Node.{Node}
 use Rattle.fx_model.specs.declared.Node.TheVariants as node
-use Rattle.dyadic.specs.Order.{le_bound}
-use Rattle.dyadic.specs.Compared.{BoundLe_out}
 use Rattle.interval.specs.Intervals.{range_of}
 use Rattle.interval.specs.Results.{has_zero}
-use Rattle.expr_dag.specs.Shapes.{is_at}
+use Rattle.expr_dag.specs.Shapes.{is_at, are_known}
 use Rattle.facts.specs.declared.relative.RelativeError.{RelativeError}
 use Rattle.facts.specs.declared.fact.Fact.{Fact}
 use Rattle.facts.specs.declared.fact.Fact.TheVariants as fact
 use Rattle.facts.specs.declared.fact.Slot.TheVariants as slot
 use Rattle.facts.specs.Holds.{AreZero, IsRelated, Holds}
-use Rattle.facts.specs.CommonParts.{if-some, and_both, expr_same}
+use Rattle.facts.specs.CommonParts.{if-some, and_both, or_out, expr_same}
 use Rattle.facts.specs.Held.{some-and}
 use Rattle.facts.specs.Order.{is_same}
 use Rattle.facts.specs.Ranges.{IsBelow, is_below, is_below_in}
 use Rattle.facts.specs.Promises.{IsSound}
 use Rattle.facts.specs.Conclusions.{given}
+use Rattle.facts.specs.RelativeConclusions.{void_only}
+use Rattle.facts.specs.RelatedZeros.{first_nonzero, second_nonzero}
+use Rattle.interval.specs.Members.{zero_test}
 use Rattle.expr_dag.specs.Lifted.{at_node, lifted_quotient, lifted₁, lifted₂}
-use Rattle.theorem_arith.specs.Shapes.{is_one}
-use Rattle.theorem_fix.specs.SoundMultiples.{one_same, or_out}
-use Rattle.theorem_fix.specs.Nonzero.{nonzero_bound_rule, nonzero_size_rule, nonzero_product_rule, nonzero_quotient_rule, nonzero_negation_rule, are_known, are_sides, nonzero_or_void, void_of, nonzero_side_rule}
+use Rattle.theorem_arith.specs.Shapes.{is_one, one_same}
+use Rattle.theorem_fix.specs.Nonzero.{nonzero_bound_rule, nonzero_size_rule, nonzero_product_rule, nonzero_quotient_rule, nonzero_negation_rule, are_sides, nonzero_or_void, nonzero_side_rule}
 
 -- the value isn't 0
 abbrev IsNonzero : Fraction → Type 0
@@ -48,19 +48,6 @@ nonzero-neg : (x : Fraction) → IsNonzero x → IsNonzero (neg_ℚ x)
 nonzero-neg x n e = n (sym (neg-neg x) ∙ ap neg_ℚ e ∙ neg_zero)
 
 -- ---- from intervals
-zero_in : (b c : Bound) → IsFrom b zero_ℚ → IsUpTo c zero_ℚ → (le_bound b (At zero_ℚ) && le_bound (At zero_ℚ) c) ≡ true
-zero_in b c p q = rw (BoundLe_out b (At zero_ℚ) (from_le b p)) (BoundLe_out (At zero_ℚ) c (to_le c q))
-  where
-    from_le : (b : Bound) → IsFrom b zero_ℚ → BoundLe b (At zero_ℚ)
-    from_le Below p = tt
-    from_le (At g) p = p
-    from_le Above p = p
-
-    to_le : (c : Bound) → IsUpTo c zero_ℚ → BoundLe (At zero_ℚ) c
-    to_le Below q = q
-    to_le (At g) q = q
-    to_le Above q = tt
-
 both_ways : (b : Bool) → not b ≡ true → b ≡ true → ⊥
 both_ways true m e = cc
 both_ways false m e = cc
@@ -70,7 +57,7 @@ nonzero_bound_rule-sound nodes (fact.Bnd x i ∷ []) (slot.Nzr e) f o q = λ a h
     let t = if-some (is_one nodes x e && not (has_zero (range_of i))) (fact.Nzr e) f q in
     let b = and_both (is_one nodes x e) (not (has_zero (range_of i))) t.0 in
     subst (Holds nodes a) t.1 (subst (λ z. IsSomeAnd (value nodes a z) IsNonzero) (one_same nodes x e b.0)
-    (some-and (value nodes a x) (Lies (range_of i)) IsNonzero (λ v l z. let k = subst (Lies (range_of i)) z l in both_ways (has_zero (range_of i)) b.1 (zero_in (range_of i).low (range_of i).high k.0 k.1)) h.0))
+    (some-and (value nodes a x) (Lies (range_of i)) IsNonzero (λ v l z. both_ways (has_zero (range_of i)) b.1 (zero_test i (subst (Lies (range_of i)) z l))) h.0))
 nonzero_bound_rule-sound nodes _ _ f o q = cc
 
 above_zero : (b : Bound) → IsBelow zero_ℚ b → IsFrom b zero_ℚ → ⊥
@@ -112,22 +99,6 @@ nonzero_negation_rule-sound nodes (fact.Nzr x ∷ []) (slot.Nzr e) f o q = λ a 
 nonzero_negation_rule-sound nodes _ _ f o q = cc
 
 -- ---- from a relative error
--- 0 / y - 1 is -1, below each relative error
-related_nonzero : (d : RelativeError) (y : Fraction) → Lies (range_of d.interval) ((zero_ℚ /ℚ y) -ℚ one_ℚ) → ⊥
-related_nonzero d y l = below (range_of d.interval).low d.above_minus_one (subst (IsFrom (range_of d.interval).low) (ap (λ z. z -ℚ one_ℚ) (zero-mul (inverse_ℚ y)) ∙ zero-add (neg_ℚ one_ℚ)) l.0)
-  where
-    below : (b : Bound) → IsBelow (neg_ℚ one_ℚ) b → IsFrom b (neg_ℚ one_ℚ) → ⊥
-    below Below m p = m
-    below (At g) m p = lt_not (neg_ℚ one_ℚ) g m p
-    below Above m p = p
-
--- where one of two related values isn't 0, the other isn't
-second_nonzero : (d : RelativeError) (x y : Fraction) → IsRelated d.interval x y → IsNonzero x → IsNonzero y
-second_nonzero d x y r n = ⊎_elim (λ z. absurd (n z.0)) (λ s. s.0) r
-
-first_nonzero : (d : RelativeError) (x y : Fraction) → IsRelated d.interval x y → IsNonzero y → IsNonzero x
-first_nonzero d x y r n = ⊎_elim (λ z. absurd (n z.1)) (λ s e. related_nonzero d y (subst (λ z. Lies (range_of d.interval) ((z /ℚ y) -ℚ one_ℚ)) e s.1)) r
-
 -- what holds of both values of a pair
 pair_first : (u v : Option Fraction) (R : Fraction → Fraction → Type 0) (P Q : Fraction → Type 0) → ((x y : Fraction) → R x y → P y → Q x) → IsSomeAnd u (λ x. IsSomeAnd v (R x)) → IsSomeAnd v P → IsSomeAnd u Q
 pair_first None v R P Q h r p = r
@@ -161,7 +132,8 @@ other_holds nodes a x y z e d s r n = ⊎_elim
     subst (λ w. Holds nodes a (nonzero_or_void w d)) (sym (expr_same e x b.1)) (first_holds nodes a x y d r (subst (λ w. IsSomeAnd (value nodes a w) IsNonzero) (expr_same z y b.0) n)))
     (or_out (is_same z x && is_same e y) (is_same z y && is_same e x) s)
 
-nothing_holds : (nodes : List Node) (a : Assignment) (x y z : ExprId) (d : Option RelativeError) (f : Fact) → (is_same z x || is_same z y) ≡ true → void_of d ≡ Some f → Holds nodes a (fact.Rel x y d) → IsSomeAnd (value nodes a z) IsNonzero → Holds nodes a f
+-- VOID is said of either side
+nothing_holds : (nodes : List Node) (a : Assignment) (x y z : ExprId) (d : Option RelativeError) (f : Fact) → (is_same z x || is_same z y) ≡ true → void_only (Some (nonzero_or_void z d)) ≡ Some f → Holds nodes a (fact.Rel x y d) → IsSomeAnd (value nodes a z) IsNonzero → Holds nodes a f
 nothing_holds nodes a x y z None f s q r n = absurd (no_pair (value nodes a x) (value nodes a y) r (⊎_elim
     (λ t. inl (subst (λ w. IsSomeAnd (value nodes a w) IsNonzero) (expr_same z x t) n))
     (λ t. inr (subst (λ w. IsSomeAnd (value nodes a w) IsNonzero) (expr_same z y t) n))
@@ -173,6 +145,6 @@ nonzero_side_rule-sound nodes (fact.Rel x y d ∷ fact.Nzr z ∷ []) (slot.Nzr e
     let t = if-some (are_known nodes x y && are_sides x y z e) (nonzero_or_void e d) f q in
     subst (Holds nodes a) t.1 (other_holds nodes a x y z e d (and_both (are_known nodes x y) (are_sides x y z e) t.0).1 h.0 h.1.0)
 nonzero_side_rule-sound nodes (fact.Rel x y d ∷ fact.Nzr z ∷ []) slot.Void f o q = λ a h.
-    let t = given (are_known nodes x y && (is_same z x || is_same z y)) (void_of d) f q in
+    let t = given (are_known nodes x y && (is_same z x || is_same z y)) (void_only (Some (nonzero_or_void z d))) f q in
     nothing_holds nodes a x y z d f (and_both (are_known nodes x y) (is_same z x || is_same z y) t.0).1 t.1 h.0 h.1.0
 nonzero_side_rule-sound nodes _ _ f o q = cc

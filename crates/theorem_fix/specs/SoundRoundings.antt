@@ -32,7 +32,7 @@ use Rattle.facts.specs.CommonParts.{if-some, expr_same}
 use Rattle.facts.specs.Order.{is_same}
 use Rattle.facts.specs.Promises.{IsSound}
 use Rattle.facts.specs.Conclusions.{bnd_of, given}
-use Rattle.theorem_fix.specs.Outward.{outward_of_lies}
+use Rattle.interval.specs.Outward.{outward_of_lies}
 use Rattle.theorem_fix.specs.Shapes.{rounding_at, error_rounding_of, error_rounding_at}
 use Rattle.theorem_fix.specs.SoundMultiples.{at_rounding, rounding_of_out}
 use Rattle.theorem_fix.specs.Roundings.{rounded_end, rounded_range, rounded_interval, rounded_bound_rule, errors_of, error_rule, sign_by, sign_of, is_sided, sided, signed_errors_of, signed_error_rule, multiple_error_rule}

@@ -1,7 +1,6 @@
 //! Rules on multiples of powers of two, on values other than 0 and on roundings: numbers 21 to 28, 31 to 36, 41 to 44 and 90 of the list.
 #![tactic(auto)]
 
-mod ends;
 mod laws;
 mod multiples;
 mod nonzero;

@@ -5,7 +5,7 @@ ghost use Rattle.literal.specs.Normal.{IsNormal};
 ghost use Rattle.theorem_fix.specs.Greatest.{greatest_place};
 ghost use Rattle.theorem_fix.specs.Multiples.{literal_place, literal_multiple_rule, multiple_of_negation_rule, multiple_of_sum_rule, multiple_of_product_rule, last_place, rounded_multiple_rule, untouched, untouched_multiple_rule, number_place, point_place, number_multiple_rule};
 
-use crate::places::{keep, lesser, place, product_place};
+use crate::places::{keep, lesser, product_place};
 use crate::shape::rounding;
 use dyadic::{Dyadic, End};
 use expr_dag::{Dag, ExprId, Literal, Node, Rounding};
@@ -37,7 +37,7 @@ fn of_literal(literal: &Literal) -> Option<Place>
     ensures { result ≡ greatest_place (literal_value literal.now) }
 {
     match fix_of(literal) {
-        Some(k) => place(k as i16),
+        Some(k) => Place::new(k as i16),
         None => None,
     }
 }
@@ -116,7 +116,7 @@ fn lsb(rounding: Option<Rounding>) -> Option<Place>
     ensures { result ≡ last_place rounding }
 {
     match rounding {
-        Some(r) => place(r.lsb),
+        Some(r) => Place::new(r.lsb),
         None => None,
     }
 }

@@ -1,14 +1,10 @@
 // Values other than 0.
 ghost use Rattle.std.specs.Prelude.{◌≡◌};
 ghost use Rattle.fx_model.specs.Fraction.{zero_ℚ};
-ghost use Rattle.dyadic.specs.Ends.{bound_of};
 ghost use Rattle.interval.specs.Intervals.{range_of};
-ghost use Rattle.interval.specs.Results.{has_zero};
 ghost use Rattle.facts.specs.Ranges.{is_below};
-ghost use Rattle.theorem_fix.specs.Nonzero.{nonzero_bound_rule, nonzero_size_rule, nonzero_product_rule, nonzero_quotient_rule, nonzero_negation_rule, are_known, are_sides, nonzero_or_void, void_of, nonzero_side_rule};
+ghost use Rattle.theorem_fix.specs.Nonzero.{nonzero_bound_rule, nonzero_size_rule, nonzero_product_rule, nonzero_quotient_rule, nonzero_negation_rule, are_sides, nonzero_or_void, nonzero_side_rule};
 
-use crate::ends::{is_at_most, zero};
-use dyadic::End;
 use expr_dag::{Dag, ExprId, Node};
 use facts::{Fact, RelativeError, Slot};
 use interval::Interval;
@@ -22,7 +18,7 @@ pub fn rule_31(dag: &Dag, premises: &[Fact], target: Slot) -> Option<Fact>
     };
     match (*first, target) {
         (Fact::Bnd(x, i), Slot::Nzr(e)) => {
-            if x == e && dag.knows(x) && !holds_zero(i) {
+            if x == e && dag.knows(x) && !i.has_zero() {
                 Some(Fact::Nzr(e))
             } else {
                 None
@@ -41,7 +37,7 @@ pub fn rule_32(dag: &Dag, premises: &[Fact], target: Slot) -> Option<Fact>
     };
     match (*first, target) {
         (Fact::Abs(x, s), Slot::Nzr(e)) => {
-            if x == e && dag.knows(x) && is_positive(s.interval().lo()) {
+            if x == e && dag.knows(x) && is_positive(s.interval()) {
                 Some(Fact::Nzr(e))
             } else {
                 None
@@ -51,17 +47,11 @@ pub fn rule_32(dag: &Dag, premises: &[Fact], target: Slot) -> Option<Fact>
     }
 }
 
-fn holds_zero(range: Interval) -> bool
-    ensures { result ≡ has_zero (range_of range) }
+// Whether the interval is above 0.
+fn is_positive(range: Interval) -> bool
+    ensures { result ≡ is_below zero_ℚ (range_of range).low }
 {
-    is_at_most(range.lo(), zero()) && is_at_most(zero(), range.hi())
-}
-
-// Whether the end is above 0.
-fn is_positive(end: End) -> bool
-    ensures { result ≡ is_below zero_ℚ (bound_of end) }
-{
-    !is_at_most(end, zero())
+    range.is_positive()
 }
 
 /// From NZR(a), NZR(b): NZR(a * b) (Gappa: `mul_nzr`).
@@ -130,27 +120,21 @@ pub fn rule_36(dag: &Dag, premises: &[Fact], target: Slot) -> Option<Fact>
     };
     match (*first, *second, target) {
         (Fact::Rel(x, y, d), Fact::Nzr(z), Slot::Nzr(e)) => {
-            if are_known(dag, x, y) && are_sides(x, y, z, e) {
+            if dag.know_both(x, y) && are_sides(x, y, z, e) {
                 Some(nonzero_or_void(e, d))
             } else {
                 None
             }
         }
         (Fact::Rel(x, y, d), Fact::Nzr(z), Slot::Void) => {
-            if are_known(dag, x, y) && (z == x || z == y) {
-                void_of(d)
+            if dag.know_both(x, y) && (z == x || z == y) {
+                Fact::void_only(Some(nonzero_or_void(z, d)))
             } else {
                 None
             }
         }
         _ => None,
     }
-}
-
-fn are_known(dag: &Dag, x: ExprId, y: ExprId) -> bool
-    ensures { result ≡ are_known dag.now x y }
-{
-    x.0 < dag.len() && y.0 < dag.len()
 }
 
 // Whether z is one of x and y, and e the other.
@@ -166,14 +150,5 @@ fn nonzero_or_void(e: ExprId, error: Option<RelativeError>) -> Fact
     match error {
         Some(_) => Fact::Nzr(e),
         None => Fact::Void,
-    }
-}
-
-fn void_of(error: Option<RelativeError>) -> Option<Fact>
-    ensures { result ≡ void_of error }
-{
-    match error {
-        Some(_) => None,
-        None => Some(Fact::Void),
     }
 }

@@ -1,15 +1,8 @@
 // Exponents of multiples.
 ghost use Rattle.std.specs.Prelude.{◌≡◌, ◌≤ℤ◌, pos, negsuc};
-ghost use Rattle.theorem_fix.specs.Places.{place_from, kept, sum_place, lesser_place};
+ghost use Rattle.facts.specs.Places.{kept, sum_place, lesser_place};
 
 use facts::Place;
-
-// The exponent as that of a multiple. None where it is out of range.
-pub fn place(exponent: i16) -> Option<Place>
-    ensures { result ≡ place_from exponent }
-{
-    Place::new(exponent)
-}
 
 // The exponent, or 512 where it is above. None below -1024.
 pub fn keep(exponent: i32) -> Option<Place>
@@ -18,9 +11,9 @@ pub fn keep(exponent: i32) -> Option<Place>
     ensures { result ≡ kept exponent }
 {
     if 512 < exponent {
-        place(512)
+        Place::new(512)
     } else {
-        place(exponent as i16)
+        Place::new(exponent as i16)
     }
 }
 

@@ -1,14 +1,10 @@
 // Roundings and their errors.
 ghost use Rattle.std.specs.Prelude.{◌≡◌, ◌≤ℤ◌, pos, negsuc};
-ghost use Rattle.fx_model.specs.Fraction.{zero_ℚ};
-ghost use Rattle.fx_model.specs.Grid as grid;
 ghost use Rattle.dyadic.specs.Ends.{bound_of};
-ghost use Rattle.dyadic.specs.Order.{le_bound};
 ghost use Rattle.interval.specs.Intervals.{range_of};
 ghost use Rattle.theorem_fix.specs.Shapes.{IsInLimits};
 ghost use Rattle.theorem_fix.specs.Roundings.{rounded_end, rounded_interval, rounded_bound_rule, errors_of, error_rule, sign_of, is_sided, signed_errors_of, signed_error_rule, multiple_error_rule};
 
-use crate::ends::{is_at_most, zero};
 use crate::shape::{error_rounding, rounding};
 use dyadic::End;
 use expr_dag::{Dag, Direction, Rounding};
@@ -96,7 +92,7 @@ pub fn rule_43(dag: &Dag, premises: &[Fact], target: Slot) -> Option<Fact>
 fn sign(i: Interval) -> Sign
     ensures { result ≡ sign_of (range_of i) }
 {
-    match (is_at_most(zero(), i.lo()), is_at_most(i.hi(), zero())) {
+    match (i.is_not_negative(), i.is_not_positive()) {
         (true, true) => Sign::Zero,
         (true, false) => Sign::NotNegative,
         (false, true) => Sign::NotPositive,

@@ -4,7 +4,7 @@ use Rattle.std.proofs.lemmas.Int.{ints}
 use Rattle.fx_model.specs.Expression.{literal_value}
 use Rattle.fx_model.specs.declared.Literal.{Literal}
 use Rattle.literal.specs.Normal.{IsFix}
-use Rattle.theorem_fix.specs.Places.{place_from, place_from-some}
+use Rattle.facts.specs.Places.{place_from, place_from-some}
 use Rattle.theorem_fix.specs.Greatest.{greatest_place, greatest_place-is, greatest_place-none}
 use Rattle.theorem_fix.proofs.multiples.of_literal.Goals as goal
 
@@ -14,7 +14,7 @@ placed k j l e f =
     ∙ sym (greatest_place-is (literal_value l) (record { exponent = k; lowest = f.within.0; highest = f.within.1 }) f.multiple f.greatest)
 
 pub returns-in-Some : goal.returns-in-Some
-returns-in-Some c = let w = c.in-Some.ensures.greatest.within in c.place.ensures ∙ placed c.in-Some.k _ c.args.literal.now (omega (arith, ints, w.0, w.1)) c.in-Some.ensures.greatest
+returns-in-Some c = let w = c.in-Some.ensures.greatest.within in c.new.ensures.is ∙ placed c.in-Some.k _ c.args.literal.now (omega (arith, ints, w.0, w.1)) c.in-Some.ensures.greatest
 
 pub returns-in-None : goal.returns-in-None
 returns-in-None c = sym (greatest_place-none (literal_value c.args.literal.now) (c.in-None.ensures.none.0 refl))

@@ -1,9 +1,9 @@
 use Rattle.std.specs.Prelude.{◌≡◌, not, refl}
-use Rattle.std.proofs.Common.{ap, ◌∙◌}
+use Rattle.std.proofs.Common.{◌∙◌}
 use Rattle.fx_model.specs.Fraction.{Fraction, zero_ℚ}
 use Rattle.fx_model.specs.Grid.{Bound, Below, At, Above}
 use Rattle.dyadic.specs.Order.{le_bound}
-use Rattle.dyadic.specs.Ends.{bound_of}
+use Rattle.interval.specs.Intervals.{range_of}
 use Rattle.facts.specs.Ranges.{is_below}
 use Rattle.theorem_fix.proofs.nonzero.is_positive.Goals as goal
 
@@ -13,4 +13,4 @@ not_at_most x (At g) = refl
 not_at_most x Above = refl
 
 pub returns : goal.returns
-returns c = ap not (c.is_at_most.ensures ∙ ap (le_bound (bound_of c.args.end)) c.zero.ensures) ∙ not_at_most zero_ℚ (bound_of c.args.end)
+returns c = c.is_positive.ensures ∙ not_at_most zero_ℚ (range_of c.args.range).low

@@ -9,7 +9,7 @@ use Rattle.interval.specs.declared.interval.Interval.{Interval}
 use Rattle.interval.specs.Intervals.{range_of, same_range}
 use Rattle.interval.specs.Meets.{are_ordered, are_ordered_in, are_ordered_out}
 use Rattle.interval.specs.Multiples.{IsEndUp, IsEndDown}
-use Rattle.interval.proofs.Shrunk.{some_multiple, shrunk_is}
+use Rattle.interval.specs.Shrunk.{some_multiple, shrunk_is}
 use Rattle.rounding.specs.Rounded.{rounded_multiple}
 use Rattle.facts.specs.declared.place.Place.{Place}
 use Rattle.theorem_fix.specs.Beside.{rounded_below, rounded_above, multiple_below, multiple_above}
