@@ -1,0 +1,261 @@
+// Relative errors of operations.
+ghost use Rattle.std.specs.Prelude.{◌≡◌, slice_get};
+ghost use Rattle.theorem_rel.specs.Operations.{joint, joint_fact, relative_product_rule, relative_chain_rule, less_one, over_one, ratio_fact, relative_quotient_rule, turned_fact, relative_turned_rule, relative_negation_rule, weighted, rel_or_void, sum_fact, is_share, relative_sum_rule};
+
+use crate::parts::error_within;
+use expr_dag::{Dag, ExprId, Node};
+use facts::{Fact, RelativeError, Slot};
+use interval::Interval;
+
+/// From REL(a, c, I), REL(b, d, K): REL(a * b, c * d, (I + K) + I * K); both are 0 where those of a premise are (Gappa: `mul_rr`).
+pub fn rule_56(dag: &Dag, premises: &[Fact], target: Slot) -> Option<Fact>
+    ensures concludes { result ≡ relative_product_rule dag.now premises.now target }
+{
+    let [first, second] = premises else {
+        return None;
+    };
+    match (*first, *second, target) {
+        (Fact::Rel(a, c, i), Fact::Rel(b, d, k), Slot::Rel(x, y)) => {
+            if dag.is_at(x, Node::Mul(a, b)) && dag.is_at(y, Node::Mul(c, d)) {
+                jointly(x, y, i, k)
+            } else {
+                None
+            }
+        }
+        _ => None,
+    }
+}
+
+// (I + K) + I * K.
+fn joint(i: Interval, k: Interval) -> Interval
+    ensures { result ≡ joint i k }
+{
+    i.add(k).add(i.mul(k))
+}
+
+fn jointly(
+    x: ExprId,
+    y: ExprId,
+    first: Option<RelativeError>,
+    second: Option<RelativeError>,
+) -> Option<Fact>
+    ensures { result ≡ joint_fact x y first second }
+{
+    match (first, second) {
+        (Some(i), Some(k)) => Fact::rel(
+            x,
+            y,
+            RelativeError::new(joint(i.interval(), k.interval())),
+        ),
+        _ => Some(Fact::Rel(x, y, None)),
+    }
+}
+
+/// From REL(a, b, I), REL(b, c, K): REL(a, c, (I + K) + I * K); both are 0 where those of a premise are (Gappa: `compose`).
+pub fn rule_58(dag: &Dag, premises: &[Fact], target: Slot) -> Option<Fact>
+    ensures concludes { result ≡ relative_chain_rule dag.now premises.now target }
+{
+    let [first, second] = premises else {
+        return None;
+    };
+    match (*first, *second, target) {
+        (Fact::Rel(a, b, i), Fact::Rel(m, c, k), Slot::Rel(x, y)) => {
+            let known = dag.know_both(a, b) && dag.know_both(m, c);
+            if known && m == b && a == x && c == y {
+                jointly(x, y, i, k)
+            } else {
+                None
+            }
+        }
+        _ => None,
+    }
+}
+
+/// From REL(a, c, I), REL(b, d, K), NZR(d): REL(a / b, c / d, ([1, 1] + I) / ([1, 1] + K) - [1, 1]), where 0 isn't in
+/// [1, 1] + K; VOID where b and d are both 0, else both are 0 where a and c are (Gappa: `div_rr`).
+pub fn rule_57(dag: &Dag, premises: &[Fact], target: Slot) -> Option<Fact>
+    ensures concludes { result ≡ relative_quotient_rule dag.now premises.now target }
+{
+    let [first, second, third] = premises else {
+        return None;
+    };
+    match (*first, *second, *third, target) {
+        (Fact::Rel(a, c, i), Fact::Rel(b, d, k), Fact::Nzr(z), Slot::Rel(x, y)) => {
+            let made = dag.is_at(x, Node::Div(a, b)) && dag.is_at(y, Node::Div(c, d));
+            if made && z == d {
+                ratio(x, y, i, k)
+            } else {
+                None
+            }
+        }
+        (Fact::Rel(a, c, i), Fact::Rel(b, d, k), Fact::Nzr(z), Slot::Void) => {
+            let known = dag.know_both(a, c) && dag.know_both(b, d);
+            if known && z == d {
+                Fact::void_only(ratio(a, c, i, k))
+            } else {
+                None
+            }
+        }
+        _ => None,
+    }
+}
+
+fn less_one(quotient: Option<Interval>) -> Option<Interval>
+    ensures { result ≡ less_one quotient }
+{
+    match quotient {
+        Some(q) => Some(q.sub(Interval::one())),
+        None => None,
+    }
+}
+
+// I / ([1, 1] + K) - [1, 1].
+fn over_one(i: Interval, k: RelativeError) -> Option<Interval>
+    ensures { result ≡ over_one i k }
+{
+    less_one(i.div(Interval::one().add(k.interval())))
+}
+
+fn ratio(
+    x: ExprId,
+    y: ExprId,
+    dividends: Option<RelativeError>,
+    divisors: Option<RelativeError>,
+) -> Option<Fact>
+    ensures { result ≡ ratio_fact x y dividends divisors }
+{
+    match (dividends, divisors) {
+        (_, None) => Some(Fact::Void),
+        (None, Some(_)) => Some(Fact::Rel(x, y, None)),
+        (Some(i), Some(k)) => Fact::rel(
+            x,
+            y,
+            error_within(over_one(Interval::one().add(i.interval()), k)),
+        ),
+    }
+}
+
+/// From REL(x, y, I): REL(y, x, [1, 1] / ([1, 1] + I) - [1, 1]), where 0 isn't in [1, 1] + I; both are 0 where they are.
+pub fn rule_59(dag: &Dag, premises: &[Fact], target: Slot) -> Option<Fact>
+    ensures concludes { result ≡ relative_turned_rule dag.now premises.now target }
+{
+    let [first] = premises else {
+        return None;
+    };
+    match (*first, target) {
+        (Fact::Rel(x, y, i), Slot::Rel(z, w)) => {
+            if dag.know_both(x, y) && y == z && x == w {
+                turned(z, w, i)
+            } else {
+                None
+            }
+        }
+        _ => None,
+    }
+}
+
+fn turned(x: ExprId, y: ExprId, error: Option<RelativeError>) -> Option<Fact>
+    ensures { result ≡ turned_fact x y error }
+{
+    match error {
+        Some(i) => Fact::rel(x, y, error_within(over_one(Interval::one(), i))),
+        None => Some(Fact::Rel(x, y, None)),
+    }
+}
+
+/// From REL(a, b, I): REL(-a, -b, I); both are 0 where they are.
+pub fn rule_60(dag: &Dag, premises: &[Fact], target: Slot) -> Option<Fact>
+    ensures concludes { result ≡ relative_negation_rule dag.now premises.now target }
+{
+    let [first] = premises else {
+        return None;
+    };
+    match (*first, target) {
+        (Fact::Rel(a, b, i), Slot::Rel(x, y)) => {
+            if dag.is_at(x, Node::Neg(a)) && dag.is_at(y, Node::Neg(b)) {
+                Some(Fact::Rel(x, y, i))
+            } else {
+                None
+            }
+        }
+        _ => None,
+    }
+}
+
+/// From REL(a, c, I), REL(b, d, K), BND(c / (c + d), L): REL(a + b, c + d, I * L + K * ([1, 1] - L)). Where a and c alone are
+/// both 0: REL with K if 0 is in L, else VOID. Where b and d alone are: REL with I if 1 is in L, else VOID. VOID where all are
+/// (Gappa: `add_rr`).
+pub fn rule_61(dag: &Dag, premises: &[Fact], target: Slot) -> Option<Fact>
+    ensures concludes { result ≡ relative_sum_rule dag.now premises.now target }
+{
+    let [first, second, third] = premises else {
+        return None;
+    };
+    match (*first, *second, *third, target) {
+        (Fact::Rel(a, c, i), Fact::Rel(b, d, k), Fact::Bnd(q, l), Slot::Rel(x, y)) => {
+            let made = dag.is_at(x, Node::Add(a, b)) && dag.is_at(y, Node::Add(c, d));
+            if made && dag.is_at(q, Node::Div(c, y)) {
+                sum(x, y, i, k, l)
+            } else {
+                None
+            }
+        }
+        (Fact::Rel(a, c, i), Fact::Rel(b, d, k), Fact::Bnd(q, l), Slot::Void) => {
+            let known = dag.know_both(a, c) && dag.know_both(b, d);
+            if known && is_share(dag, q, c, d) {
+                Fact::void_only(sum(a, c, i, k, l))
+            } else {
+                None
+            }
+        }
+        _ => None,
+    }
+}
+
+// Whether the expression is c / (c + d).
+fn is_share(dag: &Dag, q: ExprId, c: ExprId, d: ExprId) -> bool
+    ensures { result ≡ is_share dag.now (slice_get dag.now q.0) c d }
+{
+    match dag.get(q) {
+        Some(Node::Div(n, m)) => n == c && dag.is_at(m, Node::Add(c, d)),
+        _ => false,
+    }
+}
+
+// I * L + K * ([1, 1] - L).
+fn weighted(i: Interval, k: Interval, l: Interval) -> Interval
+    ensures { result ≡ weighted i k l }
+{
+    i.mul(l).add(k.mul(Interval::one().sub(l)))
+}
+
+fn rel_or_void(there: bool, x: ExprId, y: ExprId, error: RelativeError) -> Fact
+    ensures { result ≡ rel_or_void there x y error }
+{
+    if there {
+        Fact::Rel(x, y, Some(error))
+    } else {
+        Fact::Void
+    }
+}
+
+fn sum(
+    x: ExprId,
+    y: ExprId,
+    first: Option<RelativeError>,
+    second: Option<RelativeError>,
+    share: Interval,
+) -> Option<Fact>
+    ensures { result ≡ sum_fact x y first second share }
+{
+    match (first, second) {
+        (Some(i), Some(k)) => Fact::rel(
+            x,
+            y,
+            RelativeError::new(weighted(i.interval(), k.interval(), share)),
+        ),
+        (None, Some(k)) => Some(rel_or_void(share.has_zero(), x, y, k)),
+        (Some(i), None) => Some(rel_or_void(share.has_one(), x, y, i)),
+        (None, None) => Some(Fact::Void),
+    }
+}
