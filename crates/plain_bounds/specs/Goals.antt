@@ -5,9 +5,9 @@ use Rattle.interval.specs.declared.interval.Interval.{Interval}
 use Rattle.interval.specs.Intervals.{range_of}
 use Rattle.facts.specs.Order.{IsWithin}
 use Rattle.plain_bounds.specs.Plain.{enclosure_at}
-use Rattle.plain_bounds.specs.declared.goals.Want.{Want}
-use Rattle.plain_bounds.specs.declared.goals.Want.TheVariants.{Ask, Inside}
-use Rattle.plain_bounds.specs.declared.goals.Goal.{Goal}
+use Rattle.goals.specs.declared.goal.Want.{Want}
+use Rattle.goals.specs.declared.goal.Want.TheVariants.{Ask, Inside}
+use Rattle.plain_bounds.specs.declared.wanted.Goal.{Goal}
 
 -- The enclosure answers what is wanted: its ends are finite, or it lies inside the bounds.
 abbrev pub Meets : Want → Option Interval → Type 0

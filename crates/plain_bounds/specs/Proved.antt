@@ -13,9 +13,9 @@ use Rattle.facts.specs.Promises.{FollowsFrom}
 use Rattle.plain_bounds.specs.Plain.{plain, plain_at}
 use Rattle.plain_bounds.specs.Sound.{enclosures_hold}
 use Rattle.plain_bounds.specs.Goals.{Meets, IsProved}
-use Rattle.plain_bounds.specs.declared.goals.Want.{Want}
-use Rattle.plain_bounds.specs.declared.goals.Want.TheVariants.{Ask, Inside}
-use Rattle.plain_bounds.specs.declared.goals.Goal.{Goal}
+use Rattle.goals.specs.declared.goal.Want.{Want}
+use Rattle.goals.specs.declared.goal.Want.TheVariants.{Ask, Inside}
+use Rattle.plain_bounds.specs.declared.wanted.Goal.{Goal}
 
 -- From the hypotheses follow finite bounds on the expression, where they are asked for, and the given ones otherwise.
 abbrev pub Follows : List Node → List Fact → ExprId → Want → Type 0

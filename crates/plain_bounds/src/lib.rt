@@ -2,12 +2,12 @@
 #![tactic(auto)]
 
 mod given;
-mod goals;
 mod laws;
 mod nodes;
 #[cfg(test)]
 mod tests;
+mod wanted;
 
-pub use goals::{Goal, Want, first_unproved};
 pub use laws::{enclosures_are_isotone, enclosures_hold, proved_goals_follow};
 pub use nodes::{enclosure_at, enclosures};
+pub use wanted::{Goal, first_unproved};

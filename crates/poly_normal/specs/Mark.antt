@@ -60,3 +60,7 @@ Answers nodes a b TooLarge = PassesLimit nodes a b
 -- and atoms have whatever value they have.
 abbrev pub HaveEqualValues : List Node → ExprId → ExprId → Type 0
 HaveEqualValues nodes a b = (v : Assignment) (r s : Fraction) → value nodes v a ≡ Some r → value nodes v b ≡ Some s → r ≡ s
+
+-- Expressions of which the cross products are equal have equal values wherever both have one.
+abbrev pub EqualFormsHaveEqualValues : Type 0
+EqualFormsHaveEqualValues = (nodes : List Node) (a b : ExprId) → IsOrdered nodes → a.0 < length nodes → b.0 < length nodes → AreEqual nodes a b → HaveEqualValues nodes a b

@@ -2,7 +2,7 @@
 #![tactic(auto)]
 
 mod answer;
-pub mod arithmetic;
+mod arithmetic;
 mod forms;
 mod law;
 mod limited;
@@ -11,7 +11,7 @@ mod parts;
 mod sameness;
 mod shared;
 mod sides;
-pub mod terms;
+mod terms;
 #[cfg(test)]
 mod tests;
 

@@ -2,4 +2,4 @@ use Rattle.poly_normal.proofs.Quotients.{same_values}
 use Rattle.poly_normal.proofs.law.equal_forms_have_equal_values.Goals as goal
 
 pub returns : goal.returns
-returns c = same_values c.args.nodes.now c.args.a c.args.b c.requires.ordered c.requires.left c.requires.right
+returns c = same_values

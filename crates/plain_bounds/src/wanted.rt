@@ -7,16 +7,8 @@ ghost use Rattle.plain_bounds.specs.Goals.{Meets, IsProved, AreProved, IsFirstUn
 use crate::nodes::enclosure_at;
 use dyadic::End;
 use fx_model::ExprId;
+use goals::Want;
 use interval::Interval;
-
-/// What is wanted of an expression.
-#[derive(Clone, Copy, PartialEq, Eq, Debug)]
-pub enum Want {
-    /// Bounds are asked for.
-    Ask,
-    /// It must lie in these bounds; in none, where they cross.
-    Inside(Option<Interval>),
-}
 
 /// An expression, and what is wanted of it.
 #[derive(Clone, Copy, PartialEq, Eq, Debug)]
