@@ -3,14 +3,13 @@
 ghost use Rattle.std.specs.Prelude.{◌<◌};
 
 use crate::first::first_refusal;
-use crate::reading::reading_fault;
 use crate::refusal::{LimitKind, Refusal, RefusalKind};
 use std::alloc::{AllocError, Global};
 use std::test::Fail;
 
 #[test]
-fn faults(rt: HostRuntime) -> Result<(), Fail> {
-    let rows: [(&[u8], RefusalKind, u32); 13] = [
+fn refusals(rt: HostRuntime) -> Result<(), Fail> {
+    let rows: [(&[u8], RefusalKind, u32); 49] = [
         (b"", RefusalKind::Unexpected, 0),
         (b"{ x in [1,2", RefusalKind::Unexpected, 11),
         (b"{ x in [0,1] \\/ x in ? }", RefusalKind::FormulaForm, 13),
@@ -24,20 +23,6 @@ fn faults(rt: HostRuntime) -> Result<(), Fail> {
         (b"a = 1; b a= 2;", RefusalKind::Unexpected, 9),
         (b"@ name = in ;", RefusalKind::UnsupportedOperator, 9),
         (b"@q = int<not>;", RefusalKind::UnsupportedOperator, 9),
-    ];
-    for (text, kind, at) in rows {
-        assert_eq!(rt;
-            reading_fault(rt.alloc(), text)?,
-            Some(Refusal { kind, at }),
-            "{text:?}"
-        );
-    }
-    Ok(())
-}
-
-#[test]
-fn refusals(rt: HostRuntime) -> Result<(), Fail> {
-    let rows: [(&[u8], RefusalKind, u32); 16] = [
         (b"x = 1; x = 2; { x in ? }", RefusalKind::NameUsed, 7),
         (b"x = x + 1;", RefusalKind::NameUsed, 0),
         (b"x = x +", RefusalKind::NameUsed, 0),
@@ -82,20 +67,6 @@ fn refusals(rt: HostRuntime) -> Result<(), Fail> {
             RefusalKind::Limit(LimitKind::Splits),
             93,
         ),
-    ];
-    for (text, kind, at) in rows {
-        assert_eq!(rt;
-            first_refusal(rt.alloc(), text)?,
-            Some(Refusal { kind, at }),
-            "{text:?}"
-        );
-    }
-    Ok(())
-}
-
-#[test]
-fn bad_bounds(rt: HostRuntime) -> Result<(), Fail> {
-    let rows: [(&[u8], RefusalKind, u32); 8] = [
         (b"{ x in [2,1] -> x in ? }", RefusalKind::BadBound, 10),
         (b"{ x in [2,+1] -> x in ? }", RefusalKind::BadBound, 10),
         (b"{ x in [-1,-2", RefusalKind::BadBound, 11),
@@ -108,20 +79,6 @@ fn bad_bounds(rt: HostRuntime) -> Result<(), Fail> {
             13,
         ),
         (b"{ x -/ y in [0,-0.5] }", RefusalKind::BadBound, 15),
-    ];
-    for (text, kind, at) in rows {
-        assert_eq!(rt;
-            first_refusal(rt.alloc(), text)?,
-            Some(Refusal { kind, at }),
-            "{text:?}"
-        );
-    }
-    Ok(())
-}
-
-#[test]
-fn splits(rt: HostRuntime) -> Result<(), Fail> {
-    let rows: [(&[u8], RefusalKind, u32); 12] = [
         (b"{ x in ? } $ x;", RefusalKind::SplitRange, 13),
         (b"{ x in [0,1] } $ x;", RefusalKind::SplitRange, 17),
         (b"{ x in ? } x $ y;", RefusalKind::SplitRange, 15),
@@ -215,7 +172,7 @@ fn nested(alloc: Global, depth: usize) -> Result<Vec<u8>, AllocError> {
 }
 
 #[test]
-fn nesting(rt: HostRuntime) -> Result<(), Fail> {
+fn limits(rt: HostRuntime) -> Result<(), Fail> {
     let within = nested(rt.alloc(), 64)?;
     assert_eq!(rt; first_refusal(rt.alloc(), within.as_slice())?, None);
     let beyond = nested(rt.alloc(), 65)?;
@@ -227,11 +184,6 @@ fn nesting(rt: HostRuntime) -> Result<(), Fail> {
         first_refusal(rt.alloc(), beyond.as_slice())?,
         Some(refusal)
     );
-    Ok(())
-}
-
-#[test]
-fn many_bytes(rt: HostRuntime) -> Result<(), Fail> {
     let mut text = Vec::new(rt.alloc());
     text.extend_from_slice(b"{ ".as_slice())?;
     for _ in 0..1_048_574 {

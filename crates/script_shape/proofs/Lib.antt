@@ -7,5 +7,6 @@ pub mod RoleLaws
 pub mod Completions
 pub mod ShapeLaws
 pub mod Shaped
+pub mod AllShaped
 pub mod Next
 pub mod Once

@@ -49,3 +49,7 @@ AreRolesOf ws taken roles = (leaves : List Leaf) → HasRoles (take taken ws) le
 -- Words have one shape.
 abbrev pub ShapeIsUnique : Type 0
 ShapeIsUnique = (ws : List Word) (n m : ℕ) (a b : Bool) → IsShapeOf ws n a → IsShapeOf ws m b → (n ≡ m) × (a ≡ b)
+
+-- All words have a shape.
+abbrev pub ShapesExist : Type 0
+ShapesExist = (ws : List Word) → (n : ℕ) × (b : Bool) × IsShapeOf ws n b

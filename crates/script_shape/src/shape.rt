@@ -2,7 +2,7 @@
 
 ghost use Rattle.std.specs.Prelude.{◌≡◌, List, length, map, reverse, IfOk};
 ghost use Rattle.script_shape.specs.Shape as spec;
-ghost use Rattle.script_shape.specs.ShapeLaw.{ShapeIsExact, ShapeIsUnique, RolesAreUnique, Steps, IsShapeOf, AreRolesOf};
+ghost use Rattle.script_shape.specs.ShapeLaw.{ShapeIsExact, ShapeIsUnique, ShapesExist, RolesAreUnique, Steps, IsShapeOf, AreRolesOf};
 ghost use Rattle.script_shape.specs.Roles.{LeavesSpell, LeavesAreOfTrees};
 ghost use Rattle.script_shape.specs.Next as spec_next;
 ghost use Rattle.script_shape.specs.Next.{NextIsExact};
@@ -102,6 +102,11 @@ pub fn stack_is_exact()
 /// Words have one shape.
 pub fn shape_is_unique()
     ensures { ShapeIsUnique }
+{}
+
+/// Nothing is done. The clause tells a caller that all words have a shape.
+pub fn shapes_exist()
+    ensures { ShapesExist }
 {}
 
 /// Words have one list of roles.

@@ -1,3 +1,4 @@
 pub mod Lexing
 pub mod LexedOnce
+pub mod LexedAll
 pub mod Marked

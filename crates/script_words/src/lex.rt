@@ -4,7 +4,7 @@ ghost use Rattle.std.specs.Prelude.{◌≡◌, ◌≤◌, ◌<◌, ◌^◌, All,
 ghost use Rattle.script_words.specs.Literals as literals;
 ghost use Rattle.script_words.specs.Signs as signs;
 ghost use Rattle.script_words.specs.Lex as spec;
-ghost use Rattle.script_words.specs.Lex.{IsWithin, Lexes, LexesOnce};
+ghost use Rattle.script_words.specs.Lex.{IsWithin, Lexes, LexesOnce, LexesAll};
 
 use crate::class::Sign;
 use std::alloc::{AllocError, Global};
@@ -317,4 +317,9 @@ pub fn lex(alloc: Global, text: &[u8]) -> Result<Lexed, AllocError>
 /// A text has one list of tokens, and one byte at most that begins none.
 pub fn lexed_once()
     ensures { LexesOnce }
+{}
+
+/// Nothing is done. The clause tells a caller that each text has a list of tokens.
+pub fn lexed_all()
+    ensures { LexesAll }
 {}
