@@ -1,3 +1,4 @@
 mod Rounded
 mod Inside
 mod Needs
+mod Enough

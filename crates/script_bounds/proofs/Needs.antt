@@ -26,7 +26,7 @@ module _ (v : Fraction) where
   not_below Above g u o = (λ l. absurd l, λ l. u g o l)
 
   -- where the ends are apart, v isn't of the grid
-  apart : (b c : Bound) (g : Fraction) → IsDown v b → IsUp v c → le_bound c b ≡ false → IsOnGrid g → ¬ (g ≡ v)
+  pub apart : (b c : Bound) (g : Fraction) → IsDown v b → IsUp v c → le_bound c b ≡ false → IsOnGrid g → ¬ (g ≡ v)
   apart b c g d u t o e = not_both (le_bound c b) t (BoundLe_out c b (order b c d u))
     where
       not_both : (x : Bool) → x ≡ false → x ≡ true → ⊥
@@ -52,7 +52,7 @@ module _ (v : Fraction) where
   together a (At k) l u t = le_antisymm v a (le_trans v k a u.1 (record { le = t })) l
   together a Above l u t = absurd (let f : false ≡ true = t in let h : ⊥ = cc in h)
 
-  strictly : (x y : Fraction) → x ≤ℚ y → ¬ (x ≡ y) → x <ℚ y
+  pub strictly : (x y : Fraction) → x ≤ℚ y → ¬ (x ≡ y) → x <ℚ y
   strictly x y l n = lt_by x y (λ k. n (le_antisymm x y l k))
 
   below : (b c : Bound) (g : Fraction) → IsDown v b → IsUp v c → IsOnGrid g → IsUnder b (le_bound c b) g ↔ (g <ℚ v)

@@ -1,3 +1,4 @@
 pub mod Bounds
 pub mod Needs
+pub mod Sides
 pub mod Examples

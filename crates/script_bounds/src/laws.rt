@@ -9,6 +9,7 @@ ghost use Rattle.interval.specs.Intervals.{range_of};
 ghost use Rattle.literal_order.specs.Values.{written_value};
 ghost use Rattle.literal_order.specs.declared.written.Written.{Written};
 ghost use Rattle.script_bounds.specs.Bounds.{outward_of, inward_of};
+ghost use Rattle.script_bounds.specs.Sides.{UnderIsEnough, OverIsEnough};
 ghost use Rattle.script_bounds.specs.Needs.{IsUnder, IsOver, below_of, above_of};
 
 /// Nothing is done. The clause tells a caller that bounds in order have an interval, the least that holds each number
@@ -31,4 +32,10 @@ pub fn needs_are_exact()
     ensures not_above { (w : Written) (g : Fraction) → IsOnGrid g → IsUnder (bound_of (below_of w false).0) (below_of w false).1 g ↔ (g ≤ℚ written_value w) }
     ensures above { (w : Written) (g : Fraction) → IsOnGrid g → IsOver (bound_of (above_of w true).0) (above_of w true).1 g ↔ (written_value w <ℚ g) }
     ensures not_below { (w : Written) (g : Fraction) → IsOnGrid g → IsOver (bound_of (above_of w false).0) (above_of w false).1 g ↔ (written_value w ≤ℚ g) }
+{}
+
+/// Nothing is done. The clauses tell a caller that any number that is at most the end, or below it, is so to the written bound.
+pub fn needs_are_enough()
+    ensures below { UnderIsEnough }
+    ensures above { OverIsEnough }
 {}

@@ -8,6 +8,6 @@ mod need;
 mod tests;
 
 pub use bound::{inward, outward};
-pub use laws::{inward_is_greatest, needs_are_exact, outward_is_least};
+pub use laws::{inward_is_greatest, needs_are_enough, needs_are_exact, outward_is_least};
 pub use literal_order::Written;
 pub use need::{above, below};

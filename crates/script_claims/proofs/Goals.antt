@@ -12,8 +12,9 @@ use Rattle.facts.specs.Held.{some-and}
 use Rattle.script_bounds.specs.Bounds.{written_range, inward_of}
 use Rattle.script_claims.specs.declared.claim.Claim.{Claim}
 use Rattle.script_claims.specs.declared.claim.Claim.TheVariants.{Bounded, Asked, Relative, RelativeAsked, Multiple}
-use Rattle.plain_bounds.specs.declared.goals.Want.TheVariants.{Inside}
-use Rattle.script_claims.specs.Meets.{IsRelatedWithin, IsTrueAt, LiesAt, AreZeroAt}
+use Rattle.goals.specs.declared.goal.Want.TheVariants.{Inside}
+use Rattle.goals.specs.Lies.{LiesAt, AreZeroAt}
+use Rattle.script_claims.specs.Meets.{IsRelatedWithin, IsTrueAt}
 use Rattle.script_claims.specs.Facts.{want_of, slot_of}
 use Rattle.script_claims.proofs.Hypotheses.{both}
 

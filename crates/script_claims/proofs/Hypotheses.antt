@@ -22,7 +22,7 @@ use Rattle.facts.specs.CommonParts.{some-inj}
 use Rattle.facts.specs.Conclusions.{bnd_of, fix_of}
 use Rattle.facts.specs.Holds.{IsRelated, Holds}
 use Rattle.facts.specs.Held.{some-and}
-use Rattle.theorem_fix.specs.Places.{place_from, place_from-some, place_from_out}
+use Rattle.facts.specs.Places.{place_from, place_from-some, place_from_out}
 use Rattle.script_bounds.specs.Bounds.{down_end, up_end, written_range, outward_of}
 use Rattle.script_claims.specs.declared.claim.Claim.{Claim}
 use Rattle.script_claims.specs.declared.claim.Claim.TheVariants.{Bounded, Asked, Relative, RelativeAsked, Multiple}

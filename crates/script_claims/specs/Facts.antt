@@ -13,13 +13,13 @@ use Rattle.facts.specs.declared.fact.Slot.TheVariants as slot
 use Rattle.facts.specs.Parts.{error_of_part}
 use Rattle.facts.specs.Conclusions.{bnd_of, fix_of}
 use Rattle.facts.specs.Ranges.{IsBelow}
-use Rattle.theorem_fix.specs.Places.{IsPlace, place_from}
+use Rattle.facts.specs.Places.{IsPlace, place_from}
 use Rattle.literal_order.specs.Values.{IsWritten}
 use Rattle.script_bounds.specs.Bounds.{low_of, high_of, down_end, written_range, outward_of, inward_of}
 use Rattle.script_claims.specs.declared.claim.Claim.{Claim}
 use Rattle.script_claims.specs.declared.claim.Claim.TheVariants.{Bounded, Asked, Relative, RelativeAsked, Multiple}
-use Rattle.plain_bounds.specs.declared.goals.Want.{Want}
-use Rattle.plain_bounds.specs.declared.goals.Want.TheVariants.{Ask, Inside}
+use Rattle.goals.specs.declared.goal.Want.{Want}
+use Rattle.goals.specs.declared.goal.Want.TheVariants.{Ask, Inside}
 
 -- the bounds that are there have literals in normal form
 abbrev pub HasNormalBounds : Claim → Type 0

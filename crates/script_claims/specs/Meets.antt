@@ -6,19 +6,11 @@ use Rattle.fx_model.specs.Powers.{IsMultiple}
 use Rattle.fx_model.specs.Enclosure.{Range, Lies}
 use Rattle.fx_model.specs.Expression.{Assignment, value}
 use Rattle.fx_model.specs.declared.Node.{Node}
-use Rattle.fx_model.specs.declared.ExprId.{ExprId}
-use Rattle.interval.specs.declared.interval.Interval.{Interval}
-use Rattle.interval.specs.Intervals.{range_of}
-use Rattle.facts.specs.declared.fact.Slot.{Slot}
-use Rattle.facts.specs.declared.fact.Slot.TheVariants as slot
-use Rattle.facts.specs.Holds.{AreZero, IsRelated}
+use Rattle.facts.specs.Holds.{AreZero}
+use Rattle.goals.specs.Lies.{OfBoth}
 use Rattle.script_bounds.specs.Bounds.{written_range}
 use Rattle.script_claims.specs.declared.claim.Claim.{Claim}
 use Rattle.script_claims.specs.declared.claim.Claim.TheVariants.{Bounded, Asked, Relative, RelativeAsked, Multiple}
-
--- both have values, of which P holds
-abbrev pub OfBoth : List Node → Assignment → ExprId → ExprId → (Fraction → Fraction → Type 0) → Type 0
-OfBoth nodes a x y P = IsSomeAnd (value nodes a x) (λ v. IsSomeAnd (value nodes a y) (P v))
 
 -- Both are 0, or y isn't and x / y - 1 lies in the range.
 abbrev pub IsRelatedWithin : Range → Fraction → Fraction → Type 0
@@ -31,14 +23,3 @@ IsTrueAt nodes a (Asked x) = ⊤
 IsTrueAt nodes a (Relative x y lower upper) = OfBoth nodes a x y (IsRelatedWithin (written_range (Some lower) (Some upper)))
 IsTrueAt nodes a (RelativeAsked x y) = ⊤
 IsTrueAt nodes a (Multiple x k) = IsSomeAnd (value nodes a x) (IsMultiple k)
-
--- what the slot is about lies in the interval
-abbrev pub LiesAt : List Node → Assignment → Interval → Slot → Type 0
-LiesAt nodes a i (slot.Bnd x) = IsSomeAnd (value nodes a x) (Lies (range_of i))
-LiesAt nodes a i (slot.Rel x y) = OfBoth nodes a x y (IsRelated i)
-LiesAt nodes a i _ = ⊥
-
--- both values of a pair are 0
-abbrev pub AreZeroAt : List Node → Assignment → Slot → Type 0
-AreZeroAt nodes a (slot.Rel x y) = OfBoth nodes a x y AreZero
-AreZeroAt nodes a _ = ⊥

@@ -1,11 +1,10 @@
 ghost use Rattle.std.specs.Prelude.{◌≡◌};
 ghost use Rattle.script_claims.specs.Facts.{HasNormalBounds, hypothesis_fact, want_of, slot_of, relative_fact};
-ghost use Rattle.theorem_fix.specs.Places.{place_from};
 
 use facts::{Fact, Place, RelativeError, Slot};
 use fx_model::ExprId;
+use goals::Want;
 use interval::Interval;
-use plain_bounds::Want;
 use script_bounds::{Written, inward, outward};
 
 /// What a proposition says of the nodes of its expressions.
@@ -35,7 +34,7 @@ impl Claim {
             Claim::Relative(x, y, lower, upper) => {
                 relative_fact(x, y, outward(Some(lower), Some(upper)))
             }
-            Claim::Multiple(x, exponent) => Fact::fix(x, place(exponent)),
+            Claim::Multiple(x, exponent) => Fact::fix(x, Place::new(exponent)),
             Claim::Asked(_) => None,
             Claim::RelativeAsked(_, _) => None,
         }
@@ -77,11 +76,4 @@ fn relative_fact(x: ExprId, y: ExprId, interval: Option<Interval>) -> Option<Fac
         Some(error) => Some(Fact::Rel(x, y, Some(error))),
         None => None,
     }
-}
-
-// The exponent as that of a multiple.
-fn place(exponent: i16) -> Option<Place>
-    ensures { result ≡ place_from exponent }
-{
-    Place::new(exponent)
 }

@@ -6,8 +6,9 @@ ghost use Rattle.interval.specs.declared.interval.Interval.{Interval};
 ghost use Rattle.facts.specs.declared.fact.Fact.{Fact};
 ghost use Rattle.facts.specs.Holds.{Holds};
 ghost use Rattle.script_claims.specs.declared.claim.Claim.{Claim};
-ghost use Rattle.plain_bounds.specs.declared.goals.Want.TheVariants.{Inside};
-ghost use Rattle.script_claims.specs.Meets.{IsTrueAt, LiesAt, AreZeroAt};
+ghost use Rattle.goals.specs.declared.goal.Want.TheVariants.{Inside};
+ghost use Rattle.goals.specs.Lies.{LiesAt, AreZeroAt};
+ghost use Rattle.script_claims.specs.Meets.{IsTrueAt};
 ghost use Rattle.script_claims.specs.Facts.{hypothesis_fact, IsHypothesis, want_of, slot_of};
 ghost use Rattle.script_claims.specs.Reads.{ReadsFormulas, ClaimsGrow};
 

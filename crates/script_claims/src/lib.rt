@@ -12,9 +12,9 @@ mod sides;
 mod tests;
 
 pub use claim::Claim;
+pub use goals::Want;
 pub use laws::{claims_only_grow, formulas_are_read, goals_are_enough, hypotheses_hold};
 pub use part::Part;
-pub use plain_bounds::Want;
 pub use proposition::{NOTHING_READ, Proposition};
 pub use reader::ClaimReader;
 pub use sides::Sides;

@@ -2,7 +2,7 @@
 use Rattle.std.proofs.Common.{◌≡◌, List, [], ◌∷◌, ◌++◌, None, false, refl, ap, ◌∙◌, append_assoc}
 use Rattle.fx_model.specs.declared.ExprId.{ExprId}
 use Rattle.dyadic.specs.declared.number.Dyadic.{Dyadic}
-use Rattle.facts.specs.declared.hint.Need.{Need as Constraint}
+use Rattle.script_hints.specs.declared.hint.Constraint.{Constraint}
 use Rattle.script_words.specs.declared.class.Number.TheVariants as digits_kind
 use Rattle.script_words.specs.declared.class.Sign.{Sign}
 use Rattle.script_words.specs.declared.class.Sign.TheVariants as s
@@ -31,7 +31,7 @@ at_rest k h = state (record { known = k; waits = [] }) h
 
 -- with no minus before a bound
 abbrev draft : Stage → Bounded → List Constraint → List Dyadic → HintList → Draft
-draft t on ns ps l = record { stage = t; bounded = on; negative = false; needs = ns; points = ps; list = l }
+draft t on ns ps l = record { stage = t; bounded = on; negative = false; constraints = ns; points = ps; list = l }
 
 regroup : (a b rest : List Leaf) (r : HintReading) → read_hints ((a ++ b) ++ rest) r ≡ read_hints (a ++ (b ++ rest)) r
 regroup a b rest r = ap (λ l. read_hints l r) (append_assoc a b rest)

@@ -1,3 +1,4 @@
 pub mod Within
 pub mod HintReads
 pub mod HintGrows
+mod Enough

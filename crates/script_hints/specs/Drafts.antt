@@ -2,31 +2,31 @@
 use Rattle.std.specs.Prelude.{ℕ, List, [], ◌∷◌, ◌++◌, Bool, true, false}
 use Rattle.fx_model.specs.declared.ExprId.{ExprId}
 use Rattle.dyadic.specs.declared.number.Dyadic.{Dyadic}
-use Rattle.facts.specs.declared.hint.Need.{Need}
-use Rattle.facts.specs.declared.hint.Need.TheVariants as need
 use Rattle.script_words.specs.declared.class.Sign.{Sign}
 use Rattle.script_words.specs.declared.class.Sign.TheVariants as s
 use Rattle.literal_order.specs.declared.written.Written.{Written}
+use Rattle.script_hints.specs.declared.hint.Constraint.{Constraint}
+use Rattle.script_hints.specs.declared.hint.Constraint.TheVariants as constraint
 use Rattle.script_hints.specs.declared.hint.Cutting.TheVariants as cutting
 use Rattle.script_hints.specs.declared.hint.HintList.{HintList}
 use Rattle.script_hints.specs.declared.stage.Stage.{Stage}
 use Rattle.script_hints.specs.declared.stage.Stage.TheVariants as stage
 use Rattle.script_hints.specs.declared.stage.Bounded.{Bounded}
 use Rattle.script_hints.specs.declared.stage.Bounded.TheVariants as bounded
-use Rattle.script_hints.specs.Hints.{need_below, need_above, with_point, piece_count, ordered, halved, with_cut}
+use Rattle.script_hints.specs.Hints.{with_point, piece_count, ordered, halved, with_cut}
 
--- How far the hint is read; what its next bound is for, and whether a minus stands before it; its needs and points so far.
+-- How far the hint is read; what its next bound is for, and whether a minus stands before it; its constraints and points so far.
 pub record Draft : Type 0 where
   pub stage : Stage
   pub bounded : Bounded
   pub negative : Bool
-  pub needs : List Need
+  pub constraints : List Constraint
   pub points : List Dyadic
   pub list : HintList
 
 -- before a hint
 abbrev pub fresh : HintList → Draft
-fresh l = record { stage = stage.Front; bounded = bounded.Point; negative = false; needs = []; points = []; list = l }
+fresh l = record { stage = stage.Front; bounded = bounded.Point; negative = false; constraints = []; points = []; list = l }
 
 abbrev pub staged : Draft → Stage → Draft
 staged h t = record h { stage = t }
@@ -48,12 +48,12 @@ needs_opened_as t x h = h
 abbrev pub needs_opened : ExprId → Draft → Draft
 needs_opened x h = needs_opened_as h.stage x h
 
-abbrev pub with_need : Draft → Need → Draft
-with_need h n = record h { needs = h.needs ++ (n ∷ []) }
+abbrev pub with_constraint : Draft → Constraint → Draft
+with_constraint h c = record h { constraints = h.constraints ++ (c ∷ []) }
 
--- the relation behind the expression of a need
+-- the relation behind the expression of a constraint
 abbrev pub related : Sign → ExprId → Draft → Draft
-related s.Unequal x h = with_need h (need.NotZero x)
+related s.Unequal x h = with_constraint h (constraint.NotZero x)
 related s.Less x h = record h { bounded = bounded.Below x true }
 related s.LessEqual x h = record h { bounded = bounded.Below x false }
 related s.Greater x h = record h { bounded = bounded.Above x true }
@@ -72,8 +72,8 @@ bound_read h = record h { bounded = bounded.Point; negative = false }
 
 abbrev pub bounded_as : Bounded → Written → Draft → Draft
 bounded_as bounded.Point w h = record h { points = with_point h.points w }
-bounded_as (bounded.Below x strict) w h = with_need h (need_below x w strict)
-bounded_as (bounded.Above x strict) w h = with_need h (need_above x w strict)
+bounded_as (bounded.Below x strict) w h = with_constraint h (constraint.Below x w strict)
+bounded_as (bounded.Above x strict) w h = with_constraint h (constraint.Above x w strict)
 
 -- the literal of a bound, a minus perhaps before it
 abbrev pub with_bound : Written → Draft → Draft
@@ -112,16 +112,16 @@ points_begun h = points_begun_as h.stage h
 
 -- ---- the end of a hint
 
-abbrev pub rewriting_added : ExprId → ExprId → List Need → HintList → HintList
-rewriting_added x y ns l = record l { rewrites = l.rewrites ++ (record { left = x; right = y; needs = ns } ∷ []) }
+abbrev pub rewriting_added : ExprId → ExprId → List Constraint → HintList → HintList
+rewriting_added x y cs l = record l { rewrites = l.rewrites ++ (record { left = x; right = y; constraints = cs } ∷ []) }
 
 abbrev pub like_added : ExprId → ExprId → HintList → HintList
 like_added x y l = record l { likes = l.likes ++ ((x, y) ∷ []) }
 
 abbrev pub added_as : Stage → ExprId → Draft → HintList
 added_as stage.Front x h = h.list
-added_as (stage.Right a) x h = rewriting_added a x h.needs h.list
-added_as (stage.Sides a b) x h = rewriting_added a b h.needs h.list
+added_as (stage.Right a) x h = rewriting_added a x h.constraints h.list
+added_as (stage.Sides a b) x h = rewriting_added a b h.constraints h.list
 added_as (stage.Alike a) x h = like_added a x h.list
 added_as stage.Cuts x h = h.list
 added_as (stage.Pieces v n) x h = with_cut h.list v (cutting.Pieces n)

@@ -5,7 +5,7 @@ use Rattle.script_words.specs.declared.class.Spelled.TheVariants as spelled
 use Rattle.script_shape.specs.Tree.{AnyName, plain, Expr, term, factor, atom, variable, nonzero, last_need, provided, digits, pieces, in_four, last_name, more_names, halved_by, Hints, rewrite, like, split, halving, no_hint, hint}
 use Rattle.script_nodes.specs.Operators.{number_of}
 use Rattle.script_nodes.specs.Known.{Name, nothing_known, put, variable_put, named}
-use Rattle.facts.specs.declared.hint.Need.TheVariants as need
+use Rattle.script_hints.specs.declared.hint.Constraint.TheVariants as constraint
 use Rattle.script_hints.specs.declared.hint.Cutting.TheVariants as cutting
 use Rattle.script_hints.specs.Hints.{HintsSoFar, no_hints, with_hints}
 
@@ -42,6 +42,6 @@ unfolding named variable_put put
 cut_first = refl
 
 -- `x -> y { y <> 0 };`
-needed : (said (hint (rewrite (expression_of x) (expression_of y) (provided (last_need (nonzero (expression_of y) (codes "0"))))) no_hint)).1 ≡ record { rewrites = record { left = number 0; right = number 1; needs = need.NotZero (number 1) ∷ [] } ∷ []; likes = []; cuts = []; halves = []; order = [] }
+needed : (said (hint (rewrite (expression_of x) (expression_of y) (provided (last_need (nonzero (expression_of y) (codes "0"))))) no_hint)).1 ≡ record { rewrites = record { left = number 0; right = number 1; constraints = constraint.NotZero (number 1) ∷ [] } ∷ []; likes = []; cuts = []; halves = []; order = [] }
 unfolding named variable_put put
 needed = refl

@@ -6,8 +6,8 @@ use Rattle.dyadic.specs.declared.number.Dyadic.{Dyadic}
 use Rattle.dyadic.specs.declared.number.End.{End}
 use Rattle.dyadic.specs.declared.number.End.TheVariants as end
 use Rattle.interval.specs.Results.{point_of}
-use Rattle.facts.specs.declared.hint.Need.{Need as Constraint}
-use Rattle.facts.specs.declared.hint.Need.TheVariants as need
+use Rattle.script_hints.specs.declared.hint.Constraint.{Constraint}
+use Rattle.script_hints.specs.declared.hint.Constraint.TheVariants as constraint
 use Rattle.script_shape.specs.Tree.{AnyName, plain, operator, Bound, unsigned, positive, negative, Need, nonzero, below, not_above, above, not_below, NeedList, last_need, more_needs, Needs, always, provided, Points, last_point, more_points, Cut, in_four, pieces, at_points, Names, last_name, more_names, Halving, halved_by, with_goal, Hint, rewrite, like, split, halving, Hints, no_hint, hint}
 use Rattle.script_nodes.specs.Literals.{literal_of}
 use Rattle.script_nodes.specs.Operators.{digits_text, number_of}
@@ -15,26 +15,18 @@ use Rattle.script_nodes.specs.Known.{Known, Placed, Name, named}
 use Rattle.script_nodes.specs.Values.{expr_value}
 use Rattle.literal_order.specs.declared.written.Written.{Written}
 use Rattle.literal_order.specs.Values.{written_value}
-use Rattle.script_bounds.specs.Needs.{below_of, above_of}
 use Rattle.script_hints.specs.declared.hint.Cutting.{Cutting}
 use Rattle.script_hints.specs.declared.hint.Cutting.TheVariants as cutting
 use Rattle.script_hints.specs.declared.hint.HintList.{HintList}
 
--- ---- bounds and needs
+-- ---- bounds and constraints
 
 abbrev pub written_of : Bound → Written
 written_of (unsigned k text) = record { literal = literal_of text; negative = false }
 written_of (positive k text) = record { literal = literal_of text; negative = false }
 written_of (negative k text) = record { literal = literal_of text; negative = true }
 
--- below the bound, or at most it where that isn't strict
-abbrev pub need_below : ExprId → Written → Bool → Constraint
-need_below x w strict = need.Below x (below_of w strict).0 (below_of w strict).1
-
-abbrev pub need_above : ExprId → Written → Bool → Constraint
-need_above x w strict = need.Above x (above_of w strict).0 (above_of w strict).1
-
--- what is known, with the needs so far
+-- what is known, with the constraints so far
 abbrev pub NeedsSoFar : Type 0
 NeedsSoFar = Known × List Constraint
 
@@ -42,11 +34,11 @@ abbrev pub one_more : (ExprId → Constraint) → Placed → List Constraint →
 one_more f p ns = (p.0, ns ++ (f p.1 ∷ []))
 
 abbrev pub with_need : Need → NeedsSoFar → NeedsSoFar
-with_need (nonzero e zero_text) s = one_more need.NotZero (expr_value None e s.0) s.1
-with_need (below e b) s = one_more (λ x. need_below x (written_of b) true) (expr_value None e s.0) s.1
-with_need (not_above e b) s = one_more (λ x. need_below x (written_of b) false) (expr_value None e s.0) s.1
-with_need (above e b) s = one_more (λ x. need_above x (written_of b) true) (expr_value None e s.0) s.1
-with_need (not_below e b) s = one_more (λ x. need_above x (written_of b) false) (expr_value None e s.0) s.1
+with_need (nonzero e zero_text) s = one_more constraint.NotZero (expr_value None e s.0) s.1
+with_need (below e b) s = one_more (λ x. constraint.Below x (written_of b) true) (expr_value None e s.0) s.1
+with_need (not_above e b) s = one_more (λ x. constraint.Below x (written_of b) false) (expr_value None e s.0) s.1
+with_need (above e b) s = one_more (λ x. constraint.Above x (written_of b) true) (expr_value None e s.0) s.1
+with_need (not_below e b) s = one_more (λ x. constraint.Above x (written_of b) false) (expr_value None e s.0) s.1
 
 abbrev pub with_need_list : NeedList → NeedsSoFar → NeedsSoFar
 with_need_list (last_need n) s = with_need n s
@@ -116,7 +108,7 @@ with_names (more_names n l) s = with_names l (with_halved n s)
 -- ---- hints
 
 abbrev pub rewrites_to : ExprId → ExprId → NeedsSoFar → HintList → HintsSoFar
-rewrites_to x y ns l = (ns.0, record l { rewrites = l.rewrites ++ (record { left = x; right = y; needs = ns.1 } ∷ []) })
+rewrites_to x y ns l = (ns.0, record l { rewrites = l.rewrites ++ (record { left = x; right = y; constraints = ns.1 } ∷ []) })
 
 abbrev pub rewrites_left : ExprId → Placed → Needs → HintList → HintsSoFar
 rewrites_left x b n l = rewrites_to x b.1 (needs_value n b.0) l

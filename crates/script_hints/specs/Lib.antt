@@ -3,3 +3,5 @@ pub mod Drafts
 pub mod Reading
 pub mod ReadingLaw
 pub mod Examples
+pub mod Needs
+pub mod Meets

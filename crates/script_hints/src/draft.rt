@@ -1,18 +1,18 @@
 //! The hint that is being read, and what the hints before it say.
 
-ghost use Rattle.std.specs.Prelude.{◌≡◌, OnOk};
+ghost use Rattle.std.specs.Prelude.{◌≡◌, [], ◌∷◌, ◌++◌, All, OnOk};
 ghost use Rattle.literal_order.specs.Values.{IsWritten};
 ghost use Rattle.script_hints.specs.Drafts as spec;
 ghost use Rattle.script_hints.specs.Hints as spec_hints;
+ghost use Rattle.script_hints.specs.Needs.{HasNormalBound, HasNormalBounds};
 
-use crate::hint::{Cutting, Hint, HintList, Split};
+use crate::hint::{Constraint, Cutting, Hint, HintList, Split};
 use crate::lists::{add_end, add_variable};
 use crate::stage::{Bounded, Stage, piece_count};
 use dyadic::Dyadic;
-use facts::Need;
 use fx_edge::Items;
 use fx_model::ExprId;
-use script_bounds::{Written, above, below};
+use script_bounds::{Written, below};
 use script_words::class::Sign;
 use std::alloc::{AllocError, Global};
 use std::marker::Model;
@@ -26,7 +26,7 @@ pub struct HintDraft {
     bounded: Bounded,
     // Whether a minus stands before the next literal of a bound.
     negative: bool,
-    needs: Vec<Need>,
+    constraints: Vec<Constraint>,
     points: Vec<Dyadic>,
     rewrites: Vec<Hint>,
     likes: Vec<(ExprId, ExprId)>,
@@ -36,7 +36,9 @@ pub struct HintDraft {
 }
 
 impl Model for HintDraft {
+    ghost use Rattle.std.specs.Prelude.{All};
     ghost use Rattle.script_hints.specs.Drafts.{Draft};
+    ghost use Rattle.script_hints.specs.Needs.{HasNormalBound, HasNormalBounds};
 
     ghost Value = { Draft };
 
@@ -44,10 +46,12 @@ impl Model for HintDraft {
       stage = h.stage;
       bounded = h.bounded;
       negative = h.negative;
-      needs = h.needs.items;
+      constraints = h.constraints.items;
       points = h.points.items;
       list = record { rewrites = h.rewrites.items; likes = h.likes.items; cuts = h.cuts.items; halves = h.halves.items; order = h.order.items };
     } };
+
+    ghost invariant = { λ h. All HasNormalBound h.constraints.items × All HasNormalBounds h.rewrites.items };
 }
 
 impl HintDraft {
@@ -60,7 +64,7 @@ impl HintDraft {
             stage: Stage::Front,
             bounded: Bounded::Point,
             negative: false,
-            needs: Vec::new(alloc),
+            constraints: Vec::new(alloc),
             points: Vec::new(alloc),
             rewrites: Vec::new(alloc),
             likes: Vec::new(alloc),
@@ -72,7 +76,8 @@ impl HintDraft {
 
     /// What the hints say.
     pub fn into_list(self) -> HintList
-        ensures { result ≡ self.list }
+        ensures list { result ≡ self.list }
+        ensures normal { All HasNormalBounds result.rewrites }
     {
         let HintDraft {
             rewrites,
@@ -113,12 +118,12 @@ impl HintDraft {
         }
     }
 
-    /// The relation behind the expression of a need.
+    /// The relation behind the expression of a constraint.
     pub fn relate(&mut self, sign: Sign, side: ExprId) -> Result<(), AllocError>
         ensures { OnOk result (self.new ≡ spec.related sign side self.old) }
     {
         match sign {
-            Sign::Unequal => self.needs.push(Need::NotZero(side))?,
+            Sign::Unequal => self.constraints.push(Constraint::NotZero(side))?,
             Sign::Less => self.bounded = Bounded::Below(side, true),
             Sign::LessEqual => self.bounded = Bounded::Below(side, false),
             Sign::Greater => self.bounded = Bounded::Above(side, true),
@@ -153,12 +158,16 @@ impl HintDraft {
         match self.bounded {
             Bounded::Point => add_end(&mut self.points, below(bound, false).0)?,
             Bounded::Below(side, strict) => {
-                let (end, apart) = below(bound, strict);
-                self.needs.push(Need::Below(side, end, apart))?;
+                add_constraint(
+                    &mut self.constraints,
+                    Constraint::Below(side, bound, strict),
+                )?;
             }
             Bounded::Above(side, strict) => {
-                let (end, apart) = above(bound, strict);
-                self.needs.push(Need::Above(side, end, apart))?;
+                add_constraint(
+                    &mut self.constraints,
+                    Constraint::Above(side, bound, strict),
+                )?;
             }
         }
         self.bounded = Bounded::Point;
@@ -214,11 +223,16 @@ impl HintDraft {
     pub fn end(&mut self, last: ExprId) -> Result<(), AllocError>
         ensures { OnOk result (self.new ≡ spec.hint_ended last self.old) }
     {
-        let needs = replace(&mut self.needs, Vec::new(self.alloc));
+        let constraints = replace(&mut self.constraints, Vec::new(self.alloc));
         let points = replace(&mut self.points, Vec::new(self.alloc));
         match self.stage {
-            Stage::Right(left) => self.rewrites.push(rewriting(left, last, needs))?,
-            Stage::Sides(left, right) => self.rewrites.push(rewriting(left, right, needs))?,
+            Stage::Right(left) => add_rewriting(&mut self.rewrites, left, last, constraints)?,
+            Stage::Sides(left, right) => add_rewriting(
+                &mut self.rewrites,
+                left,
+                right,
+                constraints,
+            )?,
             Stage::Alike(left) => self.likes.push((left, last))?,
             Stage::Pieces(var, number) => self.cuts.push(Split {
                 var,
@@ -237,12 +251,37 @@ impl HintDraft {
     }
 }
 
-fn rewriting(left: ExprId, right: ExprId, needs: Vec<Need>) -> Hint
-    ensures { result ≡ record { left = left; right = right; needs = needs.items } }
+// One more constraint.
+fn add_constraint(
+    constraints: &mut Vec<Constraint>,
+    constraint: Constraint,
+) -> Result<(), AllocError>
+    requires one { HasNormalBound constraint }
+    requires others { All HasNormalBound constraints.old.items }
+    ensures added { OnOk result (constraints.new.items ≡ constraints.old.items ++ (constraint ∷ [])) }
+    ensures normal { All HasNormalBound constraints.new.items }
 {
-    Hint {
+    constraints.push(constraint)?;
+    Ok(())
+}
+
+// One more rewriting.
+fn add_rewriting(
+    rewrites: &mut Vec<Hint>,
+    left: ExprId,
+    right: ExprId,
+    constraints: Vec<Constraint>,
+) -> Result<(), AllocError>
+    requires one { All HasNormalBound constraints.items }
+    requires others { All HasNormalBounds rewrites.old.items }
+    ensures added { OnOk result (rewrites.new.items
+        ≡ rewrites.old.items ++ (record { left = left; right = right; constraints = constraints.items } ∷ [])) }
+    ensures normal { All HasNormalBounds rewrites.new.items }
+{
+    rewrites.push(Hint {
         left,
         right,
-        needs: Items::from_vec(needs),
-    }
+        constraints: Items::from_vec(constraints),
+    })?;
+    Ok(())
 }

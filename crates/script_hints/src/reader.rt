@@ -1,10 +1,11 @@
 //! Hints, read word by word from the left.
 
-ghost use Rattle.std.specs.Prelude.{◌≡◌, ◌<◌, length, Err, IfOk, IfErr, OnOk};
+ghost use Rattle.std.specs.Prelude.{◌≡◌, ◌<◌, length, All, Err, IfOk, IfErr, OnOk};
 ghost use Rattle.script_words.specs.Named.{word_of};
 ghost use Rattle.script_nodes.specs.Known as spec_known;
 ghost use Rattle.script_hints.specs.Drafts as spec_drafts;
 ghost use Rattle.script_hints.specs.Hints as spec_hints;
+ghost use Rattle.script_hints.specs.Needs.{HasNormalBounds};
 ghost use Rattle.script_hints.specs.Reading as spec;
 
 use crate::draft::HintDraft;
@@ -72,7 +73,8 @@ impl<'a> HintReader<'a> {
 
     /// What is known behind the hints, and what they say.
     pub fn into_parts(self) -> (Reader<'a>, HintList)
-        ensures { result ≡ (self.entry.reading, self.entry.draft.list) }
+        ensures parts { result ≡ (self.entry.reading, self.entry.draft.list) }
+        ensures normal { All HasNormalBounds result.1.rewrites }
     {
         let HintReader { reader, draft } = self;
         (reader, draft.into_list())
@@ -91,7 +93,7 @@ impl<'a> HintReader<'a> {
         Ok(())
     }
 
-    /// The `{` of needs.
+    /// The `{` of constraints.
     fn open_needs(&mut self) -> Result<(), DagFault>
         ensures reading { OnOk result (self.new
             ≡ spec.then_draft spec_drafts.needs_opened self.old.draft (spec.ended self.old.reading)) }
@@ -102,7 +104,7 @@ impl<'a> HintReader<'a> {
         Ok(())
     }
 
-    /// The word behind the expression of a need.
+    /// The word behind the expression of a constraint.
     fn relate(&mut self, word: Word<'a>) -> Result<(), DagFault>
         ensures reading { OnOk result (self.new ≡ spec.then_draft (spec.by_sign spec_drafts.related (word_of word.entry))
             self.old.draft (spec.ended self.old.reading)) }

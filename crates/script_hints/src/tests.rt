@@ -1,11 +1,14 @@
 // Hints with what they say, worked out by hand.
-ghost use Rattle.std.specs.Prelude.{◌<◌, length};
+ghost use Rattle.std.specs.Prelude.{◌<◌, length, Some};
+ghost use Rattle.literal_order.specs.Values.{IsWritten};
 
-use crate::hint::{Cutting, HintList};
+use crate::hint::{Constraint, Cutting, HintList};
 use crate::reader::HintReader;
 use dyadic::{Dyadic, End};
 use facts::Need;
 use fx_model::ExprId;
+use literal::read;
+use script_bounds::Written;
 use script_nodes::reader::Reader;
 use script_shape::shape::shape_of;
 use script_words::words::read_words;
@@ -32,34 +35,63 @@ fn number(rt: &impl Abort, mantissa: i64, exponent: i32) -> Dyadic {
     Dyadic::new(mantissa, exponent).expect(rt, "a number of the grid")
 }
 
+// The number of a literal's text, or its negative.
+fn written(rt: &impl Abort, text: &str, negative: bool) -> Written
+    ensures { IsWritten (Some result) }
+{
+    Written {
+        literal: read(text).expect(rt, "a literal"),
+        negative,
+    }
+}
+
 #[test]
-fn rewritings_have_their_needs(rt: HostRuntime) -> Result<(), Fail> {
+fn rewritings_have_their_constraints(rt: HostRuntime) -> Result<(), Fail> {
     let list = said(
         rt.alloc(),
         b"{ x in ? } x -> y { y <> 0, x - y < 0.1, x >= -5 }; y -> x; x -> x { x < 5, y > -5b1, y <= +0.1 };",
     )?;
-    let at = |mantissa: i64, exponent: i32| End::At(number(&rt, mantissa, exponent));
     let (x, y, difference) = (ExprId(0), ExprId(1), ExprId(2));
-    // 2^63 / 10 is 922337203685477580.8
-    let below_tenth = at(922337203685477580, -63);
     let rewrites = list.rewrites.as_slice();
     assert_eq!(rt; rewrites.len(), 3);
     assert_eq!(rt; (rewrites[0].left, rewrites[0].right), (x, y));
-    let needs = [
-        Need::NotZero(y),
-        Need::Below(difference, below_tenth, false),
-        Need::Above(x, at(-5, 0), false),
+    let constraints = [
+        Constraint::NotZero(y),
+        Constraint::Below(difference, written(&rt, "0.1", false), true),
+        Constraint::Above(x, written(&rt, "5", true), false),
     ];
-    assert_eq!(rt; rewrites[0].needs.as_slice(), needs.as_slice());
+    assert_eq!(rt; rewrites[0].constraints.as_slice(), constraints.as_slice());
     assert_eq!(rt; (rewrites[1].left, rewrites[1].right), (y, x));
-    assert_eq!(rt; rewrites[1].needs.as_slice().len(), 0);
-    let needs = [
-        Need::Below(x, at(5, 0), true),
-        Need::Above(y, at(-5, 1), true),
-        Need::Below(y, below_tenth, false),
+    assert_eq!(rt; rewrites[1].constraints.as_slice().len(), 0);
+    let constraints = [
+        Constraint::Below(x, written(&rt, "5", false), true),
+        Constraint::Above(y, written(&rt, "5b1", true), true),
+        Constraint::Below(y, written(&rt, "0.1", false), false),
     ];
-    assert_eq!(rt; rewrites[2].needs.as_slice(), needs.as_slice());
+    assert_eq!(rt; rewrites[2].constraints.as_slice(), constraints.as_slice());
     Ok(())
+}
+
+#[test]
+fn needs_are_rounded_inward(rt: HostRuntime) {
+    let at = |mantissa: i64, exponent: i32| End::At(number(&rt, mantissa, exponent));
+    let x = ExprId(0);
+    // 2^63 / 10 is 922337203685477580.8
+    let tenth = written(&rt, "0.1", false);
+    let five = written(&rt, "5", true);
+    assert_eq!(rt; Constraint::NotZero(x).need(), Need::NotZero(x));
+    assert_eq!(rt;
+        Constraint::Below(x, tenth, true).need(),
+        Need::Below(x, at(922337203685477580, -63), false)
+    );
+    assert_eq!(rt;
+        Constraint::Above(x, tenth, false).need(),
+        Need::Above(x, at(922337203685477581, -63), false)
+    );
+    assert_eq!(rt;
+        Constraint::Below(x, five, true).need(),
+        Need::Below(x, at(-5, 0), true)
+    );
 }
 
 #[test]

@@ -18,7 +18,8 @@ use Rattle.script_nodes.specs.Known.{Name, put, named}
 use Rattle.script_nodes.specs.Waits.{Reading, Complete, expr_done, term_done, closed, parted, then_operation, term_operation, sign_operand, operand, operation, read}
 use Rattle.script_nodes.specs.Defining.{Defining, operator_begun, defined_by, operator_closed, joined, name_joined, define_word, define_all, opens_formula}
 use Rattle.script_nodes.specs.Growth.{node_count, EndsGrow, WordsGrow, DefiningGrows}
-use Rattle.script_nodes.proofs.Grows.{put_grows, named_grows, two_grow, factor_grows, closing_grows, parting_count}
+use Rattle.script_nodes.specs.Kept.{put_grows}
+use Rattle.script_nodes.proofs.Grows.{named_grows, two_grow, factor_grows, closing_grows, parting_count}
 
 abbrev KnownGrows : Reading → Reading → Type 0
 KnownGrows r t = node_count r.known ≤ node_count t.known

@@ -1,32 +1,17 @@
 -- What every reading keeps, when a name joins.
-use Rattle.std.proofs.Common.{◌≡◌, ℕ, ◌<◌, List, [], ◌∷◌, length, Option, Some, IfSome, Bool, true, false, if◌then◌else◌, sym, ap, subst, ◌∙◌, Result, Ok, Err, OnOk, OnErr}
+use Rattle.std.proofs.Common.{◌≡◌, ◌<◌, List, [], ◌∷◌, length, Option, Some, IfSome, Bool, true, false, if◌then◌else◌, sym, ap, subst, ◌∙◌, Result, Ok, Err, OnOk, OnErr}
 use Rattle.std.specs.Str.{bytes_eq}
 use Rattle.fx_model.specs.declared.Rounding.{Rounding}
 use Rattle.fx_model.specs.declared.ExprId.{ExprId}
 use Rattle.script_nodes.specs.Known.{Name, entry_of, with_entry, or_none, operator_named}
 use Rattle.script_nodes.specs.Waits.{Reading}
 use Rattle.script_nodes.specs.Sound.{ValuesFit, OperatorsFit, IsInRange, IsSound}
+use Rattle.script_nodes.specs.Kept.{value_among, value_joins}
 
 -- ---- values
 
-value_among : (n : ℕ) (es : List (Name × ExprId)) (text : Name) → ValuesFit n es → IfSome (entry_of es text) (λ x. x.0 < n)
-value_among n [] text f = tt
-value_among n (e ∷ es) text f = by_test (bytes_eq text e.0) f.0 (value_among n es text f.1)
-  where
-    by_test : (b : Bool) → e.1.0 < n → IfSome (entry_of es text) (λ x. x.0 < n) → IfSome (if b then Some e.1 else entry_of es text) (λ x. x.0 < n)
-    by_test true h more = h
-    by_test false h more = more
-
 pub value_below : (r k : Reading) (text : Name) (o : Option ExprId) → r ≡ k → o ≡ entry_of r.known.values text → IsSound r → IfSome o (λ x. x.0 < length k.known.nodes)
 value_below r k text o e h s = subst (λ (j : Reading). IfSome o (λ x. x.0 < length j.known.nodes)) e (subst (λ o. IfSome o (λ x. x.0 < length r.known.nodes)) (sym h) (value_among (length r.known.nodes) r.known.values text s.values))
-
-value_joins : (n : ℕ) (es : List (Name × ExprId)) (text : Name) (x : ExprId) → x.0 < n → ValuesFit n es → ValuesFit n (with_entry es text x)
-value_joins n [] text x h f = (h, tt)
-value_joins n (e ∷ es) text x h f = by_test (bytes_eq text e.0) (value_joins n es text x h f.1)
-  where
-    by_test : (b : Bool) → ValuesFit n (with_entry es text x) → ValuesFit n (if b then (e.0, x) ∷ es else e ∷ with_entry es text x)
-    by_test true more = (h, f.1)
-    by_test false more = (f.0, more)
 
 -- whether or not there was memory for it
 pub value_sound : {A E : Type 0} (r k : Reading) (text : Name) (x : ExprId) (new : List (Name × ExprId)) (answer : Result A E) → r ≡ k → x.0 < length k.known.nodes → OnOk answer (new ≡ with_entry r.known.values text x) → OnErr answer (new ≡ r.known.values) → IsSound r

@@ -1,25 +1,17 @@
 -- Nodes never go.
-use Rattle.std.proofs.Common.{◌≡◌, ℕ, ◌<◌, ◌≤◌, List, [], ◌∷◌, length, Option, Some, None, true, refl, ap, arith, length-append, le_refl, le_trans, ◌∙◌}
+use Rattle.std.proofs.Common.{◌≡◌, ◌<◌, ◌≤◌, List, [], ◌∷◌, Option, Some, None, true, refl, ap, arith, le_refl, le_trans, ◌∙◌}
 use Rattle.std.specs.Option.{IsSomeAnd}
 use Rattle.fx_model.specs.declared.Rounding.{Rounding}
 use Rattle.fx_model.specs.declared.ExprId.{ExprId}
 use Rattle.fx_model.specs.declared.Node.{Node}
 use Rattle.fx_model.specs.declared.Node.TheVariants.{Neg, Add, Mul, Div, Abs, Round}
-use Rattle.expr_dag.specs.Nodes.{place_of, placed}
 use Rattle.script_nodes.specs.declared.waits.Waits.{Waits}
 use Rattle.script_nodes.specs.declared.waits.Waits.TheVariants as wait
 use Rattle.script_nodes.specs.Known.{Name, Known, Placed, put, variable_put, name_put, named, entry_of}
 use Rattle.script_nodes.specs.Values.{then_rounded, one_operand, fused_sum}
 use Rattle.script_nodes.specs.Growth.{node_count, NamesGrow}
+use Rattle.script_nodes.specs.Kept.{placed_grows, put_grows}
 use Rattle.script_nodes.specs.Waits.{Reading, is_minus_first, Complete, factor_done, closing, closed, parting, parted, then_operation}
-
-placed_grows : (nodes : List Node) (n : Node) (o : Option ExprId) → length nodes ≤ length (placed nodes n o).0
-placed_grows nodes n (Some x) = le_refl (length nodes)
-placed_grows nodes n None = omega (arith, length-append nodes (n ∷ []))
-
-pub put_grows : (k : Known) (n : Node) → node_count k ≤ node_count (put k n).0
-unfolding put
-put_grows k n = placed_grows k.nodes n (place_of k.nodes n)
 
 pub rounded_grows : (q : Option Rounding) (p : Placed) → node_count p.0 ≤ node_count (then_rounded q p).0
 rounded_grows None p = le_refl (node_count p.0)

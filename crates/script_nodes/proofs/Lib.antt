@@ -3,6 +3,7 @@ pub mod Spelled
 pub mod NormalOnce
 pub mod Readable
 pub mod LiteralReads
+pub mod LiteralTold
 pub mod DefinitionReads
 pub mod Keys
 pub mod Sounds

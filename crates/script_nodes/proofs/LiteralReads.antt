@@ -13,7 +13,7 @@ use Rattle.script_nodes.proofs.Readable.{read_test}
 abbrev number : Spelling → Literal
 number x = normal_of x.form (written x)
 
-parts_are : (text : List ℕ) (x : Spelling) → Spells text x → parts_of text ≡ x
+pub parts_are : (text : List ℕ) (x : Spelling) → Spells text x → parts_of text ≡ x
 parts_are text x s = ap parts_of (sym s.bytes) ∙ spelled x s.parts
 
 pub reads_literals : ReadsLiterals

@@ -12,9 +12,7 @@ use Rattle.literal.specs.declared.scan.Form.{Form}
 use Rattle.literal.specs.declared.scan.Form.TheVariants.{Decimal, Binary, Hexadecimal}
 use Rattle.literal.specs.Spelling.{Exponent, base, is_hexadecimal, written_as, IsWithinAs}
 use Rattle.literal.specs.Normal.{nought, IsReduced, IsNormalOf}
-use Rattle.literal.proofs.Tens.{decimal, binary, tens_moved, twos_moved, whole_positive, not_zero, pow_positive}
-use Rattle.literal.proofs.Numbers.{few_digits}
-use Rattle.literal.proofs.Forms.{zero_value}
+use Rattle.literal.specs.Tens.{decimal, binary, tens_moved, twos_moved, whole_positive, not_zero, pow_positive, few_digits, zero_value}
 use Rattle.script_nodes.specs.Literals.{tens_out, twos_out, normal_of}
 
 -- ---- powers of ten aren't 0
@@ -177,3 +175,26 @@ normal_is Binary w p e l d h n =
     let few : digits_value 10 w < 10 ^ 30 = few_digits w d.1 h.0 in
     normal_binary _ _ _ l refl (omega arith) n.value n.reduced
 normal_is Hexadecimal w p e l d h n = normal_binary _ _ _ l refl (omega (arith, h.0)) n.value n.reduced
+
+-- ---- and it is one
+zero_normal : (n : ℕ) (l : Literal) → l.num ≡ n → (n == 0) ≡ true → literal_value nought ≡ literal_value l
+zero_normal n l h t = zero_value nought refl ∙ sym (zero_value l (h ∙ eqb-true n 0 t))
+
+decimal_normal : (b : Bool) (n : ℕ) (e : ℤ) → (n == 0) ≡ b → n < 10 ^ 30 → IsNormalOf Decimal (decimal n e) (if b then nought else tens_out 30 n e)
+decimal_normal true n e t h = record { value = zero_normal n (decimal n e) refl t; reduced = inl refl }
+decimal_normal false n e t h =
+    let o = tens_are_out 30 n e (some n (λ z. true≢false (sym (eq-eqb n 0 z) ∙ t))) h in
+    record { value = o.value; reduced = inr (o.reduced, o.two) }
+
+binary_normal : (b : Bool) (n : ℕ) (e : ℤ) → (n == 0) ≡ b → n < 2 ^ 100 → IsNormalOf Binary (binary n e) (if b then nought else twos_out 100 n e)
+binary_normal true n e t h = record { value = zero_normal n (binary n e) refl t; reduced = inl refl }
+binary_normal false n e t h =
+    let o = twos_are_out 100 n e (some n (λ z. true≢false (sym (eq-eqb n 0 z) ∙ t))) h in
+    record { value = o.value; reduced = inr (o.reduced, o.ten) }
+
+pub normal_form : (f : Form) (w p : List ℕ) (e : Option Exponent) → IsNumeral (base (is_hexadecimal f)) w → IsWithinAs f w (written_as f w p e) → IsNormalOf f (written_as f w p e) (normal_of f (written_as f w p e))
+normal_form Decimal w p e d h = decimal_normal _ _ _ refl h.0
+normal_form Binary w p e d h =
+    let few : digits_value 10 w < 10 ^ 30 = few_digits w d.1 h.0 in
+    binary_normal _ _ _ refl (omega arith)
+normal_form Hexadecimal w p e d h = let n = binary_normal _ _ _ refl (omega (arith, h.0)) in record { value = n.value; reduced = n.reduced }

@@ -2,6 +2,7 @@
 use Rattle.std.proofs.Common.{ℕ, ℤ, pos, negsuc, ◌^◌, ◌≤◌, ◌≤ℤ◌, ◌&&◌, not, int_lt, nat_lt, List, [], ◌∷◌, length, Option, Some, None, Bool, true, false, refl, sym, arith, true≢false}
 use Rattle.std.specs.Bool.{Decides}
 use Rattle.std.specs.Char.{digit_value}
+use Rattle.std.specs.Str.{bytes_eq}
 use Rattle.std.specs.Str.Parse.{AllDigits, IsNumeral}
 use Rattle.std.proofs.lemmas.Bool.Decides.{Decides-ltb}
 use Rattle.std.proofs.lemmas.Slice.Eq.{bytes_eq-Decides}
@@ -44,10 +45,18 @@ between_test low high z = both (not (int_lt z low)) (not (int_lt high z)) (not_l
 few_test : (n : ℕ) → Decides (nat_lt n 31) (n ≤ 30)
 few_test n = (λ h. let k = (Decides-ltb n 31).0 h in omega arith, λ h. (Decides-ltb n 31).1 (omega arith))
 
-within_test : (f : Form) (w : List ℕ) (l : Literal) → Decides (is_within f w l) (IsWithinAs f w l)
+pub within_test : (f : Form) (w : List ℕ) (l : Literal) → Decides (is_within f w l) (IsWithinAs f w l)
 within_test Decimal w l = both _ _ (Decides-ltb l.num (10 ^ 30)) (between_test (negsuc 29) (pos 8) l.ten)
 within_test Binary w l = both _ _ (few_test (length w)) (between_test (negsuc 511) (pos 512) l.two)
 within_test Hexadecimal w l = both _ _ (Decides-ltb l.num (16 ^ 25)) (between_test (negsuc 511) (pos 512) l.two)
+
+-- a literal with these parts, within its limits or not
+pub spelled_test : (text : List ℕ) (x : Spelling) → Decides (bytes_eq (spelling_bytes x) text && (is_numeral (base (is_hexadecimal x.form)) x.whole && (is_fraction x.form x.fraction && is_exponent x.exponent x.form))) (Spells text x)
+spelled_test text x =
+    let t = both _ _ (bytes_eq-Decides (spelling_bytes x) text) (both _ _ (numeral_test (base (is_hexadecimal x.form)) x.whole) (both _ _ (fraction_test x.form x.fraction) (exponent_test x.exponent x.form))) in (
+      λ h. let p = t.0 h in record { bytes = p.0; parts = record { whole = p.1.0; fraction = p.1.1.0; exponent = p.1.1.1 } },
+      λ h. t.1 (h.bytes, (h.parts.whole, (h.parts.fraction, h.parts.exponent))),
+    )
 
 -- The test is true exactly where the text is a literal with these parts, within its limits.
 pub read_test : (text : List ℕ) (x : Spelling) → Decides (is_read_as text x) (Spells text x × IsWithin x)

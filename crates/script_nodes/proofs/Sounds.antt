@@ -7,9 +7,10 @@ use Rattle.expr_dag.specs.declared.dag.DagFault.{DagFault}
 use Rattle.expr_dag.specs.Nodes.{IsAt, IsPlaced, with_node}
 use Rattle.script_nodes.specs.declared.waits.Waits.{Waits}
 use Rattle.script_nodes.specs.declared.waits.Waits.TheVariants as wait
-use Rattle.script_nodes.specs.Known.{Name, Known, Placed, put}
+use Rattle.script_nodes.specs.Known.{Known, Placed, put}
 use Rattle.script_nodes.specs.Waits.{Reading}
-use Rattle.script_nodes.specs.Sound.{Fits, AllFit, ValuesFit, IsSound, IsMade}
+use Rattle.script_nodes.specs.Sound.{Fits, AllFit, IsSound, IsMade}
+use Rattle.script_nodes.specs.Kept.{values_fit_more}
 
 -- ---- below a greater number
 
@@ -31,10 +32,6 @@ fits_more n m (wait.Operator r) h f = f
 pub all_fit_more : (n m : ℕ) (ws : List Waits) → n ≤ m → AllFit n ws → AllFit m ws
 all_fit_more n m [] h f = tt
 all_fit_more n m (w ∷ ws) h f = (fits_more n m w h f.0, all_fit_more n m ws h f.1)
-
-pub values_fit_more : (n m : ℕ) (es : List (Name × ExprId)) → n ≤ m → ValuesFit n es → ValuesFit m es
-values_fit_more n m [] h f = tt
-values_fit_more n m (e ∷ es) h f = (let a = f.0 in omega arith, values_fit_more n m es h f.1)
 
 -- ---- one node more
 

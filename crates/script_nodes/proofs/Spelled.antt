@@ -8,7 +8,7 @@ use Rattle.literal.specs.declared.scan.Mark.{Mark}
 use Rattle.literal.specs.declared.scan.Mark.TheVariants.{Unmarked, Plus, Minus}
 use Rattle.literal.specs.Spelling.{Exponent, Spelling, base, is_hexadecimal, mark_bytes, point_bytes, scale_bytes, body_bytes, spelling_bytes, IsFraction, IsExponent, IsSpelling}
 use Rattle.literal.specs.Parts.{IsNoDigitFirst}
-use Rattle.literal.proofs.Front.{tail_ends, scale_ends}
+use Rattle.literal.specs.Tails.{tail_ends, scale_ends}
 use Rattle.script_nodes.specs.Literals.{front, behind, fraction_at, behind_fraction, exponent_at, scale_at, form_at, opens_hexadecimal, without_opening, parts_as, parts_of}
 
 -- ---- digits

@@ -10,7 +10,8 @@ use Rattle.expr_dag.specs.Nodes.{IsAt, IsFull, IsPlaced, IsFound, IsLast, place_
 use Rattle.script_nodes.specs.Known.{Name, Known, Placed, put, variable_put, variables_with}
 use Rattle.script_nodes.specs.Waits.{Reading}
 use Rattle.script_nodes.specs.Sound.{IsSound}
-use Rattle.script_nodes.proofs.Sounds.{all_fit_more, values_fit_more, ends_with}
+use Rattle.script_nodes.proofs.Sounds.{all_fit_more, ends_with}
+use Rattle.script_nodes.specs.Kept.{values_fit_more}
 
 -- ---- places among names
 

@@ -10,3 +10,4 @@ pub mod Defining
 pub mod Examples
 pub mod Sound
 pub mod Growth
+pub mod Kept

@@ -1,13 +1,13 @@
 -- The literal of a text: its parts, and the normal form of the number that they stand for.
-use Rattle.std.specs.Prelude.{◌≡◌, ℕ, ℤ, pos, int_lt, zero, suc, ◌/◌, ◌%◌, ◌==◌, ◌^◌, ◌&&◌, not, ◌+ℤ◌, negsuc, nat_lt, List, [], ◌∷◌, length, drop, Option, Some, None, Bool, true, false, if◌then◌else◌}
+use Rattle.std.specs.Prelude.{◌≡◌, ◌⊎◌, ℕ, ℤ, pos, int_lt, zero, suc, ◌/◌, ◌%◌, ◌==◌, ◌^◌, ◌&&◌, not, ◌+ℤ◌, negsuc, nat_lt, List, [], ◌∷◌, length, drop, Option, Some, None, Bool, true, false, if◌then◌else◌}
 use Rattle.std.specs.Char.{digit_value}
 use Rattle.std.specs.Str.{bytes_eq}
 use Rattle.fx_model.specs.declared.Literal.{Literal}
 use Rattle.literal.specs.declared.scan.Form.{Form}
 use Rattle.literal.specs.declared.scan.Form.TheVariants.{Decimal, Binary, Hexadecimal}
 use Rattle.literal.specs.declared.scan.Mark.TheVariants.{Unmarked, Plus, Minus}
-use Rattle.literal.specs.Spelling.{Exponent, Spelling, base, is_hexadecimal, spelling_bytes, written}
-use Rattle.literal.specs.Normal.{nought, IsReading}
+use Rattle.literal.specs.Spelling.{Exponent, Spelling, Spells, IsLiteral, base, is_hexadecimal, spelling_bytes, written}
+use Rattle.literal.specs.Normal.{nought, IsReading, IsPastLimits}
 
 -- ---- parts
 
@@ -131,3 +131,11 @@ literal_of text = if is_read_as text (parts_of text) then normal_of (parts_of te
 -- It is what a text is read as wherever it is read.
 abbrev pub ReadsLiterals : Type 0
 ReadsLiterals = (text : List ℕ) (l : Literal) → IsReading text l → literal_of text ≡ l
+
+-- Each text is read as its literal, or is a literal past its limits, or is no literal.
+abbrev pub LiteralsAreTold : Type 0
+LiteralsAreTold = (text : List ℕ) → IsReading text (literal_of text) ⊎ (IsPastLimits text ⊎ ¬ IsLiteral text)
+
+-- A text has the parts of one literal at most.
+abbrev pub SpelledOnce : Type 0
+SpelledOnce = (text : List ℕ) (x y : Spelling) → Spells text x → Spells text y → x ≡ y

@@ -1,6 +1,6 @@
 //! What the reading of words gives.
 
-ghost use Rattle.script_nodes.specs.Literals.{ReadsLiterals};
+ghost use Rattle.script_nodes.specs.Literals.{ReadsLiterals, LiteralsAreTold, SpelledOnce};
 ghost use Rattle.script_nodes.specs.ReadingLaw.{ReadsTrees};
 ghost use Rattle.script_nodes.specs.Defining.{ReadsDefinition, ReadsDefinitions};
 ghost use Rattle.script_nodes.specs.Growth.{NamesGrow, EndsGrow, WordsGrow, DefiningGrows};
@@ -13,6 +13,13 @@ pub fn reads_trees()
 /// The literal of a text is what the text is read as.
 pub fn reads_literals()
     ensures { ReadsLiterals }
+{}
+
+/// Nothing is done. The clauses tell a caller that each text is read as its literal, is a literal past its limits, or is none;
+/// and that it is spelled in one way.
+pub fn literals_are_told()
+    ensures told { LiteralsAreTold }
+    ensures once { SpelledOnce }
 {}
 
 /// Reading the words of a definition, and those of a script up to its formula, gives what the definitions mean.
