@@ -9,3 +9,10 @@ mod DefinitionCounts
 mod FormulaCounts
 mod HintCounts
 mod ScriptCounts
+mod Places
+mod FewHints
+mod FewCuts
+mod FewSaid
+mod Numbers
+mod FewHalves
+mod FewOrdered

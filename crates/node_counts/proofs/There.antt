@@ -16,7 +16,7 @@ use Rattle.script_nodes.specs.Definitions.{with_value}
 -- ---- places
 
 module _ {A : Type 0} (p : A → Bool) where
-  past : (xs : List A) → list_any p xs ≡ false → position_or_len p xs ≡ length xs
+  pub past : (xs : List A) → list_any p xs ≡ false → position_or_len p xs ≡ length xs
   past [] h = refl
   past (x ∷ xs) h = by_test (p x) h (past xs)
     where
@@ -32,7 +32,7 @@ module _ {A : Type 0} (p : A → Bool) where
       by_test true h more = omega arith
       by_test false h more = let k = more h in omega arith
 
-  stays : (xs ys : List A) → list_any p xs ≡ true → position_or_len p (xs ++ ys) ≡ position_or_len p xs
+  pub stays : (xs ys : List A) → list_any p xs ≡ true → position_or_len p (xs ++ ys) ≡ position_or_len p xs
   stays [] ys h = cc
   stays (x ∷ xs) ys h = by_test (p x) h (stays xs ys)
     where
@@ -41,14 +41,14 @@ module _ {A : Type 0} (p : A → Bool) where
       by_test false h more = ap (λ n. 1 + n) (more h)
 
   -- one more that passes
-  joins : (xs : List A) (y : A) → p y ≡ true → position_or_len p (xs ++ y ∷ []) ≡ position_or_len p xs
+  pub joins : (xs : List A) (y : A) → p y ≡ true → position_or_len p (xs ++ y ∷ []) ≡ position_or_len p xs
   joins [] y h = ap (λ b. cond (not b) 1 0) h
   joins (x ∷ xs) y h = ap (λ n. cond (not (p x)) (1 + n) 0) (joins xs y h)
 
-  any_before : (xs ys : List A) → list_any p xs ≡ true → list_any p (xs ++ ys) ≡ true
+  pub any_before : (xs ys : List A) → list_any p xs ≡ true → list_any p (xs ++ ys) ≡ true
   any_before xs ys h = list_any-append p xs ys ∙ ap (λ b. b || list_any p ys) h
 
-  any_last : (xs : List A) (y : A) → p y ≡ true → list_any p (xs ++ y ∷ []) ≡ true
+  pub any_last : (xs : List A) (y : A) → p y ≡ true → list_any p (xs ++ y ∷ []) ≡ true
   any_last [] y h = ap (λ b. b || false) h
   any_last (x ∷ xs) y h = by_test (p x) (any_last xs y h)
     where
@@ -61,17 +61,17 @@ module _ {A : Type 0} (p : A → Bool) where
 abbrev pub has_node : List Node → Node → Bool
 has_node nodes n = list_any (same_node n) nodes
 
-node_stays : (nodes : List Node) (n m : Node) (o : Option ExprId) → has_node nodes n ≡ true → has_node (placed nodes m o).0 n ≡ true
+pub node_stays : (nodes : List Node) (n m : Node) (o : Option ExprId) → has_node nodes n ≡ true → has_node (placed nodes m o).0 n ≡ true
 node_stays nodes n m (Some x) h = h
 node_stays nodes n m None h = any_before (same_node n) nodes (m ∷ []) h
 
-absent : (nodes : List Node) (n : Node) → has_node nodes n ≡ false → place_of nodes n ≡ None
+pub absent : (nodes : List Node) (n : Node) → has_node nodes n ≡ false → place_of nodes n ≡ None
 absent nodes n h = ap (λ i. numbered (cond (nat_lt i (length nodes)) (Some i) None)) (past (same_node n) nodes h) ∙ ap (λ b. numbered (cond b (Some (length nodes)) None)) (le-ltb (length nodes) (length nodes) (le_refl (length nodes)))
 
-found : (nodes : List Node) (n : Node) → has_node nodes n ≡ true → place_of nodes n ≡ Some (record { 0 = position_or_len (same_node n) nodes })
+pub found : (nodes : List Node) (n : Node) → has_node nodes n ≡ true → place_of nodes n ≡ Some (record { 0 = position_or_len (same_node n) nodes })
 found nodes n h = ap (λ b. numbered (cond b (Some (position_or_len (same_node n) nodes)) None)) (lt-ltb _ _ (within (same_node n) nodes h))
 
-node_joins : (nodes : List Node) (n : Node) (b : Bool) (o : Option ExprId) → has_node nodes n ≡ b → place_of nodes n ≡ o → has_node (placed nodes n o).0 n ≡ true
+pub node_joins : (nodes : List Node) (n : Node) (b : Bool) (o : Option ExprId) → has_node nodes n ≡ b → place_of nodes n ≡ o → has_node (placed nodes n o).0 n ≡ true
 node_joins nodes n true o h e = node_stays nodes n n o h
 node_joins nodes n false None h e = any_last (same_node n) nodes n (itself n)
 node_joins nodes n false (Some x) h e = absurd (let k = absent nodes n h in cc)
@@ -85,7 +85,7 @@ placed_same nodes n h = omega (arith, ap (λ o. length (placed nodes n o).0) (fo
 
 -- ---- names
 
-abbrev variable_there : List Node → List Name → Name → Bool
+abbrev pub variable_there : List Node → List Name → Name → Bool
 variable_there nodes names text = list_any (bytes_eq text) names && has_node nodes (Var (position_or_len (bytes_eq text) names))
 
 -- the name stands for a value, or for a variable whose node is in the list
@@ -100,15 +100,15 @@ or_more : (a b c : Bool) → (b ≡ true → c ≡ true) → (a || b) ≡ true �
 or_more true b c f h = refl
 or_more false b c f h = f h
 
-both_true : (a b : Bool) → (a && b) ≡ true → (a ≡ true) × (b ≡ true)
+pub both_true : (a b : Bool) → (a && b) ≡ true → (a ≡ true) × (b ≡ true)
 both_true true true h = (refl, refl)
 both_true true false h = absurd (cc)
 both_true false b h = absurd (cc)
 
-and_true : (a b : Bool) → a ≡ true → b ≡ true → (a && b) ≡ true
+pub and_true : (a b : Bool) → a ≡ true → b ≡ true → (a && b) ≡ true
 and_true a b h k = ap (λ x. x && b) h ∙ k
 
-itself_eq : (text : Name) → bytes_eq text text ≡ true
+pub itself_eq : (text : Name) → bytes_eq text text ≡ true
 itself_eq text = (bytes_eq-Decides text text).1 refl
 
 variable_stays : (nodes : List Node) (names : List Name) (m : Node) (text : Name) → variable_there nodes names text ≡ true → variable_there (with_node nodes m).0 names text ≡ true

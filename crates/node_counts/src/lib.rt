@@ -1,7 +1,8 @@
-//! Whole scripts have few nodes: what the judge lets pass has room in the list.
+//! Whole scripts have few nodes and few hints: what the judge lets pass has room in the list.
 #![tactic(auto)]
 
 ghost use Rattle.node_counts.specs.Counted.{NodesAreCounted};
+ghost use Rattle.node_counts.specs.Few.{HintsAreFew};
 
 use script_claims::formulas_are_read;
 use script_hints::laws::reads_hints;
@@ -18,3 +19,10 @@ pub fn nodes_are_counted()
     leaves_are_of_trees();
     roles_are_unique();
 }
+
+/// Nothing is done. The clause tells a caller that a script whose words pass the judge has no more than 64 rewritings, 64 likes,
+/// 4 cuts, each into 64 pieces at most, 4 variables that are halved, and
+/// 8 in all splits.
+pub fn hints_are_counted()
+    ensures { HintsAreFew }
+{}

@@ -4,3 +4,9 @@ mod Accepted
 mod GoalSpans
 mod StepsGrow
 mod Short
+mod FirstsExist
+mod Lists
+mod ExpressionNames
+mod ClaimNames
+mod HintNames
+mod ScriptNames

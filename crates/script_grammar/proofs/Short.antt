@@ -1,10 +1,10 @@
--- A script that a text spells has few nodes.
+-- A script that a text spells has few nodes and few hints.
 use Rattle.std.specs.Prelude.{◌≡◌, ℕ, ◌≤◌, List, length, Option, Some, None, Bool, true, false, if◌then◌else◌, refl}
 use Rattle.std.proofs.Common.{◌<◌, sym, ap, ◌∙◌, subst, arith}
 use Rattle.script_words.specs.Lex.{LexesOnce}
 use Rattle.script_words.specs.Named.{words_of}
 use Rattle.script_shape.specs.Tree.{Script, script_words, formula, define}
-use Rattle.script_shape.specs.Roles.{Leaf, LeavesAreOfTrees}
+use Rattle.script_shape.specs.Roles.{Leaf, script_leaves, LeavesAreOfTrees}
 use Rattle.script_judge.specs.declared.refusal.Refusal.{Refusal}
 use Rattle.script_judge.specs.declared.fault.Fault.{Fault}
 use Rattle.script_judge.specs.Reading.{Reading, IsReadingOf, fault}
@@ -13,10 +13,12 @@ use Rattle.script_judge.specs.Judge.{Judged, nothing_seen}
 use Rattle.script_nodes.specs.Known.{Known, nothing_known}
 use Rattle.script_nodes.specs.Definitions.{definition_value}
 use Rattle.node_counts.specs.Counted.{known_behind, NodesAreCounted}
+use Rattle.node_counts.specs.Few.{HasFewHints, hints_behind, HintsAreFew}
 use Rattle.goal_spans.specs.Reading.{spans_read}
 use Rattle.script_grammar.specs.Meaning.{Meaning, meaning_from}
 use Rattle.script_grammar.specs.Steps.{start, nodes_at, read_words}
-use Rattle.script_grammar.specs.Spells.{View, view_of, SpelledAreShort}
+use Rattle.script_grammar.specs.Spells.{View, view_of, Spells, SpelledAreShort}
+use Rattle.script_grammar.specs.Few.{SpelledHaveFewHints}
 use Rattle.script_grammar.proofs.Accepted.{reading_leaves, IsAccepted}
 
 known_of : (tree : Script) (k : Known) → length (meaning_from tree k).known.nodes ≡ length (known_behind tree k).nodes
@@ -46,16 +48,29 @@ all_passed : (text : List ℕ) (o : Option Refusal) → IsFirstRefusal text o �
 all_passed text o (unread h) e = absurd (cc e)
 all_passed text o (read {r = r} {found = found} k h j) e = (r, record { reading = h; judged = subst (Judged 0 nothing_seen r.leaves) (none_found r found (second_none (fault (length text) r) (refusal_of r found) e)) j })
 
-pub spelled_short : NodesAreCounted → LexesOnce → LeavesAreOfTrees → SpelledAreShort
-spelled_short counted lexes are text s p =
+pub spelled_judged : LexesOnce → LeavesAreOfTrees → (text : List ℕ) (s : View) (p : Spells text s) → Judged 0 nothing_seen (script_leaves p.tree) None
+spelled_judged lexes are text s p =
     let found = all_passed text None p.accepted refl in
     let r = found.0 in
     let passed = found.1 in
     let h = passed.reading in
     let same = lexes text s.tokens r.tokens None r.bad p.lexed h.lexed in
     let words : script_words p.tree ≡ r.words = p.words ∙ ap (words_of text) same.tokens ∙ h.words in
-    let judged = subst (λ ls. Judged 0 nothing_seen ls None) (reading_leaves are r text p.tree h words) passed.judged in
-    subst (λ n. n ≤ 512) (sym (known_of p.tree nothing_known) ∙ ap (λ (v : View). length v.nodes) (sym p.says)) (counted text s.tokens p.tree (sym p.words) judged)
+    subst (λ ls. Judged 0 nothing_seen ls None) (reading_leaves are r text p.tree h words) passed.judged
+
+pub spelled_short : NodesAreCounted → LexesOnce → LeavesAreOfTrees → SpelledAreShort
+spelled_short counted lexes are text s p =
+    subst (λ n. n ≤ 512) (sym (known_of p.tree nothing_known) ∙ ap (λ (v : View). length v.nodes) (sym p.says)) (counted text s.tokens p.tree (sym p.words) (spelled_judged lexes are text s p))
+
+-- ---- and few hints
+
+hints_of : (tree : Script) (k : Known) → (meaning_from tree k).hints ≡ hints_behind tree k
+hints_of (formula f h) k = refl
+hints_of (define x rest) k = hints_of rest (definition_value x k)
+
+pub spelled_few : HintsAreFew → LexesOnce → LeavesAreOfTrees → SpelledHaveFewHints
+spelled_few few lexes are text s p =
+    subst HasFewHints (sym (hints_of p.tree nothing_known) ∙ ap (λ (v : View). v.hints) (sym p.says)) (few p.tree nothing_known (spelled_judged lexes are text s p))
 
 -- ---- so the list is never full
 

@@ -2,3 +2,5 @@ pub mod Meaning
 pub mod Steps
 pub mod Spells
 pub mod Views
+pub mod Names
+pub mod Few

@@ -1,5 +1,5 @@
 -- What a text spells: a script, or a refusal.
-use Rattle.std.specs.Prelude.{◌≡◌, ℕ, ◌≤◌, List, length, None, Some}
+use Rattle.std.specs.Prelude.{◌≡◌, ℕ, ◌≤◌, List, length, Option, None, Some}
 use Rattle.fx_model.specs.declared.Node.{Node}
 use Rattle.script_words.specs.declared.lex.Token.{Token}
 use Rattle.script_words.specs.Lex.{Lexes}
@@ -57,6 +57,10 @@ NeverBoth = (text : List ℕ) (s : View) (r : Refusal) → Spells text s → IsR
 -- A text that is refused nowhere spells a script.
 abbrev pub SpellsAll : Type 0
 SpellsAll = (text : List ℕ) → IsFirstRefusal text None → (s : View) × Spells text s
+
+-- Each text has a first refusal, or none.
+abbrev pub FirstsExist : Type 0
+FirstsExist = (text : List ℕ) → (o : Option Refusal) × IsFirstRefusal text o
 
 -- Each goal of a script has its words.
 abbrev pub GoalsHaveSpans : Type 0

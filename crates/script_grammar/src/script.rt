@@ -1,9 +1,13 @@
 // A script as it is read.
 ghost use Rattle.std.specs.Prelude.{◌≡◌, All, slice_get};
 ghost use Rattle.std.specs.Option.{option_copied};
-ghost use Rattle.script_claims.specs.Facts.{HasNormalBounds};
+ghost use Rattle.script_claims.specs.Facts.{HasNormalBounds as HasNormalClaimBounds};
+ghost use Rattle.script_hints.specs.Needs.{HasNormalBounds};
+ghost use Rattle.node_counts.specs.Few.{HasFewHints};
+ghost use Rattle.script_grammar.specs.Names.{NamesNodes};
 ghost use Rattle.fx_model.specs.Expression.{IsOrdered};
 
+use crate::laws::{spelled_have_few_hints, spelled_name_nodes};
 use expr_dag::Dag;
 use goal_spans::Span;
 use script_claims::{Claim, Sides};
@@ -26,6 +30,8 @@ pub struct Script<'a> {
 }
 
 impl<'a> Model for Script<'a> {
+    ghost use Rattle.std.specs.Prelude.{All};
+    ghost use Rattle.script_hints.specs.Needs.{HasNormalBounds};
     ghost use Rattle.script_grammar.specs.Spells.{View, Spells};
 
     ghost Value = { View };
@@ -50,7 +56,7 @@ impl<'a> Model for Script<'a> {
       goals = s.sides.goals;
       spans = s.spans.items;
       hints = s.hints;
-    }) };
+    }) × All HasNormalBounds s.hints.rewrites };
 }
 
 impl<'a> Script<'a> {
@@ -65,7 +71,8 @@ impl<'a> Script<'a> {
         spans: Vec<Span>,
         hints: HintList,
     ) -> Script<'a>
-        requires { IsSpelled text.now tokens.items nodes.known sides spans.items hints }
+        requires spelled { IsSpelled text.now tokens.items nodes.known sides spans.items hints }
+        requires normal { All HasNormalBounds hints.rewrites }
         ensures { Spells text.now result }
     {
         Script {
@@ -109,7 +116,7 @@ impl<'a> Script<'a> {
     /// What its formula claims before the last arrow.
     pub fn hypotheses(&self) -> &[Claim]
         ensures value { result.now ≡ self.now.hypotheses }
-        ensures normal { All HasNormalBounds result.now }
+        ensures normal { All HasNormalClaimBounds result.now }
     {
         self.sides.hypotheses()
     }
@@ -117,7 +124,7 @@ impl<'a> Script<'a> {
     /// What its formula claims behind the last arrow, or all that it claims where there is none.
     pub fn goals(&self) -> &[Claim]
         ensures value { result.now ≡ self.now.goals }
-        ensures normal { All HasNormalBounds result.now }
+        ensures normal { All HasNormalClaimBounds result.now }
     {
         self.sides.goals()
     }
@@ -129,17 +136,23 @@ impl<'a> Script<'a> {
         self.spans.as_slice()
     }
 
-    /// Nothing is done. The clauses tell a caller that the text spells the script, and that each node is made of earlier ones.
+    /// Nothing is done. The clauses tell a caller that the text spells the script, that each node is made of earlier ones, that
+    /// the claims and the hints speak of its nodes, and that the hints are few.
     pub fn laws(&self)
         ensures spelled { Spells self.now.text self.now }
         ensures ordered { IsOrdered self.now.nodes }
+        ensures names { NamesNodes self.now }
+        ensures few { HasFewHints self.now.hints }
     {
+        spelled_name_nodes();
+        spelled_have_few_hints();
         self.nodes.dag().laws();
     }
 
     /// What its hints say.
     pub fn hints(&self) -> &HintList
-        ensures { result.now ≡ self.now.hints }
+        ensures value { result.now ≡ self.now.hints }
+        ensures normal { All HasNormalBounds result.now.rewrites }
     {
         &self.hints
     }

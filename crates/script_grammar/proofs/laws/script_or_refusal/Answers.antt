@@ -1,4 +1,5 @@
 use Rattle.script_grammar.proofs.Once.{spells_once, never_both, spells_all}
+use Rattle.script_grammar.proofs.FirstsExist.{firsts_exist}
 use Rattle.script_grammar.proofs.GoalSpans.{goals_have_spans}
 use Rattle.script_grammar.proofs.laws.script_or_refusal.Goals as goal
 
@@ -13,3 +14,6 @@ returns-clause-all c = spells_all c.reads_scripts.ensures
 
 pub returns-clause-spans : goal.returns-clause-spans
 returns-clause-spans c = goals_have_spans
+
+pub returns-clause-answered : goal.returns-clause-answered
+returns-clause-answered c = firsts_exist c.lexed_all.ensures c.shapes_exist.ensures c.literals_are_told.ensures.told c.literals_are_told.ensures.once

@@ -25,8 +25,11 @@ new-requires c =
     let spans : c.in-Ok.spans.items ≡ spans_read r.leaves =
     c.in-Ok.ensures ∙ ap (λ rs. spans_read (leaves_of rs (map word_of c.as_slice-words.result.now))) c.as_slice-roles.ensures.value
     ∙ ap (λ ws. spans_read (leaves_of c.args.read.shape.roles.items (map word_of ws))) c.as_slice-words.ensures.value in
-    subst (λ (q : waits.Reading × HintList). IsSpelled c.args.text.now c.args.read.tokens.items q.0.known c.in-Hints.sides c.in-Ok.spans.items q.1) (sym c.into_parts-nodes.ensures)
-    (spelled_behind c.args.text.now r a.0 c.in-Hints.sides c.in-Hints.hints a.1 e c.in-Ok.spans.items spans)
+    record {
+      spelled = subst (λ (q : waits.Reading × HintList). IsSpelled c.args.text.now c.args.read.tokens.items q.0.known c.in-Hints.sides c.in-Ok.spans.items q.1) (sym c.into_parts-nodes.ensures.parts)
+          (spelled_behind c.args.text.now r a.0 c.in-Hints.sides c.in-Hints.hints a.1 e c.in-Ok.spans.items spans);
+      normal = c.into_parts-nodes.ensures.normal;
+    }
 
 pub unreachable-requires-in_default-stage : goal.unreachable-requires-in_default-stage
 unreachable-requires-in_default-stage c =

@@ -1,0 +1,11 @@
+use Rattle.std.proofs.Common.{subst}
+use Rattle.node_counts.specs.Few.{HasFewHints}
+use Rattle.script_grammar.specs.Names.{NamesNodes}
+use Rattle.script_grammar.specs.Spells.{View}
+use Rattle.script_grammar.proofs.script.Script.laws.Goals as goal
+
+pub returns-clause-names : goal.returns-clause-names
+returns-clause-names c = subst NamesNodes c.self.view_is (c.spelled_name_nodes.ensures _ _ c.self.invariant.0)
+
+pub returns-clause-few : goal.returns-clause-few
+returns-clause-few c = subst (λ (v : View). HasFewHints v.hints) c.self.view_is (c.spelled_have_few_hints.ensures _ _ c.self.invariant.0)
