@@ -1,4 +1,5 @@
 pub mod Known
 pub mod Once
-pub mod Bounded
+pub mod Exact
+pub mod Answered
 pub mod Ends

@@ -15,7 +15,8 @@ use Rattle.plain_prover.specs.declared.prover.Answer.TheVariants as answer
 use Rattle.report.specs.Lines.{Bytes, usage_line, unproved_line, refusal_line, not_built_line}
 use Rattle.fx_top.specs.Command.{Command, reading}
 use Rattle.fx_top.specs.Command.Command.{Prove}
-use Rattle.fx_top.specs.Run.{Told, IsTold, IsTelling, ProvePrints, CommandPrints, Prints}
+use Rattle.fx_top.specs.Answers.{ProvePrints}
+use Rattle.fx_top.specs.Run.{Told, Outside, IsTold, IsTelling, CommandPrints, Prints}
 use Rattle.fx_top.specs.Texts.{answer_text}
 use Rattle.fx_top.specs.declared.run.Status.{Status}
 use Rattle.fx_top.specs.declared.run.Status.TheVariants.{Answered, Unproved, Usage, ReadFault, WriteFault, OutOfMemory}
@@ -68,14 +69,14 @@ module _ (spells_once : SpellsOnce) (both : NeverBoth) (refused_once : FirstsAre
 
   prove_once : (text : Bytes) (s t : Status) (line other : Bytes) → ProvePrints text s line → ProvePrints text t other → Twice s t line other
   unfolding Unread
-  prove_once text Answered Answered line other (s, rs, p, b, i, e) (t, us, q, c, j, f) = (refl, answered_once text line other s t rs us p q i.1 j.1 e f)
-  prove_once text Answered Unproved line other (s, rs, p, b, i, e) (t, m, q, c, j, f) = absurd (not_all s t m (spells_once text s t p q) i.0 j)
-  prove_once text Answered status.Script line other (s, rs, p, b, i, e) u = absurd (not_unread text other s p b u)
-  prove_once text Unproved Answered line other (s, k, p, b, i, e) (t, us, q, c, j, f) = absurd (not_all t s k (spells_once text t s q p) j.0 i)
-  prove_once text Unproved Unproved line other (s, k, p, b, i, e) (t, m, q, c, j, f) = (refl, unproved_once text line other s t k m p q i j e f)
-  prove_once text Unproved status.Script line other (s, k, p, b, i, e) u = absurd (not_unread text other s p b u)
-  prove_once text status.Script Answered line other u (t, us, q, c, j, f) = absurd (not_unread text line t q c u)
-  prove_once text status.Script Unproved line other u (t, m, q, c, j, f) = absurd (not_unread text line t q c u)
+  prove_once text Answered Answered line other p q = (refl, answered_once text line other p.script q.script p.ranges q.ranges p.spelled q.spelled p.proved.1.1 q.proved.1.1 p.printed q.printed)
+  prove_once text Answered Unproved line other p (t, m, q, (c, j), f) = absurd (not_all p.script t m (spells_once text p.script t p.spelled q) p.proved.1.0 j)
+  prove_once text Answered status.Script line other p u = absurd (not_unread text other p.script p.spelled p.proved.0 u)
+  prove_once text Unproved Answered line other (s, k, p, (b, i), e) q = absurd (not_all q.script s k (spells_once text q.script s q.spelled p) q.proved.1.0 i)
+  prove_once text Unproved Unproved line other (s, k, p, (b, i), e) (t, m, q, (c, j), f) = (refl, unproved_once text line other s t k m p q i j e f)
+  prove_once text Unproved status.Script line other (s, k, p, (b, i), e) u = absurd (not_unread text other s p b u)
+  prove_once text status.Script Answered line other u q = absurd (not_unread text line q.script q.spelled q.proved.0 u)
+  prove_once text status.Script Unproved line other u (t, m, q, (c, j), f) = absurd (not_unread text line t q c u)
   prove_once text status.Script status.Script line other u v = (refl, unread_once text line other u v)
   prove_once text Answered Usage line other p q = absurd q
   prove_once text Answered ReadFault line other p q = absurd q
@@ -99,22 +100,19 @@ module _ (spells_once : SpellsOnce) (both : NeverBoth) (refused_once : FirstsAre
   Opened : List Bytes → Told → Status → Bytes → Type 0
   Opened words told s line = ((s ≡ Usage) × (reading words ≡ None) × (line ≡ usage_line)) ⊎ ((c : Command) × (reading words ≡ Some c) × CommandPrints c told s line)
 
-  opened : (words : List Bytes) (told : Told) (s : Status) (line : Bytes) → s ≢ ReadFault → Prints words told s line → Opened words told s line
+  opened : (words : List Bytes) (outside : Outside) (s : Status) (line : Bytes) → s ≢ ReadFault → Prints words outside s line → Opened words outside.told s line
   unfolding Opened
-  opened words told Usage line n p = inl (refl, p.0, p.1)
-  opened words told ReadFault line n p = absurd (n refl)
-  opened words told Answered line n p = inr p
-  opened words told Unproved line n p = inr p
-  opened words told status.Script line n p = inr p
-  opened words told WriteFault line n p = inr p
-  opened words told OutOfMemory line n p = inr p
+  opened words outside Usage line n p = inl (refl, p.0, p.1)
+  opened words outside ReadFault line n p = absurd (n refl)
+  opened words outside Answered line n p = inr p
+  opened words outside Unproved line n p = inr p
+  opened words outside status.Script line n p = inr p
+  opened words outside WriteFault line n p = inr p
+  opened words outside OutOfMemory line n p = inr p
 
   same_text : (told : Option Bytes) (all text : Bytes) → told ≡ Some all → IsTold told text → text ≡ all
   same_text None all text e t = cc
   same_text (Some known) all text e t = t ∙ (let k : known ≡ all = cc in k)
-
-  name_of : Command → Bytes
-  name_of (Prove name) = name
 
   command_once : (words : List Bytes) (told : Told) (s t : Status) (line other : Bytes) (c d : Command) → IsTelling words told
       → reading words ≡ Some c → reading words ≡ Some d → CommandPrints c told s line → CommandPrints d told t other → Twice s t line other
@@ -125,13 +123,13 @@ module _ (spells_once : SpellsOnce) (both : NeverBoth) (refused_once : FirstsAre
       let there : text' ≡ all.0 = same_text (told m) all.0 text' all.1 is' in
       prove_once all.0 s t line other (subst (λ (w : Bytes). ProvePrints w s line) here p) (subst (λ (w : Bytes). ProvePrints w t other) there q)
 
-  pub prints_once : (words : List Bytes) (told : Told) (s t : Status) (line other : Bytes) → IsTelling words told → s ≢ ReadFault → t ≢ ReadFault
-      → Prints words told s line → Prints words told t other → Twice s t line other
+  pub prints_once : (words : List Bytes) (outside : Outside) (s t : Status) (line other : Bytes) → IsTelling words outside.told → s ≢ ReadFault → t ≢ ReadFault
+      → Prints words outside s line → Prints words outside t other → Twice s t line other
   unfolding Opened
-  prints_once words told s t line other tells n m p q = by (opened words told s line n p) (opened words told t other m q)
+  prints_once words outside s t line other tells n m p q = by (opened words outside s line n p) (opened words outside t other m q)
     where
-      by : Opened words told s line → Opened words told t other → Twice s t line other
+      by : Opened words outside.told s line → Opened words outside.told t other → Twice s t line other
       by (inl a) (inl b) = (a.0 ∙ sym b.0, a.2 ∙ sym b.2)
       by (inl a) (inr b) = let e : None ≡ Some b.0 = sym a.1 ∙ b.1 in cc
       by (inr a) (inl b) = let e : None ≡ Some a.0 = sym b.1 ∙ a.1 in cc
-      by (inr a) (inr b) = command_once words told s t line other a.0 b.0 tells a.1 b.1 a.2 b.2
+      by (inr a) (inr b) = command_once words outside.told s t line other a.0 b.0 tells a.1 b.1 a.2 b.2

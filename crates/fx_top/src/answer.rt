@@ -1,8 +1,7 @@
 // The status and the lines for a text.
 ghost use Rattle.std.specs.Prelude.{◌≡◌, IfOk};
 ghost use Rattle.fx_top.specs.Texts.{answer_text};
-ghost use Rattle.fx_top.specs.Run.{ProvePrints, IsBoundedText};
-ghost use Rattle.script_grammar.specs.Spells.{Spells};
+ghost use Rattle.fx_top.specs.Answers.{ProvePrints};
 
 use crate::run::Status;
 use interval::Interval;
@@ -39,10 +38,9 @@ fn answer_lines(
     Ok(lines)
 }
 
-// What `prove` answers to a script.
+// What is answered to a script.
 fn script_answer(alloc: Global, script: &Script<'_>) -> Result<(Status, Vec<u8>), AllocError>
-    ensures prints { IfOk result (λ r. ProvePrints script.now.text r.0 r.1.items) }
-    ensures bounded { IfOk result (λ r. r.0 ≡ Status.Answered → IsBoundedText script.now.text r.1.items) }
+    ensures { IfOk result (λ r. ProvePrints script.now.text r.0 r.1.items) }
 {
     script.laws();
     script_or_refusal();
@@ -59,10 +57,9 @@ fn script_answer(alloc: Global, script: &Script<'_>) -> Result<(Status, Vec<u8>)
     }
 }
 
-/// What `prove` answers to a text: the status and all lines.
+/// What is answered to a text: the status and all lines. `Err` only where memory runs out.
 pub fn answer(alloc: Global, text: &[u8]) -> Result<(Status, Vec<u8>), AllocError>
-    ensures prints { IfOk result (λ r. ProvePrints text.now r.0 r.1.items) }
-    ensures bounded { IfOk result (λ r. r.0 ≡ Status.Answered → IsBoundedText text.now r.1.items) }
+    ensures { IfOk result (λ r. ProvePrints text.now r.0 r.1.items) }
 {
     match parse(alloc, text) {
         Ok(script) => script_answer(alloc, &script),

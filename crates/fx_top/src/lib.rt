@@ -3,6 +3,7 @@
 
 mod answer;
 mod outside;
+mod print;
 mod run;
 mod words;
 

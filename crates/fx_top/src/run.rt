@@ -1,13 +1,13 @@
 // The top call.
-ghost use Rattle.std.specs.Prelude.{◌≡◌, ◌≢◌, ◌⊎◌, ℕ, List, false, map, string_bytes, IfOk};
+ghost use Rattle.std.specs.Prelude.{◌≡◌, ◌≢◌, ℕ, List, false, map, string_bytes, Option};
 ghost use Rattle.fx_edge.specs.Outside.{Rose};
-ghost use Rattle.fx_top.specs.Run.{Told, EndsAs, IsBounded, IsAsked, IsTelling, Prints, PutsLine, exit_code, is_written};
+ghost use Rattle.fx_top.specs.Run.{Outside, EndsAs, IsExact, IsTelling, Prints, exit_code, is_written, seen};
 
-use crate::answer::answer;
-use crate::outside::{ReadStop, put_all, read_text};
+use crate::outside::read_text;
+use crate::print::{print, print_answer, print_stop};
 use crate::words::script_of;
-use fx_edge::{Failed, Folder, Sink};
-use report::runs::{read_fault_line, usage};
+use fx_edge::{Folder, Sink};
+use report::runs::usage;
 use script_grammar::script_or_refusal;
 use script_judge::first::firsts_are_unique;
 use std::alloc::Global;
@@ -41,17 +41,6 @@ impl Status {
     }
 }
 
-// Puts the line, and answers the status where the sink took all of it.
-fn print<O: Sink>(out: &mut O, line: &[u8], status: Status) -> Status
-    ensures line { PutsLine (O.taken out.old) (O.taken out.new) line.now status result }
-    ensures cause { (result ≡ status) ⊎ Rose (O.faults out.old) (O.faults out.new) }
-{
-    match put_all(out, line) {
-        Ok(()) => status,
-        Err(Failed) => Status::WriteFault,
-    }
-}
-
 // A run, by its defined lines.
 fn run_words<F: Folder, O: Sink>(
     alloc: Global,
@@ -59,9 +48,7 @@ fn run_words<F: Folder, O: Sink>(
     folder: &mut F,
     out: &mut O,
 ) -> Status
-    ensures ends { EndsAs (map string_bytes words.now) (F.told folder.old) (O.taken out.old) (O.taken out.new) result }
-    ensures bounded { result ≡ Status.Answered → IsBounded (map string_bytes words.now) (F.told folder.old) (O.taken out.old) (O.taken out.new) }
-    ensures read_fault { result ≡ Status.ReadFault → Rose (F.read_faults folder.old) (F.read_faults folder.new) }
+    ensures ends { EndsAs (Prints (map string_bytes words.now) (seen (F.told folder.old) (F.read_faults folder.old) (F.read_faults folder.new))) (O.taken out.old) (O.taken out.new) result }
     ensures write_fault { result ≡ Status.WriteFault → Rose (O.faults out.old) (O.faults out.new) }
     ensures files { (name : List ℕ) → F.told folder.new name ≡ F.told folder.old name }
 {
@@ -69,16 +56,25 @@ fn run_words<F: Folder, O: Sink>(
         return print(out, usage(), Status::Usage);
     };
     match read_text(alloc, folder, script) {
-        Ok(text) => match answer(alloc, &text) {
-            Ok((status, line)) => print(out, &line, status),
-            Err(_) => Status::OutOfMemory,
-        },
-        Err(ReadStop::Fault) => match read_fault_line(alloc, script) {
-            Ok(line) => print(out, &line, Status::ReadFault),
-            Err(_) => Status::OutOfMemory,
-        },
-        Err(ReadStop::OutOfMemory) => Status::OutOfMemory,
+        Ok(text) => print_answer(alloc, &text, out),
+        Err(stop) => print_stop(alloc, script, stop, out),
     }
+}
+
+// A run, and the law that its status is exactly the defined one.
+fn run_exactly<F: Folder, O: Sink>(
+    alloc: Global,
+    words: &[String],
+    folder: &mut F,
+    out: &mut O,
+) -> Status
+    ensures ends { EndsAs (Prints (map string_bytes words.now) (seen (F.told folder.old) (F.read_faults folder.old) (F.read_faults folder.new))) (O.taken out.old) (O.taken out.new) result }
+    ensures exact { IsExact (map string_bytes words.now) (seen (F.told folder.old) (F.read_faults folder.old) (F.read_faults folder.new)) result }
+    ensures write_fault { result ≡ Status.WriteFault → Rose (O.faults out.old) (O.faults out.new) }
+    ensures files { (name : List ℕ) → is_written (map string_bytes words.now) name ≡ false → F.told folder.new name ≡ F.told folder.old name }
+{
+    defined_status_comes();
+    run_words(alloc, words, folder, out)
 }
 
 /// Runs the program on the words of its command line, without the program's name: `prove SCRIPT` reads the script's
@@ -89,32 +85,37 @@ pub fn fx_run<F: Folder, O: Sink>(
     folder: &mut F,
     out: &mut O,
 ) -> Status
-    // At `Answered` the sink took a line for each goal, with an interval in which its value lies under each assignment of
-    // fractions that meets the hypotheses; and each goal is true under it.
-    ensures bounded { result ≡ Status.Answered → IsBounded (map string_bytes words.now) (F.told folder.old) (O.taken out.old) (O.taken out.new) }
+    // Each status comes only with its defined lines, which the sink took whole; after a write fault and want of memory it took a front of
+    // defined lines. At `Answered` they have an interval for each goal of one script, in which its value lies under each assignment of fractions
+    // that meets the hypotheses; and each goal is true under it. A read fault comes only where reads failed in this call.
+    ensures ends { EndsAs (Prints (map string_bytes words.now) (seen (F.told folder.old) (F.read_faults folder.old) (F.read_faults folder.new))) (O.taken out.old) (O.taken out.new) result }
 
-    // Each status has its defined line, and comes only where that is defined.
-    ensures ends { EndsAs (map string_bytes words.now) (F.told folder.old) (O.taken out.old) (O.taken out.new) result }
+    // Where the folder tells the text, the defined status comes, or else a fault of the outside or want of memory.
+    ensures exact { IsExact (map string_bytes words.now) (seen (F.told folder.old) (F.read_faults folder.old) (F.read_faults folder.new)) result }
 
-    // Right words and a told text of a script that is built are refused only for the outside, or for want of memory.
-    ensures completes { IsAsked (map string_bytes words.now) (F.told folder.old) → (result ≢ Status.Usage) × (result ≢ Status.Script) }
-
-    // A fault is answered only where the outside failed in this call.
-    ensures read_fault { result ≡ Status.ReadFault → Rose (F.read_faults folder.old) (F.read_faults folder.new) }
-    ensures write_fault { result ≡ Status.WriteFault → Rose (F.write_faults folder.old) (F.write_faults folder.new) ⊎ Rose (O.faults out.old) (O.faults out.new) }
+    // A write fault comes only where the sink failed in this call.
+    ensures write_fault { result ≡ Status.WriteFault → Rose (O.faults out.old) (O.faults out.new) }
 
     // No name's bytes change but those of a file that the words name to be written.
     ensures files { (name : List ℕ) → is_written (map string_bytes words.now) name ≡ false → F.told folder.new name ≡ F.told folder.old name }
 {
-    script_or_refusal();
-    run_words(alloc, words, folder, out)
+    run_exactly(alloc, words, folder, out)
 }
 
-/// The law that one answer is defined: words with a told text have one status and one line, read faults aside.
-pub fn answer_is_defined_once()
-    ensures { (words : List (List ℕ)) (told : Told) (s t : Status) (line other : List ℕ) → IsTelling words told
-        → s ≢ Status.ReadFault → t ≢ Status.ReadFault → Prints words told s line → Prints words told t other → (s ≡ t) × (line ≡ other) }
+/// The law that one answer is defined, read faults aside: words with a told text have one status, of those that aren't `ReadFault`, and one
+/// text of lines. Nothing is done.
+pub fn answer_besides_read_faults_is_defined_once()
+    ensures { (words : List (List ℕ)) (outside : Outside) (s t : Status) (lines others : List ℕ) → IsTelling words outside.told
+        → s ≢ Status.ReadFault → t ≢ Status.ReadFault → Prints words outside s lines → Prints words outside t others → (s ≡ t) × (lines ≡ others) }
 {
     script_or_refusal();
     firsts_are_unique();
+}
+
+// The law that a run which ends as defined has exactly the defined status. Nothing is done.
+fn defined_status_comes()
+    ensures { (words : List (List ℕ)) (outside : Outside) (before after : Option (List ℕ)) (result : Status)
+        → EndsAs (Prints words outside) before after result → IsExact words outside result }
+{
+    answer_besides_read_faults_is_defined_once();
 }

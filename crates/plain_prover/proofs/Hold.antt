@@ -17,15 +17,16 @@ use Rattle.plain_bounds.specs.Plain.{plain, enclosure_at, plain_at, or_whole}
 use Rattle.plain_bounds.specs.Goals as goals
 use Rattle.plain_bounds.specs.Goals.{IsProved}
 use Rattle.plain_bounds.specs.Sound.{EnclosuresHold}
-use Rattle.plain_bounds.specs.declared.goals.Goal.{Goal}
-use Rattle.plain_bounds.specs.declared.goals.Want.{Want}
-use Rattle.plain_bounds.specs.declared.goals.Want.TheVariants.{Ask, Inside}
+use Rattle.plain_bounds.specs.declared.wanted.Goal.{Goal}
+use Rattle.goals.specs.declared.goal.Want.{Want}
+use Rattle.goals.specs.declared.goal.Want.TheVariants.{Ask, Inside}
 use Rattle.literal_order.specs.declared.written.Written.{Written}
 use Rattle.script_bounds.specs.Bounds.{written_range, inward_of}
 use Rattle.script_claims.specs.declared.claim.Claim.{Claim}
 use Rattle.script_claims.specs.declared.claim.Claim.TheVariants.{Bounded, Asked, Relative, RelativeAsked, Multiple}
 use Rattle.script_claims.specs.Facts.{hypothesis_fact, want_of, slot_of}
-use Rattle.script_claims.specs.Meets.{IsTrueAt, LiesAt}
+use Rattle.goals.specs.Lies.{LiesAt}
+use Rattle.script_claims.specs.Meets.{IsTrueAt}
 use Rattle.script_grammar.specs.Spells.{View}
 use Rattle.plain_prover.specs.Built.{is_on_one, subject, is_built, is_rounding, has_hint, bound_variables_once}
 use Rattle.plain_prover.specs.Plain.{with_fact, facts_of, goal_of, range_in}

@@ -3,7 +3,7 @@ use Rattle.std.specs.Prelude.{List, [], ◌∷◌, map, Option, Some, None}
 use Rattle.interval.specs.declared.interval.Interval.{Interval}
 use Rattle.facts.specs.declared.fact.Fact.{Fact}
 use Rattle.plain_bounds.specs.Plain.{plain, enclosure_at, or_whole}
-use Rattle.plain_bounds.specs.declared.goals.Goal.{Goal}
+use Rattle.plain_bounds.specs.declared.wanted.Goal.{Goal}
 use Rattle.script_claims.specs.declared.claim.Claim.{Claim}
 use Rattle.script_claims.specs.Facts.{hypothesis_fact, want_of}
 use Rattle.script_grammar.specs.Spells.{View}

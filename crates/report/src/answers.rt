@@ -1,6 +1,6 @@
 //! Lines of answers.
 
-ghost use Rattle.std.specs.Prelude.{◌≡◌, ◌++◌, IfOk, OnOk};
+ghost use Rattle.std.specs.Prelude.{◌≡◌, ◌++◌, IfOk, OnOk, OnErr};
 ghost use Rattle.report.specs.Lines as spec;
 
 use crate::parts::part;
@@ -32,21 +32,37 @@ fn put_joined(line: &mut Vec<u8>, text: &[u8], tokens: &[Token]) -> Result<(), A
     Ok(())
 }
 
+// The line of a goal.
+fn goal_line(
+    alloc: Global,
+    text: &[u8],
+    tokens: &[Token],
+    range: Interval,
+) -> Result<Vec<u8>, AllocError>
+    ensures { IfOk result (λ line. line.items ≡ spec.goal_line text.now tokens.now range) }
+{
+    let mut line = Vec::new(alloc);
+    put_joined(&mut line, text, tokens)?;
+    let low = range.lo();
+    let high = range.hi();
+    let interval = format!(in alloc; " in [{low}, {high}]\n")?;
+    line.extend_from_slice(interval.as_bytes())?;
+    Ok(line)
+}
+
 /// Appends the line of a goal, by the tokens of its expression and the interval that holds its values. `Err` only
-/// where memory runs out; the line may then have a part of it.
+/// where memory runs out; nothing is added then.
 pub fn put_goal_line(
-    line: &mut Vec<u8>,
+    lines: &mut Vec<u8>,
     text: &[u8],
     tokens: &[Token],
     range: Interval,
 ) -> Result<(), AllocError>
-    ensures added { OnOk result (line.new.items ≡ line.old.items ++ spec.goal_line text.now tokens.now range) }
+    ensures added { OnOk result (lines.new.items ≡ lines.old.items ++ spec.goal_line text.now tokens.now range) }
+    ensures kept { OnErr result (lines.new.items ≡ lines.old.items) }
 {
-    put_joined(line, text, tokens)?;
-    let low = range.lo();
-    let high = range.hi();
-    let interval = format!(in *line.allocator(); " in [{low}, {high}]\n")?;
-    line.extend_from_slice(interval.as_bytes())
+    let line = goal_line(*lines.allocator(), text, tokens, range)?;
+    lines.extend_from_slice(&line)
 }
 
 /// The line of a goal that isn't proved; goals are counted from 0. `Err` only where memory runs out.

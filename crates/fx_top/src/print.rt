@@ -1,0 +1,55 @@
+// What a run puts into its sink.
+ghost use Rattle.std.specs.Prelude.{◌≡◌, ◌⊎◌};
+ghost use Rattle.fx_edge.specs.Outside.{Rose};
+ghost use Rattle.fx_top.specs.Answers.{ProvePrints};
+ghost use Rattle.fx_top.specs.Run.{EndsAs, IsLine, StopPrints};
+
+use crate::answer::answer;
+use crate::outside::{ReadStop, put_all};
+use crate::run::Status;
+use fx_edge::{Failed, Sink};
+use report::runs::read_fault_line;
+use std::alloc::Global;
+
+// Puts the lines, and answers the status where the sink took all of them.
+pub fn print<O: Sink>(out: &mut O, lines: &[u8], status: Status) -> Status
+    ensures ends { EndsAs (IsLine status lines.now) (O.taken out.old) (O.taken out.new) result }
+    ensures cause { (result ≡ status) ⊎ Rose (O.faults out.old) (O.faults out.new) }
+{
+    match put_all(out, lines) {
+        Ok(()) => status,
+        Err(Failed) => Status::WriteFault,
+    }
+}
+
+// Puts what is answered to the text.
+pub fn print_answer<O: Sink>(alloc: Global, text: &[u8], out: &mut O) -> Status
+    ensures ends { EndsAs (ProvePrints text.now) (O.taken out.old) (O.taken out.new) result }
+    ensures cause { result ≡ Status.WriteFault → Rose (O.faults out.old) (O.faults out.new) }
+{
+    match answer(alloc, text) {
+        Ok((status, lines)) => print(out, &lines, status),
+        Err(_) => Status::OutOfMemory,
+    }
+}
+
+fn print_read_fault<O: Sink>(alloc: Global, name: &str, out: &mut O) -> Status
+    ensures ends { EndsAs (StopPrints name.now ReadStop.Fault) (O.taken out.old) (O.taken out.new) result }
+    ensures cause { result ≡ Status.WriteFault → Rose (O.faults out.old) (O.faults out.new) }
+{
+    match read_fault_line(alloc, name) {
+        Ok(line) => print(out, &line, Status::ReadFault),
+        Err(_) => Status::OutOfMemory,
+    }
+}
+
+// Puts why the file of this name wasn't read.
+pub fn print_stop<O: Sink>(alloc: Global, name: &str, stop: ReadStop, out: &mut O) -> Status
+    ensures ends { EndsAs (StopPrints name.now stop) (O.taken out.old) (O.taken out.new) result }
+    ensures cause { result ≡ Status.WriteFault → Rose (O.faults out.old) (O.faults out.new) }
+{
+    match stop {
+        ReadStop::Fault => print_read_fault(alloc, name, out),
+        ReadStop::OutOfMemory => Status::OutOfMemory,
+    }
+}
