@@ -1,10 +1,12 @@
 -- What a pass knows of a moment, in the words of its lane or seat.
-use Rattle.std.proofs.Common.{◌≡◌, ℕ, ◌+◌, ◌<◌, ◌≤◌, List, [], ◌∷◌, ◌++◌, length, All, slice_get, Some, refl, sym, ap, ◌∙◌, subst}
+use Rattle.std.proofs.Common.{◌≡◌, ℕ, ◌+◌, ◌<◌, ◌≤◌, List, [], ◌∷◌, ◌++◌, length, All, slice_get, Some, refl, sym, ap, ◌∙◌, subst, arith}
 use Rattle.box_deques.specs.declared.rule.View.{View}
+use Rattle.box_deques.specs.Views.{Take}
+use Rattle.box_deques.proofs.Fill.{places_below}
 use Rattle.box_deques.specs.Rule.{Gone, taken_by, paths_of, Fitting, WasFirst, WasEmpty}
 use Rattle.box_deques.specs.Seen as seen
 use Rattle.box_deques.specs.Seen.{with_pop, with_take}
-use Rattle.box_deques.specs.Moments.{LaneFits, SeatFits, MayBeEmpty, AnySeat, Pops, Takes}
+use Rattle.box_deques.specs.Moments.{LaneFits, SeatFits, MayBeEmpty, Pops, Takes}
 
 -- the lane is what its owner's pass knows
 pub record IsOwners (v : View) (l : seen.Lane) : Type 0 where
@@ -50,15 +52,16 @@ pub record IsSeats (v : View) (s : seen.Seat) : Type 0 where
 seat_fits : (v : View) (s : seen.Seat) (history : List Gone) (waiting : List (List ℕ)) → IsSeats v s → Fitting v history waiting → SeatFits s history
 seat_fits v s history waiting own fits = sym own.takes ∙ fits.took ∙ ap (λ n. taken_by n 0 history) own.party
 
+seat_above : (s : seen.Seat) (history : List Gone) (place : ℕ) → place ≡ length history → SeatFits s history → All (λ (take : Take). take.0 < place) s.takes
+seat_above s history place first fits = subst (λ l. All (λ (take : Take). take.0 < place) l) (sym fits) (λ j d below. let p = places_below (s.hand + 1) 0 history j d below in omega arith)
+
 pub takes_first : (capacity : ℕ) (v : View) (old new : seen.Seat) (place : ℕ) (path : List ℕ) → IsSeats v old → place < capacity → WasFirst v place path → new ≡ with_take old (place, path) → Takes capacity old new path
 takes_first capacity v old new place path own below was counted = record {
   place = place;
   below = below;
   history = was.0;
   first = was.2;
+  above = seat_above old was.0 place was.2 (seat_fits v old was.0 (path ∷ was.1) own was.3);
   fits = seat_fits v old was.0 (path ∷ was.1) own was.3;
   counted = counted;
 }
-
-pub any_seat : (v : View) (s : seen.Seat) → IsSeats v s → WasEmpty v → AnySeat s
-any_seat v s own was = (was.0, seat_fits v s was.0 [] own was.1)

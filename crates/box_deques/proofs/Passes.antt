@@ -1,9 +1,10 @@
 -- A change of one seat that leaves its pass leaves all passes, and those of the hand's own lane.
-use Rattle.std.proofs.Common.{◌≡◌, ◌≢◌, ℕ, zero, suc, ◌<◌, List, [], ◌∷◌, length, slice_set, refl, ap, sym, ◌∙◌, get_or-set_other, subst, Option, Some, None}
+use Rattle.std.proofs.Common.{◌≡◌, ◌≢◌, ℕ, zero, suc, ◌<◌, List, [], ◌∷◌, length, All, slice_set, refl, ap, sym, ◌∙◌, get_or-set_other, subst, Option, Some, None}
 use Rattle.std.specs.Option.{IfSome, IfNone}
+use Rattle.box_deques.specs.Views.{Take}
 use Rattle.box_deques.specs.Seen as seen
 use Rattle.box_deques.specs.Seen.{seat_at, no_seat, HasPass, hand_with, with_take, with_empty}
-use Rattle.box_deques.specs.Moments.{SamePasses, SeatFits, AnySeat, Takes, Steals}
+use Rattle.box_deques.specs.Moments.{SamePasses, SeatFits, Takes, Steals}
 
 abbrev pub new_hand : seen.Hand → ℕ → seen.Seat → seen.Hand
 new_hand h n s = record { number = h.number; seats = slice_set h.seats n s }
@@ -45,12 +46,13 @@ steals capacity h n old new path is t = record {
   below = t.below;
   history = t.history;
   first = t.first;
+  above = subst (λ (s : seen.Seat). All (λ (take : Take). take.0 < t.place) s.takes) is t.above;
   fits = subst (λ s. SeatFits s t.history) is t.fits;
   counted = ap (λ s. new_hand h n s) (t.counted ∙ ap (λ s. with_take s (t.place, path)) is);
 }
 
-pub finds_none : (h : seen.Hand) (n : ℕ) (old new : seen.Seat) → old ≡ seat_at h.seats n → AnySeat old × (new ≡ with_empty old) → AnySeat (seat_at h.seats n) × (new_hand h n new ≡ hand_with h n with_empty)
-finds_none h n old new is a = (subst AnySeat is a.0, ap (λ s. new_hand h n s) (a.1 ∙ ap with_empty is))
+pub finds_none : (h : seen.Hand) (n : ℕ) (old new : seen.Seat) → old ≡ seat_at h.seats n → new ≡ with_empty old → new_hand h n new ≡ hand_with h n with_empty
+finds_none h n old new is e = ap (λ s. new_hand h n s) (e ∙ ap with_empty is)
 
 pub same_itself : (h : seen.Hand) → SamePasses h h
 same_itself h = record { number = refl; long = refl; lanes = λ k. refl; hands = λ k. refl; rooms = λ k. refl; own = refl }

@@ -1,6 +1,7 @@
 -- What a worker can say of a lane at the moment of a pop or a steal. Others may take from it at any time, so it is this: a
 -- lawful state of the lane that the worker can't tell from the real one.
 use Rattle.std.specs.Prelude.{◌≡◌, ℕ, ◌+◌, ◌<◌, ◌≤◌, List, [], ◌∷◌, ◌++◌, length, All, Some, slice_get}
+use Rattle.box_deques.specs.Views.{Take}
 use Rattle.box_deques.specs.Rule.{Gone, taken_by, paths_of}
 use Rattle.box_deques.specs.Seen.{Lane, Seat, Hand, seat_at, hand_with, with_pop, with_take}
 
@@ -29,14 +30,11 @@ pub record Pops (capacity : ℕ) (old new : Lane) (path : List ℕ) : Type 0 whe
 abbrev pub SeatFits : Seat → List Gone → Type 0
 SeatFits seat history = seat.takes ≡ taken_by (seat.hand + 1) 0 history
 
--- so much is known where a steal finds nothing: it is no more than was known before
-abbrev pub AnySeat : Seat → Type 0
-AnySeat seat = (history : List Gone) × SeatFits seat history
-
--- a steal took this path, at a place that is as many as had left the lane, in a state that the hand can't tell from the real one. So the place is above those of all that the hand took there
+-- a steal took this path, at a place above those of all that the hand took there. It is as many as had left the lane, in a state that the hand can't tell from the real one
 pub record Takes (capacity : ℕ) (old new : Seat) (path : List ℕ) : Type 0 where
   pub place : ℕ
   pub below : place < capacity
+  pub above : All (λ (take : Take). take.0 < place) old.takes
   pub history : List Gone
   pub first : place ≡ length history
   pub fits : SeatFits old history
@@ -46,6 +44,7 @@ pub record Takes (capacity : ℕ) (old new : Seat) (path : List ℕ) : Type 0 wh
 pub record Steals (capacity lane : ℕ) (old new : Hand) (path : List ℕ) : Type 0 where
   pub place : ℕ
   pub below : place < capacity
+  pub above : All (λ (take : Take). take.0 < place) (seat_at old.seats lane).takes
   pub history : List Gone
   pub first : place ≡ length history
   pub fits : SeatFits (seat_at old.seats lane) history

@@ -103,9 +103,9 @@ takes_on lane hands = map (λ h. (seat_at h.seats lane).takes) hands
 abbrev pub AllPasses : ℕ → Name → List Hand → Type 0
 AllPasses lane name hands = (k : ℕ) (d : Hand) → k < length hands → (lane < length (slice_index_or hands k d).seats) × ((seat_at (slice_index_or hands k d).seats lane).lane ≡ Some name) × ((seat_at (slice_index_or hands k d).seats lane).hand ≡ k)
 
--- the hand k took nothing of the lane k
+-- the hand k, if there is one, took nothing of the lane k
 abbrev pub OwnIsEmpty : ℕ → List Hand → Type 0
-OwnIsEmpty lane hands = (k : ℕ) (d : Hand) → k ≡ lane → (seat_at (slice_index_or hands k d).seats lane).takes ≡ []
+OwnIsEmpty lane hands = (k : ℕ) (d : Hand) → k < length hands → k ≡ lane → (seat_at (slice_index_or hands k d).seats lane).takes ≡ []
 
 -- each hand gave up its pass on the lane
 abbrev pub GaveBack : ℕ → List Hand → List Hand → Type 0

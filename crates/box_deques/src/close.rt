@@ -1,5 +1,5 @@
 //! What became of the tasks of a lane.
-ghost use Rattle.std.specs.Prelude.{◌≡◌, ℕ, List, ◌+◌, ◌<◌, ◌≤◌, true, [], ◌++◌, length, map, drop, All, vec_capacity, IfOk, IfErr, OnOk, sum_by};
+ghost use Rattle.std.specs.Prelude.{◌≡◌, ◌⊎◌, ℕ, List, ◌+◌, ◌<◌, ◌≤◌, true, [], ◌++◌, length, map, drop, All, vec_capacity, IfOk, IfErr, OnOk, sum_by};
 ghost use Rattle.crossbeam_deque.specs.Handles.{worker_deque, worker_flavor, worker_view, SameWorker};
 ghost use Rattle.box_deques.specs.Close.{writes, writes_all, AllBelow, AreHands};
 ghost use Rattle.box_deques.specs.Views.{with_back};
@@ -144,8 +144,8 @@ impl<T: Task, Q: Naming<T::World>> Lane<T, Q> {
     ) -> Result<LaneEnd<T>, (Lane<T, Q>, AllocError)>
         requires all { (length hands.old ≡ self.hands) × (length hands.old ≤ 16) }
         requires passes { AllPasses self.number self.name hands.old }
-        // The hand of this worker stole nothing from its own lane.
-        requires own { self.number < length hands.old × OwnIsEmpty self.number hands.old }
+        // The hand of this worker, if there is one, stole nothing from its own lane.
+        requires own { OwnIsEmpty self.number hands.old }
         // After want of memory.
         ensures back { IfErr result (λ e. (e.0 ≡ self) × (hands.new ≡ hands.old)) }
         ensures hands { OnOk result (GaveBack self.number hands.old hands.new) }
@@ -156,7 +156,7 @@ impl<T: Task, Q: Naming<T::World>> Lane<T, Q> {
         ensures world { IfOk result (λ e. All (λ t. Belongs (T.world t) Q.world) e.left) }
         ensures owner { IfOk result (λ e. taken_by self.number 0 e.ledger.takes ≡ self.takes) }
         ensures takes { IfOk result (λ e. AreHands self.number hands.old e.ledger.takes) }
-        ensures workers { IfOk result (λ e. All (λ take. take.0 < length hands.old) e.ledger.takes) }
+        ensures workers { IfOk result (λ e. All (λ take. (take.0 ≡ self.number) ⊎ (take.0 < length hands.old)) e.ledger.takes) }
     {
         let room = self.pushed.len();
         let Ok(mut takes) = Vec::with_capacity(alloc, room) else {
@@ -169,12 +169,14 @@ impl<T: Task, Q: Naming<T::World>> Lane<T, Q> {
             return Err((self, AllocError));
         };
         let Lane {
+            before: _,
             mut deque,
             number,
             capacity: _,
             pushed,
             takes: own,
             dry: _,
+            after: _,
         } = self;
         collect(&mut deque, hands, number as usize);
         let n = deque.len_as::<Closed<T, Q>>();

@@ -14,15 +14,19 @@ use fx_edge::Path;
 use std::alloc::{AllocError, Global};
 use std::marker::Model;
 
-/// The boxes that wait in one worker's lane. Contracts see what it was pushed and what its owner took.
+/// The boxes that wait in one worker's lane. Contracts see what it was pushed and what its owner took. It has 64 unused
+/// bytes on each side, so that no two lanes are on one line of the processor's cache.
 #[derive(Drop)]
+#[repr(C)]
 pub struct Lane<T: Task, Q: Naming<T::World>> {
+    pub(crate) before: [u64; 8],
     pub(crate) deque: Worker<Placed<T>, Global, View, LaneRule<T, Q>>,
     pub(crate) number: u8,
     pub(crate) capacity: u32,
     pub(crate) pushed: Vec<Path>,
     pub(crate) takes: Vec<(u64, Path)>,
     pub(crate) dry: bool,
+    pub(crate) after: [u64; 8],
 }
 
 impl<T: Task, Q: Naming<T::World>> Model for Lane<T, Q> {
@@ -142,12 +146,14 @@ impl<T: Task, Q: Naming<T::World>> Lane<T, Q> {
         let pushed = Vec::with_capacity(alloc, capacity as usize)?;
         let takes = Vec::with_capacity(alloc, capacity as usize)?;
         Ok(Lane {
+            before: [0; 8],
             deque,
             number,
             capacity,
             pushed,
             takes,
             dry: false,
+            after: [0; 8],
         })
     }
 }

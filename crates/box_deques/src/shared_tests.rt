@@ -116,7 +116,7 @@ fn closed<Q: Naming<u8>>(
 ) -> Result<LaneEnd<Job>, AllocError>
     requires all { (length hands.old ≡ lane.hands) × (length hands.old ≤ 16) }
     requires passes { AllPasses lane.number lane.name hands.old }
-    requires own { lane.number < length hands.old × OwnIsEmpty lane.number hands.old }
+    requires own { OwnIsEmpty lane.number hands.old }
 {
     let lane = match lane.close(alloc, hands) {
         Ok(end) => return Ok(end),

@@ -2,7 +2,7 @@
 ghost use Rattle.std.specs.Prelude.{◌≡◌, ◌≢◌, ℕ, ◌+◌, ◌<◌, ◌≤◌, true, false, [], ◌∷◌, ◌++◌, length, vec_len, vec_capacity, Some, None, IfOk, IfErr, OnOk, OnErr, IfSome, IfNone, MatchResult, MatchOption, slice_index_or, slice_get};
 ghost use Rattle.crossbeam_deque.specs.Handles.{view, IsPassOf, SamePass, stealer_deque, stealer_flavor};
 ghost use Rattle.box_deques.specs.Rule.{Belongs, WasEmpty, Takes1};
-ghost use Rattle.box_deques.specs.Moments.{Takes, Steals, AnySeat, SameSeat, SamePasses};
+ghost use Rattle.box_deques.specs.Moments.{Takes, Steals, SameSeat, SamePasses};
 ghost use Rattle.box_deques.specs.Seen.{with_empty, hand_with, seat_at, HasPass};
 
 use crate::hand::{Hand, Seat};
@@ -10,6 +10,7 @@ use crate::rule::{LaneRule, Placed, Taken, View};
 use crate::task::{Naming, Task};
 use crossbeam_deque::{Pass, Steal, Stealer};
 use std::alloc::Global;
+use std::hint::spin_loop;
 use std::marker::Model;
 use std::sync::Wait;
 
@@ -51,7 +52,7 @@ fn take_first<T: Task, Q: Naming<T::World>, R: Wait>(
         match stealer.steal_as::<Taken<T, Q>>(pass) {
             Steal::Success(placed) => return Some(placed),
             Steal::Empty => return None,
-            Steal::Retry => {}
+            Steal::Retry => spin_loop(),
         }
     }
     unreachable!()
@@ -64,7 +65,7 @@ impl<T: Task, Q: Naming<T::World>> Thief<T, Q> {
         requires room { seat.old.room ≡ Q.capacity }
         ensures world { IfSome result (λ t. Belongs (T.world t) Q.world) }
         ensures first { IfSome result (λ t. Takes Q.capacity seat.old seat.new (T.path_of t)) }
-        ensures none { IfNone result (AnySeat seat.old × (seat.new ≡ with_empty seat.old)) }
+        ensures none { IfNone result (seat.new ≡ with_empty seat.old) }
         ensures pass { SameSeat seat.old seat.new }
     {
         let Some(pass) = &mut seat.pass else {
@@ -93,8 +94,7 @@ impl<T: Task, Q: Naming<T::World>> Thief<T, Q> {
         ensures world { IfSome result (λ t. Belongs (T.world t) Q.world) }
         ensures first { IfSome result
             (λ t. Steals Q.capacity self.now.number by.old by.new (T.path_of t)) }
-        ensures none { IfNone result (AnySeat (seat_at by.old.seats self.now.number)
-            × (by.new ≡ hand_with by.old self.now.number with_empty)) }
+        ensures none { IfNone result (by.new ≡ hand_with by.old self.now.number with_empty) }
         ensures passes { SamePasses by.old by.new }
     {
         let seat = &mut by.seats[self.number as usize];

@@ -55,33 +55,30 @@ fn other_threads_read_what_was_published(rt: HostRuntime) -> Result<(), Fail> {
     Ok(())
 }
 
-// Publishes an entry and reads it, or gets it back where there is no memory.
-fn is_read_or_back<R: Wait>(
+// Publishes an entry, and reads it and an earlier one. `None` where it is refused.
+fn published<R: Wait>(
     rt: &R,
     board: &Board<u32>,
     first: &Token<u32>,
     entry: u32,
-) -> (u32, u32)
+) -> Option<(u32, u32)>
     requires { first.now.board ≡ board.now }
-    ensures { (result.0 ≡ entry) × (result.1 ≡ first.now.entry) }
 {
-    let seen = match board.publish(rt, entry) {
-        Ok(token) => *board.read(&token),
-        Err(back) => back,
-    };
-    (seen, *board.read(first))
+    match board.publish(rt, entry) {
+        Ok(token) => Some((*board.read(&token), *board.read(first))),
+        Err(_) => None,
+    }
 }
 
 #[test]
-fn a_refused_entry_comes_back(rt: HostRuntime) {
-    let Ok(board) = Board::new(rt.alloc()) else {
-        return;
-    };
+fn with_memory_no_entry_is_refused(rt: HostRuntime) -> Result<(), Fail> {
+    let board = Board::new(rt.alloc())?;
     let shared = &board;
     let Ok(first) = shared.publish(&rt, 1000) else {
-        return;
+        return Err(Fail::new("the first entry is refused"));
     };
     for entry in 0..100u32 {
-        assert_eq!(rt; is_read_or_back(&rt, shared, &first, entry), (entry, 1000));
+        assert_eq!(rt; published(&rt, shared, &first, entry), Some((entry, 1000)));
     }
+    Ok(())
 }

@@ -1,4 +1,4 @@
-use Rattle.std.proofs.Common.{◌≡◌, ℕ, ◌+◌, ◌-◌, ◌<◌, List, [], ◌++◌, length, map, drop, take, slice_index_or, sym, ap, ◌∙◌, rules, arith}
+use Rattle.std.proofs.Common.{◌≡◌, ℕ, ◌+◌, ◌-◌, ◌<◌, List, [], ◌++◌, length, map, drop, take, slice_index_or, All, ◌⊎◌, sym, ap, subst, ◌∙◌, rules, arith}
 use Rattle.std.specs.List.{sum_by}
 use Rattle.crossbeam_deque.specs.Handles.{worker_view, worker_port}
 use Rattle.box_deques.specs.declared.rule.View.{View}
@@ -126,10 +126,9 @@ returns-clause-owner g c =
     let ys : List Gone = drop (length into) c.fill.new.takes.items in
     let final : take c.fill.new.takes.len (into ++ ys) ≡ into = back_whole into ys c.fill.new.takes.len held in
     let d : seen.Hand = record { number = 0; seats = [] } in
-    let none : (seat_at (slice_index_or hs me d).seats me).takes ≡ [] = rw (ap (λ n. (seat_at (slice_index_or hs me d).seats n).takes) num) (c.requires.own.1 me d num) in
-    let few : me < length hs = rw num c.requires.own.0 in
+    let none : me < length hs → (seat_at (slice_index_or hs me d).seats me).takes ≡ [] = λ below. rw (ap (λ n. (seat_at (slice_index_or hs me d).seats n).takes) num) (c.requires.own me d below num) in
     let kept : v.takes ≡ c.args.self.takes = ap (λ (x : View). x.takes) is ∙ c.self.invariant.5 ∙ ap (λ (l : seen.Lane). l.takes) c.self.view_is in
-    rw (c.of.ensures.takes, final, ← num) (owner_of me hs v waiting t into d back out few none ∙ kept)
+    rw (c.of.ensures.takes, final, ← num) (owner_of me hs v waiting t into d back out none ∙ kept)
 
 pub returns-clause-takes : goal.returns-clause-takes
 returns-clause-takes g c = λ k d below other.
@@ -185,5 +184,4 @@ returns-clause-workers g c =
     let held : c.fill.new.takes.len ≡ length into = (let a = c.write_all.auto.into in let b : length c.as_mut_slice.result.now ≡ c.fill.new.takes.len = search rules in omega arith) in
     let ys : List Gone = drop (length into) c.fill.new.takes.items in
     let final : take c.fill.new.takes.len (into ++ ys) ≡ into = back_whole into ys c.fill.new.takes.len held in
-    let few : me < length hs = rw num c.requires.own.0 in
-    rw (c.of.ensures.takes, final) (all_workers me hs v waiting t into back out few)
+    rw (c.of.ensures.takes, final) (subst (λ n. All (λ (e : Gone). (e.0 ≡ n) ⊎ (e.0 < length hs)) into) num (all_workers me hs v waiting t into back out))

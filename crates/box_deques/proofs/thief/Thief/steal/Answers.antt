@@ -1,7 +1,7 @@
 use Rattle.std.proofs.Common.{◌≡◌, length, ap, ◌∙◌, subst, arith}
 use Rattle.box_deques.specs.Seen as seen
 use Rattle.box_deques.specs.Seen.{seat_at, no_seat, hand_with, with_empty}
-use Rattle.box_deques.specs.Moments.{Steals, AnySeat, SamePasses}
+use Rattle.box_deques.specs.Moments.{Steals, SamePasses}
 use Rattle.box_deques.proofs.Lists.{or_same}
 use Rattle.box_deques.proofs.Passes.{new_hand, passes_stay, some_then, none_then, steals, finds_none}
 use Rattle.box_deques.proofs.thief.Thief.steal.Goals as goal
@@ -46,7 +46,7 @@ pub returns-clause-none : goal.returns-clause-none
 returns-clause-none g c =
     let new : seen.Hand = new_hand (hand_of g c) c.self.inside.number c.steal_at.new.seat in
     none_then _ _ c.steal_at.result
-    (λ found. subst (λ n. AnySeat (seat_at c.args.by.now.seats n) × (new ≡ hand_with c.args.by.now n with_empty)) (number_is g c)
-    (subst (λ h. AnySeat (seat_at h.seats c.self.inside.number) × (new ≡ hand_with h c.self.inside.number with_empty)) c.by.view_is
+    (λ found. subst (λ n. new ≡ hand_with c.args.by.now n with_empty) (number_is g c)
+    (subst (λ h. new ≡ hand_with h c.self.inside.number with_empty) c.by.view_is
     (finds_none (hand_of g c) c.self.inside.number c.index_mut-seat.result.now c.steal_at.new.seat (seat_is g c) found)))
     c.steal_at.ensures.none

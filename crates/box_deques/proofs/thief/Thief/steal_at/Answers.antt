@@ -1,7 +1,7 @@
 use Rattle.std.proofs.Common.{◌+◌, ap, ◌∙◌, rules}
 use Rattle.crossbeam_deque.specs.Handles.{view}
 use Rattle.box_deques.specs.Seen as seen
-use Rattle.box_deques.proofs.Moments.{IsSeats, takes_first, any_seat}
+use Rattle.box_deques.proofs.Moments.{IsSeats, takes_first}
 use Rattle.box_deques.proofs.thief.Thief.steal_at.Goals as goal
 
 pub returns-in-Some-take_first-clause-first : goal.returns-in-Some-take_first-clause-first
@@ -13,12 +13,3 @@ returns-in-Some-take_first-clause-first g c =
       takes = i.0.2 ∙ ap (λ (s : seen.Seat). s.takes) c.seat.view_is;
     } in
     takes_first _ (view c.in-Some.pass) c.args.seat.now _ c.in-Some-take_first.placed.place _ own r.3 r.4 (search rules)
-
-pub returns-in-None-clause-none : goal.returns-in-None-clause-none
-returns-in-None-clause-none g c =
-    let i = rw c.in-Some.is at c.seat.invariant in
-    let own : IsSeats (view c.in-Some.pass) c.args.seat.now = record {
-      party = i.0.1 ∙ ap (λ (s : seen.Seat). s.hand + 1) c.seat.view_is;
-      takes = i.0.2 ∙ ap (λ (s : seen.Seat). s.takes) c.seat.view_is;
-    } in
-    (any_seat (view c.in-Some.pass) c.args.seat.now own c.in-None.ensures.none.1, search rules)
