@@ -1,0 +1,27 @@
+-- Comparing numbers of expressions.
+use Rattle.std.specs.Prelude.{◌≡◌, ◌≢◌, ◌==◌, Bool, true, false, List, refl}
+use Rattle.std.proofs.Common.{eqb-true, eq-eqb, sym, ◌∙◌, ap, subst, true≢false}
+use Rattle.fx_model.specs.declared.ExprId.{ExprId}
+use Rattle.fx_model.specs.declared.Node.{Node}
+use Rattle.expr_dag.specs.Nodes.{IsAt}
+use Rattle.pair_closure.specs.Members.{some-inj}
+
+pub same_ids : (x y : ExprId) → (x.0 == y.0) ≡ true → x ≡ y
+same_ids x y h = let e = eqb-true x.0 y.0 h in (λ i. record { 0 = e i })
+
+pub self_same : (x : ExprId) → (x.0 == x.0) ≡ true
+self_same x = eq-eqb x.0 x.0 refl
+
+pub apart_ids : (x y : ExprId) → (x.0 == y.0) ≡ false → x ≢ y
+apart_ids x y h e = true≢false (sym (eq-eqb x.0 y.0 (ap (λ (z : ExprId). z.0) e)) ∙ h)
+
+pub same_at : (nodes : List Node) (x y : ExprId) (n : Node) → x ≡ y → IsAt nodes x n → IsAt nodes y n
+same_at nodes x y n e = subst (λ z. IsAt nodes z n) e
+
+-- a place has one node
+pub one_node : (nodes : List Node) (x : ExprId) (m n : Node) → IsAt nodes x m → IsAt nodes x n → m ≡ n
+one_node nodes x m n a b = some-inj m n (sym a ∙ b)
+
+pub not_same : (x y : ExprId) → x ≢ y → (b : Bool) → (x.0 == y.0) ≡ b → b ≡ false
+not_same x y ne true e = absurd (ne (same_ids x y e))
+not_same x y ne false e = refl

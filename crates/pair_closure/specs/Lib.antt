@@ -1,0 +1,14 @@
+pub mod Reached
+pub mod Members
+pub mod Rising
+pub mod Ids
+pub mod Closure
+pub mod Grown
+pub mod Hashed
+pub mod Roundings
+pub mod Differences
+pub mod Rows
+pub mod RowLaws
+pub mod Among
+pub mod Look
+pub mod Examples
