@@ -1,0 +1,11 @@
+pub mod Lists
+pub mod Operations
+pub mod OfDifferences
+pub mod OfPairs
+pub mod Each
+pub mod Families
+pub mod OfChains
+pub mod PairsOnce
+pub mod Whole
+pub mod Behind
+pub mod SidesKnown

@@ -1,0 +1,6 @@
+use Rattle.std.specs.Prelude.{◌≡◌, ◌++◌, take}
+use Rattle.rule_instances.specs.InOrder.{each_at, of_hint}
+use Rattle.rule_instances.proofs.all.add_hints.Given as goal
+
+abbrev pub invariant-loop-i : goal.invariant-loop-i
+invariant-loop-i l = l.rows ≡ l.fn.rows ++ each_at of_hint 0 (take l.i l.hints)
