@@ -1,0 +1,11 @@
+//! What derivations use: expressions, pairs, hypotheses, goals, rows of hints and rule instances, with an index from each slot to
+//! the instances that take it.
+#![tactic(auto)]
+
+mod places;
+mod universe;
+mod users;
+
+pub use facts::Instance;
+pub use goals::Goal;
+pub use universe::Universe;

@@ -1,0 +1,162 @@
+//! A universe, whose lists nothing changes.
+
+ghost use Rattle.std.specs.Prelude.{◌≡◌, ◌≤◌, length, map, IfOk};
+ghost use Rattle.fx_model.specs.Expression.{IsOrdered};
+ghost use Rattle.rule_universe.specs.Worlds.{World, IsWhole};
+ghost use Rattle.rule_universe.specs.Users.{AreUsers};
+
+use crate::places::place_of;
+use crate::users::user_rows;
+use expr_dag::Dag;
+use facts::{Fact, HintRow, Instance, Slot};
+use fx_model::ExprId;
+use goals::Goal;
+use pair_closure::PairIndex;
+use std::alloc::{AllocError, Global};
+use std::marker::Model;
+
+// A goal's number has 16 bits.
+const MOST_GOALS: usize = 65_535;
+
+/// The expressions, pairs, goals, hypotheses, rows of hints and instances that derivations may use.
+#[derive(Drop)]
+pub struct Universe {
+    nodes: Dag,
+    index: PairIndex,
+    // The pairs once more, as a list.
+    pairs: Vec<(ExprId, ExprId)>,
+    goals: Vec<Goal>,
+    hypotheses: Vec<Fact>,
+    hints: Vec<HintRow>,
+    instances: Vec<Instance>,
+    // By place of a slot, the numbers of the instances that take it.
+    users: Vec<Vec<u32>>,
+}
+
+impl Model for Universe {
+    ghost use Rattle.std.specs.Prelude.{◌≡◌, ◌≤◌, length, map};
+    ghost use Rattle.std.specs.Coded.{codes};
+    ghost use Rattle.facts.specs.contracts.fact.Fact as fact_row;
+    ghost use Rattle.facts.specs.contracts.hint.HintRow as hint_row;
+    ghost use Rattle.goals.specs.contracts.goal.Goal as goal_row;
+    ghost use Rattle.facts.specs.contracts.instance.Instance as instance_row;
+    ghost use Rattle.rule_universe.specs.Worlds.{World, IsWhole};
+    ghost use Rattle.rule_universe.specs.Rows.{AreRows};
+
+    ghost Value = { World };
+
+    ghost coded = { Prim.hlevel (codes, fact_row.the_row.coded, hint_row.the_row.coded, goal_row.the_row.coded, instance_row.the_row.coded) };
+
+    ghost view = { λ u. record {
+      nodes = u.nodes;
+      pairs = u.index;
+      goals = u.goals.items;
+      hypotheses = u.hypotheses.items;
+      hints = u.hints.items;
+      instances = u.instances.items;
+    } };
+
+    ghost invariant = { λ u. IsWhole (record {
+      nodes = u.nodes;
+      pairs = u.index;
+      goals = u.goals.items;
+      hypotheses = u.hypotheses.items;
+      hints = u.hints.items;
+      instances = u.instances.items;
+    }) × (u.pairs.items ≡ u.index) × AreRows (length u.nodes) u.index u.instances.items (length u.instances.items) (map (λ row. row.items) u.users.items) × (length u.goals.items ≤ 65535) };
+}
+
+impl Universe {
+    /// The universe of these lists. A goal has a number of 16 bits: of more than 65,535 goals, which no script has, want of memory is
+    /// answered, as where memory isn't found.
+    pub fn new(
+        alloc: Global,
+        nodes: Dag,
+        pairs: PairIndex,
+        goals: Vec<Goal>,
+        hypotheses: Vec<Fact>,
+        hints: Vec<HintRow>,
+        instances: Vec<Instance>,
+    ) -> Result<Universe, AllocError>
+        requires { IsWhole (record { nodes = nodes; pairs = pairs; goals = goals.items; hypotheses = hypotheses.items; hints = hints.items; instances = instances.items }) }
+        ensures { IfOk result (λ u. u ≡ record { nodes = nodes; pairs = pairs; goals = goals.items; hypotheses = hypotheses.items; hints = hints.items; instances = instances.items }) }
+    {
+        if goals.len() > MOST_GOALS {
+            return Err(AllocError);
+        }
+        let users = user_rows(alloc, &nodes, &pairs, &instances)?;
+        let list = pairs.to_vec(alloc)?;
+        Ok(Universe {
+            nodes,
+            index: pairs,
+            pairs: list,
+            goals,
+            hypotheses,
+            hints,
+            instances,
+            users,
+        })
+    }
+
+    /// The nodes of the expressions.
+    pub fn dag(&self) -> &Dag
+        ensures { result.now ≡ self.now.nodes }
+    {
+        &self.nodes
+    }
+
+    /// The pairs that relative errors are of.
+    pub fn pairs(&self) -> &[(ExprId, ExprId)]
+        ensures { result.now ≡ self.now.pairs }
+    {
+        &self.pairs
+    }
+
+    /// The goals.
+    pub fn goals(&self) -> &[Goal]
+        ensures { result.now ≡ self.now.goals }
+    {
+        &self.goals
+    }
+
+    /// The hypotheses as facts.
+    pub fn hyps(&self) -> &[Fact]
+        ensures { result.now ≡ self.now.hypotheses }
+    {
+        &self.hypotheses
+    }
+
+    /// The rows of the hints.
+    pub fn hints(&self) -> &[HintRow]
+        ensures { result.now ≡ self.now.hints }
+    {
+        &self.hints
+    }
+
+    /// The instances of rules.
+    pub fn instances(&self) -> &[Instance]
+        ensures { result.now ≡ self.now.instances }
+    {
+        &self.instances
+    }
+
+    /// The rising numbers, from 0, of the instances that have the slot among their premises.
+    pub fn users(&self, s: Slot) -> &[u32]
+        ensures { AreUsers self.now.instances s result.now }
+    {
+        match place_of(&self.nodes, &self.index, s) {
+            Some(p) => self.users[p].as_slice(),
+            None => &[],
+        }
+    }
+
+    /// What every universe keeps. Nothing is done.
+    pub fn laws(&self)
+        ensures universe { IsWhole self.now }
+        ensures ordered { IsOrdered self.now.nodes }
+        ensures short { length self.now.nodes ≤ 1024 }
+        ensures goals { length self.now.goals ≤ 65535 }
+    {
+        self.nodes.laws();
+    }
+}
