@@ -1,0 +1,45 @@
+-- The universe of a script.
+use Rattle.std.specs.Prelude.{◌≡◌, List, [], ◌∷◌, Option, Some, None, map}
+use Rattle.facts.specs.declared.fact.Fact.{Fact}
+use Rattle.script_claims.specs.declared.claim.Claim.{Claim}
+use Rattle.script_claims.specs.Facts.{hypothesis_fact, want_of, slot_of}
+use Rattle.script_grammar.specs.Spells.{View}
+use Rattle.pair_closure.specs.Reached.{Has, IsListOf}
+use Rattle.pair_closure.specs.Closure.{IsClosure, IsExpression, AreTooMany}
+use Rattle.rewrite_hints.specs.Marks.{AreRows}
+use Rattle.rule_instances.specs.Instances.{IsInstance}
+use Rattle.rule_instances.specs.InOrder.{instance_list}
+use Rattle.goals.specs.declared.goal.Goal.{Goal}
+use Rattle.rule_universe.specs.Worlds.{World}
+use Rattle.universe.specs.Starts.{starting_pairs}
+
+-- what a goal is about, and what settles it: its bounds rounded inward
+abbrev pub goal_of : Claim → Goal
+goal_of c = record { of = slot_of c; want = want_of c }
+
+abbrev pub with_fact : Option Fact → List Fact → List Fact
+with_fact (Some f) facts = f ∷ facts
+with_fact None facts = facts
+
+-- what the hypotheses give, their bounds rounded outward
+abbrev pub facts_of : List Claim → List Fact
+facts_of [] = []
+facts_of (c ∷ cs) = with_fact (hypothesis_fact c) (facts_of cs)
+
+-- The script's universe. Its expressions begin with the script's nodes; expressions, pairs and instances are exactly those of the
+-- definitions, each once, in one order.
+pub record IsUniverse (s : View) (u : World) : Type 0 where
+  pub closure : IsClosure s.nodes (starting_pairs s) u.nodes u.pairs
+  pub goals : u.goals ≡ map goal_of s.goals
+  pub hypotheses : u.hypotheses ≡ facts_of s.hypotheses
+  pub hints : AreRows s.nodes s.hints.rewrites u.hints
+  pub instances : IsListOf (IsInstance u.nodes (Has u.pairs) u.hints) u.instances
+  pub order : u.instances ≡ instance_list u.nodes u.pairs u.hints
+
+-- The script has more than 1,024 expressions.
+abbrev pub IsTooLarge : View → Type 0
+IsTooLarge s = AreTooMany (IsExpression s.nodes (starting_pairs s))
+
+-- Two universes of one script are one.
+abbrev pub UniversesAreOne : Type 0
+UniversesAreOne = (s : View) (u v : World) → IsUniverse s u → IsUniverse s v → u ≡ v

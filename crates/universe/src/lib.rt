@@ -1,0 +1,14 @@
+//! The universe of a script: the expressions, pairs and rule instances that derivations may use.
+#![tactic(auto)]
+
+mod claims;
+mod laws;
+mod starts;
+#[cfg(test)]
+mod tests;
+mod world;
+
+pub use laws::universes_are_one;
+pub use rule_universe::{Goal, Instance, Universe};
+pub use starts::starting_pairs;
+pub use world::{UniverseFault, build};
