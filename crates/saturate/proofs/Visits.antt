@@ -1,0 +1,160 @@
+-- One more instance of a round.
+use Rattle.std.specs.Prelude.{◌≡◌, ◌≢◌, ◌⊎◌, ◌<◌, ◌+◌, ℕ, Bool, true, false, List, [], ◌∷◌, ◌++◌, length, Some, None, slice_get, slice_set, Contains, refl}
+use Rattle.std.proofs.Common.{sym, ◌∙◌, ap, subst, inl, inr, arith, rules, get_or, take, drop, add-one, zero, suc}
+use lib.ListN.{replicate}
+use Rattle.std.proofs.lemmas.List.{drop_all, take_all, append-nil}
+use Rattle.std.proofs.Math.Seq.{take-suc}
+use Rattle.std.proofs.lemmas.List.Elements.{Contains-push, Contains-push_cases, Contains-append_left}
+use Rattle.std.proofs.lemmas.Option.{slice_get_read}
+use Rattle.facts.specs.declared.fact.Fact.{Fact}
+use Rattle.facts.specs.declared.fact.Slot.{Slot}
+use Rattle.facts.specs.declared.fact.Fact.TheVariants as fact
+use Rattle.facts.specs.declared.fact.Slot.TheVariants as slot
+use Rattle.facts.specs.Order.{slot_of, IsStronger, meet_of}
+use Rattle.facts.specs.Laws.{IsStronger-slot, IsStronger-trans}
+use Rattle.facts.specs.Meets.{meet-IsMeet}
+use Rattle.derivation.specs.Lists.{RuleList, IsOnTargetList}
+use Rattle.facts.specs.declared.instance.Instance.{Instance}
+use Rattle.derivation.specs.Derivations.{Setting, At}
+use Rattle.derivation.specs.Rounds.{conclusion, IsAhead, IsSame, Grows}
+use Rattle.derivation.specs.Changes.{IsQuiet, IsListed}
+use Rattle.derivation.specs.Counts.{IsRisen, risen_after}
+use Rattle.derivation.specs.Parts.{conclusion_reads, slot_cases, void_cases, stronger_slot}
+use Rattle.derivation.specs.Ahead.{ahead_skip, ahead_step, ahead_quiet, ahead_next}
+use Rattle.saturate.specs.declared.kept.Table.{Table}
+use Rattle.saturate.specs.Tables.{fact_at, HasPlace}
+use Rattle.saturate.specs.Visits.{IsVisit}
+
+-- ---- places
+-- what a fact on another's slot, or VOID, finds
+place_for : (t : Table) (k : Fact) (s : Slot) → (slot_of k ≡ s) ⊎ (k ≡ fact.Void) → HasPlace t s → HasPlace t (slot_of k)
+place_for t k s w h = elim w [ inl e ↦ subst (HasPlace t) (sym e) h | inr v ↦ subst (λ f. HasPlace t (slot_of f)) (sym v) tt ]
+
+pub meet_place : (t : Table) (g c k : Fact) → meet_of g c ≡ Some k → HasPlace t (slot_of c) → HasPlace t (slot_of k)
+meet_place t g c k e h = place_for t k (slot_of c) (elim (IsStronger-slot k c (meet-IsMeet g c k e).right) [ inl v ↦ inr v | inr s ↦ inl s ]) h
+
+-- the slot of what is kept
+pub meet_slot : (g c k : Fact) → meet_of g c ≡ Some k → (slot_of k ≡ slot_of c) ⊎ (slot_of k ≡ slot.Void)
+meet_slot g c k e = elim (IsStronger-slot k c (meet-IsMeet g c k e).right) [ inl v ↦ inr (ap slot_of v) | inr s ↦ inl s ]
+
+-- the slot that an instance changes
+pub changed_slot : (rules : RuleList) → IsOnTargetList rules → (at : At) (i : Instance) (c : Fact) (s : Slot) → conclusion rules at i ≡ Some c → (s ≡ slot_of c) ⊎ (s ≡ slot.Void) → (s ≡ i.target) ⊎ (s ≡ slot.Void)
+changed_slot rules on_target at i c s e w =
+    let r = conclusion_reads rules at i c e in
+    elim w [
+      | inr v ↦ inr v
+      | inl q ↦ elim (on_target i.rule i.arg r.0 i.target c r.2) [ inl t ↦ inl (q ∙ t) | inr v ↦ inr (q ∙ ap slot_of v) ]
+    ]
+
+-- what is kept where what was there isn't as strong as what came
+pub risen_kept : (t : Table) (g c k : Fact) → fact_at t (slot_of c) ≡ Some g → ¬ IsStronger g c → meet_of g c ≡ Some k → fact_at t slot.Void ≡ None → IsRisen (fact_at t (slot_of k)) (Some k)
+risen_kept t g c k e n m no_void =
+    let w = meet-IsMeet g c k m in
+    elim (void_cases k) [
+      | inl v ↦ subst (λ o. IsRisen o (Some k)) (sym (ap (fact_at t) (ap slot_of v) ∙ no_void)) tt
+      | inr d ↦ subst (λ o. IsRisen o (Some k)) (sym (ap (fact_at t) (stronger_slot k c w.right d) ∙ e)) (w.left, λ s. n (IsStronger-trans g k c s w.right))
+    ]
+
+pub conclusion_place : (rules : RuleList) → IsOnTargetList rules → (at : At) (i : Instance) (c : Fact) (t : Table) → conclusion rules at i ≡ Some c → HasPlace t i.target → HasPlace t (slot_of c)
+conclusion_place rules on_target at i c t e h =
+    let r = conclusion_reads rules at i c e in
+    place_for t c i.target (on_target i.rule i.arg r.0 i.target c r.2) h
+
+-- ---- the instance with number n
+pub visited_ahead : (u : Setting) (at : At) (next new : Table) (n : ℕ) (i : Instance) → IsAhead u at (fact_at next) (λ j. j < n) → slice_get u.instances n ≡ Some i → IsVisit u.rules at next new i →
+    IsAhead u at (fact_at new) (λ j. j < n + 1)
+visited_ahead u at next new n i a e w =
+    ahead_next u at (fact_at new) n
+    (elim w [
+      | inl y ↦ subst (λ t. IsAhead u at (fact_at t) (λ k. (k < n) ⊎ (n ≡ k))) (sym y.1) (ahead_skip u at (fact_at next) (λ j. j < n) n i a e y.0)
+      | inr y ↦ ahead_step u at (fact_at next) (λ j. j < n) n i a e y.0 y.2 (fact_at new) y.1 y.3
+    ])
+
+-- it isn't due
+pub quiet_ahead : (u : Setting) (at new : At) (due : List Bool) (n : ℕ) (i : Instance) → IsAhead u at new (λ j. j < n) → slice_get u.instances n ≡ Some i → IsQuiet u due at → slice_get due n ≡ Some false →
+    IsAhead u at new (λ j. j < n + 1)
+quiet_ahead u at new due n i a e q d = ahead_next u at new n (ahead_quiet u at new (λ j. j < n) n i a e (λ c x. q n i c e d x))
+
+-- what is pushed last is contained
+pub pushed : (old new : List Slot) (t s : Slot) → new ≡ old ++ t ∷ [] → s ≡ t → Contains new s
+pushed old new t s e d = subst (λ l. Contains l s) (sym e) (subst (λ r. Contains (old ++ t ∷ []) r) (sym d) (Contains-push old t))
+
+pub pushed_cases : (old new : List Slot) (t s : Slot) → new ≡ old ++ t ∷ [] → Contains new s → Contains old s ⊎ (s ≡ t)
+pushed_cases old new t s e w = elim (Contains-push_cases old t s (subst (λ l. Contains l s) e w)) [ inl h ↦ inl h | inr d ↦ inr (sym d) ]
+
+-- what changed before and now
+pub listed_more : (before changed : List Slot) (at next new : At) → IsListed before at next → ((s : Slot) → Contains before s → Contains changed s) → IsListed changed next new → IsListed changed at new
+listed_more before changed at next new l more m s =
+    elim (m s) [
+      | inl h ↦ inl h
+      | inr e ↦ elim (l s) [ inl h ↦ inl (more s h) | inr d ↦ inr (e ∙ d) ]
+    ]
+
+-- what changed so far is stronger than at the start of the round
+pub risen_more : (before changed : List Slot) (at next new : At) → Grows at next → ((s : Slot) → Contains before s → IsRisen (at s) (next s)) →
+    ((s : Slot) → Contains changed s → (Contains before s × (new s ≡ next s)) ⊎ IsRisen (next s) (new s)) → (s : Slot) → Contains changed s → IsRisen (at s) (new s)
+risen_more before changed at next new grows old more s w =
+    elim (more s w) [
+      | inl y ↦ subst (IsRisen (at s)) (sym y.1) (old s y.0)
+      | inr r ↦ risen_after (at s) (next s) (new s) (λ f e. grows s f e) r
+    ]
+
+-- the slot that was pushed rose, and the others are as they were
+pub risen_pushed : (before changed : List Slot) (t : Slot) (next new : At) → changed ≡ before ++ t ∷ [] → ((s : Slot) → s ≢ t → new s ≡ next s) → IsRisen (next t) (new t) →
+    (s : Slot) → Contains changed s → (Contains before s × (new s ≡ next s)) ⊎ IsRisen (next s) (new s)
+risen_pushed before changed t next new e others r s w =
+    elim (slot_cases s t) [
+      | inl q ↦ inr (subst (λ v. IsRisen (next v) (new v)) (sym q) r)
+      | inr d ↦ elim (pushed_cases before changed t s e w) [ inl h ↦ inl (h, others s d) | inr q ↦ absurd (d q) ]
+    ]
+
+-- ---- lists by number
+pub item_at : {X : Type 0} (items all : List X) (k : ℕ) (x : X) → items ≡ all → k < length items → x ≡ get_or items k x → slice_get all k ≡ Some x
+item_at items all k x e h r = subst (λ l. slice_get l k ≡ Some x) e (slice_get_read items (length items) k x refl h r)
+
+-- one of the first i + 1 elements is one of the first i, or the next
+pub taken_cases : {X : Type 0} (xs : List X) (i : ℕ) (d x : X) → i < length xs → Contains (take (i + 1) xs) x → Contains (take i xs) x ⊎ (x ≡ get_or xs i d)
+taken_cases xs i d x h w = elim (Contains-push_cases (take i xs) (get_or xs i d) x (subst (λ l. Contains l x) (rw (add-one i) (take-suc xs i d h)) w)) [ inl y ↦ inl y | inr e ↦ inr (sym e) ]
+
+pub taken_more : {X : Type 0} (xs : List X) (i : ℕ) (d x : X) → i < length xs → Contains (take i xs) x → Contains (take (i + 1) xs) x
+taken_more xs i d x h w = subst (λ l. Contains l x) (sym (rw (add-one i) (take-suc xs i d h))) (Contains-append_left (take i xs) (get_or xs i d ∷ []) x w)
+
+pub taken_here : {X : Type 0} (xs : List X) (i : ℕ) (d : X) → i < length xs → Contains (take (i + 1) xs) (get_or xs i d)
+taken_here xs i d h = subst (λ l. Contains l (get_or xs i d)) (sym (rw (add-one i) (take-suc xs i d h))) (Contains-push (take i xs) (get_or xs i d))
+
+-- what is marked was marked, or is this
+pub set_cases : (due : List Bool) (j k : ℕ) → slice_get (slice_set due j true) k ≡ Some true → (slice_get due k ≡ Some true) ⊎ (k ≡ j)
+set_cases [] j k e = inl e
+set_cases (d ∷ due) zero zero e = inr refl
+set_cases (d ∷ due) zero (suc k) e = inl e
+set_cases (d ∷ due) (suc j) zero e = inl e
+set_cases (d ∷ due) (suc j) (suc k) e = elim (set_cases due j k e) [ inl h ↦ inl h | inr q ↦ inr (ap suc q) ]
+
+pub set_clears : (due : List Bool) (j k : ℕ) → slice_get (slice_set due j false) k ≡ Some true → (slice_get due k ≡ Some true) × (k ≢ j)
+set_clears [] j k e = cc
+set_clears (d ∷ due) zero zero e = cc
+set_clears (d ∷ due) zero (suc k) e = (e, λ q. (let h : 0 ≡ suc k = sym q in omega (arith, h)))
+set_clears (d ∷ due) (suc j) zero e = (e, λ q. omega (arith, q))
+set_clears (d ∷ due) (suc j) (suc k) e = let w = set_clears due j k e in (w.0, λ q. w.1 (omega (arith, q)))
+
+pub set_keeps : (due : List Bool) (j k : ℕ) → slice_get due k ≡ Some true → slice_get (slice_set due j true) k ≡ Some true
+set_keeps [] j k e = e
+set_keeps (d ∷ due) zero zero e = refl
+set_keeps (d ∷ due) zero (suc k) e = e
+set_keeps (d ∷ due) (suc j) zero e = e
+set_keeps (d ∷ due) (suc j) (suc k) e = set_keeps due j k e
+
+pub all_true : (n k : ℕ) → slice_get (replicate n true) k ≡ Some false → ⊥
+all_true zero k e = cc
+all_true (suc n) zero e = cc
+all_true (suc n) (suc k) e = all_true n k e
+
+-- a list that was lent for writing
+pub written_back : {X : Type 0} (xs ys : List X) (n : ℕ) → length xs ≡ length ys → n ≡ length ys → take n (xs ++ drop (length xs) ys) ≡ xs
+written_back xs ys n e m =
+    let d : drop (length xs) ys ≡ [] = drop_all (length xs) ys (omega arith) in
+    ap (λ l. take n (xs ++ l)) d ∙ ap (take n) (append-nil xs) ∙ take_all n xs (omega arith)
+
+-- nothing is listed
+pub listed_none : (changed : List Slot) (at new : At) → length changed ≡ 0 → IsListed changed at new → IsSame at new
+listed_none changed at new e l s = elim (l s) [ inl w ↦ absurd (omega (arith, e, w.1)) | inr h ↦ h ]

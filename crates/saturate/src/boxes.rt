@@ -1,0 +1,132 @@
+//! The table of a box.
+ghost use Rattle.std.specs.Prelude.{◌≡◌, ◌<◌, IfOk, List, ◌∷◌, length};
+ghost use Rattle.derivation.specs.Known.{Piece, IsTableAt};
+ghost use Rattle.saturate.specs.Tables.{fact_at};
+ghost use Rattle.saturate.specs.Universes.{setting_of, HasAllPlaces};
+ghost use Rattle.saturate.specs.Boxes.{IsSomeBox, IsOfUniverse, IsTableBelow, IsCostBelow, IsItsTable, IsItsState, IsItsCost, table_of, state_of};
+
+use crate::improve::improve;
+use crate::judge::judge;
+use crate::kept::Table;
+use crate::laws::rules_are_lawful;
+use crate::root::settle_root;
+use crate::rounds::rounds;
+use crate::settled::Settled;
+use crate::steps::Steps;
+use derivation::boxes_come_to_one_state;
+use facts::Fact;
+use fx_model::ExprId;
+use interval::Interval;
+use rule_universe::Universe;
+use std::alloc::{AllocError, Global};
+use std::marker::Brand;
+use std::sync::ledger::{Blank, Ledger};
+
+// The best table of a box below another, from the piece that the last cut left of a variable.
+fn settle_child<L: Ledger>(
+    alloc: Global,
+    uni: &Universe,
+    piece: (ExprId, Interval),
+    parent: &Table,
+    height: u8,
+    steps: &mut Steps<L>,
+) -> Result<Table, AllocError>
+    requires variable { (piece.0).0 < length uni.now.nodes }
+    requires places { HasAllPlaces uni.now parent.now }
+    requires parent { (above : List Piece) × IsTableAt (setting_of uni.now) height above (fact_at parent.now) }
+    ensures table { IfOk result (λ t. IsTableBelow uni.now height (piece.0, piece.1) parent.now t) }
+    ensures places { IfOk result (HasAllPlaces uni.now) }
+    ensures cost { IfOk result (λ _. IsCostBelow uni.now height (piece.0, piece.1) parent.now steps.old steps.new) }
+{
+    uni.laws();
+    rules_are_lawful();
+    let mut start = parent.copy(alloc)?;
+    let _changed = improve(&mut start, Fact::Bnd(piece.0, piece.1));
+    rounds(alloc, uni, start, height, steps)
+}
+
+// The best table of a box.
+fn best_table<L: Ledger>(
+    alloc: Global,
+    uni: &Universe,
+    piece: Option<(ExprId, Interval)>,
+    parent: Option<&Table>,
+    height: u8,
+    steps: &mut Steps<L>,
+) -> Result<Table, AllocError>
+    requires given { IsSomeBox uni.now height piece parent }
+    requires places { IsOfUniverse uni.now piece parent }
+    ensures table { IfOk result (IsItsTable uni.now height piece parent.entry) }
+    ensures places { IfOk result (HasAllPlaces uni.now) }
+    ensures cost { IfOk result (λ _. IsItsCost uni.now height piece parent.entry steps.old steps.new) }
+{
+    match (piece, parent) {
+        (Some(piece), Some(parent)) => settle_child(alloc, uni, piece, parent, height, steps),
+        _ => settle_root(alloc, uni, height, steps),
+    }
+}
+
+/// What a box comes to, and its best table. At the root nothing is given; at any other box the piece that the last cut left
+/// and the best table of the parent, for this universe and so many rounds. One step is one call of `conclude`.
+pub fn settle_counted<L: Ledger>(
+    alloc: Global,
+    uni: &Universe,
+    piece: Option<(ExprId, Interval)>,
+    parent: Option<&Table>,
+    rounds: u8,
+    steps: &mut Steps<L>,
+) -> Result<Settled, AllocError>
+    requires given { IsSomeBox uni.now rounds piece parent }
+    requires places { IsOfUniverse uni.now piece parent }
+    // The table has the best facts that are known at the box.
+    ensures table { IfOk result (λ settled. IsItsTable uni.now rounds piece parent.entry (table_of settled)) }
+    // Void comes exactly where VOID is known, and Open exactly where the box isn't settled, with the least goal that isn't met.
+    ensures state { IfOk result (λ settled. IsItsState uni.now rounds piece parent.entry (state_of settled)) }
+    ensures places { IfOk result (λ settled. HasAllPlaces uni.now (table_of settled)) }
+    // Each instance is applied once, and from the second round on only where a premise's best fact changed in the round before.
+    ensures cost { IfOk result (λ _. IsItsCost uni.now rounds piece parent.entry steps.old steps.new) }
+{
+    uni.laws();
+    boxes_come_to_one_state();
+    let table = best_table(alloc, uni, piece, parent, rounds, steps)?;
+    Ok(judge(table, uni.goals()))
+}
+
+// The same with a counter of its own.
+fn settle_blank<L: Ledger>(
+    alloc: Global,
+    uni: &Universe,
+    piece: Option<(ExprId, Interval)>,
+    parent: Option<&Table>,
+    rounds: u8,
+    blank: Blank,
+) -> Result<Settled, AllocError>
+    requires name { blank.name ≡ L.name }
+    requires parts { blank.parts ≡ L.parts }
+    requires some { 0 < blank.parts }
+    requires given { IsSomeBox uni.now rounds piece parent }
+    requires places { IsOfUniverse uni.now piece parent }
+    ensures table { IfOk result (λ settled. IsItsTable uni.now rounds piece parent.entry (table_of settled)) }
+    ensures state { IfOk result (λ settled. IsItsState uni.now rounds piece parent.entry (state_of settled)) }
+    ensures places { IfOk result (λ settled. HasAllPlaces uni.now (table_of settled)) }
+{
+    let mut steps = Steps::<L>::new(blank);
+    settle_counted(alloc, uni, piece, parent, rounds, &mut steps)
+}
+
+/// The same, where nobody counts.
+pub fn settle(
+    alloc: Global,
+    uni: &Universe,
+    piece: Option<(ExprId, Interval)>,
+    parent: Option<&Table>,
+    rounds: u8,
+) -> Result<Settled, AllocError>
+    requires given { IsSomeBox uni.now rounds piece parent }
+    requires places { IsOfUniverse uni.now piece parent }
+    ensures table { IfOk result (λ settled. IsItsTable uni.now rounds piece parent.entry (table_of settled)) }
+    ensures state { IfOk result (λ settled. IsItsState uni.now rounds piece parent.entry (state_of settled)) }
+    ensures places { IfOk result (λ settled. HasAllPlaces uni.now (table_of settled)) }
+{
+    settle_blank::<Brand>(alloc, uni, piece, parent, rounds, Blank::new(1))
+}
