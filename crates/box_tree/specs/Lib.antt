@@ -1,0 +1,10 @@
+pub mod Paths
+pub mod Pieces
+pub mod Ranges
+pub mod Points
+pub mod Nexts
+pub mod Regions
+pub mod Plans
+pub mod Few
+pub mod Root
+pub mod Covers
