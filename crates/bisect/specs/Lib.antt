@@ -1,0 +1,6 @@
+pub mod Trees
+pub mod Boxes
+pub mod Answers
+pub mod Walks
+pub mod Gathered
+pub mod Examples

@@ -1,0 +1,17 @@
+//! Bisection: the answer of a tree of boxes.
+#![tactic(auto)]
+
+mod alone;
+mod laws;
+mod lines;
+mod outcome;
+mod settler;
+
+pub use alone::{Walk, children, run_alone, visit};
+pub use laws::{leaves_cover, one_answer};
+pub use lines::lines_of;
+pub use outcome::{Leaf, Outcome};
+pub use settler::{Posted, Settler, State, Verdict};
+
+#[cfg(test)]
+mod tests;
