@@ -1,0 +1,17 @@
+//! What became of each box, as a plain machine over events.
+#![tactic(auto)]
+
+mod book;
+mod cuts;
+mod event;
+pub mod laws;
+mod machine;
+mod start;
+
+pub use book::OpenBox;
+pub use cuts::Cuts;
+pub use event::{Event, EventRefused};
+pub use machine::Core;
+
+#[cfg(test)]
+mod tests;
