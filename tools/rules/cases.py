@@ -1,9 +1,10 @@
 #!/usr/bin/env python3
-"""Writes random premise lists for rules 1 to 19, 21 to 28, 31 to 36, 41 to 44 and 90: python3 cases.py COUNT SEED > CASES
+"""Writes random premise lists for each rule: python3 cases.py COUNT SEED > CASES
 
 Each line is a list of whole numbers. `0` begins a new list of nodes. `1 KIND A B C` adds a node: 0 variable A, 1 literal
 A * 2^B * 10^C, 2 negation, 3 sum, 4 difference, 5 product, 6 quotient, 7 absolute value, 8 rounding to 2^A of B
-in the direction with number C. A case is `2 NUMBER ARG SLOT COUNT PREMISE..`. A slot is KIND X Y: 0 BND, 1 ABS, 2 REL, 3 FIX,
+in the direction with number C. `3 LEFT RIGHT DIVISORS X.. NEEDS NEED..` adds a hint; a need is KIND X END FLAG: 0 other than 0,
+1 below, 2 above the end, with the flag strictly. A case is `2 NUMBER ARG SLOT COUNT PREMISE..`. A slot is KIND X Y: 0 BND, 1 ABS, 2 REL, 3 FIX,
 4 NZR, 5 VOID. A premise is a slot, a flag (of REL: 1 with an interval), two ends, and k of FIX. An end is `0 m e`, `1 0 0` for
 minus and `2 0 0` for plus infinity.
 
@@ -73,12 +74,13 @@ def relative(r):
     while True:
         i = interval(r)
         if scaled(i[:3]) > -(1 << 512):
-            return i
+            return i if r.randrange(3) else canonical(r.randint(-7, 0), -3) + canonical(r.randint(0, 9), -3)
 
 
-def fact(r, slot):
+def fact(r, slot, zeros):
+    """A fact on the slot; one BND interval of so many is [0, 0]."""
     flag, ends, k = 0, (0,) * 6, 0
-    if slot[0] == BND:
+    if slot[0] == BND and r.randrange(zeros):
         ends = interval(r)
     elif slot[0] == SIZE:
         ends = size(r)
@@ -117,7 +119,43 @@ def nodes(r):
         node = literal(r) if kind == LIT else (kind, a) if kind in (NEG, ABS) else (kind, a, a if r.randrange(4) == 0 else b)
         if node not in found:
             found.append(node)
+    for k in range(32):
+        add(found, made(r, found, (NEG, ADD, SUB, MUL)[k % 4], k // 4 % 2))
     return found
+
+
+def add(found, node):
+    """The node's number."""
+    if node not in found:
+        found.append(node)
+    return found.index(node)
+
+
+def made(r, found, kind, through):
+    """A difference of two nodes of this kind, or through a third expression, with the nodes that rules ask for beside it."""
+    a, b, c, d = (r.randrange(len(found)) for _ in range(4))
+    if through:
+        add(found, (DIV, c, add(found, (ADD, c, d))))
+        add(found, (SUB, a, b))
+        add(found, r.choice(((SUB, b, c), (SUB, c, b))))
+        return (SUB, a, c)
+    if kind == NEG:
+        add(found, (SUB, a, b))
+        return (SUB, add(found, (NEG, a)), add(found, (NEG, b)))
+    add(found, (SUB, a, c))
+    add(found, (SUB, b, d))
+    return (SUB, add(found, (kind, a, b)), add(found, (kind, c, d)))
+
+
+def need(r, count):
+    kind = r.randrange(3)
+    return (kind, r.randrange(count)) + ((some_end(r) if kind else (0, 0, 0)) + (r.randrange(2) if kind else 0,))
+
+
+def hint(r, count):
+    """A hint's row: left, right, divisors by rising number, needs."""
+    divisors = sorted(r.sample(range(count), r.choice((0, 0, 1, 2))))
+    return (r.randrange(count), r.randrange(count), divisors, [need(r, count) for _ in range(r.choice((0, 0, 1, 2)))])
 
 
 def bnd(x):
@@ -180,16 +218,115 @@ ON_ANY = {
     32: lambda x: ([abs_of(x)], nzr(x)),
     90: lambda x: ([bnd(x), fix(x)], NOWHERE),
 }
+def rel(x, y):
+    return (REL, x, y)
+
+
+def numbered(listed, fits):
+    return [e for e, n in enumerate(listed) if fits(n)]
+
+
+def of_differences(r, listed, kinds):
+    """Two operands' pairs whose results both are in the list, with the results and their difference."""
+    found = [(e, n) for e, n in enumerate(listed) if n[0] == SUB and listed[n[1]][0] in kinds and listed[n[2]][0] == listed[n[1]][0]]
+    known = [(e, n) for e, n in found if kinds[0] == NEG or all((SUB, listed[n[1]][k], listed[n[2]][k]) in listed for k in (1, 2))]
+    e, (_, x, y) = r.choice(known if known and r.randrange(8) else found)
+    return e, x, y, listed[x][1:], listed[y][1:]
+
+
+def place(r, listed, node):
+    """Where the node stands, or anything."""
+    return listed.index(node) if node in listed else r.randrange(len(listed))
+
+
+def on_relatives(r, number, listed):
+    x, y, z = (r.randrange(len(listed)) for _ in range(3))
+    if number == 51:
+        return [bnd(x)], rel(x, x)
+    if number == 58:
+        return [rel(x, y), rel(y, z)], rel(x, z)
+    if number == 59:
+        return [rel(x, y)], rel(y, x)
+    if number == 54:
+        return [rel(x, y), bnd(y)], bnd(x)
+    if number in (52, 53):
+        e = r.choice(numbered(listed, lambda n: n[0] == SUB))
+        x, y = listed[e][1:]
+        return ([bnd(e), bnd(y)], rel(x, y)) if number == 52 else ([rel(x, y), bnd(y)], bnd(e))
+    if number == 55:
+        e = r.choice(numbered(listed, lambda n: n[0] == DIV))
+        x, y = listed[e][1:]
+        return [rel(x, y), nzr(y)], bnd(e)
+    if number == 60:
+        x, y = (r.choice(numbered(listed, lambda n: n[0] == NEG)) for _ in range(2))
+        return [rel(listed[x][1], listed[y][1])], rel(x, y)
+    kind = {56: MUL, 57: DIV, 61: ADD}[number]
+    fit = numbered(listed, lambda n: n[0] == kind)
+    x, y = r.choice(fit), r.choice(fit)
+    if number == 61:
+        share = r.choice(numbered(listed, lambda n: n[0] == DIV and listed[n[2]][0] == ADD and listed[n[2]][1] == n[1]))
+        y = listed[share][2]
+    (a, b), (c, d) = listed[x][1:], listed[y][1:]
+    more = {56: [], 57: [nzr(d)], 61: []}[number]
+    if number == 61:
+        more = [bnd(share)]
+    return [rel(a, c), rel(b, d)] + more, rel(x, y)
+
+
+def on_differences(r, number, listed):
+    if number in (71, 72, 73):
+        e, x, y, (a, b), (c, d) = of_differences(r, listed, ({71: ADD, 72: SUB, 73: MUL}[number],))
+        p, q = place(r, listed, (SUB, a, c)), place(r, listed, (SUB, b, d))
+        return ([bnd(a), bnd(q), bnd(p), bnd(d)] if number == 73 else [bnd(p), bnd(q)]), bnd(e)
+    if number == 74:
+        e, x, y, (a,), (b,) = of_differences(r, listed, (NEG,))
+        return [bnd(place(r, listed, (SUB, a, b)))], bnd(e)
+    p = r.choice(numbered(listed, lambda n: n[0] == SUB))
+    a, b = listed[p][1:]
+    if number == 77:
+        return [bnd(b), bnd(p)], bnd(a)
+    if number == 78:
+        return [bnd(a), bnd(p)], bnd(b)
+    side = 1 if number == 75 else 2
+    others = numbered(listed, lambda n: n[0] == SUB and n[side] == b and (SUB, a, n[3 - side]) in listed)
+    if not others:
+        return [bnd(p), bnd(p)], bnd(p)
+    q = r.choice(others)
+    return [bnd(p), bnd(q)], bnd(listed.index((SUB, a, listed[q][3 - side])))
+
+
+def on_void(r, number, listed):
+    x, y = r.randrange(len(listed)), r.randrange(len(listed))
+    return ([bnd(x), nzr(x)] if number == 91 else [rel(x, y), nzr(y)]), NOWHERE
+
+
+def on_hint(r, row):
+    left, right, divisors, needs = row
+    kind = r.choice((BND, BND, SIZE, FIX, NZR, REL))
+    return [(kind, right, 0)] + [nzr(d) for d in divisors] + [(BND if n[0] else NZR, n[1], 0) for n in needs], (kind, left, 0)
+
+
 TWICE = (5, 7, 10)
 ERRORS = (42, 43, 44)
 SIGNED = 43
 SIDES = 36
-NUMBERS = sorted([*ON_NODE, *ON_ANY, SIDES])
+HINT = 80
+RELATIVES = range(51, 62)
+DIFFERENCES = range(71, 79)
+NOTHING = (91, 92)
+MAY_BE_VOID = (13, 15, SIDES, 53, 54, 55, 57, 61)
+NUMBERS = sorted([*ON_NODE, *ON_ANY, SIDES, *RELATIVES, *DIFFERENCES, HINT, *NOTHING])
 
 
 def fitting(r, number, listed):
     if number in ON_ANY:
         return ON_ANY[number](r.randrange(len(listed)))
+    if number in RELATIVES:
+        return on_relatives(r, number, listed)
+    if number in DIFFERENCES:
+        return on_differences(r, number, listed)
+    if number in NOTHING:
+        return on_void(r, number, listed)
     if number == SIDES:
         x, y = r.randrange(len(listed)), r.randrange(len(listed))
         known, other = r.choice(((x, y), (y, x), (x, x)))
@@ -233,19 +370,23 @@ def damaged(r, premises, target, count):
     return premises, target
 
 
-def case(r, listed):
-    number = r.choice(NUMBERS)
-    premises, target = fitting(r, number, listed)
-    if number in (13, 15, SIDES) and r.randrange(4) == 0:
+def case(r, listed, hints):
+    number, arg = r.choice(NUMBERS), 0
+    if number == HINT:
+        arg = r.randrange(len(hints))
+        premises, target = on_hint(r, hints[arg])
+    else:
+        premises, target = fitting(r, number, listed)
+    if number in MAY_BE_VOID and r.randrange(4) == 0:
         target = NOWHERE
     if r.randrange(3) == 0:
         premises, target = damaged(r, premises, target, len(listed))
-    arg = r.choice((1, 65535)) if r.randrange(40) == 0 else 0
+    arg = r.choice((1, 65535)) if r.randrange(40) == 0 else arg
     if r.randrange(40) == 0:
         number = r.choice((0, 20, 100, 200, 255, r.choice(NUMBERS)))
     row = (2, number, arg) + target + (len(premises),)
     for slot in premises:
-        row += fact(r, slot)
+        row += fact(r, slot, 2 if number == 91 else 16)
     return row
 
 
@@ -258,7 +399,10 @@ def main():
             print(0)
             for node in listed:
                 print(1, *node)
-        print(*case(r, listed))
+            hints = [hint(r, len(listed)) for _ in range(8)]
+            for left, right, divisors, needs in hints:
+                print(3, left, right, len(divisors), *divisors, len(needs), *(k for n in needs for k in n))
+        print(*case(r, listed, hints))
 
 
 main()

@@ -1,0 +1,59 @@
+#!/usr/bin/env python3
+"""Processor minutes of a run of the gate, crate by crate: of its proofs, of its tests' proofs, and of its edits.
+
+Use, in the repository:   python3 tools/minutes.py COMMAND [WORD ..]      as in   python3 tools/minutes.py bash .ci/run
+The command runs as it would by itself. Meanwhile each process of the prover is looked at twice a second; what it did in
+its last half second is not seen. The table goes to standard error when the command ends; the exit status is the command's.
+Other runs of the prover on the machine at the same time are counted too.
+"""
+import collections
+import os
+import subprocess
+import sys
+import time
+
+KINDS = ("proofs", "tests", "edits")
+TICKS = os.sysconf("SC_CLK_TCK")
+
+
+def processes():
+    """The processes of the prover: (number and start, kind, crate, processor seconds so far)."""
+    for pid in filter(str.isdigit, os.listdir("/proc")):
+        try:
+            with open(f"/proc/{pid}/cmdline", "rb") as file:
+                words = file.read().decode(errors="replace").split("\0")
+            if "--crate-name" not in words or os.path.basename(words[0]) != "rattle":
+                continue
+            with open(f"/proc/{pid}/stat", encoding="utf-8") as file:
+                fields = file.read().rpartition(")")[2].split()
+            is_edit = os.path.basename(os.readlink(f"/proc/{pid}/cwd")).startswith("rt-edit")
+        except OSError:
+            # it has ended meanwhile
+            continue
+        kind = "edits" if is_edit else "tests" if "--test" in words else "proofs"
+        seconds = (int(fields[11]) + int(fields[12])) / TICKS
+        yield (pid, fields[19]), kind, words[words.index("--crate-name") + 1], seconds
+
+
+def main(words):
+    if not words:
+        sys.exit(__doc__)
+    seen = {}
+    run = subprocess.Popen(words)
+    while run.poll() is None:
+        for key, kind, crate, seconds in processes():
+            seen[key] = (crate, kind, seconds)
+        time.sleep(0.5)
+    minutes = collections.defaultdict(lambda: dict.fromkeys(KINDS, 0.0))
+    for crate, kind, seconds in seen.values():
+        minutes[crate][kind] += seconds / 60
+    rows = sorted(minutes.items(), key=lambda row: -sum(row[1].values()))
+    rows.append(("all", {kind: sum(row[kind] for _, row in rows) for kind in KINDS}))
+    print(f"{'crate':20}" + "".join(f"{kind:>8}" for kind in KINDS) + f"{'all':>8}", file=sys.stderr)
+    for crate, row in rows:
+        print(f"{crate:20}" + "".join(f"{row[kind]:8.1f}" for kind in KINDS) + f"{sum(row.values()):8.1f}", file=sys.stderr)
+    return run.returncode
+
+
+if __name__ == "__main__":
+    sys.exit(main(sys.argv[1:]))
