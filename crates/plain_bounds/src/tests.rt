@@ -4,6 +4,7 @@ use dyadic::{Dyadic, End};
 use expr_dag::Dag;
 use facts::Fact;
 use fx_model::{Direction, ExprId, Node, Rounding};
+use goals::Want;
 use interval::Interval;
 use literal::read;
 use std::process::Abort;
