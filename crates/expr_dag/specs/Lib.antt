@@ -4,3 +4,4 @@ pub mod Same
 pub mod Shapes
 pub mod Lifted
 pub mod Operands
+pub mod Extended

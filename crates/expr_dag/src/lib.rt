@@ -3,8 +3,10 @@
 
 mod dag;
 mod key;
+mod laws;
 #[cfg(test)]
 mod tests;
 
 pub use dag::{Dag, DagFault};
 pub use fx_model::{Direction, ExprId, Literal, Node, Rounding};
+pub use laws::values_stay;
