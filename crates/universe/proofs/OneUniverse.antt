@@ -4,16 +4,19 @@ use Rattle.std.proofs.Common.{arith, ap, sym, ◌∙◌, subst}
 use Rattle.std.proofs.lemmas.Option.{slice_get_within}
 use Rattle.fx_model.specs.declared.ExprId.{ExprId}
 use Rattle.fx_model.specs.declared.Node.{Node}
+use Rattle.facts.specs.declared.hint.HintMark.{HintMark}
+use Rattle.facts.specs.declared.hint.HintMark.TheVariants.{Checked, Assumed}
 use Rattle.facts.specs.declared.hint.HintRow.{HintRow}
 use Rattle.script_hints.specs.declared.hint.Hint.{Hint}
 use Rattle.pair_closure.specs.Closure.{ClosuresAreOne}
 use Rattle.pair_closure.specs.Rising.{one_list}
 use Rattle.rewrite_hints.specs.Divisors.{AreDivisors}
 use Rattle.rewrite_hints.specs.Rows.{IsRowOf}
-use Rattle.rewrite_hints.specs.Marks.{AreRows}
+use Rattle.rewrite_hints.specs.Marks.{AreRows, IsMarkOf}
 use Rattle.rule_instances.specs.InOrder.{instance_list}
 use Rattle.rule_universe.specs.Worlds.{World}
 use Rattle.universe.specs.Starts.{starting_pairs}
+use Rattle.universe.specs.OneMark.{MarksAreOne}
 use Rattle.universe.specs.Universes.{UniversesAreOne}
 use Rattle.universe.proofs.Named.{stands}
 
@@ -41,6 +44,19 @@ rows_are_one nodes hints rows others a b = same_list rows others (a.count ∙ sy
     let within = slice_get_within rows k row e in
     let s = stands hints k (omega (arith, a.count, within)) in
     one_row nodes s.0 row other (a.each k s.0 row s.1 e) (b.each k s.0 other s.1 f))
+
+one_mark : (nodes : List Node) (h : Hint) (m n : HintMark) → IsMarkOf nodes h m → IsMarkOf nodes h n → m ≡ n
+one_mark nodes h Checked Checked a b = refl
+one_mark nodes h Checked Assumed a b = absurd (b a)
+one_mark nodes h Assumed Checked a b = absurd (a b)
+one_mark nodes h Assumed Assumed a b = refl
+
+pub marks_are_one : MarksAreOne
+marks_are_one nodes hints marks others a b = same_list marks others (a.count ∙ sym b.count)
+    (λ k m n e f.
+    let within = slice_get_within marks k m e in
+    let s = stands hints k (omega (arith, a.count, within)) in
+    one_mark nodes s.0 m n (a.each k s.0 m s.1 e) (b.each k s.0 n s.1 f))
 
 pub universes_are_one : ClosuresAreOne → UniversesAreOne
 universes_are_one closures s u v a b =

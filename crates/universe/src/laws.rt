@@ -1,5 +1,6 @@
 //! What holds of all universes, for callers to cite. Nothing here is done at run time.
 
+ghost use Rattle.universe.specs.OneMark.{MarksAreOne};
 ghost use Rattle.universe.specs.Universes.{UniversesAreOne};
 
 use pair_closure::closures_are_one;
@@ -10,3 +11,8 @@ pub fn universes_are_one()
 {
     closures_are_one();
 }
+
+/// Nothing is done. The clause tells a caller that hints have one list of marks.
+pub fn marks_are_one()
+    ensures { MarksAreOne }
+{}

@@ -3,12 +3,14 @@
 
 mod claims;
 mod laws;
+mod marks;
 mod starts;
 #[cfg(test)]
 mod tests;
 mod world;
 
-pub use laws::universes_are_one;
+pub use laws::{marks_are_one, universes_are_one};
+pub use marks::classify;
 pub use rule_universe::{Goal, Instance, Universe};
 pub use starts::starting_pairs;
 pub use world::{UniverseFault, build};
