@@ -1,0 +1,53 @@
+-- What an assignment that meets a script has over the universe.
+use Rattle.std.specs.Prelude.{◌≡◌, List, [], ◌∷◌, Option, Some, None, length, refl}
+use Rattle.std.specs.List.{AllByRecursion}
+use Rattle.std.proofs.Common.{sym, subst}
+use Rattle.fx_model.specs.declared.Node.{Node}
+use Rattle.fx_model.specs.Expression.{Assignment}
+use Rattle.facts.specs.declared.fact.Fact.{Fact}
+use Rattle.facts.specs.Holds.{Holds}
+use Rattle.script_claims.specs.declared.claim.Claim.{Claim}
+use Rattle.script_claims.specs.Facts.{hypothesis_fact}
+use Rattle.script_claims.specs.Meets.{IsTrueAt}
+use Rattle.script_grammar.specs.Spells.{View}
+use Rattle.script_grammar.specs.Names.{ClaimIsOf, HintIsOf}
+use Rattle.script_meets.specs.Meets.{Meets}
+use Rattle.pair_closure.specs.Members.{has_all}
+use Rattle.rule_universe.specs.Worlds.{World}
+use Rattle.rule_universe.specs.Wholes.{all_contained}
+use Rattle.universe.specs.Universes.{with_fact, facts_of}
+use Rattle.script_truths.specs.Kept.{OfExtended, ClaimsAreKept, RowsAreKept}
+use Rattle.script_truths.specs.Truths.{MetRowsAreTrue, HasUniverse, UniversesExtend, WhereMet, HypothesesHold, HintsAreTrue}
+use Rattle.script_truths.proofs.Rows.{hint_at, row_known}
+
+module _ (nodes : List Node) (a : Assignment) (holds : (c : Claim) (f : Fact) → hypothesis_fact c ≡ Some f → IsTrueAt nodes a c → Holds nodes a f) where
+  with_held : (c : Claim) → IsTrueAt nodes a c → (fs : List Fact) → AllByRecursion (Holds nodes a) fs → (o : Option Fact) → hypothesis_fact c ≡ o → AllByRecursion (Holds nodes a) (with_fact o fs)
+  with_held c t fs h None e = h
+  with_held c t fs h (Some f) e = (holds c f e t, h)
+
+  -- the facts of true claims hold
+  pub facts_held : (cs : List Claim) → AllByRecursion (IsTrueAt nodes a) cs → AllByRecursion (Holds nodes a) (facts_of cs)
+  facts_held [] t = tt
+  facts_held (c ∷ cs) t = with_held c t.0 (facts_of cs) (facts_held cs t.1) (hypothesis_fact c) refl
+
+all_kept : (P Q K : Claim → Type 0) → ((c : Claim) → K c → P c → Q c) → (cs : List Claim) → AllByRecursion K cs → AllByRecursion P cs → AllByRecursion Q cs
+all_kept P Q K f [] k t = tt
+all_kept P Q K f (c ∷ cs) k t = (f c k.0 t.0, all_kept P Q K f cs k.1 t.1)
+
+module _ (extend : UniversesExtend) (kept : OfExtended ClaimsAreKept) where
+  -- the hypotheses are true over the universe
+  pub hypotheses_true : (s : View) (u : World) (a : Assignment) → HasUniverse s u → Meets a s → AllByRecursion (IsTrueAt u.nodes a) s.hypotheses
+  hypotheses_true s u a is meets =
+      all_kept (IsTrueAt s.nodes a) (IsTrueAt u.nodes a) (ClaimIsOf (length s.nodes)) (λ c k t. (kept s.nodes u.nodes a (extend s u is) c k).1 t) s.hypotheses is.names.hypotheses meets.hypotheses
+
+  pub hypotheses_held : ((nodes : List Node) (a : Assignment) (c : Claim) (f : Fact) → hypothesis_fact c ≡ Some f → IsTrueAt nodes a c → Holds nodes a f) → WhereMet HypothesesHold
+  hypotheses_held holds s u a is meets f m =
+      let all = facts_held u.nodes a (holds u.nodes a) s.hypotheses (hypotheses_true s u a is meets) in
+      all_contained (Holds u.nodes a) u.hypotheses (subst (AllByRecursion (Holds u.nodes a)) (sym is.universe.hypotheses) all) f m
+
+-- and so are the rows
+pub hints_true : UniversesExtend → OfExtended RowsAreKept → MetRowsAreTrue → WhereMet HintsAreTrue
+hints_true extend kept met s u a is meets k row e =
+    let h = hint_at s.nodes s.hints.rewrites u.hints is.universe.hints k row e in
+    let named = has_all (HintIsOf (length s.nodes)) s.hints.rewrites is.names.hints.rewrites h.0 h.1 in
+    (kept s.nodes u.nodes a (extend s u is) row (row_known s.nodes is.ordered h.0 row named h.2)).1 (met s a is.ordered is.names meets u.hints is.universe.hints k row e)

@@ -1,0 +1,5 @@
+mod Alike
+mod Kept
+mod Rows
+mod Beginnings
+mod Settled
