@@ -1,0 +1,93 @@
+-- What the words after `prove` ask for, by what clap states of a simple command.
+use Rattle.std.specs.Prelude.{◌≤◌, ◌==◌, ℕ, List, [], ◌∷◌, length, true, false, Option, Some, None, codes, if◌then◌else◌}
+use Rattle.clap.specs.Words.{App, Row, Rule, Text, new_app, new_rule, with_rule, matches_of, first_of, Kinds, fault_of}
+use Rattle.clap.specs.declared.builder.ArgAction.TheVariants.{Set}
+use Rattle.command_line.specs.Numbers.{number_or}
+use Rattle.command_line.specs.declared.prove.Request.{Request}
+
+-- ---- the command, as clap sees it
+
+-- `--name value` or `--name=value`
+abbrev pub option_rule : Text → Rule
+option_rule name = record (new_rule name) { long = Some name; action = Some Set }
+
+-- a name that has to be there
+abbrev pub name_rule : Text → Rule
+name_rule name = record (new_rule name) { required = true; action = Some Set }
+
+-- a command without options: its words are all the words, and it has no help
+abbrev pub bare_app : Text → App
+bare_app name = record { top = record (new_app name).top { no_binary_name = true; disable_help_flag = true }; subs = [] }
+
+abbrev pub prove_app : App
+prove_app = with_rule (with_rule (with_rule (with_rule (with_rule (bare_app (codes "prove"))
+    (name_rule (codes "script"))) (option_rule (codes "rounds"))) (option_rule (codes "depth"))) (option_rule (codes "boxes"))) (option_rule (codes "workers"))
+
+-- ---- the reading
+
+-- what `prove` is asked for: a script's name, the height of derivations, how often boxes are halved, how many there may be, and workers
+pub record Asked : Type 0 where
+  pub script : Text
+  pub rounds : ℕ
+  pub depth : ℕ
+  pub boxes : ℕ
+  pub workers : ℕ
+
+-- the texts that are given
+pub record Given : Type 0 where
+  pub script : Option Text
+  pub rounds : Option Text
+  pub depth : Option Text
+  pub boxes : Option Text
+  pub workers : Option Text
+
+abbrev pub given_by : (Text → Option Text) → Given
+given_by f = record {
+  script = f (codes "script");
+  rounds = f (codes "rounds");
+  depth = f (codes "depth");
+  boxes = f (codes "boxes");
+  workers = f (codes "workers");
+}
+
+infixl 10 ◌>>=◌
+abbrev pub ◌>>=◌ : {A B : Type 0} → Option A → (A → Option B) → Option B
+None >>= f = None
+(Some x) >>= f = f x
+
+-- Nothing, where no name is given or an empty one, or a number isn't plain decimal in its range. An option that isn't given has its default.
+abbrev pub asked_from : Given → Option Asked
+asked_from given = do
+  script ← given.script
+  rounds ← number_or 20 1 64 given.rounds
+  depth ← number_or 16 0 32 given.depth
+  boxes ← number_or 4096 1 8192 given.boxes
+  workers ← number_or 4 1 16 given.workers
+  if length script == 0
+      then None
+      else Some (record { script = script; rounds = rounds; depth = depth; boxes = boxes; workers = workers })
+
+-- nothing where clap refuses the words
+abbrev pub reads : Kinds → List Row → Option Asked
+reads [] rows = asked_from (given_by (λ id. first_of id rows))
+reads (k ∷ ks) rows = None
+
+-- what the words after `prove` ask for; nothing is Usage
+unfoldable pub asked : List Text → Option Asked
+asked words = reads (fault_of prove_app words) (matches_of prove_app words)
+
+-- ---- the code's values
+
+-- a request, without where its name lies in memory
+abbrev pub asked_of : Request → Asked
+asked_of r = record { script = r.script.now; rounds = r.rounds; depth = r.depth; boxes = r.boxes; workers = r.workers }
+
+-- the numbers are in their ranges
+pub record AreInRange (r : Request) : Type 0 where
+  pub rounds_low : 1 ≤ r.rounds
+  pub rounds : r.rounds ≤ 64
+  pub depth : r.depth ≤ 32
+  pub boxes_low : 1 ≤ r.boxes
+  pub boxes : r.boxes ≤ 8192
+  pub workers_low : 1 ≤ r.workers
+  pub workers : r.workers ≤ 16

@@ -1,0 +1,145 @@
+// The words after `prove`.
+ghost use Rattle.std.specs.Prelude.{◌≡◌, ◌≢◌, ◌≤◌, [], map, string_bytes, IfOk, IfErr, IfSome, Some, None, false};
+ghost use Rattle.std.specs.Option.{option_map};
+ghost use Rattle.clap.specs.Words.{rule_of, app_of, rows_of, found_of, matches_of, fault_of, first_value};
+ghost use Rattle.command_line.specs.Numbers.{number_or};
+ghost use Rattle.command_line.specs.Reading.{option_rule, name_rule, prove_app, asked, asked_of, asked_from, given_by, AreInRange};
+
+use crate::numbers::number;
+use clap::error::ErrorKind;
+use clap::{Arg, ArgAction, ArgMatches, Command};
+use std::alloc::{AllocError, Global};
+
+/// What `prove` is asked for.
+#[derive(Clone, Copy, Debug)]
+pub struct Request<'a> {
+    /// The script's name; it isn't empty.
+    pub script: &'a str,
+    /// The height of derivations: 1 to 64.
+    pub rounds: u8,
+    /// How often boxes are halved at most: 0 to 32.
+    pub depth: u8,
+    /// How many boxes there may be: 1 to 8192.
+    pub boxes: u32,
+    /// How many workers settle boxes: 1 to 16.
+    pub workers: u8,
+}
+
+/// Why words weren't read.
+#[derive(Clone, Copy, Debug, PartialEq, Eq)]
+pub enum WordsError {
+    /// They are no words of the command.
+    Usage,
+    /// Memory ran out.
+    OutOfMemory,
+}
+
+// `--name value`
+fn option<'a>(alloc: Global, name: &'a str) -> Arg<'a>
+    ensures rule { rule_of result ≡ option_rule name.entry.now }
+    ensures local { result.global ≡ false }
+{
+    Arg::new(alloc, name).long(name).action(ArgAction::Set)
+}
+
+// A name that has to be there.
+fn name<'a>(alloc: Global, id: &'a str) -> Arg<'a>
+    ensures rule { rule_of result ≡ name_rule id.entry.now }
+    ensures local { result.global ≡ false }
+{
+    Arg::new(alloc, id).required(true).action(ArgAction::Set)
+}
+
+fn prove_command<'a>(alloc: Global) -> Result<Command<'a>, AllocError>
+    ensures { IfOk result (λ c. app_of c ≡ prove_app) }
+{
+    Command::new(alloc, "prove")
+        .no_binary_name(true)
+        .disable_help_flag(true)
+        .arg(name(alloc, "script"))?
+        .arg(option(alloc, "rounds"))?
+        .arg(option(alloc, "depth"))?
+        .arg(option(alloc, "boxes"))?
+        .arg(option(alloc, "workers"))
+}
+
+// What clap makes of the words.
+fn prove_matches<'a>(alloc: Global, words: &'a [String]) -> Result<ArgMatches<'a>, WordsError>
+    ensures fits { IfOk result (λ m. fault_of prove_app (map string_bytes words.entry.now) ≡ []) }
+    ensures rows { IfOk result (λ m. rows_of (found_of m) ≡ matches_of prove_app (map string_bytes words.entry.now)) }
+    ensures usage { IfErr result (λ e. e ≡ WordsError.Usage → fault_of prove_app (map string_bytes words.entry.now) ≢ []) }
+{
+    let Ok(command) = prove_command(alloc) else {
+        return Err(WordsError::OutOfMemory);
+    };
+    match command.try_get_matches_from(words) {
+        Ok(matches) => Ok(matches),
+        Err(error) => {
+            if error.kind() == ErrorKind::OutOfMemory {
+                Err(WordsError::OutOfMemory)
+            } else {
+                Err(WordsError::Usage)
+            }
+        }
+    }
+}
+
+// The number of an option, or its default.
+fn option_number(
+    matches: &ArgMatches<'_>,
+    name: &str,
+    default: u32,
+    low: u32,
+    high: u32,
+) -> Option<u32>
+    requires low { low ≤ default }
+    requires high { default ≤ high }
+    requires digits { high ≤ 9999 }
+    ensures is { result ≡ number_or default low high (first_value (found_of matches.now) name.now) }
+    ensures range { IfSome result (λ n. (low ≤ n) × (n ≤ high)) }
+{
+    match matches.get_str(name) {
+        Some(text) => number(text, low, high),
+        None => Some(default),
+    }
+}
+
+// The request in what clap found.
+fn request_from<'a>(matches: &ArgMatches<'a>) -> Option<Request<'a>>
+    ensures is { option_map asked_of result ≡ asked_from (given_by (first_value (found_of matches.now))) }
+    ensures range { IfSome result AreInRange }
+{
+    let script = matches.get_str("script")?;
+    let rounds = option_number(matches, "rounds", 20, 1, 64)?;
+    let depth = option_number(matches, "depth", 16, 0, 32)?;
+    let boxes = option_number(matches, "boxes", 4096, 1, 8192)?;
+    let workers = option_number(matches, "workers", 4, 1, 16)?;
+    if script.is_empty() {
+        return None;
+    }
+    Some(Request {
+        script,
+        rounds: rounds as u8,
+        depth: depth as u8,
+        boxes,
+        workers: workers as u8,
+    })
+}
+
+/// Reads the words after `prove`, by what clap states of a simple command: one name, and options `--rounds`, `--depth`,
+/// `--boxes`, `--workers`, each at most once, as `--name value` or `--name=value`, anywhere before `--`. `Usage` comes
+/// exactly where they ask for nothing.
+#[tactic(auto, unfolding(crate::specs::Reading::asked))]
+pub fn read_prove<'a>(alloc: Global, words: &'a [String]) -> Result<Request<'a>, WordsError>
+    ensures ok { IfOk result (λ r. asked (map string_bytes words.entry.now) ≡ Some (asked_of r)) }
+    ensures usage { IfErr result (λ e. e ≡ WordsError.Usage → asked (map string_bytes words.entry.now) ≡ None) }
+    ensures range { IfOk result AreInRange }
+{
+    match prove_matches(alloc, words) {
+        Ok(matches) => match request_from(&matches) {
+            Some(request) => Ok(request),
+            None => Err(WordsError::Usage),
+        },
+        Err(error) => Err(error),
+    }
+}

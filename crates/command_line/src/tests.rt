@@ -1,0 +1,103 @@
+// Words after `prove`, and what they ask for, worked out by hand.
+use crate::prove::{WordsError, read_prove};
+use std::test::Fail;
+
+// What is asked for: the script, rounds, depth, boxes and workers.
+type Numbers = (&'static str, u8, u8, u32, u8);
+
+// Words, and what they ask for, if it is anything.
+const ROWS: [(&[&str], Option<Numbers>); 40] = [
+    (&["a"], Some(("a", 20, 16, 4096, 4))),
+    (&["-"], Some(("-", 20, 16, 4096, 4))),
+    (&["a b"], Some(("a b", 20, 16, 4096, 4))),
+    // options, in both forms and anywhere among the names
+    (&["a", "--rounds=3"], Some(("a", 3, 16, 4096, 4))),
+    (&["--rounds", "3", "a"], Some(("a", 3, 16, 4096, 4))),
+    (
+        &[
+            "--rounds",
+            "1",
+            "--depth=0",
+            "a",
+            "--boxes",
+            "1",
+            "--workers=1",
+        ],
+        Some(("a", 1, 0, 1, 1)),
+    ),
+    (
+        &[
+            "--workers=16",
+            "--boxes=8192",
+            "--depth=32",
+            "--rounds=64",
+            "a",
+        ],
+        Some(("a", 64, 32, 8192, 16)),
+    ),
+    // names behind `--`
+    (&["--", "-a"], Some(("-a", 20, 16, 4096, 4))),
+    (&["--", "--rounds=3"], Some(("--rounds=3", 20, 16, 4096, 4))),
+    (&["--rounds", "3", "--", "--"], Some(("--", 3, 16, 4096, 4))),
+    (&["a", "--"], Some(("a", 20, 16, 4096, 4))),
+    (&["--", "a", "--rounds", "3"], None),
+    // the number of names, and an empty one
+    (&[], None),
+    (&["a", "b"], None),
+    (&["a", "--", "b"], None),
+    (&[""], None),
+    (&["--", ""], None),
+    // no value, or none that is a number in its range
+    (&["a", "--rounds"], None),
+    (&["--rounds", "--", "a"], None),
+    (&["a", "--rounds", "--depth=3"], None),
+    (&["a", "--rounds", "-3"], None),
+    (&["a", "--rounds", "-"], None),
+    (&["a", "--rounds="], None),
+    (&["a", "--rounds", ""], None),
+    (&["a", "--rounds=+3"], None),
+    (&["a", "--rounds= 3"], None),
+    (&["a", "--rounds=3=4"], None),
+    (&["a", "--rounds", "0"], None),
+    (&["a", "--rounds", "65"], None),
+    (&["a", "--depth", "03"], None),
+    (&["a", "--depth", "33"], None),
+    (&["a", "--boxes=08192"], None),
+    (&["a", "--boxes=18446744073709551617"], None),
+    (&["a", "--workers", "17"], None),
+    // unknown, shortened and repeated options
+    (&["a", "--rou", "3"], None),
+    (&["a", "--cert", "b"], None),
+    (&["a", "-h"], None),
+    (&["a", "--help"], None),
+    (&["a", "--version"], None),
+    (&["a", "--rounds", "3", "--rounds=3"], None),
+];
+
+#[test]
+fn words_are_read(rt: HostRuntime) -> Result<(), Fail> {
+    let alloc = rt.alloc();
+    for (line, wanted) in ROWS {
+        let mut words = Vec::new(alloc);
+        for word in line {
+            words.push(String::from_str(alloc, *word)?)?;
+        }
+        match read_prove(alloc, &words) {
+            Ok(found) => {
+                let numbers = (
+                    found.script,
+                    found.rounds,
+                    found.depth,
+                    found.boxes,
+                    found.workers,
+                );
+                assert_eq!(rt; Some(numbers), wanted, "{line:?}");
+            }
+            Err(error) => {
+                assert_eq!(rt; error, WordsError::Usage, "{line:?}");
+                assert_eq!(rt; None, wanted, "{line:?}");
+            }
+        }
+    }
+    Ok(())
+}
