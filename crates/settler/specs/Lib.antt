@@ -1,0 +1,6 @@
+pub mod Standing
+pub mod Decided
+pub mod Frames
+pub mod Answers
+pub mod Tight
+pub mod Held

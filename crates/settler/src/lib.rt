@@ -1,0 +1,16 @@
+//! The engine on a script's boxes: each is settled by rounds over the script's universe, and so the script has one answer.
+#![tactic(auto)]
+
+mod boxes;
+mod entry;
+mod frame;
+mod laws;
+mod run;
+
+pub use boxes::Boxes;
+pub use entry::Entry;
+pub use frame::Frame;
+pub use laws::{
+    answers_are_one, plans_fit, proved_answers_hold, proved_lines_are_tight, settled_lines_hold,
+};
+pub use run::answer_alone;
