@@ -1,2 +1,4 @@
 pub mod Lines
+pub mod Proved
+pub mod Unproved
 pub mod Examples

@@ -78,3 +78,15 @@ read_fault_line name = codes "read fault: " ++ name ++ codes "\n"
 
 abbrev pub usage_line : Bytes
 usage_line = codes "usage: fixprove prove SCRIPT\n"
+
+-- of words that ask for nothing: the commands with their names and options. Each further command stands behind a bar.
+abbrev pub usage_text : Bytes
+usage_text = codes "usage: fixprove prove SCRIPT [--rounds N] [--depth N] [--boxes N] [--workers N]\n"
+
+-- of a script that needs more expressions than a universe may have
+abbrev pub expressions_text : Bytes
+expressions_text = codes "limit: more than 1024 expressions\n"
+
+-- of a script with more boxes than are allowed
+abbrev pub boxes_text : ℕ → Bytes
+boxes_text most = codes "limit: more than " ++ decimal most ++ codes " boxes\n"

@@ -19,6 +19,28 @@ pub fn usage() -> &'static [u8]
     "usage: fixprove prove SCRIPT\n".as_bytes()
 }
 
+/// The line of words that ask for nothing: the commands with their names and options.
+pub fn usage_text() -> &'static [u8]
+    ensures { result.now ≡ spec.usage_text }
+{
+    "usage: fixprove prove SCRIPT [--rounds N] [--depth N] [--boxes N] [--workers N]\n".as_bytes()
+}
+
+/// The line of a script that needs more expressions than a universe may have.
+pub fn expressions_text() -> &'static [u8]
+    ensures { result.now ≡ spec.expressions_text }
+{
+    "limit: more than 1024 expressions\n".as_bytes()
+}
+
+/// The line of a script with more boxes than are allowed, which is `most`. `Err` only where memory runs out.
+pub fn boxes_text(alloc: Global, most: u32) -> Result<Vec<u8>, AllocError>
+    ensures { IfOk result (λ line. line.items ≡ spec.boxes_text most) }
+{
+    let line = format!(in alloc; "limit: more than {most} boxes\n")?;
+    Ok(line.into_bytes())
+}
+
 /// The line of a file that wasn't read whole, by its name. `Err` only where memory runs out.
 pub fn read_fault_line(alloc: Global, name: &str) -> Result<Vec<u8>, AllocError>
     ensures { IfOk result (λ line. line.items ≡ spec.read_fault_line name.now) }

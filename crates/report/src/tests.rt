@@ -4,9 +4,13 @@ ghost use Rattle.std.specs.Prelude.{◌<◌, ◌^◌, length};
 
 use crate::answers::{put_goal_line, unproved_line};
 use crate::parts::part;
+use crate::proved::answer_text;
 use crate::refusals::refusal_line;
-use crate::runs::{not_built, read_fault_line, usage};
+use crate::runs::{boxes_text, expressions_text, not_built, read_fault_line, usage, usage_text};
 use dyadic::{Dyadic, End};
+use facts::HintMark;
+use goal_spans::Span;
+use goals::Line;
 use interval::Interval;
 use script_judge::refusal::{LimitKind, Refusal, RefusalKind};
 use script_words::lex::lex;
@@ -87,6 +91,30 @@ fn goals(rt: HostRuntime) -> Result<(), Fail> {
 }
 
 #[test]
+fn answers(rt: HostRuntime) -> Result<(), Fail> {
+    let text: &[u8] = b"{ x*y in ? /\\ x-/y in ? /\\ x in ? }";
+    assert!(rt; text.len() < 1000);
+    let read = lex(rt.alloc(), text)?;
+    let spans = [
+        Span { first: 1, end: 4 },
+        Span { first: 7, end: 10 },
+        Span { first: 13, end: 14 },
+    ];
+    let product = range(&rt, at(&rt, 3, 0), at(&rt, 5, 1));
+    let answer = answer_text(
+        rt.alloc(),
+        text,
+        read.tokens.as_slice(),
+        &spans,
+        &[Line::In(product), Line::None, Line::Empty],
+        &[HintMark::Assumed, HintMark::Checked, HintMark::Assumed],
+    )?;
+    let wanted = "x * y in [3, 5b1]\nx -/ y in none\nx in empty\nhint 1 assumed\nhint 3 assumed\n";
+    assert_eq!(rt; answer.as_slice(), wanted.as_bytes());
+    Ok(())
+}
+
+#[test]
 fn unproved(rt: HostRuntime) -> Result<(), Fail> {
     for (goal, wanted) in [
         (0, "unproved: goal 1 at the whole box\n"),
@@ -140,6 +168,16 @@ fn refusals(rt: HostRuntime) -> Result<(), Fail> {
 fn other_lines(rt: HostRuntime) -> Result<(), Fail> {
     assert_eq!(rt; not_built(), "script: NotBuilt\n".as_bytes());
     assert_eq!(rt; usage(), "usage: fixprove prove SCRIPT\n".as_bytes());
+    assert_eq!(rt;
+        usage_text(),
+        "usage: fixprove prove SCRIPT [--rounds N] [--depth N] [--boxes N] [--workers N]\n".as_bytes()
+    );
+    assert_eq!(rt;
+        expressions_text(),
+        "limit: more than 1024 expressions\n".as_bytes()
+    );
+    let line = boxes_text(rt.alloc(), 14)?;
+    assert_eq!(rt; line.as_slice(), "limit: more than 14 boxes\n".as_bytes());
     let line = read_fault_line(rt.alloc(), "a.fx")?;
     assert_eq!(rt; line.as_slice(), "read fault: a.fx\n".as_bytes());
     Ok(())

@@ -1,0 +1,87 @@
+//! The line of a goal that isn't proved.
+
+ghost use Rattle.std.specs.Prelude.{◌≡◌, ◌++◌, IfOk, OnOk};
+ghost use Rattle.report.specs.Unproved as spec;
+
+use crate::proved::put_interval;
+use box_tree::Plan;
+use expr_dag::Node;
+use fx_edge::Path;
+use fx_model::ExprId;
+use script_grammar::Script;
+use std::alloc::{AllocError, Global};
+
+// The name of a variable.
+fn name_at<'a>(script: &Script<'a>, node: Option<Node>) -> &'a [u8]
+    ensures { result.now ≡ spec.name_at script.now.variables node }
+{
+    match node {
+        Some(Node::Var(number)) => match script.variable(number) {
+            Some(name) => name,
+            None => &[],
+        },
+        _ => &[],
+    }
+}
+
+// Appends a variable with its range in the box.
+fn put_range(
+    line: &mut Vec<u8>,
+    script: &Script<'_>,
+    plan: &Plan,
+    path: &Path,
+    x: ExprId,
+) -> Result<(), AllocError>
+    ensures added { OnOk result (line.new.items ≡ line.old.items ++ spec.range_text script.now plan.now path.now x) }
+{
+    line.extend_from_slice(name_at(script, script.nodes().get(x)))?;
+    line.extend_from_slice(" in ".as_bytes())?;
+    put_interval(line, plan.range(path, x))
+}
+
+// Appends the variables with their ranges in the box.
+fn put_box(
+    line: &mut Vec<u8>,
+    script: &Script<'_>,
+    plan: &Plan,
+    path: &Path,
+    order: &[ExprId],
+) -> Result<(), AllocError>
+    ensures added { OnOk result (line.new.items ≡ line.old.items ++ spec.box_text script.now plan.now path.now order.now) }
+{
+    let [first, more @ ..] = order else {
+        return line.extend_from_slice("the whole box".as_bytes());
+    };
+    put_range(line, script, plan, path, *first)?;
+    let mut rest = more;
+    while let [x, later @ ..] = rest {
+        line.extend_from_slice(", ".as_bytes())?;
+        put_range(line, script, plan, path, *x)?;
+        rest = later;
+    }
+    Ok(())
+}
+
+/// The line of the goal of this number, counted from 0, which isn't settled in the box at the path: it has the ranges of
+/// the script's split variables there, in the order in which hints first name them. `Err` only where memory runs out.
+pub fn unproved_text(
+    alloc: Global,
+    script: &Script<'_>,
+    plan: &Plan,
+    path: &Path,
+    goal: u16,
+) -> Result<Vec<u8>, AllocError>
+    ensures { IfOk result (λ line. line.items ≡ spec.unproved_text script.now plan.now path.now goal) }
+{
+    let number = u32::from(goal) + 1;
+    let mut line = format!(in alloc; "unproved: goal {number} at ")?.into_bytes();
+    put_box(
+        &mut line,
+        script,
+        plan,
+        path,
+        script.hints().order.as_slice(),
+    )?;
+    line.extend_from_slice("\n".as_bytes())?;
+    Ok(line)
+}
