@@ -1,25 +1,60 @@
--- The answer to a script whose goals are all proved.
-use Rattle.std.proofs.Common.{◌≡◌, List, true, length, ap, ◌∙◌}
-use Rattle.std.proofs.lemmas.List.{length-map}
-use Rattle.fx_model.specs.Expression.{IsOrdered}
-use Rattle.interval.specs.declared.interval.Interval.{Interval}
+-- What is answered to a script, from what its boxes come to.
+use Rattle.std.specs.Prelude.{◌≡◌, ℕ, List, length}
+use Rattle.std.proofs.Common.{sym, ◌∙◌, ap, subst}
+use Rattle.std.proofs.lemmas.List.FromFn.{length-map-range_with_len}
+use Rattle.fx_model.specs.Expression.{Assignment}
+use Rattle.facts.specs.declared.hint.HintMark.{HintMark}
+use Rattle.goals.specs.declared.line.Line.{Line}
 use Rattle.script_grammar.specs.Spells.{View, Spells, GoalsHaveSpans}
-use Rattle.plain_prover.specs.Built.{is_built}
-use Rattle.plain_prover.specs.Plain.{enclosures_of, range_in}
-use Rattle.plain_prover.specs.Answers.{IsAnswerTo, AnswersHold}
-use Rattle.plain_prover.specs.declared.prover.Answer.TheVariants.{Proved}
+use Rattle.script_meets.specs.Meets.{Meets}
+use Rattle.rewrite_hints.specs.Marks.{AreMarks}
+use Rattle.universe.specs.Universes.{IsUniverse, IsTooLarge}
+use Rattle.rule_universe.specs.Worlds.{World}
+use Rattle.box_tree.specs.Regions.{PlanParts}
+use Rattle.box_tree.specs.Plans.{cut_at}
+use Rattle.bisect.specs.declared.settler.State.{State}
+use Rattle.bisect.specs.declared.outcome.Leaf.{Leaf}
+use Rattle.bisect.specs.declared.outcome.Outcome.{Outcome}
+use Rattle.bisect.specs.declared.outcome.Outcome.TheVariants as outcome
+use Rattle.bisect.specs.Trees.{tree_of}
+use Rattle.bisect.specs.Answers.{IsAnswer}
+use Rattle.bisect.specs.Gathered.{line_of, lines_of}
+use Rattle.script_truths.specs.Truths.{HasUniverse}
+use Rattle.settler.specs.Standing.{AreStates}
+use Rattle.settler.specs.Answers.{Options, ComesTo, plan_of, IsProved}
+use Rattle.settler.specs.Tight.{ProvedLinesAreTight}
+use Rattle.settler.specs.Held.{ProvedHolds}
 use Rattle.report.specs.Lines.{Bytes}
-use Rattle.fx_top.specs.Texts.{answer_text}
+use Rattle.report.specs.Proved.{answer_text}
 use Rattle.fx_top.specs.Answers.{IsAnswered}
 
-pub answered : AnswersHold → GoalsHaveSpans → (s : View) (ranges : List Interval) (lines : Bytes) → IsOrdered s.nodes → Spells s.text s → is_built s ≡ true → IsAnswerTo s (Proved ranges) → lines ≡ answer_text s ranges → IsAnswered s.text lines
-answered hold spans s ranges lines ordered spelled built proved printed = record {
-  script = s;
-  ranges = ranges;
-  spelled = spelled;
-  proved = (built, proved);
-  words = spans s.text s spelled;
-  each = ap length proved.1 ∙ length-map s.goals (range_in (enclosures_of s));
-  printed = printed;
-  holds = λ a meets. hold s ranges a ordered built proved meets;
+-- What the tree of the boxes of such a plan comes to is what the script comes to.
+pub comes_to : (s : View) (o : Options) (u : World) (plan : PlanParts) (found : Outcome) → ¬ IsTooLarge s → IsUniverse s u → plan ≡ plan_of s o.depth
+    → ((states : List ℕ → State) × AreStates u plan o.rounds states × IsAnswer (tree_of (cut_at plan) states) o.boxes found) → ComesTo s o found
+comes_to s o u plan found few is e (states, are, answer) = record {
+  few = few;
+  universe = u;
+  is_universe = is;
+  states = states;
+  are_states = subst (λ p. AreStates u p o.rounds states) e are;
+  is_answer = subst (λ p. IsAnswer (tree_of (cut_at p) states) o.boxes found) e answer;
 }
+
+-- all goals are settled
+pub answered : GoalsHaveSpans → ProvedLinesAreTight → (s : View) (o : Options) (u : World) (plan : PlanParts) (count : ℕ) (leaves : List Leaf) (shown : List Line) (marks : List HintMark) (line : Bytes)
+    → ProvedHolds plan → HasUniverse s u → plan ≡ plan_of s o.depth → Spells s.text s → ComesTo s o (outcome.Leaves count leaves) → shown ≡ lines_of leaves (length s.goals)
+    → AreMarks s.nodes s.hints.rewrites marks → line ≡ answer_text s.text s.tokens s.spans shown marks → IsAnswered o s.text line
+answered spans tight s o u plan count leaves shown marks line holds has e spelled comes are marked printed =
+    let proved : IsProved s o shown = (count, leaves, comes, are) in record {
+      script = s;
+      shown = shown;
+      marks = marks;
+      spelled = spelled;
+      proved = proved;
+      tight = tight s o shown proved;
+      marked = marked;
+      words = spans s.text s spelled;
+      each = ap length are ∙ length-map-range_with_len (line_of leaves) 0 (length s.goals);
+      printed = printed;
+      holds = λ a meets. holds s u o shown a has e proved meets;
+    }

@@ -13,21 +13,23 @@ use Rattle.script_judge.specs.First.{IsFirstRefusal}
 use Rattle.script_grammar.specs.Spells.{View, Spells, IsRefused}
 use Rattle.fx_edge.specs.Outside.{Rose}
 use Rattle.report.specs.Lines.{Bytes}
+use Rattle.command_line.specs.Reading.{Asked}
+use Rattle.settler.specs.Answers.{Options}
 use Rattle.fx_top.specs.Command.{reading}
 use Rattle.fx_top.specs.Command.Command.{Prove}
 use Rattle.fx_top.specs.Outside.{AppendsFront, IsText}
-use Rattle.fx_top.specs.Answers.{ProvePrints}
+use Rattle.fx_top.specs.Answers.{ProvePrints, options_of}
 use Rattle.fx_top.specs.Run.{Outside, IsTold, Prints, IsCutShort, EndsAs, IsLine, StopPrints}
 use Rattle.fx_top.specs.declared.outside.ReadStop.{ReadStop}
 use Rattle.fx_top.specs.declared.outside.ReadStop.TheVariants as stop
 use Rattle.fx_top.specs.declared.run.Status.{Status}
-use Rattle.fx_top.specs.declared.run.Status.TheVariants.{Answered, Unproved, Usage, ReadFault, WriteFault, OutOfMemory}
+use Rattle.fx_top.specs.declared.run.Status.TheVariants.{Answered, Unproved, Usage, Limit, ReadFault, WriteFault, OutOfMemory}
 use Rattle.fx_top.specs.declared.run.Status.TheVariants as status
 
 -- ---- the text that was read answers as the told one does
 
-abbrev Alike : Bytes → Bytes → Type 0
-Alike t text = (s : Status) (line : Bytes) → ProvePrints text s line → ProvePrints t s line
+abbrev Alike : Options → Bytes → Bytes → Type 0
+Alike o t text = (s : Status) (line : Bytes) → ProvePrints o text s line → ProvePrints o t s line
 
 -- the one refusal of a text that is too long
 abbrev past_bytes : Refusal
@@ -46,28 +48,28 @@ long_refusal t text r a b p =
     let e : r ≡ past_bytes = cc (refused_for_length text (Some r) b p) in
     subst (IsRefused t) (sym e) (first.unread (too_long a))
 
-both_long : (t text : Bytes) → 2 ^ 20 < length t → 2 ^ 20 < length text → Alike t text
-both_long t text a b Answered line p = absurd (no_script text p.script b p.spelled)
-both_long t text a b Unproved line (s, k, p, i, e) = absurd (no_script text s b p)
-both_long t text a b status.Script line (inl (r, p, e)) = inl (r, long_refusal t text r a b p, e)
-both_long t text a b status.Script line (inr (s, p, q, e)) = absurd (no_script text s b p)
-both_long t text a b Usage line p = absurd p
-both_long t text a b ReadFault line p = absurd p
-both_long t text a b WriteFault line p = absurd p
-both_long t text a b OutOfMemory line p = absurd p
+both_long : (o : Options) (t text : Bytes) → 2 ^ 20 < length t → 2 ^ 20 < length text → Alike o t text
+both_long o t text a b Answered line p = absurd (no_script text p.script b p.spelled)
+both_long o t text a b Unproved line (s, path, goal, p, i, e) = absurd (no_script text s b p)
+both_long o t text a b Limit line (s, p, i) = absurd (no_script text s b p)
+both_long o t text a b status.Script line (r, p, e) = (r, long_refusal t text r a b p, e)
+both_long o t text a b Usage line p = absurd p
+both_long o t text a b ReadFault line p = absurd p
+both_long o t text a b WriteFault line p = absurd p
+both_long o t text a b OutOfMemory line p = absurd p
 
 front_size : (all text : Bytes) → text ≡ take 1048577 all → length text ≡ min 1048577 (length all)
 front_size all text e = ap length e ∙ length-take 1048577 all
 
-told_front : (all text : Bytes) → text ≡ take 1048577 all → (length text ≡ 1048577) ⊎ (length text < 1048577) → (t : Bytes) × (t ≡ all) × Alike t text
-told_front all text e (inl full) = let size = front_size all text e in (all, refl, both_long all text (omega (arith, size, full)) (omega (arith, full)))
-told_front all text e (inr short) =
+told_front : (o : Options) (all text : Bytes) → text ≡ take 1048577 all → (length text ≡ 1048577) ⊎ (length text < 1048577) → (t : Bytes) × (t ≡ all) × Alike o t text
+told_front o all text e (inl full) = let size = front_size all text e in (all, refl, both_long o all text (omega (arith, size, full)) (omega (arith, full)))
+told_front o all text e (inr short) =
     let size = front_size all text e in
-    (all, refl, λ s line p. subst (λ (w : Bytes). ProvePrints w s line) (e ∙ take_all 1048577 all (omega (arith, size, short))) p)
+    (all, refl, λ s line p. subst (λ (w : Bytes). ProvePrints o w s line) (e ∙ take_all 1048577 all (omega (arith, size, short))) p)
 
-told_text : (known : Option Bytes) (text : Bytes) → IsText known text → (t : Bytes) × IsTold known t × Alike t text
-told_text None text read = (text, tt, λ s line p. p)
-told_text (Some all) text e = told_front all text e (eq-or-lt_of_le (let size = front_size all text e in omega (arith, size)))
+told_text : (o : Options) (known : Option Bytes) (text : Bytes) → IsText known text → (t : Bytes) × IsTold known t × Alike o t text
+told_text o None text read = (text, tt, λ s line p. p)
+told_text o (Some all) text e = told_front o all text e (eq-or-lt_of_le (let size = front_size all text e in omega (arith, size)))
 
 -- ---- ends of runs
 
@@ -77,6 +79,7 @@ put_whole P before after Answered line p took = (line, p, took)
 put_whole P before after Unproved line p took = (line, p, took)
 put_whole P before after Usage line p took = (line, p, took)
 put_whole P before after status.Script line p took = (line, p, took)
+put_whole P before after Limit line p took = (line, p, took)
 put_whole P before after ReadFault line p took = (line, p, took)
 put_whole P before after WriteFault line p took = inr (WriteFault, line, p, (line, [], sym (append-nil line), took))
 put_whole P before after OutOfMemory line p took = inr (OutOfMemory, line, p, (line, [], sym (append-nil line), took))
@@ -98,6 +101,7 @@ module _ (P Q : Status → Bytes → Type 0) (more : (s : Status) (line : Bytes)
   ends_more Unproved (line, p, took) = (line, more Unproved line p, took)
   ends_more Usage (line, p, took) = (line, more Usage line p, took)
   ends_more status.Script (line, p, took) = (line, more status.Script line p, took)
+  ends_more Limit (line, p, took) = (line, more Limit line p, took)
   ends_more ReadFault (line, p, took) = (line, more ReadFault line p, took)
   ends_more WriteFault ends = cut_more ends
   ends_more OutOfMemory ends = cut_more ends
@@ -109,18 +113,19 @@ ends_line P s line other same p before after result ends =
 
 -- ---- the lines of the words
 
-module _ (words : List Bytes) (outside : Outside) (name : Bytes) (asked : reading words ≡ Some (Prove name)) where
+module _ (words : List Bytes) (outside : Outside) (a : Asked) (asked : reading words ≡ Some (Prove a)) where
   -- the answer to a text that was read
-  pub answer_prints : (text : Bytes) → IsText (outside.told name) text → (s : Status) (line : Bytes) → ProvePrints text s line → Prints words outside s line
-  answer_prints text read Answered line p = let t = told_text (outside.told name) text read in (Prove name, asked, (t.0, t.1, t.2 Answered line p))
-  answer_prints text read Unproved line p = let t = told_text (outside.told name) text read in (Prove name, asked, (t.0, t.1, t.2 Unproved line p))
-  answer_prints text read status.Script line p = let t = told_text (outside.told name) text read in (Prove name, asked, (t.0, t.1, t.2 status.Script line p))
+  pub answer_prints : (text : Bytes) → IsText (outside.told a.script) text → (s : Status) (line : Bytes) → ProvePrints (options_of a) text s line → Prints words outside s line
+  answer_prints text read Answered line p = let t = told_text (options_of a) (outside.told a.script) text read in (Prove a, asked, (t.0, t.1, t.2 Answered line p))
+  answer_prints text read Unproved line p = let t = told_text (options_of a) (outside.told a.script) text read in (Prove a, asked, (t.0, t.1, t.2 Unproved line p))
+  answer_prints text read Limit line p = let t = told_text (options_of a) (outside.told a.script) text read in (Prove a, asked, (t.0, t.1, t.2 Limit line p))
+  answer_prints text read status.Script line p = let t = told_text (options_of a) (outside.told a.script) text read in (Prove a, asked, (t.0, t.1, t.2 status.Script line p))
   answer_prints text read Usage line p = absurd p
   answer_prints text read ReadFault line p = absurd p
   answer_prints text read WriteFault line p = absurd p
   answer_prints text read OutOfMemory line p = absurd p
 
   -- what stopped the reading
-  pub stop_prints : (why : ReadStop) → (why ≡ stop.Fault → Rose outside.faults_before outside.faults_after) → (s : Status) (line : Bytes) → StopPrints name why s line → Prints words outside s line
-  stop_prints stop.Fault rose s line e = subst (λ (t : Status). Prints words outside t line) (sym e.0) (Prove name, name, asked, refl, rose refl, e.1)
+  pub stop_prints : (why : ReadStop) → (why ≡ stop.Fault → Rose outside.faults_before outside.faults_after) → (s : Status) (line : Bytes) → StopPrints a.script why s line → Prints words outside s line
+  stop_prints stop.Fault rose s line e = subst (λ (t : Status). Prints words outside t line) (sym e.0) (Prove a, a.script, asked, refl, rose refl, e.1)
   stop_prints stop.OutOfMemory rose s line none = absurd none

@@ -1,83 +1,93 @@
 -- One answer is defined for a text.
 use Rattle.std.specs.Prelude.{◌⊎◌}
-use Rattle.std.proofs.Common.{◌≡◌, ◌≢◌, ◌<◌, inl, inr, ℕ, List, Bool, true, false, Option, Some, None, refl, sym, ap, ◌∙◌, subst, ⊎_elim}
-use Rattle.std.proofs.lemmas.Bool.{cases_lt}
-use Rattle.std.proofs.Math.Nat.{eq-or-lt_of_le}
-use Rattle.interval.specs.declared.interval.Interval.{Interval}
-use Rattle.plain_bounds.specs.Goals.{AreProved, IsFirstUnproved}
+use Rattle.std.proofs.Common.{◌≡◌, ◌≢◌, inl, inr, ℕ, List, Option, Some, None, refl, sym, ap, ◌∙◌, subst}
+use Rattle.facts.specs.declared.hint.HintMark.{HintMark}
+use Rattle.goals.specs.declared.line.Line.{Line}
 use Rattle.script_judge.specs.declared.refusal.Refusal.{Refusal}
 use Rattle.script_judge.specs.First.{FirstsAreUnique}
 use Rattle.script_grammar.specs.Spells.{View, Spells, IsRefused, SpellsOnce, NeverBoth}
-use Rattle.plain_prover.specs.Built.{is_built}
-use Rattle.plain_prover.specs.Plain.{goals_of, enclosures_of, ranges_of}
-use Rattle.plain_prover.specs.Answers.{IsAnswerTo}
-use Rattle.plain_prover.specs.declared.prover.Answer.TheVariants as answer
-use Rattle.report.specs.Lines.{Bytes, usage_line, unproved_line, refusal_line, not_built_line}
+use Rattle.rewrite_hints.specs.Marks.{AreMarks}
+use Rattle.universe.specs.OneMark.{MarksAreOne}
+use Rattle.settler.specs.Answers.{Options, Answer, expr_limit, box_limit, unproved, proved, IsScriptAnswer, AnswersAreOne, HasTooManyExpressions, HasTooManyBoxes, plan_of}
+use Rattle.command_line.specs.Reading.{Asked}
+use Rattle.report.specs.Lines.{Bytes, usage_line, refusal_line, expressions_text, boxes_text}
+use Rattle.report.specs.Proved.{answer_text}
+use Rattle.report.specs.Unproved.{unproved_text}
 use Rattle.fx_top.specs.Command.{Command, reading}
 use Rattle.fx_top.specs.Command.Command.{Prove}
-use Rattle.fx_top.specs.Answers.{ProvePrints}
+use Rattle.fx_top.specs.Answers.{ProvePrints, IsAnswered, options_of}
 use Rattle.fx_top.specs.Run.{Told, Outside, IsTold, IsTelling, CommandPrints, Prints}
-use Rattle.fx_top.specs.Texts.{answer_text}
 use Rattle.fx_top.specs.declared.run.Status.{Status}
-use Rattle.fx_top.specs.declared.run.Status.TheVariants.{Answered, Unproved, Usage, ReadFault, WriteFault, OutOfMemory}
+use Rattle.fx_top.specs.declared.run.Status.TheVariants.{Answered, Unproved, Usage, Limit, ReadFault, WriteFault, OutOfMemory}
 use Rattle.fx_top.specs.declared.run.Status.TheVariants as status
 
 abbrev Twice : Status → Status → Bytes → Bytes → Type 0
 Twice s t line other = (s ≡ t) × (line ≡ other)
 
--- a goal that isn't proved stands in the way of all being so
-not_all : (s t : View) (k : ℕ) → s ≡ t → AreProved (enclosures_of s) (goals_of s) → ¬ IsFirstUnproved (enclosures_of t) (goals_of t) k
-not_all s t k e all one =
-    let u = subst (λ (v : View). IsFirstUnproved (enclosures_of v) (goals_of v) k) (sym e) one in
-    u.unproved (all k u.goal u.there)
+-- ---- one answer of a script
 
--- two first goals that aren't proved are one
-not_before : (s : View) (k m : ℕ) → IsFirstUnproved (enclosures_of s) (goals_of s) k → IsFirstUnproved (enclosures_of s) (goals_of s) m → ¬ (k < m)
-not_before s k m a b l = a.unproved (b.before k a.goal l a.there)
+proved-same : (ls ms : List Line) → proved ls ≡ proved ms → ls ≡ ms
+proved-same ls ms e = cc
 
-first_once : (s : View) (k m : ℕ) → IsFirstUnproved (enclosures_of s) (goals_of s) k → IsFirstUnproved (enclosures_of s) (goals_of s) m → k ≡ m
-first_once s k m a b = ⊎_elim (λ l. absurd (not_before s k m a b l)) (λ g. ⊎_elim (λ e. sym e) (λ l. absurd (not_before s m k b a l)) (eq-or-lt_of_le g)) (cases_lt k m)
+path-same : (p q : List ℕ) (k m : ℕ) → unproved p k ≡ unproved q m → p ≡ q
+path-same p q k m e = cc
 
-pub differ : (a b : Bool) → a ≡ b → a ≡ true → ¬ (b ≡ false)
-differ a b e p q = let f : true ≡ false = sym p ∙ e ∙ q in cc f
+goal-same : (p q : List ℕ) (k m : ℕ) → unproved p k ≡ unproved q m → k ≡ m
+goal-same p q k m e = cc
 
-module _ (spells_once : SpellsOnce) (both : NeverBoth) (refused_once : FirstsAreUnique) where
-  answered_once : (text line other : Bytes) (s t : View) (rs us : List Interval) → Spells text s → Spells text t → rs ≡ ranges_of s → us ≡ ranges_of t → line ≡ answer_text s rs → other ≡ answer_text t us → line ≡ other
-  answered_once text line other s t rs us p q a b e f =
-      e ∙ ap (answer_text s) a ∙ ap (λ (v : View). answer_text v (ranges_of v)) (spells_once text s t p q) ∙ sym (ap (answer_text t) b) ∙ sym f
+module _ (spells_once : SpellsOnce) (both : NeverBoth) (refused_once : FirstsAreUnique) (answers_once : AnswersAreOne) (marks_once : MarksAreOne) (o : Options) where
+  -- two answers to the script of one text are one
+  same : (text : Bytes) (s t : View) (a b : Answer) → Spells text s → Spells text t → IsScriptAnswer s o a → IsScriptAnswer t o b → a ≡ b
+  same text s t a b p q i j = answers_once s o a b i (subst (λ (v : View). IsScriptAnswer v o b) (spells_once text t s q p) j)
 
-  unproved_once : (text line other : Bytes) (s t : View) (k m : ℕ) → Spells text s → Spells text t → IsAnswerTo s (answer.Unproved k) → IsAnswerTo t (answer.Unproved m) → line ≡ unproved_line k → other ≡ unproved_line m → line ≡ other
-  unproved_once text line other s t k m p q a b e f =
-      let one = subst (λ (v : View). IsFirstUnproved (enclosures_of v) (goals_of v) m) (spells_once text t s q p) b in
-      e ∙ ap unproved_line (first_once s k m a one) ∙ sym f
+  answered_once : (text line other : Bytes) → IsAnswered o text line → IsAnswered o text other → line ≡ other
+  answered_once text line other p q =
+      let script : p.script ≡ q.script = spells_once text p.script q.script p.spelled q.spelled in
+      let shown : p.shown ≡ q.shown = proved-same p.shown q.shown (same text p.script q.script (proved p.shown) (proved q.shown) p.spelled q.spelled p.proved q.proved) in
+      let marked : AreMarks p.script.nodes p.script.hints.rewrites q.marks = subst (λ (v : View). AreMarks v.nodes v.hints.rewrites q.marks) (sym script) q.marked in
+      let marks : p.marks ≡ q.marks = marks_once p.script.nodes p.script.hints.rewrites p.marks q.marks p.marked marked in
+      p.printed ∙ (λ i. answer_text (script i).text (script i).tokens (script i).spans (shown i) (marks i)) ∙ sym q.printed
 
-  Unread : Bytes → Bytes → Type 0
-  Unread text line = ((r : Refusal) × IsRefused text r × (line ≡ refusal_line r)) ⊎ ((s : View) × Spells text s × (is_built s ≡ false) × (line ≡ not_built_line))
+  -- what a limit that is passed prints
+  Limited : View → Bytes → Type 0
+  Limited s line = (HasTooManyExpressions s × (line ≡ expressions_text)) ⊎ (HasTooManyBoxes s o × (line ≡ boxes_text o.boxes))
 
-  -- a script that is built isn't refused
-  not_unread : (text line : Bytes) (s : View) → Spells text s → is_built s ≡ true → ¬ (Unread text line)
-  unfolding Unread
-  not_unread text line s p b (inl (r, q, e)) = both text s r p q
-  not_unread text line s p b (inr (t, q, n, e)) = differ (is_built s) (is_built t) (ap is_built (spells_once text s t p q)) b n
+  limited_once : (text line other : Bytes) (s t : View) → Spells text s → Spells text t → Limited s line → Limited t other → line ≡ other
+  unfolding Limited
+  limited_once text line other s t p q (inl (i, e)) (inl (j, f)) = e ∙ sym f
+  limited_once text line other s t p q (inr (i, e)) (inr (j, f)) = e ∙ sym f
+  limited_once text line other s t p q (inl (i, e)) (inr (j, f)) = let h : expr_limit ≡ box_limit = same text s t expr_limit box_limit p q i j in cc h
+  limited_once text line other s t p q (inr (i, e)) (inl (j, f)) = let h : box_limit ≡ expr_limit = same text s t box_limit expr_limit p q i j in cc h
 
-  unread_once : (text line other : Bytes) → Unread text line → Unread text other → line ≡ other
-  unfolding Unread
-  unread_once text line other (inl (r, p, e)) (inl (t, q, f)) = let same : r ≡ t = cc (refused_once text (Some r) (Some t) p q) in e ∙ ap refusal_line same ∙ sym f
-  unread_once text line other (inl (r, p, e)) (inr (t, q, n, f)) = absurd (both text t r q p)
-  unread_once text line other (inr (s, p, n, e)) (inl (r, q, f)) = absurd (both text s r p q)
-  unread_once text line other (inr (s, p, n, e)) (inr (t, q, m, f)) = e ∙ sym f
+  -- what passes a limit is neither proved nor unproved
+  not_limited : (text line : Bytes) (s t : View) (a : Answer) → ¬ (expr_limit ≡ a) → ¬ (box_limit ≡ a) → Spells text s → Spells text t → IsScriptAnswer t o a → ¬ Limited s line
+  unfolding Limited
+  not_limited text line s t a n m p q j (inl (i, e)) = n (same text s t expr_limit a p q i j)
+  not_limited text line s t a n m p q j (inr (i, e)) = m (same text s t box_limit a p q i j)
 
-  prove_once : (text : Bytes) (s t : Status) (line other : Bytes) → ProvePrints text s line → ProvePrints text t other → Twice s t line other
-  unfolding Unread
-  prove_once text Answered Answered line other p q = (refl, answered_once text line other p.script q.script p.ranges q.ranges p.spelled q.spelled p.proved.1.1 q.proved.1.1 p.printed q.printed)
-  prove_once text Answered Unproved line other p (t, m, q, (c, j), f) = absurd (not_all p.script t m (spells_once text p.script t p.spelled q) p.proved.1.0 j)
-  prove_once text Answered status.Script line other p u = absurd (not_unread text other p.script p.spelled p.proved.0 u)
-  prove_once text Unproved Answered line other (s, k, p, (b, i), e) q = absurd (not_all q.script s k (spells_once text q.script s q.spelled p) q.proved.1.0 i)
-  prove_once text Unproved Unproved line other (s, k, p, (b, i), e) (t, m, q, (c, j), f) = (refl, unproved_once text line other s t k m p q i j e f)
-  prove_once text Unproved status.Script line other (s, k, p, (b, i), e) u = absurd (not_unread text other s p b u)
-  prove_once text status.Script Answered line other u q = absurd (not_unread text line q.script q.spelled q.proved.0 u)
-  prove_once text status.Script Unproved line other u (t, m, q, (c, j), f) = absurd (not_unread text line t q c u)
-  prove_once text status.Script status.Script line other u v = (refl, unread_once text line other u v)
+  pub prove_once : (text : Bytes) (s t : Status) (line other : Bytes) → ProvePrints o text s line → ProvePrints o text t other → Twice s t line other
+  unfolding Limited
+  prove_once text Answered Answered line other p q = (refl, answered_once text line other p q)
+  prove_once text Answered Unproved line other p (t, path, goal, q, j, f) = let h : proved p.shown ≡ unproved path goal = same text p.script t (proved p.shown) (unproved path goal) p.spelled q p.proved j in cc h
+  prove_once text Answered Limit line other p (t, q, j) = absurd (not_limited text other t p.script (proved p.shown) (λ e. cc e) (λ e. cc e) q p.spelled p.proved j)
+  prove_once text Answered status.Script line other p (r, q, f) = absurd (both text p.script r p.spelled q)
+  prove_once text Unproved Answered line other (s, path, goal, p, i, e) q = let h : unproved path goal ≡ proved q.shown = same text s q.script (unproved path goal) (proved q.shown) p q.spelled i q.proved in cc h
+  prove_once text Unproved Unproved line other (s, path, goal, p, i, e) (t, way, least, q, j, f) =
+      let h : unproved path goal ≡ unproved way least = same text s t (unproved path goal) (unproved way least) p q i j in
+      let script : s ≡ t = spells_once text s t p q in
+      let paths : path ≡ way = path-same path way goal least h in
+      let goals : goal ≡ least = goal-same path way goal least h in
+      (refl, e ∙ (λ i. unproved_text (script i) (plan_of (script i) o.depth) (paths i) (goals i)) ∙ sym f)
+  prove_once text Unproved Limit line other (s, path, goal, p, i, e) (t, q, j) = absurd (not_limited text other t s (unproved path goal) (λ e. cc e) (λ e. cc e) q p i j)
+  prove_once text Unproved status.Script line other (s, path, goal, p, i, e) (r, q, f) = absurd (both text s r p q)
+  prove_once text Limit Answered line other (s, p, i) q = absurd (not_limited text line s q.script (proved q.shown) (λ e. cc e) (λ e. cc e) p q.spelled q.proved i)
+  prove_once text Limit Unproved line other (s, p, i) (t, path, goal, q, j, f) = absurd (not_limited text line s t (unproved path goal) (λ e. cc e) (λ e. cc e) p q j i)
+  prove_once text Limit Limit line other (s, p, i) (t, q, j) = (refl, limited_once text line other s t p q i j)
+  prove_once text Limit status.Script line other (s, p, i) (r, q, f) = absurd (both text s r p q)
+  prove_once text status.Script Answered line other (r, p, e) q = absurd (both text q.script r q.spelled p)
+  prove_once text status.Script Unproved line other (r, p, e) (t, path, goal, q, j, f) = absurd (both text t r q p)
+  prove_once text status.Script Limit line other (r, p, e) (t, q, j) = absurd (both text t r q p)
+  prove_once text status.Script status.Script line other (r, p, e) (u, q, f) = let h : r ≡ u = cc (refused_once text (Some r) (Some u) p q) in (refl, e ∙ ap refusal_line h ∙ sym f)
   prove_once text Answered Usage line other p q = absurd q
   prove_once text Answered ReadFault line other p q = absurd q
   prove_once text Answered WriteFault line other p q = absurd q
@@ -86,6 +96,10 @@ module _ (spells_once : SpellsOnce) (both : NeverBoth) (refused_once : FirstsAre
   prove_once text Unproved ReadFault line other p q = absurd q
   prove_once text Unproved WriteFault line other p q = absurd q
   prove_once text Unproved OutOfMemory line other p q = absurd q
+  prove_once text Limit Usage line other p q = absurd q
+  prove_once text Limit ReadFault line other p q = absurd q
+  prove_once text Limit WriteFault line other p q = absurd q
+  prove_once text Limit OutOfMemory line other p q = absurd q
   prove_once text status.Script Usage line other p q = absurd q
   prove_once text status.Script ReadFault line other p q = absurd q
   prove_once text status.Script WriteFault line other p q = absurd q
@@ -95,8 +109,13 @@ module _ (spells_once : SpellsOnce) (both : NeverBoth) (refused_once : FirstsAre
   prove_once text WriteFault t line other p q = absurd p
   prove_once text OutOfMemory t line other p q = absurd p
 
-  -- ---- of the run
+-- ---- of the run
 
+-- a text has one answer
+abbrev ProvesOnce : Type 0
+ProvesOnce = (o : Options) (text : Bytes) (s t : Status) (line other : Bytes) → ProvePrints o text s line → ProvePrints o text t other → Twice s t line other
+
+module _ (prove_once : ProvesOnce) where
   Opened : List Bytes → Told → Status → Bytes → Type 0
   Opened words told s line = ((s ≡ Usage) × (reading words ≡ None) × (line ≡ usage_line)) ⊎ ((c : Command) × (reading words ≡ Some c) × CommandPrints c told s line)
 
@@ -107,6 +126,7 @@ module _ (spells_once : SpellsOnce) (both : NeverBoth) (refused_once : FirstsAre
   opened words outside Answered line n p = inr p
   opened words outside Unproved line n p = inr p
   opened words outside status.Script line n p = inr p
+  opened words outside Limit line n p = inr p
   opened words outside WriteFault line n p = inr p
   opened words outside OutOfMemory line n p = inr p
 
@@ -116,12 +136,13 @@ module _ (spells_once : SpellsOnce) (both : NeverBoth) (refused_once : FirstsAre
 
   command_once : (words : List Bytes) (told : Told) (s t : Status) (line other : Bytes) (c d : Command) → IsTelling words told
       → reading words ≡ Some c → reading words ≡ Some d → CommandPrints c told s line → CommandPrints d told t other → Twice s t line other
-  command_once words told s t line other (Prove n) (Prove m) tells e f (text, is, p) (text', is', q) =
-      let one : n ≡ m = cc in
-      let all = tells m f in
-      let here : text ≡ all.0 = same_text (told n) all.0 text (ap told one ∙ all.1) is in
-      let there : text' ≡ all.0 = same_text (told m) all.0 text' all.1 is' in
-      prove_once all.0 s t line other (subst (λ (w : Bytes). ProvePrints w s line) here p) (subst (λ (w : Bytes). ProvePrints w t other) there q)
+  command_once words told s t line other (Prove a) (Prove b) tells e f (text, is, p) (text', is', q) =
+      let one : a ≡ b = cc in
+      let all = tells b f in
+      let here : text ≡ all.0 = same_text (told a.script) all.0 text (ap (λ (x : Asked). told x.script) one ∙ all.1) is in
+      let there : text' ≡ all.0 = same_text (told b.script) all.0 text' all.1 is' in
+      let first = subst (λ (x : Asked). ProvePrints (options_of x) all.0 s line) one (subst (λ (w : Bytes). ProvePrints (options_of a) w s line) here p) in
+      prove_once (options_of b) all.0 s t line other first (subst (λ (w : Bytes). ProvePrints (options_of b) w t other) there q)
 
   pub prints_once : (words : List Bytes) (outside : Outside) (s t : Status) (line other : Bytes) → IsTelling words outside.told → s ≢ ReadFault → t ≢ ReadFault
       → Prints words outside s line → Prints words outside t other → Twice s t line other

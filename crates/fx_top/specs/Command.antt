@@ -1,21 +1,17 @@
 -- What the words of the command line ask for.
-use Rattle.std.specs.Prelude.{ℕ, List, [], ◌∷◌, Bool, true, false, ◌==◌, ◌&&◌, not, if◌then◌else◌, Option, Some, None, codes}
+use Rattle.std.specs.Prelude.{ℕ, List, [], ◌∷◌, Option, Some, None, if◌then◌else◌, codes}
+use Rattle.std.specs.Option.{option_map}
 use Rattle.std.specs.Str.{bytes_eq}
+use Rattle.command_line.specs.Reading.{Asked, asked}
 
 abbrev pub Bytes : Type 0
 Bytes = List ℕ
 
 -- a command with its names and options
 pub data Command : Type 0 where
-  Prove : Bytes → Command
+  Prove : Asked → Command
 
--- `-`, or what isn't empty and doesn't begin with `-`
-abbrev pub is_script_name : Bytes → Bool
-is_script_name [] = false
-is_script_name (b ∷ []) = true
-is_script_name (b ∷ c ∷ bytes) = not (b == 45)
-
--- the command that the words spell, or none, which is Usage
+-- The command that the words spell, or none, which is Usage: the first word names it, and the others are read as its own.
 abbrev pub reading : List Bytes → Option Command
-reading (command ∷ script ∷ []) = if bytes_eq command (codes "prove") && is_script_name script then Some (Prove script) else None
-reading _ = None
+reading [] = None
+reading (command ∷ words) = if bytes_eq command (codes "prove") then option_map Prove (asked words) else None

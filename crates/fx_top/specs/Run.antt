@@ -3,7 +3,8 @@ use Rattle.std.specs.Prelude.{◌≡◌, ◌≢◌, ◌⊎◌, ℕ, List, ⊤, B
 use Rattle.std.specs.Io.KnownBytes.{Appends, Keeps}
 use Rattle.fx_edge.specs.Outside.{Rose}
 use Rattle.report.specs.Lines.{Bytes, read_fault_line, usage_line}
-use Rattle.fx_top.specs.Answers.{ProvePrints}
+use Rattle.command_line.specs.Reading.{Asked}
+use Rattle.fx_top.specs.Answers.{ProvePrints, options_of}
 use Rattle.fx_top.specs.Command.{Command, reading}
 use Rattle.fx_top.specs.Command.Command.{Prove}
 use Rattle.fx_top.specs.Outside.{AppendsFront}
@@ -36,6 +37,7 @@ exit_code status.Answered = 0
 exit_code status.Unproved = 1
 exit_code status.Usage = 2
 exit_code status.Script = 3
+exit_code status.Limit = 4
 exit_code status.ReadFault = 6
 exit_code status.WriteFault = 7
 exit_code status.OutOfMemory = 8
@@ -44,11 +46,11 @@ exit_code status.OutOfMemory = 8
 
 -- a command answers with this status and these lines. Each further command is a case here.
 abbrev pub CommandPrints : Command → Told → Status → Bytes → Type 0
-CommandPrints (Prove script) told s lines = (text : Bytes) × IsTold (told script) text × ProvePrints text s lines
+CommandPrints (Prove a) told s lines = (text : Bytes) × IsTold (told a.script) text × ProvePrints (options_of a) text s lines
 
 -- the command reads a file of this name
 abbrev pub Reads : Command → Bytes → Type 0
-Reads (Prove script) name = name ≡ script
+Reads (Prove a) name = name ≡ a.script
 
 -- the words name a file of this name to be written
 abbrev pub is_written : List Bytes → Bytes → Bool
@@ -85,7 +87,7 @@ StopPrints name stop.OutOfMemory s lines = ⊥
 
 -- the folder tells the text that the words ask for
 abbrev pub IsTelling : List Bytes → Told → Type 0
-IsTelling words told = (name : Bytes) → reading words ≡ Some (Prove name) → (text : Bytes) × (told name ≡ Some text)
+IsTelling words told = (a : Asked) → reading words ≡ Some (Prove a) → (text : Bytes) × (told a.script ≡ Some text)
 
 -- this status came; or in its place a fault of the outside, or want of memory
 abbrev pub Comes : Status → Status → Type 0

@@ -1,68 +1,86 @@
 // The status and the lines for a text.
-ghost use Rattle.std.specs.Prelude.{◌≡◌, IfOk};
-ghost use Rattle.fx_top.specs.Texts.{answer_text};
-ghost use Rattle.fx_top.specs.Answers.{ProvePrints};
+ghost use Rattle.std.specs.Prelude.{◌≡◌, ◌≤◌, IfOk};
+ghost use Rattle.universe.specs.Universes.{IsUniverse, IsTooLarge};
+ghost use Rattle.fx_top.specs.Answers.{ProvePrints, options_from};
 
+use crate::options::Options;
 use crate::run::Status;
-use interval::Interval;
-use plain_prover::{Answer, answers_hold, is_built, prove};
-use report::answers::{put_goal_line, unproved_line};
-use report::parts::part;
+use bisect::{Outcome, lines_of};
+use box_tree::Plan;
+use report::proved::answer_text;
 use report::refusals::refusal_line;
-use report::runs::not_built;
+use report::runs::{boxes_text, expressions_text};
+use report::unproved::unproved_text;
 use script_grammar::{ParseStop, Script, parse, script_or_refusal};
+use settler::{answer_alone, plans_fit, proved_answers_hold, proved_lines_are_tight};
 use std::alloc::{AllocError, Global};
+use universe::{Universe, UniverseFault, build, classify};
 
-// A line for each goal.
-#[tactic(auto, unfolding(crate::specs::Texts::goal_lines))]
-fn answer_lines(
+// What is answered to a script with this universe, by the tree of its boxes.
+fn tree_answer(
     alloc: Global,
     script: &Script<'_>,
-    ranges: &[Interval],
-) -> Result<Vec<u8>, AllocError>
-    ensures { IfOk result (λ lines. lines.items ≡ answer_text script.now ranges.now) }
-{
-    let text = script.text();
-    let tokens = script.tokens();
-    let mut spans = script.goal_spans();
-    let mut ranges = ranges;
-    let mut lines = Vec::new(alloc);
-    while let [span, later_spans @ ..] = spans {
-        let [range, later_ranges @ ..] = ranges else {
-            return Ok(lines);
-        };
-        put_goal_line(&mut lines, text, part(tokens, span.first, span.end), *range)?;
-        spans = later_spans;
-        ranges = later_ranges;
-    }
-    Ok(lines)
-}
-
-// What is answered to a script.
-fn script_answer(alloc: Global, script: &Script<'_>) -> Result<(Status, Vec<u8>), AllocError>
-    ensures { IfOk result (λ r. ProvePrints script.now.text r.0 r.1.items) }
+    universe: &Universe,
+    options: Options,
+) -> Result<(Status, Vec<u8>), AllocError>
+    requires universe { IsUniverse script.now universe.now }
+    requires few { ¬ IsTooLarge script.now }
+    requires depth { options.depth ≤ 32 }
+    ensures { IfOk result (λ r. ProvePrints (options_from options) script.now.text r.0 r.1.items) }
 {
     script.laws();
     script_or_refusal();
-    answers_hold();
-    if !is_built(script) {
-        return Ok((Status::Script, not_built().to_vec(alloc)?));
-    }
-    match prove(alloc, script)? {
-        Answer::Proved(ranges) => {
-            let lines = answer_lines(alloc, script, ranges.as_slice())?;
-            Ok((Status::Answered, lines))
+    universe.laws();
+    plans_fit(universe);
+    let plan = Plan::new(alloc, script.hypotheses(), script.hints(), options.depth)?;
+    proved_answers_hold(&plan);
+    proved_lines_are_tight();
+    match answer_alone(alloc, universe, &plan, options.rounds, options.boxes)? {
+        Outcome::BoxLimit => Ok((Status::Limit, boxes_text(alloc, options.boxes)?)),
+        Outcome::Unproved { path, goal, .. } => {
+            let text = unproved_text(alloc, script, &plan, &path, goal)?;
+            Ok((Status::Unproved, text))
         }
-        Answer::Unproved(goal) => Ok((Status::Unproved, unproved_line(alloc, goal)?)),
+        Outcome::Leaves { leaves, .. } => {
+            let lines = lines_of(alloc, leaves.as_slice(), script.goals().len())?;
+            let marks = classify(alloc, script)?;
+            let text = answer_text(
+                alloc,
+                script.text(),
+                script.tokens(),
+                script.goal_spans(),
+                lines.as_slice(),
+                marks.as_slice(),
+            )?;
+            Ok((Status::Answered, text))
+        }
     }
 }
 
-/// What is answered to a text: the status and all lines. `Err` only where memory runs out.
-pub fn answer(alloc: Global, text: &[u8]) -> Result<(Status, Vec<u8>), AllocError>
-    ensures { IfOk result (λ r. ProvePrints text.now r.0 r.1.items) }
+// What is answered to a script.
+fn script_answer(
+    alloc: Global,
+    script: &Script<'_>,
+    options: Options,
+) -> Result<(Status, Vec<u8>), AllocError>
+    requires { options.depth ≤ 32 }
+    ensures { IfOk result (λ r. ProvePrints (options_from options) script.now.text r.0 r.1.items) }
+{
+    script.laws();
+    match build(alloc, script) {
+        Ok(universe) => tree_answer(alloc, script, &universe, options),
+        Err(UniverseFault::ExprLimit) => Ok((Status::Limit, expressions_text().to_vec(alloc)?)),
+        Err(UniverseFault::OutOfMemory) => Err(AllocError),
+    }
+}
+
+/// What is answered to a text under the options: the status and all lines. `Err` only where memory runs out.
+pub fn answer(alloc: Global, text: &[u8], options: Options) -> Result<(Status, Vec<u8>), AllocError>
+    requires { options.depth ≤ 32 }
+    ensures { IfOk result (λ r. ProvePrints (options_from options) text.now r.0 r.1.items) }
 {
     match parse(alloc, text) {
-        Ok(script) => script_answer(alloc, &script),
+        Ok(script) => script_answer(alloc, &script, options),
         Err(ParseStop::Refused(refusal)) => Ok((Status::Script, refusal_line(alloc, refusal)?)),
         Err(ParseStop::OutOfMemory) => Err(AllocError),
     }

@@ -1,10 +1,10 @@
-//! The top call of the prover: reads a script, encloses its goals and prints the answer.
+//! The top call of the prover: reads a script, proves its goals and prints the answer.
 #![tactic(auto)]
 
 mod answer;
+mod options;
 mod outside;
 mod print;
 mod run;
-mod words;
 
 pub use run::{Status, fx_run};

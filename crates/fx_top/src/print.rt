@@ -1,10 +1,11 @@
 // What a run puts into its sink.
-ghost use Rattle.std.specs.Prelude.{◌≡◌, ◌⊎◌};
+ghost use Rattle.std.specs.Prelude.{◌≡◌, ◌≤◌, ◌⊎◌};
 ghost use Rattle.fx_edge.specs.Outside.{Rose};
-ghost use Rattle.fx_top.specs.Answers.{ProvePrints};
+ghost use Rattle.fx_top.specs.Answers.{ProvePrints, options_from};
 ghost use Rattle.fx_top.specs.Run.{EndsAs, IsLine, StopPrints};
 
 use crate::answer::answer;
+use crate::options::Options;
 use crate::outside::{ReadStop, put_all};
 use crate::run::Status;
 use fx_edge::{Failed, Sink};
@@ -22,12 +23,13 @@ pub fn print<O: Sink>(out: &mut O, lines: &[u8], status: Status) -> Status
     }
 }
 
-// Puts what is answered to the text.
-pub fn print_answer<O: Sink>(alloc: Global, text: &[u8], out: &mut O) -> Status
-    ensures ends { EndsAs (ProvePrints text.now) (O.taken out.old) (O.taken out.new) result }
+// Puts what is answered to the text under the options.
+pub fn print_answer<O: Sink>(alloc: Global, text: &[u8], options: Options, out: &mut O) -> Status
+    requires { options.depth ≤ 32 }
+    ensures ends { EndsAs (ProvePrints (options_from options) text.now) (O.taken out.old) (O.taken out.new) result }
     ensures cause { result ≡ Status.WriteFault → Rose (O.faults out.old) (O.faults out.new) }
 {
-    match answer(alloc, text) {
+    match answer(alloc, text, options) {
         Ok((status, lines)) => print(out, &lines, status),
         Err(_) => Status::OutOfMemory,
     }

@@ -1,16 +1,22 @@
 // The top call.
-ghost use Rattle.std.specs.Prelude.{◌≡◌, ◌≢◌, ℕ, List, false, map, string_bytes, Option};
+ghost use Rattle.std.specs.Prelude.{◌≡◌, ◌≢◌, ℕ, List, false, map, string_bytes, Option, Some, None, IfOk, IfErr};
+ghost use Rattle.command_line.specs.Reading.{asked_of, AreInRange};
 ghost use Rattle.fx_edge.specs.Outside.{Rose};
+ghost use Rattle.fx_top.specs.Command.{reading};
+ghost use Rattle.fx_top.specs.Command.Command.{Prove};
 ghost use Rattle.fx_top.specs.Run.{Outside, EndsAs, IsExact, IsTelling, Prints, exit_code, is_written, seen};
 
+use crate::options::options_of;
 use crate::outside::read_text;
 use crate::print::{print, print_answer, print_stop};
-use crate::words::script_of;
-use fx_edge::{Folder, Sink};
+use command_line::{Request, WordsError, read_prove};
+use fx_edge::{Folder, Gate, Sink};
 use report::runs::usage;
 use script_grammar::script_or_refusal;
 use script_judge::first::firsts_are_unique;
+use settler::answers_are_one;
 use std::alloc::Global;
+use universe::marks_are_one;
 
 /// How a run of the program ends.
 #[derive(Clone, Copy, Debug, PartialEq, Eq)]
@@ -19,6 +25,7 @@ pub enum Status {
     Unproved,
     Usage,
     Script,
+    Limit,
     ReadFault,
     WriteFault,
     OutOfMemory,
@@ -34,10 +41,46 @@ impl Status {
             Status::Unproved => 1,
             Status::Usage => 2,
             Status::Script => 3,
+            Status::Limit => 4,
             Status::ReadFault => 6,
             Status::WriteFault => 7,
             Status::OutOfMemory => 8,
         }
+    }
+}
+
+// What the words ask for.
+fn command_of<'a>(alloc: Global, words: &'a [String]) -> Result<Request<'a>, WordsError>
+    ensures ok { IfOk result (λ r. reading (map string_bytes words.entry.now) ≡ Some (Prove (asked_of r))) }
+    ensures usage { IfErr result (λ e. e ≡ WordsError.Usage → reading (map string_bytes words.entry.now) ≡ None) }
+    ensures range { IfOk result AreInRange }
+{
+    let [command, words @ ..] = words else {
+        return Err(WordsError::Usage);
+    };
+    if command.as_str() == "prove" {
+        read_prove(alloc, words)
+    } else {
+        Err(WordsError::Usage)
+    }
+}
+
+// What `prove` does.
+fn run_prove<F: Folder, O: Sink>(
+    alloc: Global,
+    request: Request<'_>,
+    folder: &mut F,
+    out: &mut O,
+) -> Status
+    requires { AreInRange request }
+    ensures ends { (words : List (List ℕ)) → reading words ≡ Some (Prove (asked_of request.entry))
+        → EndsAs (Prints words (seen (F.told folder.old) (F.read_faults folder.old) (F.read_faults folder.new))) (O.taken out.old) (O.taken out.new) result }
+    ensures write_fault { result ≡ Status.WriteFault → Rose (O.faults out.old) (O.faults out.new) }
+    ensures files { (name : List ℕ) → F.told folder.new name ≡ F.told folder.old name }
+{
+    match read_text(alloc, folder, request.script) {
+        Ok(text) => print_answer(alloc, &text, options_of(request), out),
+        Err(stop) => print_stop(alloc, request.script, stop, out),
     }
 }
 
@@ -52,12 +95,10 @@ fn run_words<F: Folder, O: Sink>(
     ensures write_fault { result ≡ Status.WriteFault → Rose (O.faults out.old) (O.faults out.new) }
     ensures files { (name : List ℕ) → F.told folder.new name ≡ F.told folder.old name }
 {
-    let Some(script) = script_of(words) else {
-        return print(out, usage(), Status::Usage);
-    };
-    match read_text(alloc, folder, script) {
-        Ok(text) => print_answer(alloc, &text, out),
-        Err(stop) => print_stop(alloc, script, stop, out),
+    match command_of(alloc, words) {
+        Ok(request) => run_prove(alloc, request, folder, out),
+        Err(WordsError::Usage) => print(out, usage(), Status::Usage),
+        Err(WordsError::OutOfMemory) => Status::OutOfMemory,
     }
 }
 
@@ -77,17 +118,20 @@ fn run_exactly<F: Folder, O: Sink>(
     run_words(alloc, words, folder, out)
 }
 
-/// Runs the program on the words of its command line, without the program's name: `prove SCRIPT` reads the script's
-/// text from the folder, encloses its goals, and puts the answer's lines.
-pub fn fx_run<F: Folder, O: Sink>(
+/// Runs the program on the words of its command line, without the program's name: `prove SCRIPT` reads the script's text
+/// from the folder, proves its goals, and puts the answer's lines. The gate is for workers, of which there are none yet: this
+/// thread settles all boxes.
+pub fn fx_run<F: Folder, O: Sink, G: Gate>(
     alloc: Global,
     words: &[String],
     folder: &mut F,
     out: &mut O,
+    _gate: &G,
 ) -> Status
     // Each status comes only with its defined lines, which the sink took whole; after a write fault and want of memory it took a front of
-    // defined lines. At `Answered` they have an interval for each goal of one script, in which its value lies under each assignment of fractions
-    // that meets the hypotheses; and each goal is true under it. A read fault comes only where reads failed in this call.
+    // defined lines. At `Answered` they have an interval for each goal of one script: the hull, over the boxes that aren't cut further, of the
+    // strongest facts that derivations of the given height conclude there. Under each assignment of fractions that meets the script, each
+    // goal's value lies in its interval, and each goal is true. A read fault comes only where reads failed in this call.
     ensures ends { EndsAs (Prints (map string_bytes words.now) (seen (F.told folder.old) (F.read_faults folder.old) (F.read_faults folder.new))) (O.taken out.old) (O.taken out.new) result }
 
     // Where the folder tells the text, the defined status comes, or else a fault of the outside or want of memory.
@@ -110,6 +154,8 @@ pub fn answer_besides_read_faults_is_defined_once()
 {
     script_or_refusal();
     firsts_are_unique();
+    answers_are_one();
+    marks_are_one();
 }
 
 // The law that a run which ends as defined has exactly the defined status. Nothing is done.

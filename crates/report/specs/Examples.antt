@@ -13,7 +13,10 @@ use Rattle.script_words.specs.declared.lex.Token.{Token}
 use Rattle.script_words.specs.declared.lex.TokenKind.TheVariants as token
 use Rattle.script_judge.specs.declared.refusal.LimitKind.TheVariants as limit
 use Rattle.script_judge.specs.declared.refusal.RefusalKind.TheVariants as kind
-use Rattle.report.specs.Lines.{Bytes, goal_line, unproved_line, refusal_line}
+use Rattle.facts.specs.declared.hint.HintMark.TheVariants.{Checked, Assumed}
+use Rattle.goals.specs.declared.line.Line.TheVariants as shown
+use Rattle.report.specs.Lines.{Bytes, refusal_line}
+use Rattle.report.specs.Proved.{goal_line, hint_lines}
 
 -- ---- numbers and intervals
 
@@ -57,25 +60,28 @@ text = codes "{ x #\n *y in ? }"
 abbrev product : List Token
 product = name_at 2 3 ∷ (record { kind = token.Sign sign.Star; start = 7; end = 8 } ∷ (name_at 8 9 ∷ []))
 
-product_line : goal_line text product three_to_ten ≡ codes "x * y in [3, 5b1]\n"
+product_line : goal_line text product (shown.In three_to_ten) ≡ codes "x * y in [3, 5b1]\n"
 unfolding digits
 product_line = refl
 
-open_above : goal_line text (name_at 2 3 ∷ []) from_one ≡ codes "x in [1, +inf]\n"
+open_above : goal_line text (name_at 2 3 ∷ []) (shown.In from_one) ≡ codes "x in [1, +inf]\n"
 unfolding digits
 open_above = refl
 
-open_below : goal_line text (name_at 2 3 ∷ []) to_sixteenth ≡ codes "x in [-inf, 1b-4]\n"
+open_below : goal_line text (name_at 2 3 ∷ []) (shown.In to_sixteenth) ≡ codes "x in [-inf, 1b-4]\n"
 unfolding digits
 open_below = refl
 
-no_tokens : goal_line text [] from_one ≡ codes " in [1, +inf]\n"
+no_tokens : goal_line text [] (shown.In from_one) ≡ codes " in [1, +inf]\n"
 unfolding digits
 no_tokens = refl
 
-first_goal : unproved_line 0 ≡ codes "unproved: goal 1 at the whole box\n"
+no_values : goal_line text product shown.Empty ≡ codes "x * y in empty\n"
+no_values = refl
+
+second_is_assumed : hint_lines 1 (Checked ∷ (Assumed ∷ [])) ≡ codes "hint 2 assumed\n"
 unfolding digits
-first_goal = refl
+second_is_assumed = refl
 
 -- ---- refusals
 

@@ -1,5 +1,5 @@
 -- The printed lines, as bytes. Each ends with a line feed.
-use Rattle.std.specs.Prelude.{ℕ, ◌+◌, ◌++◌, codes, List, slice_range}
+use Rattle.std.specs.Prelude.{ℕ, ◌++◌, codes, List, slice_range}
 use Rattle.std.specs.List.{join_by}
 use Rattle.std.specs.Fmt.{decimal}
 use Rattle.dyadic.specs.Texts.{end_text}
@@ -26,14 +26,6 @@ joined text tokens = join_by (token_text text) (codes " ") tokens
 
 abbrev pub interval_text : Interval → Bytes
 interval_text i = codes "[" ++ end_text i.lo ++ codes ", " ++ end_text i.hi ++ codes "]"
-
--- a goal, by the tokens of its expression in the text, and the interval that holds its values
-abbrev pub goal_line : Bytes → List Token → Interval → Bytes
-goal_line text tokens i = joined text tokens ++ codes " in " ++ interval_text i ++ codes "\n"
-
--- goals are counted from 0, and printed from 1
-abbrev pub unproved_line : ℕ → Bytes
-unproved_line k = codes "unproved: goal " ++ decimal (k + 1) ++ codes " at the whole box\n"
 
 -- ---- refusals
 
@@ -68,20 +60,13 @@ refusal_line r = codes "script: " ++ kind_text r.kind ++ codes " at " ++ decimal
 
 -- ---- other lines
 
--- of a script that isn't built
-abbrev pub not_built_line : Bytes
-not_built_line = codes "script: NotBuilt\n"
-
 -- of a file that wasn't read whole
 abbrev pub read_fault_line : Bytes → Bytes
 read_fault_line name = codes "read fault: " ++ name ++ codes "\n"
 
-abbrev pub usage_line : Bytes
-usage_line = codes "usage: fixprove prove SCRIPT\n"
-
 -- of words that ask for nothing: the commands with their names and options. Each further command stands behind a bar.
-abbrev pub usage_text : Bytes
-usage_text = codes "usage: fixprove prove SCRIPT [--rounds N] [--depth N] [--boxes N] [--workers N]\n"
+abbrev pub usage_line : Bytes
+usage_line = codes "usage: fixprove prove SCRIPT [--rounds N] [--depth N] [--boxes N] [--workers N]\n"
 
 -- of a script that needs more expressions than a universe may have
 abbrev pub expressions_text : Bytes

@@ -1,7 +1,7 @@
 //! The printed lines, exactly, as bytes.
 #![tactic(auto)]
 
-pub mod answers;
+mod joined;
 pub mod parts;
 pub mod proved;
 pub mod refusals;

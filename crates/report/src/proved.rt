@@ -4,7 +4,7 @@ ghost use Rattle.std.specs.Prelude.{◌≡◌, ◌++◌, ◌+◌, ◌<◌, ◌^�
 ghost use Rattle.report.specs.Lines.{interval_text};
 ghost use Rattle.report.specs.Proved as spec;
 
-use crate::answers::put_joined;
+use crate::joined::put_joined;
 use crate::parts::part;
 use facts::HintMark;
 use goal_spans::Span;

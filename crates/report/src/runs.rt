@@ -5,23 +5,9 @@ ghost use Rattle.report.specs.Lines as spec;
 
 use std::alloc::{AllocError, Global};
 
-/// The line of a script that isn't built.
-pub fn not_built() -> &'static [u8]
-    ensures { result.now ≡ spec.not_built_line }
-{
-    "script: NotBuilt\n".as_bytes()
-}
-
-/// The line of a wrong command line.
+/// The line of words that ask for nothing: the commands with their names and options.
 pub fn usage() -> &'static [u8]
     ensures { result.now ≡ spec.usage_line }
-{
-    "usage: fixprove prove SCRIPT\n".as_bytes()
-}
-
-/// The line of words that ask for nothing: the commands with their names and options.
-pub fn usage_text() -> &'static [u8]
-    ensures { result.now ≡ spec.usage_text }
 {
     "usage: fixprove prove SCRIPT [--rounds N] [--depth N] [--boxes N] [--workers N]\n".as_bytes()
 }

@@ -2,11 +2,10 @@
 
 ghost use Rattle.std.specs.Prelude.{◌<◌, ◌^◌, length};
 
-use crate::answers::{put_goal_line, unproved_line};
 use crate::parts::part;
-use crate::proved::answer_text;
+use crate::proved::{answer_text, put_goal_line};
 use crate::refusals::refusal_line;
-use crate::runs::{boxes_text, expressions_text, not_built, read_fault_line, usage, usage_text};
+use crate::runs::{boxes_text, expressions_text, read_fault_line, usage};
 use dyadic::{Dyadic, End};
 use facts::HintMark;
 use goal_spans::Span;
@@ -42,7 +41,7 @@ fn goal_line(
         &mut line,
         text,
         part(read.tokens.as_slice(), first, end),
-        range,
+        Line::In(range),
     )?;
     Ok(line)
 }
@@ -115,22 +114,6 @@ fn answers(rt: HostRuntime) -> Result<(), Fail> {
 }
 
 #[test]
-fn unproved(rt: HostRuntime) -> Result<(), Fail> {
-    for (goal, wanted) in [
-        (0, "unproved: goal 1 at the whole box\n"),
-        (9, "unproved: goal 10 at the whole box\n"),
-        (
-            usize::MAX,
-            "unproved: goal 18446744073709551616 at the whole box\n",
-        ),
-    ] {
-        let line = unproved_line(rt.alloc(), goal)?;
-        assert_eq!(rt; line.as_slice(), wanted.as_bytes(), "{wanted}");
-    }
-    Ok(())
-}
-
-#[test]
 fn refusals(rt: HostRuntime) -> Result<(), Fail> {
     for (kind, at, wanted) in [
         (RefusalKind::Unexpected, 0, "script: Unexpected at 0\n"),
@@ -166,10 +149,8 @@ fn refusals(rt: HostRuntime) -> Result<(), Fail> {
 
 #[test]
 fn other_lines(rt: HostRuntime) -> Result<(), Fail> {
-    assert_eq!(rt; not_built(), "script: NotBuilt\n".as_bytes());
-    assert_eq!(rt; usage(), "usage: fixprove prove SCRIPT\n".as_bytes());
     assert_eq!(rt;
-        usage_text(),
+        usage(),
         "usage: fixprove prove SCRIPT [--rounds N] [--depth N] [--boxes N] [--workers N]\n".as_bytes()
     );
     assert_eq!(rt;

@@ -1,0 +1,40 @@
+use Rattle.std.proofs.Common.{◌≡◌, sym, ap, ◌∙◌, subst, rules, inr, length}
+use Rattle.goals.specs.declared.line.Line.{Line}
+use Rattle.script_claims.specs.declared.claim.Claim.{Claim}
+use Rattle.script_truths.specs.Truths.{HasUniverse}
+use Rattle.bisect.specs.declared.outcome.Leaf.{Leaf}
+use Rattle.bisect.specs.declared.outcome.Outcome.TheVariants as outcome
+use Rattle.bisect.specs.Gathered.{lines_of}
+use Rattle.settler.specs.Answers.{Options, ComesTo, plan_of}
+use Rattle.report.specs.Proved.{answer_text}
+use Rattle.rewrite_hints.specs.Marks.{AreMarks}
+use Rattle.box_tree.specs.Regions.{PlanParts}
+use Rattle.box_tree.specs.Root.{plan_by}
+use Rattle.fx_top.specs.Answers.{options_from}
+use Rattle.fx_top.proofs.Answered.{comes_to, answered}
+use Rattle.fx_top.proofs.answer.tree_answer.Goals as goal
+
+pub returns-in-BoxLimit : goal.returns-in-BoxLimit
+returns-in-BoxLimit c =
+    let o : Options = options_from c.args.options in
+    let plan : c.in_ok-plan.plan ≡ plan_of c.args.script.now o.depth = search rules in
+    let comes = comes_to c.args.script.now o c.args.universe.now c.in_ok-plan.plan c.in_ok-answer_alone.field-0 c.requires.few c.requires.universe plan c.in_ok-answer_alone.ensures in
+    (c.args.script.now, c.laws.ensures.spelled, inr (subst (ComesTo c.args.script.now o) c.in-BoxLimit.is comes, c.in_ok-boxes_text-in-BoxLimit.ensures))
+
+pub returns-in-Unproved : goal.returns-in-Unproved
+returns-in-Unproved c =
+    let o : Options = options_from c.args.options in
+    let plan : c.in_ok-plan.plan ≡ plan_of c.args.script.now o.depth = search rules in
+    let comes = comes_to c.args.script.now o c.args.universe.now c.in_ok-plan.plan c.in_ok-answer_alone.field-0 c.requires.few c.requires.universe plan c.in_ok-answer_alone.ensures in
+    (c.args.script.now, c.in-Unproved.path, c.in-Unproved.goal, c.laws.ensures.spelled, (c.in-Unproved.boxes, subst (ComesTo c.args.script.now o) c.in-Unproved.is comes), search rules)
+
+pub returns : goal.returns
+returns c =
+    let o : Options = options_from c.args.options in
+    let plan : c.in_ok-plan.plan ≡ plan_of c.args.script.now o.depth = search rules in
+    let comes = comes_to c.args.script.now o c.args.universe.now c.in_ok-plan.plan c.in_ok-answer_alone.field-0 c.requires.few c.requires.universe plan c.in_ok-answer_alone.ensures in
+    let has : HasUniverse c.args.script.now c.args.universe.now = record { names = c.laws.ensures.names; ordered = c.laws.ensures.ordered; universe = c.requires.universe; nodes = c.laws-2.ensures.ordered } in
+    let shown : c.in_ok-lines-in-Leaves.lines ≡ lines_of c.in-Leaves.leaves (length c.args.script.now.goals) = search rules in
+    let printed : c.in_ok-text-in-Leaves.text.items ≡ answer_text c.args.script.now.text c.args.script.now.tokens c.args.script.now.spans c.in_ok-lines-in-Leaves.lines c.in_ok-marks-in-Leaves.marks.items = search rules in
+    answered c.script_or_refusal.ensures.spans c.proved_lines_are_tight.ensures c.args.script.now o c.args.universe.now c.in_ok-plan.plan c.in-Leaves.boxes c.in-Leaves.leaves c.in_ok-lines-in-Leaves.lines c.in_ok-marks-in-Leaves.marks.items
+    c.in_ok-text-in-Leaves.text.items c.proved_answers_hold.ensures has plan c.laws.ensures.spelled (subst (ComesTo c.args.script.now o) c.in-Leaves.is comes) shown c.in_ok-marks-in-Leaves.ensures printed

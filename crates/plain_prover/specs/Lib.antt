@@ -1,4 +1,0 @@
-pub mod Built
-pub mod Plain
-pub mod Answers
-pub mod Examples
