@@ -5,6 +5,8 @@ mod GoalSpans
 mod StepsGrow
 mod Short
 mod FirstsExist
+mod LiteralWords
+mod WordsAreRead
 mod Lists
 mod ExpressionNames
 mod ClaimNames

@@ -4,3 +4,4 @@ pub mod Spells
 pub mod Views
 pub mod Names
 pub mod Few
+pub mod Read

@@ -3,6 +3,7 @@ ghost use Rattle.script_grammar.specs.Steps.{ReadsScripts};
 ghost use Rattle.script_grammar.specs.Names.{SpelledNamesNodes};
 ghost use Rattle.script_grammar.specs.Few.{SpelledHaveFewHints};
 ghost use Rattle.script_grammar.specs.Spells.{SpellsOnce, NeverBoth, SpellsAll, FirstsExist, GoalsHaveSpans, SpelledAreShort};
+ghost use Rattle.script_grammar.specs.Read.{SpelledAreRead};
 
 use goal_spans::spans_are_read;
 use node_counts::{hints_are_counted, nodes_are_counted};
@@ -48,6 +49,16 @@ pub fn spelled_are_short()
     ensures { SpelledAreShort }
 {
     nodes_are_counted();
+    lexed_once();
+    leaves_are_of_trees();
+}
+
+/// Nothing is done. The clause tells a caller that in a script that a text spells each literal is read, within its limits, and
+/// digits alone stand for the number that they write.
+pub fn spelled_are_read()
+    ensures { SpelledAreRead }
+{
+    literals_are_told();
     lexed_once();
     leaves_are_of_trees();
 }

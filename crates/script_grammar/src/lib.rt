@@ -9,8 +9,8 @@ mod stage;
 mod tests;
 
 pub use laws::{
-    script_or_refusal, scripts_are_read, spelled_are_short, spelled_have_few_hints,
-    spelled_name_nodes,
+    script_or_refusal, scripts_are_read, spelled_are_read, spelled_are_short,
+    spelled_have_few_hints, spelled_name_nodes,
 };
 pub use reading::{ParseStop, parse};
 pub use script::Script;

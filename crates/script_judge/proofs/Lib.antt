@@ -5,5 +5,4 @@ pub mod Grown
 pub mod Firsts
 pub mod Nested
 pub mod Unique
-pub mod Digits
 pub mod Whole

@@ -109,7 +109,7 @@ impl<'a> Seen<'a> {
         }
     }
 
-    /// Takes a token.
+    /// Takes a token. After an `Err` it is not to be used on.
     fn take(&mut self, role: Due, word: Word<'a>, verdict: Verdict) -> Result<(), AllocError>
         requires counts { IsWithinLimits self.old.counts }
         requires lower { IsWritten self.old.bounds.lower }

@@ -202,7 +202,7 @@ impl<'a> Names<'a> {
         has_some(&self.defined, operand_name(role, word))
     }
 
-    /// Takes a token.
+    /// Takes a token. After an `Err` it is not to be used on.
     pub fn take(&mut self, halves: bool, role: Due, word: Word<'a>) -> Result<(), AllocError>
         ensures { OnOk result ((names : NamesSeen) → AreNames self.old names
             → AreNames self.new (spec.names_after names halves role (word_of word.entry))) }

@@ -64,7 +64,7 @@ fn open_by_operand(opened: &mut Vec<Open>, word: Word<'_>) -> Result<(), AllocEr
     Ok(())
 }
 
-/// Takes a token.
+/// Takes a token. After an `Err` it is not to be used on.
 pub fn open_or_close(opened: &mut Vec<Open>, role: Due, word: Word<'_>) -> Result<(), AllocError>
     ensures { OnOk result (reverse opened.new.items
         ≡ spec.opened_after (reverse opened.old.items) role (word_of word.entry)) }

@@ -1,7 +1,6 @@
 //! What the digits of a token tell.
 
-ghost use Rattle.std.specs.Prelude.{◌≡◌, ◌≤◌, ◌<◌, ◌==◌, nat_lt, IsTrue, ◌↔◌, SomeIff, map};
-ghost use Rattle.std.specs.Char.{digit_value};
+ghost use Rattle.std.specs.Prelude.{◌≡◌, ◌<◌, ◌==◌, nat_lt, IsTrue, ◌↔◌, map};
 ghost use Rattle.std.specs.Str.Parse.{digits_value};
 ghost use Rattle.literal.specs.Normal.{IsPastLimits};
 ghost use Rattle.script_words.specs.Named.{word_of};
@@ -15,41 +14,15 @@ use crate::bounds::bound_number;
 use literal::{LiteralFault, read_bytes};
 use literal_order::Written;
 use script_shape::due::Due;
+use script_words::digits::number_below;
 use script_words::words::Word;
-
-/// What a digit counts, and 36 for what is none.
-fn digit(b: u8) -> u8
-    ensures value { result ≡ digit_value b }
-    ensures small { result ≤ 36 }
-{
-    match b {
-        b'0'..=b'9' => b - b'0',
-        b'A'..=b'Z' => b - b'A' + 10,
-        b'a'..=b'z' => b - b'a' + 10,
-        _ => 36,
-    }
-}
-
-/// The number that digits write; `None` exactly where it is a thousand or more.
-fn number_of(digits: &[u8]) -> Option<u32>
-    ensures { SomeIff result (digits_value 10 digits.now < 1000) (digits_value 10 digits.now) }
-{
-    let mut number = 0u32;
-    for b in digits {
-        number = number * 10 + u32::from(digit(*b));
-        if number >= 1000 {
-            return None;
-        }
-    }
-    Some(number)
-}
 
 /// Whether digits write a number above a limit.
 fn is_above(limit: u32, text: &[u8]) -> bool
     requires { limit < 999 }
     ensures { result ≡ nat_lt limit (digits_value 10 text.now) }
 {
-    match number_of(text) {
+    match number_below(1000, text) {
         Some(number) => number > limit,
         None => true,
     }
@@ -69,7 +42,7 @@ fn is_word_above(limit: u32, word: Word<'_>) -> bool
 fn is_nought(text: &[u8]) -> bool
     ensures { result ≡ digits_value 10 text.now == 0 }
 {
-    match number_of(text) {
+    match number_below(1000, text) {
         Some(number) => number == 0,
         None => false,
     }

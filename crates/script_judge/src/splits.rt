@@ -218,7 +218,7 @@ impl<'a> Splits<'a> {
         in_points && is_no_split(self.cut, self.before, number)
     }
 
-    /// Takes a token.
+    /// Takes a token. After an `Err` it is not to be used on.
     pub fn take(&mut self, told: Told<'a>, role: Due, word: Word<'a>) -> Result<(), AllocError>
         requires { IsWritten told.number }
         ensures { OnOk result (splits_seen self.new ≡ spec.splits_after (splits_seen self.old)

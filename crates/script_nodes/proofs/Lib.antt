@@ -12,7 +12,6 @@ pub mod Entries
 pub mod Named
 pub mod Grows
 pub mod OperandGrows
-pub mod NumberStops
 pub mod Faults
 pub mod ScriptLeaves
 pub mod DefinitionGrows

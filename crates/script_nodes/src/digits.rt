@@ -1,13 +1,13 @@
 //! What the texts of words write.
 
 ghost use Rattle.std.specs.Prelude.{◌≡◌, ◌≤◌};
-ghost use Rattle.std.specs.Char.{digit_value};
 ghost use Rattle.literal.specs.Normal.{IsNormal};
 ghost use Rattle.script_nodes.specs.Operators as spec;
 ghost use Rattle.script_nodes.specs.Literals as spec_literals;
 
 use fx_model::{Direction, Literal};
 use literal::read_bytes;
+use script_words::digits::number_below;
 
 const NOUGHT: Literal = Literal {
     num: 0,
@@ -15,33 +15,16 @@ const NOUGHT: Literal = Literal {
     ten: 0,
 };
 
-/// What a digit counts, and 36 for what is none.
-fn digit(b: u8) -> u8
-    ensures value { result ≡ digit_value b }
-    ensures small { result ≤ 36 }
-{
-    match b {
-        b'0'..=b'9' => b - b'0',
-        b'A'..=b'Z' => b - b'A' + 10,
-        b'a'..=b'z' => b - b'a' + 10,
-        _ => 36,
-    }
-}
-
 /// The number that digits write, and 512 where they write more.
 #[tactic(auto, unfolding(crate::specs::Operators::number_of))]
 pub fn number_of(digits: &[u8]) -> u16
     ensures number { result ≡ spec.number_of digits.now }
     ensures stopped { result ≤ 512 }
 {
-    let mut number = 0u16;
-    for b in digits {
-        number = number * 10 + u16::from(digit(*b));
-        if number >= 512 {
-            return 512;
-        }
+    match number_below(512, digits) {
+        Some(number) => number as u16,
+        None => 512,
     }
-    number
 }
 
 /// The direction of a word.

@@ -2,3 +2,4 @@ pub mod Lexing
 pub mod LexedOnce
 pub mod LexedAll
 pub mod Marked
+pub mod DigitSteps

@@ -26,9 +26,9 @@ pub struct Token {
     pub end: u32,
 }
 
-/// A set of bytes, to find a run of them.
+/// A set of bytes, of which a run is measured: those of names, the digits of a decimal number, or those of a hexadecimal one.
 #[derive(Clone, Copy)]
-enum Run {
+pub enum Run {
     Word,
     Digit,
     HexDigit,

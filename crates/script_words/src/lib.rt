@@ -2,6 +2,7 @@
 #![tactic(auto)]
 
 pub mod class;
+pub mod digits;
 pub mod lex;
 #[cfg(test)]
 mod tests;

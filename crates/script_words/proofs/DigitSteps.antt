@@ -15,9 +15,9 @@ after_ge : (n : ℕ) (ds : List ℕ) → n ≤ digits_value_after 10 n ds
 after_ge n [] = le_refl n
 after_ge n (c ∷ cs) = le_trans (grows n (digit_value c)) (after_ge (n * 10 + digit_value c) cs)
 
--- digits that write a thousand or more do so with all behind them
-pub past_thousand : (n i d : ℕ) (ds : List ℕ) → digits_value 10 ds ≡ digits_value_after 10 n (drop i ds) → i < length ds → d ≡ digit_value (get_or ds i 0) → 1000 ≤ n * 10 + d → digits_value 10 ds < 1000 → ⊥
-past_thousand n i d ds same h e over low =
+-- a number that reaches the limit with its first digits does so with all
+pub past_limit : (limit n i d : ℕ) (ds : List ℕ) → digits_value 10 ds ≡ digits_value_after 10 n (drop i ds) → i < length ds → d ≡ digit_value (get_or ds i 0) → limit ≤ n * 10 + d → digits_value 10 ds < limit → ⊥
+past_limit limit n i d ds same h e over low =
     let a = same ∙ after_step n i ds h in
     let b = after_ge (n * 10 + digit_value (get_or ds i 0)) (drop (i + 1) ds) in
     omega (arith, a, b)
