@@ -5,6 +5,7 @@ ghost use Rattle.saturate.specs.Tables.{fact_at};
 ghost use Rattle.saturate.specs.Universes.{setting_of, HasAllPlaces};
 ghost use Rattle.saturate.specs.Boxes.{IsSomeBox, IsOfUniverse, IsTableBelow, IsCostBelow, IsItsTable, IsItsState, IsItsCost, table_of, state_of};
 
+use crate::area::Area;
 use crate::improve::improve;
 use crate::judge::judge;
 use crate::kept::Table;
@@ -29,6 +30,7 @@ fn settle_child<L: Ledger>(
     piece: (ExprId, Interval),
     parent: &Table,
     height: u8,
+    area: &mut Area,
     steps: &mut Steps<L>,
 ) -> Result<Table, AllocError>
     requires variable { (piece.0).0 < length uni.now.nodes }
@@ -42,7 +44,7 @@ fn settle_child<L: Ledger>(
     rules_are_lawful();
     let mut start = parent.copy(alloc)?;
     let _changed = improve(&mut start, Fact::Bnd(piece.0, piece.1));
-    rounds(alloc, uni, start, height, steps)
+    rounds(uni, start, height, area, steps)
 }
 
 // The best table of a box.
@@ -52,6 +54,7 @@ fn best_table<L: Ledger>(
     piece: Option<(ExprId, Interval)>,
     parent: Option<&Table>,
     height: u8,
+    area: &mut Area,
     steps: &mut Steps<L>,
 ) -> Result<Table, AllocError>
     requires given { IsSomeBox uni.now height piece parent }
@@ -61,19 +64,21 @@ fn best_table<L: Ledger>(
     ensures cost { IfOk result (λ _. IsItsCost uni.now height piece parent.entry steps.old steps.new) }
 {
     match (piece, parent) {
-        (Some(piece), Some(parent)) => settle_child(alloc, uni, piece, parent, height, steps),
-        _ => settle_root(alloc, uni, height, steps),
+        (Some(piece), Some(parent)) => settle_child(alloc, uni, piece, parent, height, area, steps),
+        _ => settle_root(alloc, uni, height, area, steps),
     }
 }
 
 /// What a box comes to, and its best table. At the root nothing is given; at any other box the piece that the last cut left
-/// and the best table of the parent, for this universe and so many rounds. One step is one call of `conclude`.
+/// and the best table of the parent, for this universe and so many rounds. The area may come from any other box, of any
+/// universe. One step is one call of `conclude`.
 pub fn settle_counted<L: Ledger>(
     alloc: Global,
     uni: &Universe,
     piece: Option<(ExprId, Interval)>,
     parent: Option<&Table>,
     rounds: u8,
+    area: &mut Area,
     steps: &mut Steps<L>,
 ) -> Result<Settled, AllocError>
     requires given { IsSomeBox uni.now rounds piece parent }
@@ -88,7 +93,7 @@ pub fn settle_counted<L: Ledger>(
 {
     uni.laws();
     boxes_come_to_one_state();
-    let table = best_table(alloc, uni, piece, parent, rounds, steps)?;
+    let table = best_table(alloc, uni, piece, parent, rounds, area, steps)?;
     Ok(judge(table, uni.goals()))
 }
 
@@ -99,6 +104,7 @@ fn settle_blank<L: Ledger>(
     piece: Option<(ExprId, Interval)>,
     parent: Option<&Table>,
     rounds: u8,
+    area: &mut Area,
     blank: Blank,
 ) -> Result<Settled, AllocError>
     requires name { blank.name ≡ L.name }
@@ -111,10 +117,28 @@ fn settle_blank<L: Ledger>(
     ensures places { IfOk result (λ settled. HasAllPlaces uni.now (table_of settled)) }
 {
     let mut steps = Steps::<L>::new(blank);
-    settle_counted(alloc, uni, piece, parent, rounds, &mut steps)
+    settle_counted(alloc, uni, piece, parent, rounds, area, &mut steps)
 }
 
 /// The same, where nobody counts.
+pub fn settle_in(
+    alloc: Global,
+    uni: &Universe,
+    piece: Option<(ExprId, Interval)>,
+    parent: Option<&Table>,
+    rounds: u8,
+    area: &mut Area,
+) -> Result<Settled, AllocError>
+    requires given { IsSomeBox uni.now rounds piece parent }
+    requires places { IsOfUniverse uni.now piece parent }
+    ensures table { IfOk result (λ settled. IsItsTable uni.now rounds piece parent.entry (table_of settled)) }
+    ensures state { IfOk result (λ settled. IsItsState uni.now rounds piece parent.entry (state_of settled)) }
+    ensures places { IfOk result (λ settled. HasAllPlaces uni.now (table_of settled)) }
+{
+    settle_blank::<Brand>(alloc, uni, piece, parent, rounds, area, Blank::new(1))
+}
+
+/// The same in an area of its own.
 pub fn settle(
     alloc: Global,
     uni: &Universe,
@@ -128,5 +152,5 @@ pub fn settle(
     ensures state { IfOk result (λ settled. IsItsState uni.now rounds piece parent.entry (state_of settled)) }
     ensures places { IfOk result (λ settled. HasAllPlaces uni.now (table_of settled)) }
 {
-    settle_blank::<Brand>(alloc, uni, piece, parent, rounds, Blank::new(1))
+    settle_in(alloc, uni, piece, parent, rounds, &mut Area::new(alloc))
 }
