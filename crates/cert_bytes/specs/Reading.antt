@@ -1,0 +1,417 @@
+-- How bytes are read as items, field by field from the left. The first fault that is met is the fault of the bytes.
+use Rattle.std.specs.Prelude.{⊤, ◌+◌, ◌*◌, ◌==◌, not, ℕ, zero, suc, ℤ, pos, negsuc, Bool, true, false, List, [], ◌∷◌, ◌++◌, length, drop, nat_lt, nat_le, if◌then◌else◌, Option, Some, None, Result, Ok, Err}
+use Rattle.std.specs.Int.{w16, w64, cast_signed}
+use Rattle.std.specs.Int.RustNames.{int_lt}
+use Rattle.fx_model.specs.Fraction.{le_ℚ}
+use Rattle.fx_model.specs.declared.ExprId.{ExprId}
+use Rattle.fx_model.specs.declared.Literal.{Literal}
+use Rattle.fx_model.specs.declared.Node.{Node}
+use Rattle.fx_model.specs.declared.Node.TheVariants as node
+use Rattle.fx_model.specs.declared.Rounding.{Rounding}
+use Rattle.fx_model.specs.declared.Direction.{Direction}
+use Rattle.fx_model.specs.declared.Direction.TheVariants.{Zr, Aw, Dn, Up, Od, Ne, No, Nz, Na, Nd, Nu}
+use Rattle.dyadic.specs.declared.number.Dyadic.{Dyadic}
+use Rattle.dyadic.specs.declared.number.End.{End}
+use Rattle.dyadic.specs.declared.number.End.TheVariants.{Low, At, High}
+use Rattle.dyadic.specs.Values.{value_of}
+use Rattle.dyadic.specs.Rising.{point_of}
+use Rattle.interval.specs.declared.interval.Interval.{Interval}
+use Rattle.interval.specs.Meets.{interval_from}
+use Rattle.facts.specs.declared.relative.RelativeError.{RelativeError}
+use Rattle.facts.specs.declared.size.Size.{Size}
+use Rattle.facts.specs.declared.place.Place.{Place}
+use Rattle.facts.specs.declared.fact.Fact.{Fact}
+use Rattle.facts.specs.declared.fact.Fact.TheVariants as fact
+use Rattle.facts.specs.declared.hint.HintMark.TheVariants.{Checked, Assumed}
+use Rattle.facts.specs.Parts.{size_from, error_from}
+use Rattle.facts.specs.Places.{place_from}
+use Rattle.cert_bytes.specs.declared.fault.CertFault.{CertFault}
+use Rattle.cert_bytes.specs.declared.fault.CertKind.{CertKind}
+use Rattle.cert_bytes.specs.declared.fault.CertKind.TheVariants.{BadMagic, BadVersion, Truncated, BadTag, BadNumber, TrailingBytes, TooLong}
+use Rattle.cert_bytes.specs.declared.item.StepRow.{StepRow}
+use Rattle.cert_bytes.specs.declared.item.Item.{Item}
+use Rattle.cert_bytes.specs.declared.item.Item.TheVariants as item
+use Rattle.cert_bytes.specs.Numbers.{number_from, is_normal}
+use Rattle.cert_bytes.specs.declared.order.Due.{Due}
+use Rattle.cert_bytes.specs.declared.order.Due.TheVariants.{Head, Nodes, Marks, Sections, Done}
+
+-- an offset, and the bytes from there
+pub record Cursor : Type 0 where
+  pub at : ℕ
+  pub rest : List ℕ
+
+-- the place in these bytes
+abbrev pub cursor : List ℕ → ℕ → Cursor
+cursor all at = record { at = at; rest = drop at all }
+
+-- what is read, and where reading stands behind it; or the fault
+abbrev pub Read : Type 0 → Type 0
+Read A = Result (A × Cursor) CertFault
+
+infixl 10 ◌>>=◌
+abbrev pub ◌>>=◌ : {A B : Type 0} → Result A CertFault → (A → Result B CertFault) → Result B CertFault
+(Ok x) >>= f = f x
+(Err e) >>= f = Err e
+
+abbrev pub fault : {A : Type 0} → CertKind → ℕ → Result A CertFault
+fault kind at = Err (record { kind = kind; at = at })
+
+-- the value, or BadNumber at the first byte of its field
+abbrev pub numbered : {A : Type 0} → ℕ → Option A → Cursor → Read A
+numbered at None c = fault BadNumber at
+numbered at (Some x) c = Ok (x, c)
+
+-- ---- fields
+
+-- One byte. It is Truncated at the end of the bytes, and TooLong where it is byte 2^44.
+abbrev pub next_byte : ℕ → List ℕ → Read ℕ
+next_byte at [] = fault Truncated at
+next_byte at (b ∷ rest) = if nat_le 17592186044416 at then fault TooLong 17592186044416 else Ok (b, record { at = at + 1; rest = rest })
+
+unfoldable pub byte_at : Cursor → Read ℕ
+byte_at c = next_byte c.at c.rest
+
+-- n bytes more of a number, the high ones first
+unfoldable pub bytes_at : ℕ → ℕ → Cursor → Read ℕ
+bytes_at zero value c = Ok (value, c)
+bytes_at (suc n) value c = byte_at c >>= λ b. bytes_at n (256 * value + b.0) b.1
+
+abbrev pub number_at : ℕ → Cursor → Read ℕ
+number_at n c = bytes_at n 0 c
+
+abbrev pub short_at : Cursor → Read ℕ
+short_at c = number_at 2 c
+
+-- the number of a step
+abbrev pub reference_at : Cursor → Read ℕ
+reference_at c = number_at 8 c
+
+-- the number of a literal
+abbrev pub wide_at : Cursor → Read ℕ
+wide_at c = number_at 16 c
+
+unfoldable pub signed_short_at : Cursor → Read ℤ
+signed_short_at c = number_at 2 c >>= λ n. Ok (cast_signed w16 n.0, n.1)
+
+unfoldable pub signed_long_at : Cursor → Read ℤ
+signed_long_at c = number_at 8 c >>= λ n. Ok (cast_signed w64 n.0, n.1)
+
+unfoldable pub expr_at : Cursor → Read ExprId
+expr_at c = short_at c >>= λ n. Ok (record { 0 = n.0 }, n.1)
+
+unfoldable pub pair_at : Cursor → Read (ExprId × ExprId)
+pair_at c = do
+  x ← expr_at c
+  y ← expr_at x.1
+  Ok ((x.0, y.0), y.1)
+
+-- a mantissa and an exponent, as a number of the grid has them
+unfoldable pub point_at : Cursor → Read Dyadic
+point_at c = do
+  m ← signed_long_at c
+  e ← signed_short_at m.1
+  numbered c.at (number_from m.0 e.0) e.1
+
+unfoldable pub end_at : Cursor → Read End
+end_at c = do
+  tag ← byte_at c
+  if tag.0 == 0 then (point_at tag.1 >>= λ p. Ok (At p.0, p.1))
+      else if tag.0 == 1 then Ok (Low, tag.1)
+      else if tag.0 == 2 then Ok (High, tag.1)
+      else fault BadTag c.at
+
+unfoldable pub interval_at : Cursor → Read Interval
+interval_at c = do
+  lo ← end_at c
+  hi ← end_at lo.1
+  numbered c.at (interval_from lo.0 hi.0) hi.1
+
+-- ---- facts
+
+unfoldable pub size_at : Cursor → Read Size
+size_at c = interval_at c >>= λ i. numbered c.at (size_from i.0) i.1
+
+unfoldable pub relative_at : Cursor → Read RelativeError
+relative_at c = interval_at c >>= λ i. numbered c.at (error_from i.0) i.1
+
+unfoldable pub error_at : Cursor → Read (Option RelativeError)
+error_at c = do
+  tag ← byte_at c
+  if tag.0 == 0 then (relative_at tag.1 >>= λ e. Ok (Some e.0, e.1))
+      else if tag.0 == 1 then Ok (None, tag.1)
+      else fault BadTag c.at
+
+unfoldable pub place_at : Cursor → Read Place
+place_at c = signed_short_at c >>= λ k. numbered c.at (place_from k.0) k.1
+
+unfoldable pub bnd_at : Cursor → Read Fact
+bnd_at c = do
+  x ← expr_at c
+  i ← interval_at x.1
+  Ok (fact.Bnd x.0 i.0, i.1)
+
+unfoldable pub abs_at : Cursor → Read Fact
+abs_at c = do
+  x ← expr_at c
+  s ← size_at x.1
+  Ok (fact.Abs x.0 s.0, s.1)
+
+unfoldable pub rel_at : Cursor → Read Fact
+rel_at c = do
+  x ← pair_at c
+  e ← error_at x.1
+  Ok (fact.Rel x.0.0 x.0.1 e.0, e.1)
+
+unfoldable pub fix_at : Cursor → Read Fact
+fix_at c = do
+  x ← expr_at c
+  k ← place_at x.1
+  Ok (fact.Fix x.0 k.0, k.1)
+
+unfoldable pub nzr_at : Cursor → Read Fact
+nzr_at c = expr_at c >>= λ x. Ok (fact.Nzr x.0, x.1)
+
+unfoldable pub fact_at : Cursor → Read Fact
+fact_at c = do
+  tag ← byte_at c
+  if tag.0 == 1 then bnd_at tag.1
+      else if tag.0 == 2 then abs_at tag.1
+      else if tag.0 == 3 then rel_at tag.1
+      else if tag.0 == 4 then fix_at tag.1
+      else if tag.0 == 5 then nzr_at tag.1
+      else if tag.0 == 6 then Ok (fact.Void, tag.1)
+      else fault BadTag c.at
+
+-- ---- nodes
+
+abbrev pub direction_from : ℕ → Option Direction
+direction_from n =
+    if n == 0 then Some Zr else (if n == 1 then Some Aw else (if n == 2 then Some Dn else (if n == 3 then Some Up
+    else (if n == 4 then Some Od else (if n == 5 then Some Ne else (if n == 6 then Some No else (if n == 7 then Some Nz
+    else (if n == 8 then Some Na else (if n == 9 then Some Nd else (if n == 10 then Some Nu else None))))))))))
+
+abbrev pub tagged : {A : Type 0} → ℕ → Option A → Cursor → Read A
+tagged at None c = fault BadTag at
+tagged at (Some x) c = Ok (x, c)
+
+unfoldable pub direction_at : Cursor → Read Direction
+direction_at c = byte_at c >>= λ b. tagged c.at (direction_from b.0) b.1
+
+-- the power of a rounding, from 2^-512 to 2^512
+unfoldable pub lsb_at : Cursor → Read ℤ
+lsb_at c = signed_short_at c >>= λ k. if int_lt k.0 (negsuc 511) then fault BadNumber c.at else (if int_lt (pos 512) k.0 then fault BadNumber c.at else Ok k)
+
+unfoldable pub exponents_at : Cursor → Read (ℤ × ℤ)
+exponents_at c = do
+  two ← signed_short_at c
+  ten ← signed_short_at two.1
+  Ok ((two.0, ten.0), ten.1)
+
+unfoldable pub literal_at : Cursor → Read Literal
+literal_at c = do
+  num ← wide_at c
+  e ← exponents_at num.1
+  if is_normal (record { num = num.0; two = e.0.0; ten = e.0.1 }) then Ok (record { num = num.0; two = e.0.0; ten = e.0.1 }, e.1) else fault BadNumber c.at
+
+unfoldable pub one_at : (ExprId → Node) → Cursor → Read Node
+one_at op c = expr_at c >>= λ x. Ok (op x.0, x.1)
+
+unfoldable pub two_at : (ExprId → ExprId → Node) → Cursor → Read Node
+two_at op c = pair_at c >>= λ x. Ok (op x.0.0 x.0.1, x.1)
+
+unfoldable pub rounding_at : Cursor → Read Rounding
+rounding_at c = do
+  dir ← direction_at c
+  lsb ← lsb_at dir.1
+  Ok (record { lsb = lsb.0; dir = dir.0 }, lsb.1)
+
+unfoldable pub round_at : Cursor → Read Node
+round_at c = do
+  r ← rounding_at c
+  x ← expr_at r.1
+  Ok (node.Round r.0 x.0, x.1)
+
+unfoldable pub var_at : Cursor → Read Node
+var_at c = short_at c >>= λ n. Ok (node.Var n.0, n.1)
+
+unfoldable pub lit_at : Cursor → Read Node
+lit_at c = literal_at c >>= λ l. Ok (node.Lit l.0, l.1)
+
+-- tags from 5 on
+unfoldable pub late_node_at : ℕ → ℕ → Cursor → Read Node
+late_node_at start tag c =
+    if tag == 5 then two_at node.Mul c
+    else if tag == 6 then two_at node.Div c
+    else if tag == 7 then one_at node.Abs c
+    else if tag == 8 then round_at c
+    else fault BadTag start
+
+unfoldable pub node_by : ℕ → ℕ → Cursor → Read Node
+node_by start tag c =
+    if tag == 0 then var_at c
+    else if tag == 1 then lit_at c
+    else if tag == 2 then one_at node.Neg c
+    else if tag == 3 then two_at node.Add c
+    else if tag == 4 then two_at node.Sub c
+    else late_node_at start tag c
+
+unfoldable pub node_at : Cursor → Read Node
+node_at c = byte_at c >>= λ tag. node_by c.at tag.0 tag.1
+
+-- ---- items of sections
+
+-- so many further numbers behind these
+unfoldable pub references_at : ℕ → List ℕ → Cursor → Read (List ℕ)
+references_at zero ns c = Ok (ns, c)
+references_at (suc n) ns c = reference_at c >>= λ x. references_at n (ns ++ x.0 ∷ []) x.1
+
+-- how many there are, and each
+unfoldable pub counted_at : Cursor → Read (List ℕ)
+counted_at c = short_at c >>= λ n. references_at n.0 [] n.1
+
+unfoldable pub optional_at : Cursor → Read (Option ℕ)
+optional_at c = do
+  flag ← byte_at c
+  if flag.0 == 0 then Ok (None, flag.1)
+      else if flag.0 == 1 then (reference_at flag.1 >>= λ p. Ok (Some p.0, p.1))
+      else fault BadTag c.at
+
+-- the rule, and which hypothesis or hint it is
+unfoldable pub rule_at : Cursor → Read (ℕ × ℕ)
+rule_at c = do
+  rule ← byte_at c
+  arg ← short_at rule.1
+  Ok ((rule.0, arg.0), arg.1)
+
+unfoldable pub claim_at : Cursor → Read ((ℕ × ℕ) × Fact)
+claim_at c = do
+  rule ← rule_at c
+  fact ← fact_at rule.1
+  Ok ((rule.0, fact.0), fact.1)
+
+unfoldable pub cited_at : Cursor → Read (Option ℕ × List ℕ)
+cited_at c = do
+  with ← optional_at c
+  premises ← counted_at with.1
+  Ok ((with.0, premises.0), premises.1)
+
+unfoldable pub step_at : Cursor → Read StepRow
+step_at c = do
+  claim ← claim_at c
+  cited ← cited_at claim.1
+  Ok (record { rule = claim.0.0.0; arg = claim.0.0.1; fact = claim.0.1; with = cited.0.0; premises = cited.0.1 }, cited.1)
+
+-- p is above the last of the points, if there is one
+abbrev pub rises : List Dyadic → Dyadic → Bool
+rises [] p = true
+rises (d ∷ ds) p = not (le_ℚ (value_of p) (value_of (point_of (d ∷ ds) (length ds))))
+
+-- the points with one more behind them, which is above the last
+unfoldable pub rising_at : List Dyadic → Cursor → Read (List Dyadic)
+rising_at ds c = point_at c >>= λ p. if rises ds p.0 then Ok (ds ++ p.0 ∷ [], p.1) else fault BadNumber c.at
+
+-- so many further points
+unfoldable pub points_at : ℕ → List Dyadic → Cursor → Read (List Dyadic)
+points_at zero ds c = Ok (ds, c)
+points_at (suc n) ds c = rising_at ds c >>= λ more. points_at n more.0 more.1
+
+-- from 1 to 63
+unfoldable pub count_at : Cursor → Read ℕ
+count_at c = byte_at c >>= λ n. if n.0 == 0 then fault BadNumber c.at else (if nat_lt 63 n.0 then fault BadNumber c.at else Ok n)
+
+-- the variable, and how many points
+unfoldable pub cut_head_at : Cursor → Read (ExprId × ℕ)
+cut_head_at c = do
+  x ← expr_at c
+  n ← count_at x.1
+  Ok ((x.0, n.0), n.1)
+
+unfoldable pub cut_at : Cursor → Read Item
+cut_at c = do
+  head ← cut_head_at c
+  ds ← points_at head.0.1 [] head.1
+  Ok (item.Cut head.0.0 ds.0, ds.1)
+
+unfoldable pub step_item_at : Cursor → Read Item
+step_item_at c = step_at c >>= λ s. Ok (item.Step s.0, s.1)
+
+unfoldable pub leaf_at : Cursor → Read Item
+leaf_at c = counted_at c >>= λ refs. Ok (item.Leaf refs.0, refs.1)
+
+unfoldable pub dead_at : Cursor → Read Item
+dead_at c = reference_at c >>= λ r. Ok (item.Dead r.0, r.1)
+
+unfoldable pub section_by : ℕ → ℕ → Cursor → Read Item
+section_by start tag c =
+    if tag == 1 then step_item_at c
+    else if tag == 2 then cut_at c
+    else if tag == 3 then leaf_at c
+    else if tag == 4 then dead_at c
+    else fault BadTag start
+
+unfoldable pub section_item_at : Cursor → Read Item
+section_item_at c = byte_at c >>= λ tag. section_by c.at tag.0 tag.1
+
+-- ---- items
+
+-- four bytes that are "FXPC"
+unfoldable pub magic_at : Cursor → Read ⊤
+magic_at c = number_at 4 c >>= λ n. if n.0 == 1180192835 then Ok (tt, n.1) else fault BadMagic c.at
+
+-- a version that is known
+unfoldable pub version_at : Cursor → Read ⊤
+version_at c = byte_at c >>= λ n. if n.0 == 1 then Ok (tt, n.1) else fault BadVersion c.at
+
+unfoldable pub preamble_at : Cursor → Read ⊤
+preamble_at c = do
+  magic ← magic_at c
+  version ← version_at magic.1
+  Ok (tt, version.1)
+
+unfoldable pub head_at : Cursor → Read Item
+head_at c = do
+  preamble ← preamble_at c
+  n ← short_at preamble.1
+  Ok (item.Nodes n.0, n.1)
+
+unfoldable pub node_item_at : Cursor → Read Item
+node_item_at c = node_at c >>= λ node. Ok (item.Node node.0, node.1)
+
+unfoldable pub marks_at : Cursor → Read Item
+marks_at c = short_at c >>= λ n. Ok (item.Marks n.0, n.1)
+
+unfoldable pub mark_at : Cursor → Read Item
+mark_at c = do
+  b ← byte_at c
+  if b.0 == 0 then Ok (item.Mark Checked, b.1)
+      else if b.0 == 1 then Ok (item.Mark Assumed, b.1)
+      else fault BadTag c.at
+
+abbrev pub is_some : List ℕ → Bool
+is_some [] = false
+is_some (b ∷ rest) = true
+
+-- whether bytes follow
+unfoldable pub more_at : Cursor → Read Bool
+more_at c = Ok (is_some c.rest, c)
+
+-- behind the last section nothing follows
+unfoldable pub closed_at : Cursor → Read Item
+closed_at c = more_at c >>= λ more. if more.0 then fault TrailingBytes c.at else Ok (item.End, more.1)
+
+unfoldable pub node_or_marks_at : ℕ → Cursor → Read Item
+node_or_marks_at n c = if n == 0 then marks_at c else node_item_at c
+
+unfoldable pub mark_or_section_at : ℕ → Cursor → Read Item
+mark_or_section_at n c = if n == 0 then section_item_at c else mark_at c
+
+unfoldable pub section_or_end_at : ℕ → Cursor → Read Item
+section_or_end_at n c = if n == 0 then closed_at c else section_item_at c
+
+-- the item that is due
+unfoldable pub item_at : Due → Cursor → Read Item
+item_at Head c = head_at c
+item_at (Nodes n) c = node_or_marks_at n c
+item_at (Marks n) c = mark_or_section_at n c
+item_at (Sections n) c = section_or_end_at n c
+item_at Done c = Ok (item.End, c)

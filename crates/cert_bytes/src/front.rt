@@ -1,0 +1,147 @@
+//! What stands before the first section and behind the last, read through a folder.
+ghost use Rattle.std.specs.Prelude.{◌≡◌, ◌≤◌, ℕ, List, Some, length, IsErrOf, IfOk};
+ghost use Rattle.fx_edge.specs.Outside.{Rose};
+ghost use Rattle.cert_bytes.specs.Reading.{magic_at, version_at, preamble_at, head_at, node_item_at, marks_at, mark_at};
+ghost use Rattle.cert_bytes.specs.Certificates.{HasSpelling};
+ghost use Rattle.cert_bytes.specs.Due.{IsOfSection};
+ghost use Rattle.cert_bytes.specs.Pieces.{Gives, AgreesTold, kept_of};
+
+use crate::fault::{CertKind, Stop, fault};
+use crate::item::Item;
+use crate::source::Source;
+use facts::HintMark;
+use fx_edge::Folder;
+
+impl Source {
+    #[tactic(auto, unfolding(crate::specs::Reading::magic_at))]
+    fn magic<F: Folder>(&mut self, folder: &mut F) -> Result<(), Stop>
+        requires agrees { AgreesTold (F.told folder.old self.old.name) self.old }
+        ensures gives { (all : List ℕ) → F.told folder.old self.old.name ≡ Some all → Gives (λ _. tt) all self.old self.new result magic_at }
+        ensures agrees { AgreesTold (F.told folder.new self.new.name) self.new }
+        ensures kept { kept_of self.new ≡ kept_of self.old }
+        ensures grows { self.old.at ≤ self.new.at }
+        ensures told { (other : List ℕ) → F.told folder.new other ≡ F.told folder.old other }
+        ensures later { F.read_faults folder.old ≤ F.read_faults folder.new }
+        ensures cause { IsErrOf result Stop.Failed → Rose (F.read_faults folder.old) (F.read_faults folder.new) }
+    {
+        let start = self.at();
+        let magic = self.digits(folder, 4)?;
+        if magic != 0x4658_5043 {
+            return Err(fault(CertKind::BadMagic, start));
+        }
+        Ok(())
+    }
+
+    #[tactic(auto, unfolding(crate::specs::Reading::version_at))]
+    fn version<F: Folder>(&mut self, folder: &mut F) -> Result<(), Stop>
+        requires agrees { AgreesTold (F.told folder.old self.old.name) self.old }
+        ensures gives { (all : List ℕ) → F.told folder.old self.old.name ≡ Some all → Gives (λ _. tt) all self.old self.new result version_at }
+        ensures agrees { AgreesTold (F.told folder.new self.new.name) self.new }
+        ensures kept { kept_of self.new ≡ kept_of self.old }
+        ensures grows { self.old.at ≤ self.new.at }
+        ensures told { (other : List ℕ) → F.told folder.new other ≡ F.told folder.old other }
+        ensures later { F.read_faults folder.old ≤ F.read_faults folder.new }
+        ensures cause { IsErrOf result Stop.Failed → Rose (F.read_faults folder.old) (F.read_faults folder.new) }
+    {
+        let start = self.at();
+        let version = self.tag(folder)?;
+        if version != 1 {
+            return Err(fault(CertKind::BadVersion, start));
+        }
+        Ok(())
+    }
+
+    #[tactic(auto, unfolding(crate::specs::Reading::preamble_at))]
+    fn preamble<F: Folder>(&mut self, folder: &mut F) -> Result<(), Stop>
+        requires agrees { AgreesTold (F.told folder.old self.old.name) self.old }
+        ensures gives { (all : List ℕ) → F.told folder.old self.old.name ≡ Some all → Gives (λ _. tt) all self.old self.new result preamble_at }
+        ensures agrees { AgreesTold (F.told folder.new self.new.name) self.new }
+        ensures kept { kept_of self.new ≡ kept_of self.old }
+        ensures grows { self.old.at ≤ self.new.at }
+        ensures told { (other : List ℕ) → F.told folder.new other ≡ F.told folder.old other }
+        ensures later { F.read_faults folder.old ≤ F.read_faults folder.new }
+        ensures cause { IsErrOf result Stop.Failed → Rose (F.read_faults folder.old) (F.read_faults folder.new) }
+    {
+        self.magic(folder)?;
+        self.version(folder)?;
+        Ok(())
+    }
+
+    /// The head, and the number of nodes.
+    #[tactic(auto, unfolding(crate::specs::Reading::head_at))]
+    pub fn head<F: Folder>(&mut self, folder: &mut F) -> Result<Item, Stop>
+        requires agrees { AgreesTold (F.told folder.old self.old.name) self.old }
+        ensures gives { (all : List ℕ) → F.told folder.old self.old.name ≡ Some all → Gives (λ x. x) all self.old self.new result head_at }
+        ensures agrees { AgreesTold (F.told folder.new self.new.name) self.new }
+        ensures kept { kept_of self.new ≡ kept_of self.old }
+        ensures grows { self.old.at ≤ self.new.at }
+        ensures quiet { IfOk result (λ item. ¬ IsOfSection item) }
+        ensures spelled { IfOk result HasSpelling }
+        ensures told { (other : List ℕ) → F.told folder.new other ≡ F.told folder.old other }
+        ensures later { F.read_faults folder.old ≤ F.read_faults folder.new }
+        ensures cause { IsErrOf result Stop.Failed → Rose (F.read_faults folder.old) (F.read_faults folder.new) }
+    {
+        self.preamble(folder)?;
+        let count = self.short(folder)?;
+        Ok(Item::Nodes(count))
+    }
+
+    /// The next node, as an item.
+    #[tactic(auto, unfolding(crate::specs::Reading::node_item_at))]
+    pub fn node_item<F: Folder>(&mut self, folder: &mut F) -> Result<Item, Stop>
+        requires agrees { AgreesTold (F.told folder.old self.old.name) self.old }
+        ensures gives { (all : List ℕ) → F.told folder.old self.old.name ≡ Some all → Gives (λ x. x) all self.old self.new result node_item_at }
+        ensures agrees { AgreesTold (F.told folder.new self.new.name) self.new }
+        ensures kept { kept_of self.new ≡ kept_of self.old }
+        ensures grows { self.old.at ≤ self.new.at }
+        ensures quiet { IfOk result (λ item. ¬ IsOfSection item) }
+        ensures spelled { IfOk result HasSpelling }
+        ensures told { (other : List ℕ) → F.told folder.new other ≡ F.told folder.old other }
+        ensures later { F.read_faults folder.old ≤ F.read_faults folder.new }
+        ensures cause { IsErrOf result Stop.Failed → Rose (F.read_faults folder.old) (F.read_faults folder.new) }
+    {
+        Ok(Item::Node(self.node(folder)?))
+    }
+
+    /// The number of marks.
+    #[tactic(auto, unfolding(crate::specs::Reading::marks_at))]
+    pub fn marks<F: Folder>(&mut self, folder: &mut F) -> Result<Item, Stop>
+        requires agrees { AgreesTold (F.told folder.old self.old.name) self.old }
+        ensures gives { (all : List ℕ) → F.told folder.old self.old.name ≡ Some all → Gives (λ x. x) all self.old self.new result marks_at }
+        ensures agrees { AgreesTold (F.told folder.new self.new.name) self.new }
+        ensures kept { kept_of self.new ≡ kept_of self.old }
+        ensures grows { self.old.at ≤ self.new.at }
+        ensures quiet { IfOk result (λ item. ¬ IsOfSection item) }
+        ensures spelled { IfOk result HasSpelling }
+        ensures told { (other : List ℕ) → F.told folder.new other ≡ F.told folder.old other }
+        ensures later { F.read_faults folder.old ≤ F.read_faults folder.new }
+        ensures cause { IsErrOf result Stop.Failed → Rose (F.read_faults folder.old) (F.read_faults folder.new) }
+    {
+        Ok(Item::Marks(self.short(folder)?))
+    }
+
+    /// The next mark.
+    #[tactic(auto, unfolding(crate::specs::Reading::mark_at))]
+    pub fn mark<F: Folder>(&mut self, folder: &mut F) -> Result<Item, Stop>
+        requires agrees { AgreesTold (F.told folder.old self.old.name) self.old }
+        ensures gives { (all : List ℕ) → F.told folder.old self.old.name ≡ Some all → Gives (λ x. x) all self.old self.new result mark_at }
+        ensures agrees { AgreesTold (F.told folder.new self.new.name) self.new }
+        ensures kept { kept_of self.new ≡ kept_of self.old }
+        ensures grows { self.old.at ≤ self.new.at }
+        ensures quiet { IfOk result (λ item. ¬ IsOfSection item) }
+        ensures spelled { IfOk result HasSpelling }
+        ensures told { (other : List ℕ) → F.told folder.new other ≡ F.told folder.old other }
+        ensures later { F.read_faults folder.old ≤ F.read_faults folder.new }
+        ensures cause { IsErrOf result Stop.Failed → Rose (F.read_faults folder.old) (F.read_faults folder.new) }
+    {
+        let start = self.at();
+        let tag = self.tag(folder)?;
+        if tag == 0 {
+            return Ok(Item::Mark(HintMark::Checked));
+        }
+        if tag == 1 {
+            return Ok(Item::Mark(HintMark::Assumed));
+        }
+        Err(fault(CertKind::BadTag, start))
+    }
+}

@@ -1,0 +1,25 @@
+//! The bytes of certificates: the items that they spell, one spelling for each, and where they fail.
+#![tactic(auto, using(crate::proofs::Fronts::front_then, crate::proofs::Fronts::same_front))]
+
+mod claims;
+mod fault;
+mod front;
+mod item;
+mod kept;
+mod laws;
+mod lists;
+mod node;
+mod number;
+mod order;
+mod pieces;
+mod reader;
+mod section;
+mod source;
+mod writing;
+
+pub use fault::{CertFault, CertKind, Stop};
+pub use item::{Item, StepRow};
+pub use laws::spellings_read_back;
+pub use order::Due;
+pub use reader::Reader;
+pub use writing::write_item;

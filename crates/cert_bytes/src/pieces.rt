@@ -1,0 +1,129 @@
+//! The item that is due, read through a folder.
+ghost use Rattle.std.specs.Prelude.{◌≡◌, ◌≤◌, ◌<◌, ℕ, List, Some, length, IsErrOf, IfOk};
+ghost use Rattle.fx_edge.specs.Outside.{Rose};
+ghost use Rattle.cert_bytes.specs.Reading.{more_at, closed_at, node_or_marks_at, mark_or_section_at, section_or_end_at, item_at};
+ghost use Rattle.cert_bytes.specs.Due.{IsOfSection};
+ghost use Rattle.cert_bytes.specs.Certificates.{HasSpelling};
+ghost use Rattle.cert_bytes.specs.Pieces.{Gives, AgreesTold, kept_of};
+
+use crate::fault::{CertKind, Stop, fault};
+use crate::item::Item;
+use crate::order::Due;
+use crate::source::Source;
+use fx_edge::Folder;
+
+impl Source {
+    /// Whether bytes follow.
+    fn more<F: Folder>(&mut self, folder: &mut F) -> Result<bool, Stop>
+        requires agrees { AgreesTold (F.told folder.old self.old.name) self.old }
+        ensures gives { (all : List ℕ) → F.told folder.old self.old.name ≡ Some all → Gives (λ x. x) all self.old self.new result more_at }
+        ensures agrees { AgreesTold (F.told folder.new self.new.name) self.new }
+        ensures kept { kept_of self.new ≡ kept_of self.old }
+        ensures grows { self.old.at ≤ self.new.at }
+        ensures told { (other : List ℕ) → F.told folder.new other ≡ F.told folder.old other }
+        ensures later { F.read_faults folder.old ≤ F.read_faults folder.new }
+        ensures cause { IsErrOf result Stop.Failed → Rose (F.read_faults folder.old) (F.read_faults folder.new) }
+    {
+        Ok(self.ready(folder)?)
+    }
+
+    #[tactic(auto, unfolding(crate::specs::Reading::closed_at))]
+    fn closed<F: Folder>(&mut self, folder: &mut F) -> Result<Item, Stop>
+        requires agrees { AgreesTold (F.told folder.old self.old.name) self.old }
+        ensures gives { (all : List ℕ) → F.told folder.old self.old.name ≡ Some all → Gives (λ x. x) all self.old self.new result closed_at }
+        ensures agrees { AgreesTold (F.told folder.new self.new.name) self.new }
+        ensures kept { kept_of self.new ≡ kept_of self.old }
+        ensures grows { self.old.at ≤ self.new.at }
+        ensures quiet { IfOk result (λ item. ¬ IsOfSection item) }
+        ensures spelled { IfOk result HasSpelling }
+        ensures told { (other : List ℕ) → F.told folder.new other ≡ F.told folder.old other }
+        ensures later { F.read_faults folder.old ≤ F.read_faults folder.new }
+        ensures cause { IsErrOf result Stop.Failed → Rose (F.read_faults folder.old) (F.read_faults folder.new) }
+    {
+        let start = self.at();
+        if self.more(folder)? {
+            return Err(fault(CertKind::TrailingBytes, start));
+        }
+        Ok(Item::End)
+    }
+
+    #[tactic(auto, unfolding(crate::specs::Reading::node_or_marks_at))]
+    fn node_or_marks<F: Folder>(&mut self, folder: &mut F, nodes: u16) -> Result<Item, Stop>
+        requires agrees { AgreesTold (F.told folder.old self.old.name) self.old }
+        ensures gives { (all : List ℕ) → F.told folder.old self.old.name ≡ Some all → Gives (λ x. x) all self.old self.new result (node_or_marks_at nodes) }
+        ensures agrees { AgreesTold (F.told folder.new self.new.name) self.new }
+        ensures kept { kept_of self.new ≡ kept_of self.old }
+        ensures grows { self.old.at ≤ self.new.at }
+        ensures moves { IfOk result (λ item. IsOfSection item → self.old.at < self.new.at) }
+        ensures spelled { IfOk result HasSpelling }
+        ensures told { (other : List ℕ) → F.told folder.new other ≡ F.told folder.old other }
+        ensures later { F.read_faults folder.old ≤ F.read_faults folder.new }
+        ensures cause { IsErrOf result Stop.Failed → Rose (F.read_faults folder.old) (F.read_faults folder.new) }
+    {
+        if nodes == 0 {
+            return Ok(self.marks(folder)?);
+        }
+        Ok(self.node_item(folder)?)
+    }
+
+    #[tactic(auto, unfolding(crate::specs::Reading::mark_or_section_at))]
+    fn mark_or_section<F: Folder>(&mut self, folder: &mut F, marks: u16) -> Result<Item, Stop>
+        requires agrees { AgreesTold (F.told folder.old self.old.name) self.old }
+        ensures gives { (all : List ℕ) → F.told folder.old self.old.name ≡ Some all → Gives (λ x. x) all self.old self.new result (mark_or_section_at marks) }
+        ensures agrees { AgreesTold (F.told folder.new self.new.name) self.new }
+        ensures kept { kept_of self.new ≡ kept_of self.old }
+        ensures grows { self.old.at ≤ self.new.at }
+        ensures moves { IfOk result (λ item. IsOfSection item → self.old.at < self.new.at) }
+        ensures spelled { IfOk result HasSpelling }
+        ensures told { (other : List ℕ) → F.told folder.new other ≡ F.told folder.old other }
+        ensures later { F.read_faults folder.old ≤ F.read_faults folder.new }
+        ensures cause { IsErrOf result Stop.Failed → Rose (F.read_faults folder.old) (F.read_faults folder.new) }
+    {
+        if marks == 0 {
+            return Ok(self.section_item(folder)?);
+        }
+        Ok(self.mark(folder)?)
+    }
+
+    #[tactic(auto, unfolding(crate::specs::Reading::section_or_end_at))]
+    fn section_or_end<F: Folder>(&mut self, folder: &mut F, sections: u64) -> Result<Item, Stop>
+        requires agrees { AgreesTold (F.told folder.old self.old.name) self.old }
+        ensures gives { (all : List ℕ) → F.told folder.old self.old.name ≡ Some all → Gives (λ x. x) all self.old self.new result (section_or_end_at sections) }
+        ensures agrees { AgreesTold (F.told folder.new self.new.name) self.new }
+        ensures kept { kept_of self.new ≡ kept_of self.old }
+        ensures grows { self.old.at ≤ self.new.at }
+        ensures moves { IfOk result (λ item. IsOfSection item → self.old.at < self.new.at) }
+        ensures spelled { IfOk result HasSpelling }
+        ensures told { (other : List ℕ) → F.told folder.new other ≡ F.told folder.old other }
+        ensures later { F.read_faults folder.old ≤ F.read_faults folder.new }
+        ensures cause { IsErrOf result Stop.Failed → Rose (F.read_faults folder.old) (F.read_faults folder.new) }
+    {
+        if sections == 0 {
+            return Ok(self.closed(folder)?);
+        }
+        Ok(self.section_item(folder)?)
+    }
+
+    /// The item that is due.
+    #[tactic(auto, unfolding(crate::specs::Reading::item_at))]
+    pub fn item<F: Folder>(&mut self, folder: &mut F, due: Due) -> Result<Item, Stop>
+        requires agrees { AgreesTold (F.told folder.old self.old.name) self.old }
+        ensures gives { (all : List ℕ) → F.told folder.old self.old.name ≡ Some all → Gives (λ x. x) all self.old self.new result (item_at due) }
+        ensures agrees { AgreesTold (F.told folder.new self.new.name) self.new }
+        ensures kept { kept_of self.new ≡ kept_of self.old }
+        ensures grows { self.old.at ≤ self.new.at }
+        ensures moves { IfOk result (λ item. IsOfSection item → self.old.at < self.new.at) }
+        ensures spelled { IfOk result HasSpelling }
+        ensures told { (other : List ℕ) → F.told folder.new other ≡ F.told folder.old other }
+        ensures later { F.read_faults folder.old ≤ F.read_faults folder.new }
+        ensures cause { IsErrOf result Stop.Failed → Rose (F.read_faults folder.old) (F.read_faults folder.new) }
+    {
+        match due {
+            Due::Head => Ok(self.head(folder)?),
+            Due::Nodes(nodes) => Ok(self.node_or_marks(folder, nodes)?),
+            Due::Marks(marks) => Ok(self.mark_or_section(folder, marks)?),
+            Due::Sections(sections) => Ok(self.section_or_end(folder, sections)?),
+            Due::Done => Ok(Item::End),
+        }
+    }
+}

@@ -1,0 +1,109 @@
+//! A certificate, read item by item.
+ghost use Rattle.std.specs.Prelude.{◌≡◌, ◌≤◌, ◌<◌, [], ℕ, List, Option, Some, None, IfOk, IsErrOf, length};
+ghost use Rattle.fx_edge.specs.Outside.{Rose};
+ghost use Rattle.cert_bytes.specs.Reading.{item_at};
+ghost use Rattle.cert_bytes.specs.Pieces.{Gives, AgreesTold};
+ghost use Rattle.cert_bytes.specs.Due.{due_behind};
+ghost use Rattle.cert_bytes.specs.Readers.{Progress, Answers, IsUnmoved};
+ghost use Rattle.cert_bytes.specs.Certificates.{HasSpelling};
+
+use crate::fault::{CertFault, Stop};
+use crate::item::Item;
+use crate::order::{Due, due_behind};
+use crate::source::Source;
+use fx_edge::Folder;
+use std::alloc::{AllocError, Global};
+use std::marker::Model;
+
+/// A certificate under some name of a folder, and how far it was read.
+#[derive(Drop)]
+pub struct Reader {
+    source: Source,
+    due: Due,
+    fault: Option<CertFault>,
+}
+
+impl Model for Reader {
+    ghost use Rattle.cert_bytes.specs.Readers.{Progress, IsPaced};
+
+    ghost Value = { Progress };
+
+    ghost view = { λ r. record { ahead = r.source; due = r.due; fault = r.fault } };
+
+    ghost invariant = { λ r. IsPaced r.due r.source.at };
+}
+
+impl Reader {
+    /// A reader that has read nothing.
+    #[tactic(auto, using(crate::proofs::Paced::fresh_agrees))]
+    pub fn new(alloc: Global, name: &str) -> Result<Reader, AllocError>
+        ensures begins { IfOk result (λ reader. reader ≡ record { ahead = record { name = name.now; at = 0; ahead = [] }; due = Due.Head; fault = None }) }
+        ensures agrees { IfOk result (λ reader. (told : Option (List ℕ)) → AgreesTold told reader.ahead) }
+    {
+        let source = Source::new(alloc, name)?;
+        Ok(Reader {
+            source,
+            due: Due::Head,
+            fault: None,
+        })
+    }
+
+    // The next item, where no fault was met.
+    #[tactic(auto, using(crate::proofs::Paced::paced_on, crate::proofs::Paced::agrees_back))]
+    fn advance<F: Folder>(&mut self, folder: &mut F) -> Result<Item, Stop>
+        requires sound { self.old.fault ≡ None }
+        requires agrees { AgreesTold (F.told folder.old self.old.ahead.name) self.old.ahead }
+        ensures gives { (all : List ℕ) → F.told folder.old self.old.ahead.name ≡ Some all → Gives (λ x. x) all self.old.ahead self.new.ahead result (item_at self.old.due) }
+        ensures spelled { IfOk result HasSpelling }
+        ensures answers { Answers self.old result self.new }
+        ensures few { length self.new.ahead.ahead ≤ 4096 }
+        ensures agrees { AgreesTold (F.told folder.new self.new.ahead.name) self.new.ahead }
+        ensures name { self.new.ahead.name ≡ self.old.ahead.name }
+        ensures told { (other : List ℕ) → F.told folder.new other ≡ F.told folder.old other }
+        ensures later { F.read_faults folder.old ≤ F.read_faults folder.new }
+        ensures cause { IsErrOf result Stop.Failed → Rose (F.read_faults folder.old) (F.read_faults folder.new) }
+    {
+        let start = self.source.at();
+        let read = self.source.item(folder, self.due);
+        self.source.bounded();
+        match read {
+            Ok(item) => {
+                self.due = due_behind(self.due, &item);
+                Ok(item)
+            }
+            Err(Stop::Fault(fault)) => {
+                self.fault = Some(fault);
+                Err(Stop::Fault(fault))
+            }
+            Err(Stop::Failed) => {
+                self.source.back(start);
+                Err(Stop::Failed)
+            }
+            Err(Stop::OutOfMemory) => {
+                self.source.back(start);
+                Err(Stop::OutOfMemory)
+            }
+        }
+    }
+
+    /// The next item. A fault is answered again at each later call, and the end behind the end.
+    pub fn next<F: Folder>(&mut self, folder: &mut F) -> Result<Item, Stop>
+        requires agrees { AgreesTold (F.told folder.old self.old.ahead.name) self.old.ahead }
+        ensures gives { (all : List ℕ) → F.told folder.old self.old.ahead.name ≡ Some all → self.old.fault ≡ None → Gives (λ x. x) all self.old.ahead self.new.ahead result (item_at self.old.due) }
+        ensures again { (f : CertFault) → self.old.fault ≡ Some f → (result ≡ Err (Stop.Fault f)) × (self.new ≡ self.old) }
+        ensures spelled { IfOk result HasSpelling }
+        ensures answers { Answers self.old result self.new }
+        ensures few { length self.new.ahead.ahead ≤ 4096 }
+        ensures agrees { AgreesTold (F.told folder.new self.new.ahead.name) self.new.ahead }
+        ensures name { self.new.ahead.name ≡ self.old.ahead.name }
+        ensures told { (other : List ℕ) → F.told folder.new other ≡ F.told folder.old other }
+        ensures later { F.read_faults folder.old ≤ F.read_faults folder.new }
+        ensures cause { IsErrOf result Stop.Failed → Rose (F.read_faults folder.old) (F.read_faults folder.new) }
+    {
+        self.source.bounded();
+        if let Some(fault) = self.fault {
+            return Err(Stop::Fault(fault));
+        }
+        self.advance(folder)
+    }
+}

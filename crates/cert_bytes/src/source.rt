@@ -1,0 +1,184 @@
+//! The bytes of a name, read through a folder one after the other.
+ghost use Rattle.std.specs.Prelude.{◌≡◌, ◌≤◌, ◌<◌, ◌+◌, ◌^◌, ◌↔◌, ◌∷◌, ℕ, List, [], Some, length, IfOk, IsTrue, IsErrOf};
+ghost use Rattle.fx_edge.specs.Outside.{Rose, HasCause};
+ghost use Rattle.cert_bytes.specs.Reading.{byte_at};
+ghost use Rattle.cert_bytes.specs.Pieces.{Gives, Agrees, IsFilled, IsReady, IsEnd, kept_of};
+
+use crate::fault::{CertFault, CertKind, Stop};
+use fx_edge::{Failed, Folder};
+use std::alloc::{AllocError, Global};
+use std::marker::Model;
+
+/// The byte at which a certificate is too long.
+const LIMIT: u64 = 1 << 44;
+
+/// How many bytes are read ahead.
+const AHEAD: usize = 4096;
+
+/// A place in the bytes of a name, with some bytes that were read ahead.
+#[derive(Drop)]
+pub struct Source {
+    alloc: Global,
+    name: String,
+    at: u64,
+    buffer: [u8; AHEAD],
+    // the bytes from `begin` to `end` of the buffer are those from `at` on
+    begin: usize,
+    end: usize,
+}
+
+impl Model for Source {
+    ghost use Rattle.std.specs.Prelude.{◌≤◌, ◌<◌, ◌≡◌, ◌^◌, length, slice_range};
+    ghost use Rattle.std.specs.String.{string_bytes};
+    ghost use Rattle.cert_bytes.specs.Pieces.{Ahead};
+
+    ghost Value = { Ahead };
+
+    ghost view = { λ s. record { name = string_bytes s.name; at = s.at; ahead = slice_range s.buffer s.begin s.end } };
+
+    ghost invariant = { λ s. (s.begin ≤ s.end) × (s.end ≤ length s.buffer) × (s.at ≤ 2 ^ 44) };
+}
+
+fn is_truncated(at: u64) -> Stop
+    ensures { result ≡ Stop.Fault (record { kind = CertKind.Truncated; at = at }) }
+{
+    Stop::Fault(CertFault {
+        kind: CertKind::Truncated,
+        at,
+    })
+}
+
+fn is_too_long() -> Stop
+    ensures { result ≡ Stop.Fault (record { kind = CertKind.TooLong; at = 17592186044416 }) }
+{
+    Stop::Fault(CertFault {
+        kind: CertKind::TooLong,
+        at: LIMIT,
+    })
+}
+
+impl Source {
+    /// The first byte of a name.
+    pub fn new(alloc: Global, name: &str) -> Result<Source, AllocError>
+        ensures { IfOk result (λ source. source ≡ record { name = name.now; at = 0; ahead = [] }) }
+    {
+        let name = String::from_str(alloc, name)?;
+        Ok(Source {
+            alloc,
+            name,
+            at: 0,
+            buffer: [0; AHEAD],
+            begin: 0,
+            end: 0,
+        })
+    }
+
+    /// Where memory is taken.
+    pub fn alloc(&self) -> Global {
+        self.alloc
+    }
+
+    /// The offset.
+    pub fn at(&self) -> u64
+        ensures { result ≡ self.now.at }
+    {
+        self.at
+    }
+
+    /// Nothing is done. The clauses tell a caller how far the offset goes, and how much is read ahead.
+    pub fn bounded(&self)
+        ensures within { self.now.at ≤ 2 ^ 44 }
+        ensures few { length self.now.ahead ≤ 4096 }
+    {
+        let buffer: &[u8] = &self.buffer;
+        let _ = buffer.len();
+    }
+
+    /// Goes back to an earlier offset.
+    pub fn back(&mut self, at: u64)
+        requires { at ≤ self.old.at }
+        ensures { self.new ≡ record { name = self.old.name; at = at; ahead = [] } }
+    {
+        self.at = at;
+        self.begin = 0;
+        self.end = 0;
+    }
+
+    // Whether nothing is read ahead.
+    fn is_dry(&self) -> bool
+        ensures { IsTrue result ↔ (self.now.ahead ≡ []) }
+    {
+        self.begin == self.end
+    }
+
+    // Reads ahead.
+    fn fill<F: Folder>(&mut self, folder: &mut F) -> Result<(), Failed>
+        requires agrees { (all : List ℕ) → F.told folder.old self.old.name ≡ Some all → Agrees all self.old }
+        ensures filled { IfOk result (λ _. (all : List ℕ) → F.told folder.old self.old.name ≡ Some all → IsFilled all self.new) }
+        ensures agrees { (all : List ℕ) → F.told folder.old self.old.name ≡ Some all → Agrees all self.new }
+        ensures kept { kept_of self.new ≡ kept_of self.old }
+        ensures at { self.new.at ≡ self.old.at }
+        ensures told { (other : List ℕ) → F.told folder.new other ≡ F.told folder.old other }
+        ensures cause { HasCause (F.read_faults folder.old) (F.read_faults folder.new) result }
+    {
+        self.begin = 0;
+        self.end = 0;
+        let count = folder.read(self.name.as_str(), self.at, &mut self.buffer)?;
+        self.end = count;
+        Ok(())
+    }
+
+    // Whether a further byte is there. It is then read ahead.
+    pub fn ready<F: Folder>(&mut self, folder: &mut F) -> Result<bool, Failed>
+        requires agrees { (all : List ℕ) → F.told folder.old self.old.name ≡ Some all → Agrees all self.old }
+        ensures ready { IfOk result (λ more. IsReady self.new more) }
+        ensures end { IfOk result (λ more. (all : List ℕ) → F.told folder.old self.old.name ≡ Some all → IsEnd all self.new more) }
+        ensures agrees { (all : List ℕ) → F.told folder.old self.old.name ≡ Some all → Agrees all self.new }
+        ensures kept { kept_of self.new ≡ kept_of self.old }
+        ensures at { self.new.at ≡ self.old.at }
+        ensures told { (other : List ℕ) → F.told folder.new other ≡ F.told folder.old other }
+        ensures cause { HasCause (F.read_faults folder.old) (F.read_faults folder.new) result }
+    {
+        if !self.is_dry() {
+            return Ok(true);
+        }
+        self.fill(folder)?;
+        Ok(!self.is_dry())
+    }
+
+    // The next byte of those that were read ahead.
+    fn advance(&mut self) -> u8
+        requires some { ¬ (self.old.ahead ≡ []) }
+        requires room { self.old.at < 2 ^ 44 }
+        ensures byte { self.old.ahead ≡ result ∷ self.new.ahead }
+        ensures at { self.new.at ≡ self.old.at + 1 }
+        ensures kept { kept_of self.new ≡ kept_of self.old }
+    {
+        let byte = self.buffer[self.begin];
+        self.begin += 1;
+        self.at += 1;
+        byte
+    }
+
+    /// The next byte.
+    #[tactic(auto, unfolding(crate::specs::Reading::byte_at))]
+    pub fn byte<F: Folder>(&mut self, folder: &mut F) -> Result<u8, Stop>
+        requires agrees { (all : List ℕ) → F.told folder.old self.old.name ≡ Some all → Agrees all self.old }
+        ensures gives { (all : List ℕ) → F.told folder.old self.old.name ≡ Some all → Gives (λ n. n) all self.old self.new result byte_at }
+        ensures agrees { (all : List ℕ) → F.told folder.old self.old.name ≡ Some all → Agrees all self.new }
+        ensures kept { kept_of self.new ≡ kept_of self.old }
+        ensures grows { self.old.at ≤ self.new.at }
+        ensures moves { IfOk result (λ _. self.old.at < self.new.at) }
+        ensures told { (other : List ℕ) → F.told folder.new other ≡ F.told folder.old other }
+        ensures later { F.read_faults folder.old ≤ F.read_faults folder.new }
+        ensures cause { IsErrOf result Stop.Failed → Rose (F.read_faults folder.old) (F.read_faults folder.new) }
+    {
+        if !self.ready(folder)? {
+            return Err(is_truncated(self.at));
+        }
+        if self.at == LIMIT {
+            return Err(is_too_long());
+        }
+        Ok(self.advance())
+    }
+}
