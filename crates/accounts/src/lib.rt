@@ -6,6 +6,7 @@ mod cuts;
 mod event;
 pub mod laws;
 mod machine;
+mod plan;
 mod start;
 
 pub use book::OpenBox;
