@@ -30,7 +30,7 @@ stands [] k l = absurd (omega arith)
 stands (x ∷ xs) zero l = (x, refl)
 stands (x ∷ xs) (suc k) l = stands xs k (omega arith)
 
-all_from : {A : Type 0} (P : A → Type 0) (xs : List A) → ((x : A) → Has xs x → P x) → AllByRecursion P xs
+pub all_from : {A : Type 0} (P : A → Type 0) (xs : List A) → ((x : A) → Has xs x → P x) → AllByRecursion P xs
 all_from P [] h = tt
 all_from P (x ∷ xs) h = (h x (0, refl), all_from P xs (λ y m. h y (suc m.0, m.1)))
 
