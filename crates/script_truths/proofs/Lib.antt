@@ -3,3 +3,4 @@ mod Kept
 mod Rows
 mod Beginnings
 mod Settled
+mod Named

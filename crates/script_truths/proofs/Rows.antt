@@ -1,23 +1,21 @@
 -- Rows of a script's hints are true over its nodes.
-use Rattle.std.specs.Prelude.{◌≡◌, ◌<◌, ◌≤◌, ℕ, zero, suc, List, [], ◌∷◌, Some, slice_get, length, map, refl}
+use Rattle.std.specs.Prelude.{◌≡◌, ◌<◌, ℕ, zero, suc, List, [], ◌∷◌, Some, slice_get, length, map, refl}
 use Rattle.std.specs.List.{AllByRecursion}
 use Rattle.std.proofs.Common.{arith, subst, sym}
 use Rattle.std.proofs.lemmas.Option.{slice_get_within}
 use Rattle.fx_model.specs.declared.ExprId.{ExprId}
 use Rattle.fx_model.specs.declared.Node.{Node}
 use Rattle.fx_model.specs.declared.Node.TheVariants as node
-use Rattle.fx_model.specs.Expression.{Assignment, IsOrdered}
+use Rattle.fx_model.specs.Expression.{IsOrdered}
 use Rattle.facts.specs.declared.hint.HintRow.{HintRow}
-use Rattle.facts.specs.Rows.{RowIsTrue}
 use Rattle.poly_normal.specs.Mark.{EqualFormsHaveEqualValues}
 use Rattle.script_hints.specs.declared.hint.Constraint.{Constraint}
 use Rattle.script_hints.specs.declared.hint.Constraint.TheVariants as constraint
 use Rattle.script_hints.specs.declared.hint.Hint.{Hint}
 use Rattle.script_hints.specs.Needs.{need_of}
 use Rattle.script_hints.specs.Meets.{MeetsHint}
-use Rattle.script_grammar.specs.Spells.{View}
-use Rattle.script_grammar.specs.Names.{ConstraintIsOf, HintIsOf, NamesNodes}
-use Rattle.script_meets.specs.Meets.{Meets, HintsAreMet}
+use Rattle.script_grammar.specs.Names.{ConstraintIsOf, HintIsOf}
+use Rattle.script_meets.specs.Meets.{HintsAreMet}
 use Rattle.pair_closure.specs.Reached.{Has}
 use Rattle.pair_closure.specs.Members.{has_all, no_member}
 use Rattle.rewrite_hints.specs.Rows.{IsRowOf, RowsAreTrue, EqualSidesAreMet}
@@ -32,7 +30,7 @@ stands [] k l = absurd (omega arith)
 stands (x ∷ xs) zero l = (x, refl)
 stands (x ∷ xs) (suc k) l = stands xs k (omega arith)
 
-all_from : {A : Type 0} (P : A → Type 0) (xs : List A) → ((x : A) → Has xs x → P x) → AllByRecursion P xs
+pub all_from : {A : Type 0} (P : A → Type 0) (xs : List A) → ((x : A) → Has xs x → P x) → AllByRecursion P xs
 all_from P [] h = tt
 all_from P (x ∷ xs) h = (h x (0, refl), all_from P xs (λ y m. h y (suc m.0, m.1)))
 

@@ -65,7 +65,7 @@ goals_true inside zeros extend kept s u a is c m f settles holds =
     (answered u.nodes a (inside u.nodes a) (zeros u.nodes a) c (want_of c) f refl settles.0 settles.1 holds)
 
 -- a claim about nodes is about a slot of theirs
-slot_of_nodes : (n : ℕ) (c : Claim) → ClaimIsOf n c → SlotIsOf n (slot_of c)
+pub slot_of_nodes : (n : ℕ) (c : Claim) → ClaimIsOf n c → SlotIsOf n (slot_of c)
 slot_of_nodes n (Bounded x lower upper) l = l
 slot_of_nodes n (Asked x) l = l
 slot_of_nodes n (Relative x y lower upper) l = l

@@ -1,5 +1,5 @@
 -- What is true of an assignment that meets a script.
-use Rattle.std.specs.Prelude.{◌≡◌, ℕ, List, [], Contains, length}
+use Rattle.std.specs.Prelude.{ℕ, List, [], Contains, length}
 use Rattle.std.specs.List.{AllByRecursion}
 use Rattle.fx_model.specs.declared.Node.{Node}
 use Rattle.fx_model.specs.Expression.{Assignment, IsOrdered, value}

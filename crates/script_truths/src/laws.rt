@@ -1,5 +1,6 @@
 // Laws for callers to cite. Nothing here is done at run time.
 ghost use Rattle.script_truths.specs.Kept.{OfExtended, ValuesAreKept, FactsAreKept, LinesAreKept, ClaimsAreKept, RowsAreKept};
+ghost use Rattle.script_truths.specs.Named.{FactsAreNamed, GoalsAreNamed, RowsAreNamed};
 ghost use Rattle.script_truths.specs.Truths.{MetFactsHold, CheckedRowsAreTrue, MetRowsAreTrue, UniversesExtend, OfUniverses, WhereMet, HypothesesHold, HintsAreTrue, LiesInWholeBox, SettledGoalsAreTrue, GoalLinesHold};
 
 use box_tree::hypotheses_are_in_the_box;
@@ -33,6 +34,14 @@ pub fn what_is_written_is_true()
     met_scripts();
     hypotheses_hold();
 }
+
+/// Nothing is done. The clauses tell a caller that the facts of a script's hypotheses, its goals and the rows of its hints are
+/// about its nodes.
+pub fn what_is_written_names_nodes()
+    ensures facts { FactsAreNamed }
+    ensures goals { GoalsAreNamed }
+    ensures rows { RowsAreNamed }
+{}
 
 /// Nothing is done. The clause tells a caller that the nodes of a universe are the script's, with more behind them.
 pub fn universes_extend()
