@@ -1,5 +1,7 @@
 // Words after `prove`, and what they ask for, worked out by hand.
 use crate::prove::{WordsError, read_prove};
+use std::alloc::{AllocError, Global};
+use std::process::Abort;
 use std::test::Fail;
 
 // What is asked for: the script, rounds, depth, boxes and workers.
@@ -74,30 +76,46 @@ const ROWS: [(&[&str], Option<Numbers>); 40] = [
     (&["a", "--rounds", "3", "--rounds=3"], None),
 ];
 
+// The words, as texts of their own.
+fn words_of(alloc: Global, words: &[&str]) -> Result<Vec<String>, AllocError> {
+    let mut all = Vec::new(alloc);
+    for word in words {
+        all.push(String::from_str(alloc, *word)?)?;
+    }
+    Ok(all)
+}
+
+// The words ask for this.
+fn asks(
+    rt: &impl Abort,
+    alloc: Global,
+    line: &[&str],
+    wanted: Option<Numbers>,
+) -> Result<(), Fail> {
+    let words = words_of(alloc, line)?;
+    match read_prove(alloc, &words) {
+        Ok(found) => {
+            let numbers = (
+                found.script,
+                found.rounds,
+                found.depth,
+                found.boxes,
+                found.workers,
+            );
+            assert_eq!(rt; Some(numbers), wanted, "{line:?}");
+        }
+        Err(error) => {
+            assert_eq!(rt; error, WordsError::Usage, "{line:?}");
+            assert!(rt; wanted.is_none(), "{line:?}");
+        }
+    }
+    Ok(())
+}
+
 #[test]
 fn words_are_read(rt: HostRuntime) -> Result<(), Fail> {
-    let alloc = rt.alloc();
     for (line, wanted) in ROWS {
-        let mut words = Vec::new(alloc);
-        for word in line {
-            words.push(String::from_str(alloc, *word)?)?;
-        }
-        match read_prove(alloc, &words) {
-            Ok(found) => {
-                let numbers = (
-                    found.script,
-                    found.rounds,
-                    found.depth,
-                    found.boxes,
-                    found.workers,
-                );
-                assert_eq!(rt; Some(numbers), wanted, "{line:?}");
-            }
-            Err(error) => {
-                assert_eq!(rt; error, WordsError::Usage, "{line:?}");
-                assert_eq!(rt; None, wanted, "{line:?}");
-            }
-        }
+        asks(&rt, rt.alloc(), line, wanted)?;
     }
     Ok(())
 }
