@@ -2,7 +2,7 @@
 ghost use Rattle.std.specs.Prelude.{None};
 
 use crate::runs::words_of;
-use fx_edge::{Failed, Folder, SureSink};
+use fx_edge::{Failed, Folder, OpenGate, SureSink};
 use fx_top::{Status, fx_run};
 use std::alloc::Global;
 use std::process::Abort;
@@ -42,7 +42,7 @@ fn asks_for_one_byte_more(rt: &impl Abort, alloc: Global, most: usize) -> Result
     let mut folder = Endless { most, asked: 0 };
     let mut out = SureSink::new(alloc, 4096)?;
     let words = words_of(alloc, &["prove", "a"])?;
-    let ended = fx_run(alloc, &words, &mut folder, &mut out);
+    let ended = fx_run(alloc, &words, &mut folder, &mut out, &OpenGate);
     assert_eq!(rt; ended, Status::Script);
     assert_eq!(rt; folder.asked, 1_048_577);
     assert_eq!(rt;

@@ -68,14 +68,19 @@ fn an_absent_name_is_a_read_fault(rt: HostRuntime) -> Result<(), Fail> {
 
 // Words, a text, the reads that fail, and the text that is then put a byte a call.
 const LINES: [(&[&str], &[u8], &[u64], &str); 7] = [
-    (&["prove"], PRODUCT, &[], "usage: fixprove prove SCRIPT\n"),
+    (
+        &["prove"],
+        PRODUCT,
+        &[],
+        "usage: fixprove prove SCRIPT [--rounds N] [--depth N] [--boxes N] [--workers N]\n",
+    ),
     (&["prove", "a"], PRODUCT, &[7], "read fault: a\n"),
     (&["prove", "a"], b"", &[], "script: Unexpected at 0\n"),
     (
-        &["prove", "a"],
-        b"{ x in ? } x ~ y;",
+        &["prove", "a", "--boxes", "1"],
+        b"{ x in [0,1] -> x in ? } $ x in 2;",
         &[],
-        "script: NotBuilt\n",
+        "limit: more than 1 boxes\n",
     ),
     (
         &["prove", "a"],

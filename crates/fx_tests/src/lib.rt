@@ -6,6 +6,8 @@ mod answers;
 #[cfg(test)]
 mod asked;
 #[cfg(test)]
+mod engine;
+#[cfg(test)]
 mod faults;
 #[cfg(test)]
 mod limits;
@@ -15,7 +17,5 @@ mod literals;
 mod refusals;
 #[cfg(test)]
 mod runs;
-#[cfg(test)]
-mod unbuilt;
 #[cfg(test)]
 mod words;

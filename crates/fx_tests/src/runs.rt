@@ -1,5 +1,5 @@
 // One run over memory forms, and what it has to answer.
-use fx_edge::{MemFolder, MemSink, SureFolder, SureSink};
+use fx_edge::{MemFolder, MemSink, OpenGate, SureFolder, SureSink};
 use fx_top::{Status, fx_run};
 use std::alloc::{AllocError, Global};
 use std::process::Abort;
@@ -59,7 +59,7 @@ pub fn ends_on(
     let failing = run.failing_puts.to_vec(alloc)?;
     let mut out = MemSink::new(alloc, failing, 4096, run.most)?;
     let words = words_of(alloc, words)?;
-    let ended = fx_run(alloc, &words, &mut folder, &mut out);
+    let ended = fx_run(alloc, &words, &mut folder, &mut out, &OpenGate);
     assert_eq!(rt; ended, status, "{}", printed);
     assert_eq!(rt; out.bytes(), printed.as_bytes(), "{}", printed);
     Ok(())
@@ -77,7 +77,7 @@ pub fn words_end(
     let mut folder = SureFolder::new(alloc, files_with(alloc, text)?, 4096)?;
     let mut out = SureSink::new(alloc, 4096)?;
     let words = words_of(alloc, words)?;
-    let ended = fx_run(alloc, &words, &mut folder, &mut out);
+    let ended = fx_run(alloc, &words, &mut folder, &mut out, &OpenGate);
     assert_eq!(rt; ended, status, "{}", printed);
     assert_eq!(rt; out.bytes(), printed.as_bytes(), "{}", printed);
     Ok(())
@@ -119,7 +119,7 @@ pub fn room_ends(
     let mut folder = SureFolder::new(alloc, files_with(alloc, text)?, 4096)?;
     let mut out = SureSink::new(alloc, room)?;
     let words = words_of(alloc, &["prove", "a"])?;
-    let ended = fx_run(alloc, &words, &mut folder, &mut out);
+    let ended = fx_run(alloc, &words, &mut folder, &mut out, &OpenGate);
     assert_eq!(rt; ended, status, "{}", printed);
     assert_eq!(rt; out.bytes(), printed.as_bytes(), "{}", printed);
     Ok(())

@@ -5,9 +5,10 @@ use std::test::Fail;
 
 const PRODUCT: &[u8] = b"{ x in [1,2] /\\ y in [3,5] -> x * y in ? }\n";
 
-const USAGE: &str = "usage: fixprove prove SCRIPT\n";
+const USAGE: &str =
+    "usage: fixprove prove SCRIPT [--rounds N] [--depth N] [--boxes N] [--workers N]\n";
 
-const WRONG: [&[&str]; 9] = [
+const WRONG: [&[&str]; 18] = [
     &[],
     &["prove"],
     &["a"],
@@ -15,8 +16,17 @@ const WRONG: [&[&str]; 9] = [
     &["prove", "-a"],
     &["prove", "--"],
     &["prove", "a", "b"],
-    &["check", "a"],
     &["Prove", "a"],
+    &["help"],
+    &["--help"],
+    &["--", "prove", "a"],
+    &["prove", "a", "--rounds"],
+    &["prove", "a", "--rounds", "0"],
+    &["prove", "a", "--depth", "03"],
+    &["prove", "a", "--rou", "3"],
+    &["prove", "a", "-h"],
+    &["prove", "a", "--cert", "b"],
+    &["prove", "a", "--rounds", "3", "--rounds", "3"],
 ];
 
 #[test]
@@ -28,16 +38,26 @@ fn wrong_words_have_the_usage_line(rt: HostRuntime) -> Result<(), Fail> {
 }
 
 // A name that isn't there has no bytes in a sure folder; `-` is a name.
-const RIGHT: [(&str, Status, &str); 3] = [
-    ("a", Status::Answered, "x * y in [3, 5b1]\n"),
-    ("b", Status::Script, "script: Unexpected at 0\n"),
-    ("-", Status::Script, "script: Unexpected at 0\n"),
+const RIGHT: [(&[&str], Status, &str); 5] = [
+    (&["prove", "a"], Status::Answered, "x * y in [3, 5b1]\n"),
+    (
+        &["prove", "--rounds", "3", "a"],
+        Status::Answered,
+        "x * y in [3, 5b1]\n",
+    ),
+    (&["prove", "b"], Status::Script, "script: Unexpected at 0\n"),
+    (&["prove", "-"], Status::Script, "script: Unexpected at 0\n"),
+    (
+        &["prove", "--", "-a"],
+        Status::Script,
+        "script: Unexpected at 0\n",
+    ),
 ];
 
 #[test]
 fn right_words_name_a_script(rt: HostRuntime) -> Result<(), Fail> {
-    for (name, status, line) in RIGHT {
-        words_end(&rt, rt.alloc(), &["prove", name], PRODUCT, status, line)?;
+    for (words, status, line) in RIGHT {
+        words_end(&rt, rt.alloc(), words, PRODUCT, status, line)?;
     }
     Ok(())
 }
