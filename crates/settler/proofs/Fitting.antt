@@ -1,16 +1,15 @@
 -- A script's plan cuts along expressions of its universe.
-use Rattle.std.specs.Prelude.{◌≡◌, ◌<◌, ℕ, zero, suc, List, [], ◌∷◌, length, Option, Some, None, slice_get, refl}
+use Rattle.std.specs.Prelude.{◌≡◌, ◌<◌, ℕ, zero, suc, List, [], ◌∷◌, length, Option, Some, None, slice_get}
 use Rattle.std.specs.Option.{IsSomeAnd}
-use Rattle.std.proofs.Common.{sym, ◌∙◌, ap, subst}
+use Rattle.std.proofs.Common.{◌∙◌, ap}
 use Rattle.fx_model.specs.declared.ExprId.{ExprId}
 use Rattle.facts.specs.declared.fact.Fact.{Fact}
 use Rattle.facts.specs.declared.fact.Fact.TheVariants as fact
-use Rattle.facts.specs.Order.{slot_of}
 use Rattle.script_claims.specs.declared.claim.Claim.{Claim}
 use Rattle.script_claims.specs.Facts.{hypothesis_fact}
 use Rattle.box_tree.specs.Root.{IsBounded}
 use Rattle.derivation.specs.Known.{Piece}
-use Rattle.rule_universe.specs.Worlds.{World, HasSlot, IsWhole}
+use Rattle.rule_universe.specs.Worlds.{World, IsWhole}
 use Rattle.universe.specs.Universes.{facts_of, with_fact}
 
 -- what a claim gives is among what all give

@@ -1,7 +1,7 @@
 -- What the leaves' states say is true of assignments.
-use Rattle.std.specs.Prelude.{◌≡◌, ℕ, zero, suc, List, [], ◌∷◌, map, Option, Some, None, slice_get, Contains, ⊤, refl}
+use Rattle.std.specs.Prelude.{◌≡◌, ℕ, zero, suc, List, [], ◌∷◌, map, Option, Some, None, slice_get, refl}
 use Rattle.std.specs.List.{AllByRecursion}
-use Rattle.std.proofs.Common.{sym, ◌∙◌, ap, ap₂, subst}
+use Rattle.std.proofs.Common.{ap, ap₂, subst}
 use Rattle.fx_model.specs.Expression.{Assignment}
 use Rattle.facts.specs.declared.fact.Fact.{Fact}
 use Rattle.facts.specs.declared.fact.Slot.{Slot}
@@ -14,7 +14,6 @@ use Rattle.goals.specs.Settles.{Settles}
 use Rattle.goals.specs.Stronger.{AreOfGoals}
 use Rattle.derivation.specs.Derivations.{Setting}
 use Rattle.derivation.specs.Known.{Piece, Known}
-use Rattle.pair_closure.specs.Reached.{Has}
 use Rattle.bisect.specs.declared.settler.State.{State}
 use Rattle.bisect.specs.declared.settler.State.TheVariants as state
 use Rattle.bisect.specs.Trees.{Tree, child_count, IsLeaf}

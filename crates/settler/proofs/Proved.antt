@@ -1,20 +1,16 @@
 -- What is true where a script is proved.
-use Rattle.std.specs.Prelude.{◌≡◌, ℕ, List, [], map, length, Some, None, slice_get, Contains}
-use Rattle.std.proofs.Common.{sym, ◌∙◌, ap, subst}
+use Rattle.std.specs.Prelude.{◌≡◌, List, length, Some, slice_get}
+use Rattle.std.proofs.Common.{◌∙◌, ap, subst}
 use Rattle.std.proofs.lemmas.Option.{slice_get_within}
-use Rattle.fx_model.specs.Expression.{Assignment, IsOrdered, value}
+use Rattle.fx_model.specs.Expression.{Assignment}
 use Rattle.goals.specs.declared.line.Line.{Line}
-use Rattle.script_claims.specs.declared.claim.Claim.{Claim}
 use Rattle.script_grammar.specs.Spells.{View}
 use Rattle.script_meets.specs.Meets.{Meets}
-use Rattle.pair_closure.specs.Reached.{Has}
-use Rattle.rule_universe.specs.Worlds.{World}
 use Rattle.universe.specs.Universes.{UniversesAreOne, goal_of}
 use Rattle.box_tree.specs.Regions.{PlanParts}
 use Rattle.bisect.specs.Boxes.{leaves_of}
 use Rattle.bisect.specs.Gathered.{line_of}
 use Rattle.script_truths.specs.Truths.{HasUniverse, OfUniverses, WhereMet, HypothesesHold, HintsAreTrue, LiesInWholeBox, SettledGoalsAreTrue, GoalLinesHold}
-use Rattle.settler.specs.Standing.{AreStates}
 use Rattle.settler.specs.Answers.{Options, plan_of, tree_by, IsProved}
 use Rattle.settler.specs.Held.{MeetsUniverse, SettledLinesHold, AreHeld, ProvedHolds}
 use Rattle.settler.proofs.Tight.{goal_there, line_there}

@@ -5,7 +5,7 @@ use Rattle.facts.specs.declared.fact.Fact.{Fact}
 use Rattle.facts.specs.declared.fact.Slot.{Slot}
 use Rattle.facts.specs.declared.fact.Fact.TheVariants as fact
 use Rattle.facts.specs.declared.fact.Slot.TheVariants as slot
-use Rattle.facts.specs.Order.{slot_of, IsStronger}
+use Rattle.facts.specs.Order.{IsStronger}
 use Rattle.facts.specs.Meets.{IsStronger-antisymm}
 use Rattle.goals.specs.declared.goal.Goal.{Goal}
 use Rattle.goals.specs.Settles.{Settles}
@@ -22,7 +22,7 @@ use Rattle.derivation.specs.Laws.{TablesExist, BoxesComeToOneState}
 use Rattle.bisect.specs.declared.settler.State.{State}
 use Rattle.bisect.specs.declared.settler.State.TheVariants as state
 use Rattle.settler.specs.Standing.{IsBestKnown, AreSettledBy, StandsAs}
-use Rattle.settler.specs.Decided.{with_found, goal_facts, state_with, standing_in, standing_at}
+use Rattle.settler.specs.Decided.{with_found, goal_facts, state_with, standing_at}
 
 -- ---- in one way
 best_once : (u : Setting) (height : ℕ) (pieces : List Piece) (s : Slot) (f g : Fact) → IsBestKnown u height pieces s f → IsBestKnown u height pieces s g → f ≡ g
@@ -103,3 +103,10 @@ stands_at exist one stronger u lawful closed goals height pieces =
     let at : At = table_at u height pieces in
     let b : IsTableAt u height pieces at = exist u lawful closed height pieces in
     stands_by stronger u height pieces at b goals (state_in at goals) (one.decided u goals height pieces at b)
+
+-- What a box comes to, with the facts of any of its best tables, is how it stands.
+pub stands_as_decided : TablesExist → BoxesComeToOneState → StrongerSettles → (u : Setting) → IsLawful u.rules → IsClosed u.instances → (goals : List Goal) (height : ℕ) (pieces : List Piece) →
+    (at : At) → IsTableAt u height pieces at → (s : box.State) → IsState u goals height pieces s → state_with s (goal_facts at goals) ≡ standing_at u goals height pieces
+stands_as_decided exist one stronger u lawful closed goals height pieces at b s i =
+    stands_once one u goals height pieces (state_with s (goal_facts at goals)) (standing_at u goals height pieces)
+    (stands_by stronger u height pieces at b goals s i) (stands_at exist one stronger u lawful closed goals height pieces)

@@ -1,11 +1,9 @@
 -- The lines of a proved script are hulls of best known facts.
-use Rattle.std.specs.Prelude.{◌≡◌, ◌<◌, ◌↔◌, ◌+◌, ◌++◌, ℕ, zero, suc, List, [], ◌∷◌, length, map, Option, Some, None, slice_get, slice_index_or, Contains, refl}
-use Rattle.std.specs.List.{range_with_len}
+use Rattle.std.specs.Prelude.{◌≡◌, ◌<◌, ◌↔◌, ℕ, zero, suc, List, [], ◌∷◌, length, map, Option, Some, None, slice_get, Contains, refl}
 use Rattle.std.proofs.Common.{sym, ◌∙◌, ap, subst, arith}
 use Rattle.std.proofs.lemmas.Option.{slice_get_within, get_or_from_slice_get, slice_get_read}
 use Rattle.std.proofs.lemmas.List.FromFn.{get_or-map-range_with_len, length-map-range_with_len}
 use Rattle.facts.specs.declared.fact.Fact.{Fact}
-use Rattle.facts.specs.declared.fact.Fact.TheVariants as fact
 use Rattle.goals.specs.declared.goal.Goal.{Goal}
 use Rattle.goals.specs.declared.line.Line.{Line}
 use Rattle.goals.specs.declared.line.Line.TheVariants as line
@@ -14,7 +12,7 @@ use Rattle.script_claims.specs.declared.claim.Claim.{Claim}
 use Rattle.script_grammar.specs.Spells.{View}
 use Rattle.pair_closure.specs.Reached.{Has}
 use Rattle.derivation.specs.Derivations.{Setting}
-use Rattle.derivation.specs.Known.{Piece, Known}
+use Rattle.derivation.specs.Known.{Piece}
 use Rattle.rule_universe.specs.Worlds.{World}
 use Rattle.universe.specs.Universes.{goal_of}
 use Rattle.saturate.specs.Universes.{setting_of}
@@ -23,7 +21,7 @@ use Rattle.box_tree.specs.Regions.{PlanParts}
 use Rattle.bisect.specs.declared.settler.State.{State}
 use Rattle.bisect.specs.declared.settler.State.TheVariants as state
 use Rattle.bisect.specs.declared.outcome.Leaf.{Leaf}
-use Rattle.bisect.specs.Trees.{Tree, child_count, IsBox, IsLeaf}
+use Rattle.bisect.specs.Trees.{Tree, child_count, IsLeaf}
 use Rattle.bisect.specs.Boxes.{AreBoxes, first_open, leaves_of, leaf_at, with_leaf, open_goal, or_later}
 use Rattle.bisect.specs.Gathered.{with_known, with_state, line_with, line_of, lines_of}
 use Rattle.settler.specs.Standing.{IsBestKnown, AreSettledBy, StandsAs, AreStates}

@@ -5,15 +5,14 @@ use Rattle.script_grammar.specs.Spells.{View}
 use Rattle.derivation.specs.Laws.{BoxesComeToOneState}
 use Rattle.rule_universe.specs.Worlds.{World}
 use Rattle.universe.specs.Universes.{UniversesAreOne}
-use Rattle.box_tree.specs.Plans.{cut_at, pieces_at}
+use Rattle.box_tree.specs.Plans.{pieces_at}
 use Rattle.box_tree.specs.Regions.{PlanParts}
-use Rattle.goals.specs.declared.line.Line.{Line}
 use Rattle.saturate.specs.Universes.{setting_of}
 use Rattle.bisect.specs.declared.settler.State.{State}
 use Rattle.bisect.specs.declared.outcome.Leaf.{Leaf}
 use Rattle.bisect.specs.declared.outcome.Outcome.{Outcome}
 use Rattle.bisect.specs.declared.outcome.Outcome.TheVariants as outcome
-use Rattle.bisect.specs.Trees.{Tree, tree_of}
+use Rattle.bisect.specs.Trees.{Tree}
 use Rattle.bisect.specs.Answers.{IsAnswer}
 use Rattle.bisect.specs.Gathered.{lines_of}
 use Rattle.settler.specs.Standing.{AreStates}
