@@ -1,57 +1,28 @@
 #!/usr/bin/env python3
-"""What the program answers to random scripts, compared with a reference reader and plain enclosures.
+"""What the program answers to random scripts under random options, compared with a reference program.
 
-    answers.py make COUNT SEED > TEXTS              one text a line, in hexadecimal digits; most are scripts that are built
-    refusals.py make COUNT SEED > TEXTS             others, valid and damaged
-    answers.py program > main.rt                    a program over `fx_top` that answers TEXTS on its input
-    answers.py compare REFERENCE TEXTS ANSWERS      ANSWERS: for each text the status and the lines, joined by ` / `
+    answers.py PROGRAM REFERENCE COUNT SEED [JOBS]
 
-REFERENCE is the folder that holds the package `reference`. The plain enclosures are computed here, by the reference's intervals.
+PROGRAM is the program that ./fixprove built (crates/fx_main/out/fx_main). REFERENCE is the folder that holds the package
+`reference`. Scripts are of four kinds: engineers' (roundings, hints, relative errors, cuts), plain expressions, those of
+refusals.py (the whole grammar), and damaged ones. Each is run under options that are short enough for the reference,
+and not counted where the reference takes more than ten seconds. Prints each difference, and how often each status came.
 """
 
+import multiprocessing
+import os
 import random
+import signal
+import subprocess
 import sys
+import tempfile
 
-import hex_lines
 import refusals
 
-PROGRAM = """\
-// Prints what the program answers to each text, which stands on a line in hexadecimal digits.
-#![tactic(auto)]
-
-use fx_edge::{SureFolder, SureSink};
-use fx_top::fx_run;
-use std::alloc::{AllocError, Global};
-use std::io;
-
-""" + hex_lines.READING + """
-fn main(rt: HostRuntime) -> io::Result<()> {
-    for line in rt.lines(rt.alloc()) {
-        let text = bytes_of(rt.alloc(), line?.as_str())?;
-        let mut files = Vec::new(rt.alloc());
-        files.push((String::from_str(rt.alloc(), "a")?, text))?;
-        let mut folder = SureFolder::new(rt.alloc(), files, 4096)?;
-        let mut out = SureSink::new(rt.alloc(), 1 << 20)?;
-        let mut words = Vec::new(rt.alloc());
-        words.push(String::from_str(rt.alloc(), "prove")?)?;
-        words.push(String::from_str(rt.alloc(), "a")?)?;
-        let status = fx_run(rt.alloc(), &words, &mut folder, &mut out);
-        print!(rt; "{}", status.code())?;
-        for byte in out.bytes() {
-            if *byte == b'\\n' {
-                print!(rt; " / ")?;
-            } else {
-                print!(rt; "{}", char::from(*byte))?;
-            }
-        }
-        println!(rt; "")?;
-    }
-    Ok(())
-}
-"""
-
+DIRECTIONS = refusals.DIRECTIONS
 NUMBERS = ["0", "1", "2", "3", "7", "10", "0.1", "0.5", "1.5", "3.14", "1e-9", "1b-4", "3b2", "0x1.8p1", "99999999999999999999",
            "1b512", "1b-512", "123456789.987654321", "0.333333333333333333333333333333", "1152921504606846975", "1152921504606846977"]
+SMALL = ["0", "1", "2", "0.5", "0.25", "3", "1.5", "1b-3", "0.1"]
 
 
 def signed_value(bound):
@@ -62,149 +33,191 @@ def signed_value(bound):
 class Maker:
     def __init__(self, rng):
         self.rng = rng
-        self.names = ["x", "y", "z", "w"][:rng.randint(1, 4)]
-        self.variables = list(self.names)
+        self.variables = ["x", "y", "z", "w"][:rng.randint(1, 4)]
+        self.names = list(self.variables)
+        self.operators = []
+        self.rounded = []
+        self.numbers = SMALL if rng.random() < 0.7 else NUMBERS
 
     def pick(self, items):
         return self.rng.choice(items)
 
+    def maybe(self, p):
+        return self.rng.random() < p
+
     def bound(self):
-        return self.pick(["", "", "-", "+"]) + self.pick(NUMBERS)
+        return self.pick(["", "", "-", "+"]) + self.pick(self.numbers)
+
+    def bounds(self):
+        ends = [self.bound(), self.bound()]
+        if self.maybe(0.97):
+            ends.sort(key=signed_value)
+        return ends
+
+    def operator(self):
+        if self.maybe(0.2):
+            return "int<%s>" % self.pick(DIRECTIONS)
+        return "fixed<%d,%s>" % (self.pick([-15, -12, -10, -8, -4, -2, 0, 1, 3]), self.pick(DIRECTIONS))
 
     def expr(self, depth):
         k = self.rng.random()
         if depth == 0 or k < 0.2:
-            return self.pick(self.names) if self.rng.random() < 0.7 else self.pick(NUMBERS)
-        if k < 0.3:
+            return self.pick(self.names) if self.maybe(0.75) else self.pick(self.numbers)
+        if k < 0.27:
             return "-" + self.expr(depth - 1)
-        if k < 0.4:
+        if k < 0.33:
             return "|%s|" % self.expr(depth - 1)
-        if k < 0.55:
+        if k < 0.45:
             return "(%s)" % self.expr(depth - 1)
-        if k < 0.6:
+        if k < 0.5:
             return "fma(%s, %s, %s)" % (self.expr(depth - 1), self.expr(depth - 1), self.expr(0))
+        if k < 0.58 and self.operators:
+            return "%s(%s)" % (self.pick(self.operators), self.expr(depth - 1))
         return self.expr(depth - 1) + self.pick([" + ", " - ", " * ", " * ", " / ", "+", "-", "*"]) + self.expr(depth - 1)
+
+    def definitions(self):
+        out = ""
+        for i in range(self.pick([0, 1, 1, 2])):
+            out += "@q%d = %s;\n" % (i, self.operator())
+            self.operators.append("q%d" % i)
+        for i in range(self.pick([0, 0, 1, 2, 3])):
+            of = self.expr(self.rng.randint(1, 2))
+            if self.operators and self.maybe(0.6):
+                out += "d%d %s= %s;\nM%d = %s;\n" % (i, self.pick(self.operators), of, i, of)
+                self.names += ["d%d" % i, "M%d" % i]
+                self.rounded.append(("d%d" % i, "M%d" % i))
+            else:
+                out += "d%d = %s;\n" % (i, of)
+                self.names.append("d%d" % i)
+        return out
 
     def claim(self, of):
         k = self.rng.random()
-        if k < 0.7:
-            ends = [self.bound(), self.bound()]
-            if self.rng.random() < 0.95:
-                ends.sort(key=signed_value)
-            return "%s in [%s,%s]" % (of, ends[0], ends[1])
-        return "%s %s %s" % (of, self.pick(["<=", ">="]), self.bound())
+        if k < 0.75:
+            return "%s in [%s,%s]" % ((of,) + tuple(self.bounds()))
+        if k < 0.9:
+            return "%s %s %s" % (of, self.pick(["<=", ">="]), self.bound())
+        if k < 0.95:
+            return "@FIX(%s,%d)" % (of, self.pick([-15, -8, -4, 0, 2]))
+        return "%s -/ %s in [%s,%s]" % (of, self.expr(1), self.pick(["-0.5", "-0.1", "0", "-1b-8"]), self.pick(["0", "0.5", "1b-8", "1"]))
 
     def goal(self):
+        k = self.rng.random()
+        if self.rounded and k < 0.4:
+            return "%s %s %s in ?" % (self.rounded[-1][0], self.pick(["-", "-/"]), self.rounded[-1][1])
         of = self.expr(self.rng.randint(0, 3))
-        return "%s in ?" % of if self.rng.random() < 0.6 else self.claim(of)
+        if k < 0.5:
+            return "%s -/ %s in ?" % (of, self.expr(1))
+        if k < 0.8:
+            return "%s in ?" % of
+        return "%s in [%s,%s]" % ((of,) + tuple(self.bounds()))
+
+    def hint(self, goals):
+        k = self.rng.random()
+        if k < 0.3:
+            need = ""
+            if self.maybe(0.3):
+                need = " { %s %s }" % (self.pick(self.names), self.pick(["<> 0", "> 0", "<= 3", ">= -1", "< 2"]))
+            return " %s -> %s%s;" % (self.expr(1), self.expr(1), need)
+        if k < 0.45:
+            return " %s ~ %s;" % (self.pick(self.names), self.pick(self.names))
+        if k < 0.6:
+            return " $ %s in %d;" % (self.pick(self.variables), self.rng.randint(1, 5))
+        if k < 0.7:
+            points = sorted({self.bound() for _ in range(self.rng.randint(1, 3))}, key=signed_value)
+            return " $ %s in (%s);" % (self.pick(self.variables), ",".join(points))
+        goal = self.pick(goals).split(" in ")[0].split(" -/ ")[0]
+        return " %s $ %s;" % (goal, ", ".join(self.rng.sample(self.variables, self.rng.randint(1, min(2, len(self.variables))))))
 
     def script(self):
-        out = ""
-        for i in range(self.pick([0, 0, 0, 1, 2])):
-            of = self.expr(self.rng.randint(0, 2))
-            out += "d%d = %s;\n" % (i, of)
-            self.names.append("d%d" % i)
-        hyps = [self.claim(n) for n in self.variables if self.rng.random() < 0.85]
-        if hyps and self.rng.random() < 0.05:
-            hyps.append(self.claim(self.pick(self.names)))
-        if self.rng.random() < 0.03:
-            hyps.append(self.claim(self.expr(2)))
-        if self.rng.random() < 0.02:
-            hyps.append(self.pick(["@FIX(x,0)", "x -/ y in [0,1]"]))
+        out = self.definitions()
+        hyps = []
+        for n in self.variables:
+            if self.maybe(0.9):
+                hyps.append("%s in [%s,%s]" % ((n,) + tuple(self.bounds())) if self.maybe(0.8) else self.claim(n))
+        for _ in range(self.pick([0, 0, 0, 1])):
+            hyps.append(self.claim(self.expr(1)))
         self.rng.shuffle(hyps)
+        goals = [self.goal() for _ in range(self.pick([1, 1, 2, 3]))]
         out += "{ "
         if hyps:
             out += self.pick([" /\\ ", "/\\", " -> "]).join(hyps) + " -> "
-        out += " /\\ ".join(self.goal() for _ in range(self.pick([1, 1, 2, 3]))) + " }"
-        if self.rng.random() < 0.05:
-            out += self.pick([" x $ x;", " x ~ y;", " $ x;", " x -> y;", " # nothing"])
+        out += " /\\ ".join(goals) + " }"
+        for _ in range(self.pick([0, 0, 1, 1, 2])):
+            out += self.hint(goals)
         return out
 
 
-class Plain:
-    """What is answered, by the reference's reader and intervals."""
+def text_of(rng):
+    """A random text, as bytes."""
+    k = rng.random()
+    if k < 0.75:
+        text = Maker(rng).script().encode()
+    else:
+        text = refusals.one("answers %d" % rng.getrandbits(64))
+    if rng.random() < 0.1 and text:
+        at = rng.randrange(len(text))
+        text = text[:at] + rng.choice([b"", b"!", b" ", b")", b"?", b"\xff", text[at:at + 5] * 2]) + text[at + 1:]
+    return text
 
-    def __init__(self, script, grid, literal):
-        self.script, self.grid, self.literal = script, grid, literal
 
-    def built(self, s):
-        if any(n[0] == "rnd" for n in s.dag.nodes) or s.hints or s.likes or s.cuts or s.halves:
-            return False
-        if any(p.kind in ("rel", "fix") for p in s.hyps) or any(g.slot[0] != "B" for g in s.goals):
-            return False
-        on = [h.left for h in s.hyps]
-        return all(s.dag[x][0] == "var" for x in on) and len(set(on)) == len(on)
+def options_of(rng):
+    words = []
+    for name, values in [("--rounds", [1, 2, 3, 5, 8, 20]), ("--depth", [0, 1, 2, 3, 4, 6]), ("--boxes", [1, 2, 7, 14, 15, 31, 64])]:
+        p = 1.0 if name in ("--depth", "--boxes") else 0.6
+        if rng.random() < p:
+            value = str(rng.choice(values))
+            words += [name, value] if rng.random() < 0.7 else ["%s=%s" % (name, value)]
+    if rng.random() < 0.2:
+        words += ["--workers", str(rng.choice([1, 2, 4, 16]))]
+    return words
 
-    def enclosures(self, s):
-        grid = self.grid
-        given = {fact[0][1]: fact[1] for fact in s.facts()}
-        all_ = []
-        for k, n in enumerate(s.dag.nodes):
-            parts = [all_[c] for c in n[1:]] if n[0] not in ("var", "lit") else []
-            if n[0] == "var":
-                r = given.get(k, grid.WHOLE)
-            elif n[0] == "lit":
-                v = self.literal.value(n[1:])
-                r = (grid.down_fraction(v), grid.up_fraction(v))
-            elif None in parts:
-                r = None
-            else:
-                r = {"neg": grid.neg, "abs": grid.absolute, "add": grid.add, "sub": grid.sub, "mul": grid.mul, "div": grid.div}[n[0]](*parts)
-            all_.append(r)
-        return all_
 
-    def proved(self, goal, r):
-        if r is None:
-            return False
-        if goal.ask:
-            return self.grid.finite(r)
-        return goal.want is not None and self.grid.inside(r, goal.want)
+class TooSlow(Exception):
+    pass
 
-    def line(self, data):
-        try:
-            s = self.script.parse(data, False)
-        except self.script.Refusal as r:
-            return "3script: %s at %d / " % (r.kind, r.at)
-        if not self.built(s):
-            return "3script: NotBuilt / "
-        found = self.enclosures(s)
-        ranges = [found[g.slot[1]] for g in s.goals]
-        for k, (g, r) in enumerate(zip(s.goals, ranges)):
-            if not self.proved(g, r):
-                return "1unproved: goal %d at the whole box / " % (k + 1)
-        return "0" + "".join("%s in %s / " % (g.text, self.grid.show_interval(r)) for g, r in zip(s.goals, ranges))
+
+def give_up(signum, frame):
+    raise TooSlow
+
+
+def compared(task):
+    program, reference, seed = task
+    if reference not in sys.path:
+        sys.path.insert(0, reference)
+    from reference.commands import MemFolder, Program
+    rng = random.Random(seed)
+    text, options = text_of(rng), options_of(rng)
+    signal.signal(signal.SIGALRM, give_up)
+    signal.alarm(10)
+    try:
+        status, printed = Program(MemFolder({"a": text}), 15).run(["prove", "a"] + options)
+    except TooSlow:
+        return "slow", None
+    except (AttributeError, RecursionError) as fault:
+        return "reference: %s" % type(fault).__name__, None
+    finally:
+        signal.alarm(0)
+    with tempfile.TemporaryDirectory() as folder:
+        with open(os.path.join(folder, "a"), "wb") as out:
+            out.write(text)
+        ran = subprocess.run([program, "prove", "a"] + options, cwd=folder, capture_output=True, timeout=120)
+    if ran.returncode == status and ran.stdout == printed.encode("utf-8", "surrogateescape") and not ran.stderr:
+        return "status %d" % status, None
+    return "differs", "seed %d\n%r\n%s\nwanted %d %r\ngot    %d %r" % (seed, text, " ".join(options), status, printed, ran.returncode, ran.stdout)
 
 
 def main(words):
-    if words[0] == "program":
-        print(PROGRAM, end="")
-        return 0
-    if words[0] == "make":
-        rng = random.Random(int(words[2]))
-        for _ in range(int(words[1])):
-            print(Maker(rng).script().encode().hex())
-        return 0
-    sys.path.insert(0, words[1])
-    from reference import grid, literal, script
-    plain = Plain(script, grid, literal)
-    count = wrong = 0
-    statuses = {}
-    with open(words[2]) as texts, open(words[3]) as answers:
-        for line, answer in zip(texts, answers, strict=True):
-            data = bytes.fromhex(line.strip())
-            try:
-                wanted = plain.line(data).strip()
-            except AttributeError:
-                continue
-            count += 1
-            key = wanted[:1] if wanted[0] != "3" else "3 NotBuilt" if "NotBuilt" in wanted else "3"
-            statuses[key] = statuses.get(key, 0) + 1
-            if wanted != answer.strip():
-                wrong += 1
-                if wrong <= 20:
-                    print("text", data[:400], "\n  wanted", wanted, "\n  got", answer.strip())
-    print(count, "texts,", ", ".join("%d with status %s" % (n, k) for k, n in sorted(statuses.items())), "and", wrong, "differ")
-    return 1 if wrong else 0
+    program, reference, count, seed = os.path.abspath(words[0]), os.path.abspath(words[1]), int(words[2]), int(words[3])
+    tasks = [(program, reference, seed * 1000003 + k) for k in range(count)]
+    seen = {}
+    with multiprocessing.Pool(int(words[4]) if len(words) > 4 else 2) as pool:
+        for kind, what in pool.imap_unordered(compared, tasks, chunksize=16):
+            seen[kind] = seen.get(kind, 0) + 1
+            if what:
+                print(what, flush=True)
+    print(", ".join("%s: %d" % row for row in sorted(seen.items())))
+    return 1 if "differs" in seen else 0
 
 
 if __name__ == "__main__":
