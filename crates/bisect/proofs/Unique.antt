@@ -17,18 +17,18 @@ use Rattle.bisect.proofs.Listings.{Has, from_contains, to_contains}
 not_both : (p q : List ℕ) → IsBefore p q → IsBefore q p → ⊥
 not_both p q a b = let e = nat_list_cmp_total.antisymm p q in let f : slice_cmp nat_cmp p q ≡ ordering_reverse Less = e ∙ ap ordering_reverse b in let g : Less ≡ Greater = sym a ∙ f in cc
 
-abbrev Later : List ℕ → List (List ℕ) → Type 0
+abbrev pub Later : List ℕ → List (List ℕ) → Type 0
 Later p ps = (q : List ℕ) → Has ps q → IsBefore p q
 
 -- each is before the later ones
-abbrev Rising : List (List ℕ) → Type 0
+abbrev pub Rising : List (List ℕ) → Type 0
 Rising [] = ⊤
 Rising (p ∷ ps) = Later p ps × Rising ps
 
 later_of : (p : List ℕ) (ps : List (List ℕ)) → AllPairs IsBefore (p ∷ ps) → Later p ps
 later_of p ps a q h = let c = to_contains ps q h in subst (λ r. IsBefore p r) c.2 (a 0 (suc c.0) q (omega arith) (let l = c.1 in omega (arith, l)))
 
-rising_of : (ps : List (List ℕ)) → AllPairs IsBefore ps → Rising ps
+pub rising_of : (ps : List (List ℕ)) → AllPairs IsBefore ps → Rising ps
 rising_of [] a = tt
 rising_of (p ∷ ps) a = (later_of p ps a, rising_of ps (λ i j d l m. a (suc i) (suc j) d (omega (arith, l)) (omega (arith, m))))
 

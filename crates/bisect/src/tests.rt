@@ -5,7 +5,7 @@ ghost use Rattle.bisect.specs.Answers.{IsAnswer};
 ghost use Rattle.bisect.specs.Examples.{is_front, two_ways_open};
 ghost use Rattle.bisect.specs.Trees.{tree_of};
 ghost use Rattle.bisect.specs.declared.settler.State.{State};
-ghost use Rattle.box_tree.specs.Few.{HaveFewPieces};
+ghost use Rattle.script_hints.specs.Few.{HaveFewPieces};
 ghost use Rattle.box_tree.specs.Plans.{cut_at};
 ghost use Rattle.box_tree.specs.declared.cut.Cut.{Cut};
 ghost use Rattle.box_tree.specs.declared.cut.Cut.TheVariants.{Bottom};

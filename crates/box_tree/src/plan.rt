@@ -1,7 +1,7 @@
 // What cuts are made by.
 ghost use Rattle.std.specs.Prelude.{◌≡◌, ◌≤◌, length};
 ghost use Rattle.std.specs.List.{AllByRecursion};
-ghost use Rattle.box_tree.specs.Few.{HaveFewPieces};
+ghost use Rattle.script_hints.specs.Few.{HaveFewPieces};
 ghost use Rattle.box_tree.specs.Ranges.{IsOrdered};
 
 use crate::range::SplitRange;
@@ -24,7 +24,7 @@ pub struct Plan {
 impl Model for Plan {
     ghost use Rattle.std.specs.Prelude.{◌≡◌, ◌≤◌, length, take};
     ghost use Rattle.std.specs.List.{AllByRecursion};
-    ghost use Rattle.box_tree.specs.Few.{HaveFewPieces};
+    ghost use Rattle.script_hints.specs.Few.{HaveFewPieces};
     ghost use Rattle.box_tree.specs.Ranges.{IsOrdered};
     ghost use Rattle.box_tree.specs.Regions as seen;
 

@@ -1,7 +1,7 @@
 // The points at which a range is cut.
 ghost use Rattle.std.specs.Prelude.{◌≡◌, ◌<◌, ◌≤◌, ◌-◌, ◌+◌, [], length};
 ghost use Rattle.box_tree.specs.Ranges.{IsOrdered, IsWithin};
-ghost use Rattle.box_tree.specs.Few.{HasFewPieces};
+ghost use Rattle.script_hints.specs.Few.{HasFewPieces};
 ghost use Rattle.std.specs.List.{AllByRecursion};
 ghost use Rattle.box_tree.specs.Points as spec;
 

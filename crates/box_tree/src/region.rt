@@ -1,6 +1,6 @@
 // A box as the cuts on its path make it.
 ghost use Rattle.std.specs.Prelude.{◌≡◌, ◌<◌, ◌≤◌, ◌+◌, [], ◌∷◌, length, drop, Some, IfSome};
-ghost use Rattle.box_tree.specs.Few.{HaveFewPieces};
+ghost use Rattle.script_hints.specs.Few.{HaveFewPieces};
 ghost use Rattle.box_tree.specs.Nexts.{IsHalved, IsWithinNext};
 ghost use Rattle.std.specs.List.{AllByRecursion};
 ghost use Rattle.box_tree.specs.Ranges.{IsOrdered, IsWithin, range_in};

@@ -1,6 +1,6 @@
 //! Boxes that were worked out by a plain program.
 ghost use Rattle.std.specs.Prelude.{◌≡◌, ◌≤◌, [], length, IfOk, Some};
-ghost use Rattle.box_tree.specs.Few.{HaveFewPieces};
+ghost use Rattle.script_hints.specs.Few.{HaveFewPieces};
 ghost use Rattle.literal_order.specs.Values.{IsWritten};
 
 use crate::cut::Cut;

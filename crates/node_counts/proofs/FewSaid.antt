@@ -18,7 +18,8 @@ use Rattle.script_claims.specs.Claims.{formula_claims}
 use Rattle.script_hints.specs.declared.hint.Split.{Split}
 use Rattle.script_hints.specs.declared.hint.HintList.{HintList}
 use Rattle.script_hints.specs.Hints.{written_of, with_end, with_points, piece_count, cutting_of, HintsSoFar, with_halved, with_names, with_halving, with_hint, with_hints, no_hints}
-use Rattle.node_counts.specs.Few.{HasFewPieces, HasFewHints, hints_behind, HintsAreFew}
+use Rattle.script_hints.specs.Few.{HasFewPieces}
+use Rattle.node_counts.specs.Few.{HasFewHints, hints_behind, HintsAreFew}
 use Rattle.node_counts.proofs.FewHints.{hint_count, hints_counted, hints_of, hints_pass, all_within}
 use Rattle.node_counts.proofs.FewHalves.{halves_are_few}
 use Rattle.node_counts.proofs.FewOrdered.{order_is_short}

@@ -1,14 +1,12 @@
 -- The hints of a script that the judge lets pass.
 use Rattle.std.specs.Prelude.{◌≤◌, length, None}
-use Rattle.std.specs.List.{AllByRecursion}
 use Rattle.script_shape.specs.Tree.{Script, formula, define}
 use Rattle.script_shape.specs.Roles.{script_leaves}
 use Rattle.script_judge.specs.Judge.{Judged, nothing_seen}
 use Rattle.script_nodes.specs.Known.{Known}
 use Rattle.script_nodes.specs.Definitions.{definition_value}
 use Rattle.script_claims.specs.Claims.{formula_claims}
-use Rattle.script_hints.specs.declared.hint.Cutting.{Cutting}
-use Rattle.script_hints.specs.declared.hint.Cutting.TheVariants.{Pieces, Points}
+use Rattle.script_hints.specs.Few.{HaveFewPieces}
 use Rattle.script_hints.specs.declared.hint.HintList.{HintList}
 use Rattle.script_hints.specs.Hints.{no_hints, with_hints}
 
@@ -17,16 +15,11 @@ abbrev pub hints_behind : Script → Known → HintList
 hints_behind (formula f h) k = (with_hints h ((formula_claims f k).known, no_hints)).1
 hints_behind (define x rest) k = hints_behind rest (definition_value x k)
 
--- 64 pieces at most: with points, one more than these
-abbrev pub HasFewPieces : Cutting → Type 0
-HasFewPieces (Pieces n) = n ≤ 64
-HasFewPieces (Points ps) = length ps ≤ 63
-
 pub record HasFewHints (l : HintList) : Type 0 where
   pub rewrites : length l.rewrites ≤ 64
   pub likes : length l.likes ≤ 64
   pub cuts : length l.cuts ≤ 4
-  pub pieces : AllByRecursion (λ c. HasFewPieces c.cut) l.cuts
+  pub pieces : HaveFewPieces l.cuts
   pub halves : length l.halves ≤ 4
   pub order : length l.order ≤ 8
 

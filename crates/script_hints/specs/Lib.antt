@@ -5,3 +5,4 @@ pub mod ReadingLaw
 pub mod Examples
 pub mod Needs
 pub mod Meets
+pub mod Few

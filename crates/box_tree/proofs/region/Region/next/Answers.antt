@@ -1,7 +1,7 @@
 use Rattle.std.proofs.Common.{List, sym, ◌∙◌, subst}
 use Rattle.box_tree.specs.declared.range.SplitRange.{SplitRange}
 use Rattle.box_tree.specs.Nexts.{IsWithinNext}
-use Rattle.box_tree.specs.Few.{HaveFewPieces}
+use Rattle.script_hints.specs.Few.{HaveFewPieces}
 use Rattle.box_tree.proofs.Few.{few_behind}
 use Rattle.box_tree.proofs.Within.{forced_within, half_within}
 use Rattle.box_tree.proofs.region.Region.next.Goals as goal
