@@ -1,8 +1,8 @@
 -- Reading gives back what was spelled: nodes.
-use Rattle.std.proofs.Common.{◌≡◌, ◌<◌, ◌^◌, ◌++◌, ◌∷◌, [], if◌then◌else◌, ◌≤ℤ◌, pos, negsuc, ℕ, ℤ, false, Some, Ok, refl, ap, arith}
+use Rattle.std.proofs.Common.{◌≡◌, ◌<◌, ◌^◌, ◌++◌, ◌∷◌, [], if◌then◌else◌, pos, negsuc, ℕ, ℤ, false, Some, Ok, refl, ap, arith}
 use Rattle.std.specs.Int.{w16}
 use Rattle.std.specs.Int.RustNames.{FitsSigned, int_lt}
-use Rattle.std.proofs.lemmas.Int.{ints, fits_signed_from_abs}
+use Rattle.std.proofs.lemmas.Int.{ints}
 use Rattle.fx_model.specs.declared.ExprId.{ExprId}
 use Rattle.fx_model.specs.declared.Literal.{Literal}
 use Rattle.fx_model.specs.declared.Rounding.{Rounding}

@@ -1,5 +1,5 @@
 -- Bytes spell items or have one first fault, never both.
-use Rattle.std.proofs.Common.{◌≡◌, ◌≤◌, ◌<◌, ◌+◌, ◌++◌, ◌∷◌, [], ◌⊎◌, inl, inr, ⊎_elim, ℕ, zero, suc, List, length, Some, Result, Ok, Err, refl, sym, ap, subst, ◌∙◌, arith}
+use Rattle.std.proofs.Common.{◌≡◌, ◌≤◌, ◌<◌, ◌+◌, ◌++◌, ◌∷◌, [], ◌⊎◌, inl, inr, ⊎_elim, ℕ, zero, suc, List, length, Some, Ok, Err, refl, sym, ap, subst, ◌∙◌, arith}
 use Rattle.std.proofs.lemmas.List.{length-append}
 use Rattle.cert_bytes.specs.declared.fault.CertFault.{CertFault}
 use Rattle.cert_bytes.specs.declared.item.Item.{Item}
@@ -13,7 +13,7 @@ use Rattle.cert_bytes.specs.ReadBack.{place}
 use Rattle.cert_bytes.specs.ReadOut.{AreBytes, IsRead, AreRead, FailsBehind, ReadsAreSpelled, SpelledAreRead, SpellOrFail, NeverBoth, OneFault}
 use Rattle.cert_bytes.specs.Spelling.{spelling_of}
 use Rattle.cert_bytes.proofs.BackItems.{items_read_back}
-use Rattle.cert_bytes.proofs.Lengths.{items_are_short, items_have_a_byte}
+use Rattle.cert_bytes.proofs.Lengths.{items_have_a_byte}
 use Rattle.cert_bytes.proofs.OutItems.{items_read_out, behind_after, ends, last_way}
 use Rattle.cert_bytes.proofs.Whole.{some_same, due_some, none_behind, end_alone, is_end}
 

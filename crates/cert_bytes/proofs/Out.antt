@@ -1,8 +1,7 @@
 -- What is read is what was spelled: bytes and numbers.
 use Rattle.std.proofs.Common.{◌≡◌, ◌≤◌, ◌<◌, ◌+◌, ◌*◌, ◌/◌, ◌%◌, ◌^◌, ◌++◌, ◌∷◌, [], ◌==◌, ℕ, zero, suc, ℤ, Bool, true, false, if◌then◌else◌, List, Option, Some, None, Result, Ok, Err, refl, sym, ap, ap₂, subst, ◌∙◌, arith, append_assoc, lit<}
 use Rattle.std.specs.Prelude.{nat_le}
-use Rattle.std.specs.List.{AllByRecursion}
-use Rattle.std.specs.Int.{Width, w16, w64, bytes_high_first, byte_at as digit_at, to_be_bytes, cast_signed, cast_unsigned}
+use Rattle.std.specs.Int.{w16, w64, bytes_high_first, byte_at as digit_at, cast_signed}
 use Rattle.std.proofs.Math.Nat.{pow-succ', mul-le-mul_right, add-mul-div_left, add-mul-mod_self_right, mod-eq_of_lt}
 use Rattle.std.proofs.lemmas.List.{append-nil}
 use Rattle.std.proofs.lemmas.Nat.{div-mul-add}
@@ -14,7 +13,7 @@ use Rattle.cert_bytes.specs.declared.fault.CertFault.{CertFault}
 use Rattle.cert_bytes.specs.declared.fault.CertKind.{CertKind}
 use Rattle.cert_bytes.specs.declared.fault.CertKind.TheVariants.{TooLong}
 use Rattle.cert_bytes.specs.Certificates.{IsShort, IsLong}
-use Rattle.cert_bytes.specs.Reading.{Cursor, Read, fault, numbered, tagged, next_byte, byte_at, bytes_at, number_at, short_at, reference_at, wide_at, signed_short_at, signed_long_at, expr_at, pair_at, ◌>>=◌}
+use Rattle.cert_bytes.specs.Reading.{Cursor, Read, fault, numbered, next_byte, byte_at, bytes_at, number_at, short_at, reference_at, wide_at, signed_short_at, signed_long_at, expr_at, pair_at, ◌>>=◌}
 use Rattle.cert_bytes.specs.ReadBack.{place}
 use Rattle.cert_bytes.specs.ReadOut.{AreBytes}
 use Rattle.cert_bytes.specs.Spelling.{short, reference, wide, signed_short, signed_long}

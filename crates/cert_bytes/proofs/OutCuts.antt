@@ -1,5 +1,5 @@
 -- What is read is what was spelled: cuts.
-use Rattle.std.proofs.Common.{◌≡◌, ◌≤◌, ◌<◌, ◌+◌, ◌-◌, ◌++◌, ◌∷◌, [], ◌==◌, if◌then◌else◌, ℕ, zero, suc, Bool, true, false, List, length, Ok, refl, sym, ap, ap₂, subst, ◌∙◌, ⊎_elim, arith, append_assoc}
+use Rattle.std.proofs.Common.{◌≡◌, ◌≤◌, ◌<◌, ◌+◌, ◌-◌, ◌++◌, ◌∷◌, [], ◌==◌, if◌then◌else◌, ℕ, zero, suc, false, List, length, Ok, refl, sym, ap, ap₂, subst, ◌∙◌, ⊎_elim, arith, append_assoc}
 use Rattle.std.specs.Prelude.{nat_lt}
 use Rattle.std.proofs.lemmas.List.{append-nil, length-append}
 use Rattle.std.proofs.lemmas.Bool.{cases_lt, eqb-false}
@@ -12,7 +12,7 @@ use Rattle.cert_bytes.specs.declared.fault.CertKind.TheVariants.{BadNumber}
 use Rattle.cert_bytes.specs.declared.item.Item.{Item}
 use Rattle.cert_bytes.specs.declared.item.Item.TheVariants as item
 use Rattle.cert_bytes.specs.Certificates.{IsShort}
-use Rattle.cert_bytes.specs.Reading.{Cursor, fault, rises, byte_at, expr_at, point_at, rising_at, points_at, count_at, cut_head_at, cut_at, ◌>>=◌}
+use Rattle.cert_bytes.specs.Reading.{fault, rises, byte_at, expr_at, point_at, rising_at, points_at, count_at, cut_head_at, cut_at, ◌>>=◌}
 use Rattle.cert_bytes.specs.Spelling.{short, point, points}
 use Rattle.cert_bytes.proofs.Rows.{above_rises}
 use Rattle.cert_bytes.proofs.BackCuts.{at_front, at_next}

@@ -1,5 +1,5 @@
 -- What is read is what was spelled: numbers of the grid, intervals and facts.
-use Rattle.std.proofs.Common.{◌≡◌, ◌++◌, ◌∷◌, [], ◌==◌, if◌then◌else◌, ℕ, ℤ, List, Option, Some, None, Ok, refl, sym, ap, ap₂, ◌∙◌}
+use Rattle.std.proofs.Common.{◌≡◌, ◌++◌, ◌∷◌, [], ℕ, List, Option, Some, None, Ok, refl, sym, ap, ap₂, ◌∙◌}
 use Rattle.dyadic.specs.declared.number.Dyadic.{Dyadic}
 use Rattle.dyadic.specs.declared.number.End.{End}
 use Rattle.dyadic.specs.declared.number.End.TheVariants.{Low, At, High}
@@ -15,7 +15,7 @@ use Rattle.facts.specs.Places.{place_from, place_from_out}
 use Rattle.cert_bytes.specs.declared.fault.CertKind.TheVariants.{BadTag}
 use Rattle.cert_bytes.specs.Certificates.{IsOnShort}
 use Rattle.cert_bytes.specs.Numbers.{number_from, number_from_out}
-use Rattle.cert_bytes.specs.Reading.{Cursor, numbered, byte_at, signed_short_at, signed_long_at, expr_at, pair_at, point_at, end_at, interval_at, size_at, relative_at, error_at, place_at, bnd_at, abs_at, rel_at, fix_at, nzr_at, fact_at, ◌>>=◌}
+use Rattle.cert_bytes.specs.Reading.{numbered, byte_at, signed_short_at, signed_long_at, expr_at, pair_at, point_at, end_at, interval_at, size_at, relative_at, error_at, place_at, bnd_at, abs_at, rel_at, fix_at, nzr_at, fact_at, ◌>>=◌}
 use Rattle.cert_bytes.specs.Spelling.{signed_short, signed_long, point, end, interval, error, fact_bytes}
 use Rattle.cert_bytes.proofs.BackFacts.{end_by, error_by, fact_by}
 use Rattle.cert_bytes.proofs.Out.{ReadsOut, then_out, last_out, kept_out, tag_out, pure_out, fault_out, weaker, byte_out, signed_short_out, signed_long_out, expr_out, pair_out, IsOneByte, IsSignedShort, IsSignedLong, IsExpr, ArePair}

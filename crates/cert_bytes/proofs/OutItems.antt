@@ -1,5 +1,5 @@
 -- What is read is what was spelled: the item that is due, and what is due behind it.
-use Rattle.std.proofs.Common.{◌≡◌, ◌+◌, ◌-◌, ◌++◌, ◌∷◌, [], ◌==◌, if◌then◌else◌, ℕ, zero, suc, Bool, true, false, List, length, Some, Ok, refl, sym, ap, ap₂, subst, ◌∙◌, arith}
+use Rattle.std.proofs.Common.{◌≡◌, ◌+◌, ◌-◌, ◌++◌, ◌∷◌, [], ◌==◌, if◌then◌else◌, ℕ, zero, suc, List, length, Some, Ok, refl, sym, ap, ap₂, subst, ◌∙◌, arith}
 use Rattle.std.specs.Prelude.{⊤}
 use Rattle.std.specs.Int.{bytes_high_first}
 use Rattle.std.proofs.lemmas.List.{append-nil}
@@ -13,12 +13,12 @@ use Rattle.cert_bytes.specs.declared.order.Due.{Due}
 use Rattle.cert_bytes.specs.declared.order.Due.TheVariants.{Head, Nodes, Marks, Sections, Done}
 use Rattle.cert_bytes.specs.Due.{due_after, due_behind, split_into, IsOfSection}
 use Rattle.cert_bytes.specs.Certificates.{HasSpelling, Fits}
-use Rattle.cert_bytes.specs.Reading.{Cursor, Read, fault, byte_at, number_at, short_at, reference_at, counted_at, step_at, node_at, cut_at, step_item_at, leaf_at, dead_at, section_by, section_item_at, magic_at, version_at, preamble_at, head_at, node_item_at, marks_at, mark_at, more_at, is_some, closed_at, node_or_marks_at, mark_or_section_at, section_or_end_at, item_at, ◌>>=◌}
-use Rattle.cert_bytes.specs.ReadOut.{AreBytes, IsRead, ItemsReadOut, DueBehind}
+use Rattle.cert_bytes.specs.Reading.{Cursor, Read, fault, byte_at, number_at, short_at, reference_at, counted_at, step_at, node_at, cut_at, step_item_at, leaf_at, dead_at, section_by, section_item_at, magic_at, version_at, preamble_at, head_at, node_item_at, marks_at, mark_at, more_at, is_some, closed_at, section_or_end_at, item_at, ◌>>=◌}
+use Rattle.cert_bytes.specs.ReadOut.{AreBytes, ItemsReadOut, DueBehind}
 use Rattle.cert_bytes.specs.Spelling.{head, spelling_of}
 use Rattle.cert_bytes.proofs.BackHeads.{mark_by}
 use Rattle.cert_bytes.proofs.BackItems.{some_left, node_way, mark_way, section_way, root_way, marks_way, head_way}
-use Rattle.cert_bytes.proofs.Out.{ReadsOut, ok_parts, then_out, last_out, weaker, if_out, tag_out, pure_out, fault_out, byte_out, number_out, short_out, reference_out, IsOneByte, IsNumberOf, IsShortOf, IsReferenceOf}
+use Rattle.cert_bytes.proofs.Out.{ReadsOut, ok_parts, then_out, last_out, weaker, tag_out, pure_out, fault_out, byte_out, number_out, short_out, reference_out, IsOneByte, IsNumberOf, IsShortOf, IsReferenceOf}
 use Rattle.cert_bytes.proofs.OutFacts.{tagged_as}
 use Rattle.cert_bytes.proofs.OutNodes.{node_out, IsNode}
 use Rattle.cert_bytes.proofs.OutSteps.{step_out, counted_out, IsStepBehind, AreCounted}

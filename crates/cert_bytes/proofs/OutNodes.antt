@@ -4,7 +4,6 @@ use Rattle.std.specs.Prelude.{not}
 use Rattle.std.specs.Int.RustNames.{int_lt}
 use Rattle.std.proofs.lemmas.List.{append-nil}
 use Rattle.std.proofs.lemmas.Bool.{eqb-true}
-use Rattle.fx_model.specs.declared.ExprId.{ExprId}
 use Rattle.fx_model.specs.declared.Literal.{Literal}
 use Rattle.fx_model.specs.declared.Rounding.{Rounding}
 use Rattle.fx_model.specs.declared.Direction.{Direction}
@@ -18,7 +17,7 @@ use Rattle.cert_bytes.specs.declared.fault.CertKind.TheVariants.{BadNumber, BadT
 use Rattle.cert_bytes.specs.Certificates.{HasShortParts}
 use Rattle.cert_bytes.specs.Numbers.{is_normal, at_least}
 use Rattle.cert_bytes.specs.Reading.{Cursor, Read, fault, tagged, direction_from, byte_at, wide_at, short_at, signed_short_at, expr_at, pair_at, direction_at, lsb_at, exponents_at, literal_at, rounding_at, round_at, one_at, two_at, var_at, lit_at, late_node_at, node_by, node_at, ◌>>=◌}
-use Rattle.cert_bytes.specs.Spelling.{short, signed_short, wide, direction_byte, node_bytes}
+use Rattle.cert_bytes.specs.Spelling.{signed_short, wide, direction_byte, node_bytes}
 use Rattle.cert_bytes.proofs.Normal.{normal_in}
 use Rattle.cert_bytes.proofs.BackNodes.{checked}
 use Rattle.cert_bytes.proofs.Out.{ReadsOut, then_out, last_out, weaker, if_out, tag_out, pure_out, fault_out, byte_out, wide_out, short_out, signed_short_out, expr_out, pair_out, IsOneByte, IsWideOf, IsShortOf, IsSignedShort, IsExpr, ArePair}

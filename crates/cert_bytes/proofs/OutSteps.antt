@@ -1,5 +1,5 @@
 -- What is read is what was spelled: steps and leaves.
-use Rattle.std.proofs.Common.{◌≡◌, ◌≤◌, ◌<◌, ◌+◌, ◌++◌, ◌∷◌, [], ◌==◌, if◌then◌else◌, ℕ, zero, suc, List, length, Option, Some, None, Ok, refl, sym, ap, ap₂, subst, ◌∙◌, arith, append_assoc}
+use Rattle.std.proofs.Common.{◌≡◌, ◌<◌, ◌++◌, ◌∷◌, [], ℕ, zero, suc, List, length, Option, Some, None, Ok, refl, sym, ap, ap₂, subst, ◌∙◌, arith, append_assoc}
 use Rattle.std.specs.Prelude.{IfSome}
 use Rattle.std.specs.List.{AllByRecursion}
 use Rattle.std.proofs.lemmas.List.{append-nil}
@@ -7,7 +7,7 @@ use Rattle.facts.specs.declared.fact.Fact.{Fact}
 use Rattle.cert_bytes.specs.declared.fault.CertKind.TheVariants.{BadTag}
 use Rattle.cert_bytes.specs.declared.item.StepRow.{StepRow}
 use Rattle.cert_bytes.specs.Certificates.{IsCounted, IsShort, IsLong, IsOnShort, HasRoomFor}
-use Rattle.cert_bytes.specs.Reading.{Cursor, byte_at, short_at, reference_at, references_at, counted_at, optional_at, fact_at, rule_at, claim_at, cited_at, step_at, ◌>>=◌}
+use Rattle.cert_bytes.specs.Reading.{byte_at, short_at, reference_at, references_at, counted_at, optional_at, fact_at, rule_at, claim_at, cited_at, step_at, ◌>>=◌}
 use Rattle.cert_bytes.specs.Spelling.{short, reference, references, counted, optional, fact_bytes, step_bytes}
 use Rattle.cert_bytes.proofs.BackSteps.{optional_by}
 use Rattle.cert_bytes.proofs.Out.{ReadsOut, then_out, last_out, weaker, tag_out, pure_out, fault_out, byte_out, short_out, reference_out, IsOneByte, IsShortOf, IsReferenceOf}

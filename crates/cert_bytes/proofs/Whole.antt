@@ -1,12 +1,12 @@
 -- No certificate's spelling begins another's, and bytes spell one certificate at most.
-use Rattle.std.proofs.Common.{◌≡◌, ◌≤◌, ◌+◌, ◌++◌, ◌∷◌, [], ◌⊎◌, inl, inr, ⊎_elim, ℕ, zero, suc, List, length, Option, Some, None, Ok, refl, sym, ap, ap₂, subst, ◌∙◌, arith, append_assoc}
+use Rattle.std.proofs.Common.{◌≡◌, ◌+◌, ◌++◌, ◌∷◌, [], ◌⊎◌, inl, inr, ⊎_elim, ℕ, zero, suc, List, length, Option, Some, None, Ok, refl, sym, ap, ap₂, subst, ◌∙◌, arith, append_assoc}
 use Rattle.std.proofs.lemmas.List.{append-nil}
 use Rattle.cert_bytes.specs.declared.item.Item.{Item}
 use Rattle.cert_bytes.specs.declared.item.Item.TheVariants as item
 use Rattle.cert_bytes.specs.declared.order.Due.{Due}
 use Rattle.cert_bytes.specs.declared.order.Due.TheVariants.{Head, Nodes, Marks, Sections, Done}
 use Rattle.cert_bytes.specs.Due.{due_after}
-use Rattle.cert_bytes.specs.Certificates.{HasSpelling, Fits, AreDue, certificate_of, SpellsCertificate, NoneBeginsAnother, SpellsOnce}
+use Rattle.cert_bytes.specs.Certificates.{HasSpelling, Fits, AreDue, certificate_of, NoneBeginsAnother, SpellsOnce}
 use Rattle.cert_bytes.specs.Reading.{Cursor, Read, item_at}
 use Rattle.cert_bytes.specs.ReadBack.{place}
 use Rattle.cert_bytes.specs.Spelling.{spelling_of}
