@@ -53,7 +53,7 @@ remainder p n =
     let t : p * (256 * (n / (p * 256)) + n / p % 256) ≡ p * (n / p) = ap (λ q. p * q) (ap (λ q. 256 * q + n / p % 256) (sym same) ∙ part) in
     omega (arith, whole, both, s, t)
 
-digit_is : (k n : ℕ) → digit_at k n ≡ n / 256 ^ k % 256
+pub digit_is : (k n : ℕ) → digit_at k n ≡ n / 256 ^ k % 256
 digit_is zero n = omega arith
 digit_is (suc k) n = refl
 
@@ -61,7 +61,7 @@ pub length_high : (k n : ℕ) → length (bytes_high_first k n) ≡ k
 length_high zero n = refl
 length_high (suc k) n = ap suc (length_high k n)
 
-gather : (v d p r : ℕ) → (256 * v + d) * p + r ≡ v * (p * 256) + (d * p + r)
+pub gather : (v d p r : ℕ) → (256 * v + d) * p + r ≡ v * (p * 256) + (d * p + r)
 gather v d p r = omega arith
 
 abbrev read_as : ℕ → ℕ → List ℕ → Result (ℕ × Cursor) CertFault

@@ -1,5 +1,5 @@
 -- Reading gives back what was spelled: numbers of the grid, intervals and facts.
-use Rattle.std.proofs.Common.{◌<◌, ◌^◌, ◌++◌, ◌∷◌, [], ◌==◌, if◌then◌else◌, ◌≤ℤ◌, pos, negsuc, ℕ, ℤ, Option, Some, None, Ok, refl, sym, ap, arith}
+use Rattle.std.proofs.Common.{◌<◌, ◌^◌, ◌++◌, ◌∷◌, [], ◌==◌, if◌then◌else◌, ℕ, Option, Some, None, Ok, refl, sym, ap, arith}
 use Rattle.std.specs.Int.{w16, w64}
 use Rattle.std.specs.Int.RustNames.{FitsSigned}
 use Rattle.std.proofs.lemmas.Int.{ints, fits_signed_from_abs}
@@ -15,12 +15,13 @@ use Rattle.facts.specs.declared.place.Place.{Place}
 use Rattle.facts.specs.declared.fact.Fact.{Fact}
 use Rattle.facts.specs.declared.fact.Fact.TheVariants as fact
 use Rattle.facts.specs.Parts.{size_from, size_from_self, error_from, error_from_self}
+use Rattle.cert_bytes.specs.Certificates.{IsOnShort}
 use Rattle.cert_bytes.specs.declared.fault.CertKind.TheVariants.{BadTag}
 use Rattle.facts.specs.Places.{place_from, place_from_self}
 use Rattle.cert_bytes.specs.Numbers.{number_from, number_from_self}
 use Rattle.cert_bytes.specs.Reading.{Cursor, Read, fault, numbered, byte_at, signed_short_at, signed_long_at, expr_at, pair_at, point_at, end_at, interval_at, size_at, relative_at, error_at, place_at, bnd_at, abs_at, rel_at, fix_at, nzr_at, fact_at, ◌>>=◌}
-use Rattle.cert_bytes.specs.Spelling.{short, signed_short, signed_long, point, end, interval, error}
-use Rattle.cert_bytes.specs.ReadBack.{ReadsBack, FactsReadBack}
+use Rattle.cert_bytes.specs.Spelling.{short, signed_short, signed_long, point, end, interval, error, fact_bytes}
+use Rattle.cert_bytes.specs.ReadBack.{ReadsBack}
 use Rattle.cert_bytes.proofs.Back.{then_back, last_back, byte_back, signed_short_back, signed_long_back, small_exponent, expr_back, pair_back}
 
 -- ---- numbers of the grid
@@ -39,7 +40,7 @@ point_back d = then_back signed_long_at (λ at m c. signed_short_at c >>= λ e. 
 
 -- ---- ends and intervals
 
-abbrev end_by : ℕ → ℕ → Cursor → Read End
+abbrev pub end_by : ℕ → ℕ → Cursor → Read End
 end_by at tag c = if tag == 0 then (point_at c >>= λ p. Ok (At p.0, p.1))
     else if tag == 1 then Ok (Low, c)
     else if tag == 2 then Ok (High, c)
@@ -66,7 +67,7 @@ pub relative_back : (e : RelativeError) → ReadsBack relative_at (interval e.in
 unfolding relative_at
 relative_back e = last_back interval_at (λ at i c. numbered at (error_from i) c) (interval e.interval) e.interval e (interval_back e.interval) (λ at c. ap (λ o. numbered at o c) (sym (error_from_self e)))
 
-abbrev error_by : ℕ → ℕ → Cursor → Read (Option RelativeError)
+abbrev pub error_by : ℕ → ℕ → Cursor → Read (Option RelativeError)
 error_by at tag c = if tag == 0 then (relative_at c >>= λ e. Ok (Some e.0, e.1))
     else if tag == 1 then Ok (None, c)
     else fault BadTag at
@@ -109,7 +110,7 @@ nzr_back : (x : ExprId) → x.0 < 2 ^ 16 → ReadsBack nzr_at (short x.0) (fact.
 unfolding nzr_at
 nzr_back x s = last_back expr_at (λ at v c. Ok (fact.Nzr v, c)) (short x.0) x (fact.Nzr x) (expr_back x s) (λ at c. refl)
 
-abbrev fact_by : ℕ → ℕ → Cursor → Read Fact
+abbrev pub fact_by : ℕ → ℕ → Cursor → Read Fact
 fact_by at tag c = if tag == 1 then bnd_at c
     else if tag == 2 then abs_at c
     else if tag == 3 then rel_at c
@@ -118,7 +119,7 @@ fact_by at tag c = if tag == 1 then bnd_at c
     else if tag == 6 then Ok (fact.Void, c)
     else fault BadTag at
 
-pub facts_read_back : FactsReadBack
+pub facts_read_back : (f : Fact) → IsOnShort f → ReadsBack fact_at (fact_bytes f) f
 unfolding fact_at
 facts_read_back (fact.Bnd x i) s = then_back byte_at fact_by (1 ∷ []) (short x.0 ++ interval i) 1 (fact.Bnd x i) (byte_back 1) (λ at. bnd_back x i s)
 facts_read_back (fact.Abs x z) s = then_back byte_at fact_by (2 ∷ []) (short x.0 ++ interval z.interval) 2 (fact.Abs x z) (byte_back 2) (λ at. abs_back x z s)

@@ -1,8 +1,8 @@
 -- Reading gives back what was spelled: nodes.
-use Rattle.std.proofs.Common.{◌≡◌, ◌<◌, ◌^◌, ◌++◌, ◌∷◌, [], if◌then◌else◌, ◌≤ℤ◌, pos, negsuc, ℕ, ℤ, false, Some, Ok, refl, ap, arith}
+use Rattle.std.proofs.Common.{◌≡◌, ◌<◌, ◌^◌, ◌++◌, ◌∷◌, [], if◌then◌else◌, pos, negsuc, ℕ, ℤ, false, Some, Ok, refl, ap, arith}
 use Rattle.std.specs.Int.{w16}
 use Rattle.std.specs.Int.RustNames.{FitsSigned, int_lt}
-use Rattle.std.proofs.lemmas.Int.{ints, fits_signed_from_abs}
+use Rattle.std.proofs.lemmas.Int.{ints}
 use Rattle.fx_model.specs.declared.ExprId.{ExprId}
 use Rattle.fx_model.specs.declared.Literal.{Literal}
 use Rattle.fx_model.specs.declared.Rounding.{Rounding}
@@ -13,11 +13,13 @@ use Rattle.fx_model.specs.declared.Node.TheVariants as node
 use Rattle.literal.specs.Spelling.{IsBetween}
 use Rattle.literal.specs.Normal.{IsNormal}
 use Rattle.literal.specs.Limits.{bounded}
+use Rattle.expr_dag.specs.Nodes.{IsInLimits}
+use Rattle.cert_bytes.specs.Certificates.{HasShortParts}
 use Rattle.cert_bytes.specs.declared.fault.CertKind.TheVariants.{BadNumber}
 use Rattle.cert_bytes.specs.Numbers.{is_normal}
 use Rattle.cert_bytes.specs.Reading.{Cursor, Read, fault, tagged, direction_from, byte_at, wide_at, short_at, signed_short_at, expr_at, pair_at, direction_at, lsb_at, exponents_at, literal_at, rounding_at, round_at, one_at, two_at, var_at, lit_at, late_node_at, node_by, node_at, ◌>>=◌}
-use Rattle.cert_bytes.specs.Spelling.{short, signed_short, wide, direction_byte}
-use Rattle.cert_bytes.specs.ReadBack.{ReadsBack, NodesReadBack}
+use Rattle.cert_bytes.specs.Spelling.{short, signed_short, wide, direction_byte, node_bytes}
+use Rattle.cert_bytes.specs.ReadBack.{ReadsBack}
 use Rattle.cert_bytes.proofs.NormalOut.{normal_out}
 use Rattle.cert_bytes.proofs.Back.{then_back, last_back, byte_back, short_back, wide_back, signed_short_back, small_exponent, expr_back, pair_back}
 
@@ -28,7 +30,7 @@ unfolding exponents_at
 exponents_back two ten f g = then_back signed_short_at (λ at two c. signed_short_at c >>= λ ten. Ok ((two, ten.0), ten.1)) (signed_short two) (signed_short ten) two (two, ten) (signed_short_back two f)
     (λ at. last_back signed_short_at (λ own v c. Ok ((two, v), c)) (signed_short ten) ten (two, ten) (signed_short_back ten g) (λ own c. refl))
 
-abbrev checked : ℕ → ℕ → ℤ × ℤ → Cursor → Read Literal
+abbrev pub checked : ℕ → ℕ → ℤ × ℤ → Cursor → Read Literal
 checked at num e c = if is_normal (record { num = num; two = e.0; ten = e.1 }) then Ok (record { num = num; two = e.0; ten = e.1 }, c) else fault BadNumber at
 
 literal_back : (l : Literal) → IsNormal l → ReadsBack literal_at (wide l.num ++ (signed_short l.two ++ signed_short l.ten)) l
@@ -102,7 +104,7 @@ two_back : (op : ExprId → ExprId → Node) (x y : ExprId) → x.0 < 2 ^ 16 →
 unfolding two_at
 two_back op x y s t = last_back pair_at (λ at v c. Ok (op v.0 v.1, c)) (short x.0 ++ short y.0) (x, y) (op x y) (pair_back x y s t) (λ at c. refl)
 
-pub nodes_read_back : NodesReadBack
+pub nodes_read_back : (n : Node) → IsInLimits n → HasShortParts n → ReadsBack node_at (node_bytes n) n
 unfolding node_at node_by late_node_at
 nodes_read_back (node.Var n) l s = then_back byte_at node_by (0 ∷ []) (short n) 0 (node.Var n) (byte_back 0) (λ at. var_back n s)
 nodes_read_back (node.Lit z) l s = then_back byte_at node_by (1 ∷ []) (wide z.num ++ (signed_short z.two ++ signed_short z.ten)) 1 (node.Lit z) (byte_back 1) (λ at. lit_back z l)

@@ -9,8 +9,8 @@ use Rattle.cert_bytes.specs.declared.item.StepRow.{StepRow}
 use Rattle.cert_bytes.specs.declared.item.Item.TheVariants as item
 use Rattle.cert_bytes.specs.Certificates.{IsCounted, IsLong, HasRoomFor}
 use Rattle.cert_bytes.specs.Reading.{Cursor, Read, fault, byte_at, short_at, reference_at, references_at, counted_at, optional_at, fact_at, rule_at, claim_at, cited_at, step_at, step_item_at, leaf_at, dead_at, section_by, section_item_at, ◌>>=◌}
-use Rattle.cert_bytes.specs.Spelling.{short, reference, references, counted, optional, fact_bytes, cited_bytes}
-use Rattle.cert_bytes.specs.ReadBack.{place, ReadsBack, StepsReadBack, LeavesReadBack, DeadEndsReadBack}
+use Rattle.cert_bytes.specs.Spelling.{short, reference, references, counted, optional, fact_bytes, cited_bytes, spelling_of}
+use Rattle.cert_bytes.specs.ReadBack.{place, ReadsBack}
 use Rattle.cert_bytes.proofs.Back.{then_back, last_back, byte_back, short_back, reference_back}
 use Rattle.cert_bytes.proofs.BackFacts.{facts_read_back}
 
@@ -30,7 +30,7 @@ pub counted_back : (ns : List ℕ) → IsCounted ns → AllByRecursion IsLong ns
 unfolding counted_at
 counted_back ns k h = then_back short_at (λ at n c. references_at n [] c) (short (length ns)) (references ns) (length ns) ns (short_back (length ns) (omega (arith, k))) (λ at. references_back ns [] h)
 
-abbrev optional_by : ℕ → ℕ → Cursor → Read (Option ℕ)
+abbrev pub optional_by : ℕ → ℕ → Cursor → Read (Option ℕ)
 optional_by at flag c = if flag == 0 then Ok (None, c)
     else if flag == 1 then (reference_at c >>= λ p. Ok (Some p.0, p.1))
     else fault BadTag at
@@ -69,7 +69,7 @@ step_item_back : (s : StepRow) → IsCounted s.premises → HasRoomFor s → Rea
 unfolding step_item_at
 step_item_back s k h = last_back step_at (λ at v c. Ok (item.Step v, c)) (s.rule ∷ (short s.arg ++ fact_bytes s.fact) ++ cited_bytes s) s (item.Step s) (step_back s k h) (λ at c. refl)
 
-pub steps_read_back : StepsReadBack
+pub steps_read_back : (s : StepRow) → IsCounted s.premises → HasRoomFor s → ReadsBack section_item_at (spelling_of (item.Step s)) (item.Step s)
 unfolding section_item_at section_by
 steps_read_back s k h = then_back byte_at section_by (1 ∷ []) (s.rule ∷ (short s.arg ++ fact_bytes s.fact) ++ cited_bytes s) 1 (item.Step s) (byte_back 1) (λ at. step_item_back s k h)
 
@@ -79,7 +79,7 @@ leaf_back : (refs : List ℕ) → IsCounted refs → AllByRecursion IsLong refs 
 unfolding leaf_at
 leaf_back refs k h = last_back counted_at (λ at v c. Ok (item.Leaf v, c)) (counted refs) refs (item.Leaf refs) (counted_back refs k h) (λ at c. refl)
 
-pub leaves_read_back : LeavesReadBack
+pub leaves_read_back : (refs : List ℕ) → IsCounted refs → AllByRecursion IsLong refs → ReadsBack section_item_at (spelling_of (item.Leaf refs)) (item.Leaf refs)
 unfolding section_item_at section_by
 leaves_read_back refs k h = then_back byte_at section_by (3 ∷ []) (counted refs) 3 (item.Leaf refs) (byte_back 3) (λ at. leaf_back refs k h)
 
@@ -87,6 +87,6 @@ dead_back : (r : ℕ) → IsLong r → ReadsBack dead_at (reference r) (item.Dea
 unfolding dead_at
 dead_back r s = last_back reference_at (λ at v c. Ok (item.Dead v, c)) (reference r) r (item.Dead r) (reference_back r s) (λ at c. refl)
 
-pub dead_ends_read_back : DeadEndsReadBack
+pub dead_ends_read_back : (r : ℕ) → IsLong r → ReadsBack section_item_at (spelling_of (item.Dead r)) (item.Dead r)
 unfolding section_item_at section_by
 dead_ends_read_back r s = then_back byte_at section_by (4 ∷ []) (reference r) 4 (item.Dead r) (byte_back 4) (λ at. dead_back r s)

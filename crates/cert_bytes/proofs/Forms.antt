@@ -1,6 +1,5 @@
 -- Numbers that are kept in one form.
-use Rattle.std.proofs.Common.{◌≡◌, ◌≤ℤ◌, ℤ, pos, negsuc, Option, Some, None, refl, sym, ap, ap₂, ◌∙◌}
-use Rattle.std.specs.Prelude.{IsNone, IfSome}
+use Rattle.std.proofs.Common.{◌≡◌, ℤ, Some, None, sym, ap, ap₂, ◌∙◌}
 use Rattle.fx_model.specs.Powers.{scaled}
 use Rattle.fx_model.specs.Grid.{IsOnGrid}
 use Rattle.dyadic.specs.declared.number.Dyadic.{Dyadic}

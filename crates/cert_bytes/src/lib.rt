@@ -19,7 +19,7 @@ mod writing;
 
 pub use fault::{CertFault, CertKind, Stop};
 pub use item::{Item, StepRow};
-pub use laws::spellings_read_back;
+pub use laws::{certificates_are_spelled_once, spellings_read_back};
 pub use order::Due;
 pub use reader::Reader;
 pub use writing::write_item;
