@@ -1,0 +1,101 @@
+-- An item that is read is one that is due.
+use Rattle.std.proofs.Common.{◌≡◌, ◌-◌, ◌+◌, ◌==◌, ℕ, zero, suc, Bool, true, false, [], length, Some, Ok, Err, refl, ap, subst, arith}
+use Rattle.std.specs.Prelude.{if◌then◌else◌}
+use Rattle.cert_bytes.specs.declared.fault.CertFault.{CertFault}
+use Rattle.cert_bytes.specs.declared.fault.CertKind.TheVariants.{TrailingBytes}
+use Rattle.cert_bytes.specs.declared.item.Item.{Item}
+use Rattle.cert_bytes.specs.declared.item.Item.TheVariants as item
+use Rattle.cert_bytes.specs.declared.order.Due.{Due}
+use Rattle.cert_bytes.specs.declared.order.Due.TheVariants.{Head, Nodes, Marks, Sections, Done}
+use Rattle.cert_bytes.specs.Due.{due_after, due_behind, IsOfSection, split_into, behind_node, behind_mark}
+use Rattle.cert_bytes.specs.Reading.{Cursor, Read, ◌>>=◌, byte_at, short_at, node_at, counted_at, reference_at, step_at, points_at, cut_head_at, preamble_at, cut_at, step_item_at, leaf_at, dead_at, section_by, section_item_at, head_at, node_item_at, marks_at, mark_at, more_at, closed_at, node_or_marks_at, mark_or_section_at, section_or_end_at, item_at}
+
+-- what is read, if anything, is such an item
+abbrev Gives : (Item → Type 0) → Read Item → Type 0
+Gives P r = (i : Item) (q : Cursor) → r ≡ Ok (i, q) → P i
+
+-- the item that was read, and the place behind it
+abbrev pub item_in : Item → Read Item → Item
+item_in i (Ok v) = v.0
+item_in i (Err f) = i
+
+abbrev pub place_in : Cursor → Read Item → Cursor
+place_in p (Ok v) = v.1
+place_in p (Err f) = p
+
+module _ (P : Item → Type 0) where
+  then_gives : {A : Type 0} (r : Read A) (k : A × Cursor → Read Item) → ((v : A × Cursor) → Gives P (k v)) → Gives P (r >>= k)
+  then_gives (Ok v) k h i q e = h v i q e
+  then_gives (Err f) k h i q e = cc
+
+  gives : (i : Item) (q : Cursor) → P i → Gives P (Ok (i, q))
+  gives i q h j t e = subst P (ap (item_in i) e) h
+
+  fails : (f : CertFault) → Gives P (Err f)
+  fails f i q e = cc
+
+  either : (b : Bool) (r t : Read Item) → Gives P r → Gives P t → Gives P (if b then r else t)
+  either true r t h k = h
+  either false r t h k = k
+
+  by_section : ((i : Item) → IsOfSection i → P i) → (p : Cursor) → Gives P (section_item_at p)
+  unfolding section_item_at section_by step_item_at cut_at leaf_at dead_at
+  by_section h p = then_gives (byte_at p) _ (λ tag.
+      either (tag.0 == 1) _ _ (then_gives (step_at tag.1) _ (λ s. gives (item.Step s.0) s.1 (h (item.Step s.0) tt)))
+      (either (tag.0 == 2) _ _ (then_gives (cut_head_at tag.1) _ (λ head. then_gives (points_at head.0.1 [] head.1) _ (λ ds. gives (item.Cut head.0.0 ds.0) ds.1 (h (item.Cut head.0.0 ds.0) tt))))
+      (either (tag.0 == 3) _ _ (then_gives (counted_at tag.1) _ (λ refs. gives (item.Leaf refs.0) refs.1 (h (item.Leaf refs.0) tt)))
+      (either (tag.0 == 4) _ _ (then_gives (reference_at tag.1) _ (λ r. gives (item.Dead r.0) r.1 (h (item.Dead r.0) tt)))
+      (fails _)))))
+
+-- the item is due, and this is due behind it
+abbrev pub IsNext : Due → Item → Type 0
+IsNext d i = due_after d i ≡ Some (due_behind d i)
+
+first_of_root : (i : Item) → IsOfSection i → IsNext (Marks zero) i
+first_of_root (item.Step s) h = refl
+first_of_root (item.Cut x ps) h = refl
+first_of_root (item.Leaf refs) h = refl
+first_of_root (item.Dead r) h = refl
+first_of_root (item.Nodes n) h = absurd h
+first_of_root (item.Node n) h = absurd h
+first_of_root (item.Marks n) h = absurd h
+first_of_root (item.Mark m) h = absurd h
+first_of_root item.End h = absurd h
+
+later : (w n m : ℕ) → m ≡ w + n → Some (Sections m) ≡ Some (split_into n (Sections (suc w)))
+later w n m e = let z : (suc w == 0) ≡ false = grind arith in let f : m ≡ (suc w - 1) + n = omega (arith, e) in rw z (ap (λ k. Some (Sections k)) f)
+
+of_section : (w : ℕ) (i : Item) → IsOfSection i → IsNext (Sections (suc w)) i
+of_section w (item.Step s) h = later w 1 (suc w) (omega arith)
+of_section w (item.Cut x ps) h = later w (length ps + 1) (w + (length ps + 1)) refl
+of_section w (item.Leaf refs) h = later w 0 w (omega arith)
+of_section w (item.Dead r) h = later w 0 w (omega arith)
+of_section w (item.Nodes n) h = absurd h
+of_section w (item.Node n) h = absurd h
+of_section w (item.Marks n) h = absurd h
+of_section w (item.Mark m) h = absurd h
+of_section w item.End h = absurd h
+
+a_node : (k : ℕ) → Some (Nodes k) ≡ Some (behind_node (Nodes (suc k)))
+a_node k = let z : (suc k == 0) ≡ false = grind arith in let f : k ≡ suc k - 1 = omega arith in rw z (ap (λ n. Some (Nodes n)) f)
+
+a_mark : (k : ℕ) → Some (Marks k) ≡ Some (behind_mark (Marks (suc k)))
+a_mark k = let z : (suc k == 0) ≡ false = grind arith in let f : k ≡ suc k - 1 = omega arith in rw z (ap (λ n. Some (Marks n)) f)
+
+at_zero : (P : Item → Type 0) (n : ℕ) (r t : Read Item) → n ≡ 0 → Gives P r → Gives P (if n == 0 then r else t)
+at_zero P n r t e h = let z : (n == 0) ≡ true = grind (arith, e) in rw z h
+
+past_zero : (P : Item → Type 0) (n : ℕ) (r t : Read Item) → Gives P t → Gives P (if suc n == 0 then r else t)
+past_zero P n r t h = let z : (suc n == 0) ≡ false = grind arith in rw z h
+
+pub read_is_due : (d : Due) (p : Cursor) → ¬ (d ≡ Done) → Gives (IsNext d) (item_at d p)
+unfolding item_at head_at node_or_marks_at mark_or_section_at section_or_end_at marks_at node_item_at mark_at closed_at more_at
+read_is_due Head p n = then_gives (IsNext Head) (preamble_at p) _ (λ v. then_gives (IsNext Head) (short_at v.1) _ (λ k. gives (IsNext Head) (item.Nodes k.0) k.1 refl))
+read_is_due (Nodes zero) p n = at_zero (IsNext (Nodes zero)) zero (marks_at p) (node_item_at p) refl (then_gives (IsNext (Nodes zero)) (short_at p) _ (λ k. gives (IsNext (Nodes zero)) (item.Marks k.0) k.1 refl))
+read_is_due (Nodes (suc k)) p n = past_zero (IsNext (Nodes (suc k))) k (marks_at p) (node_item_at p) (then_gives (IsNext (Nodes (suc k))) (node_at p) _ (λ v. gives (IsNext (Nodes (suc k))) (item.Node v.0) v.1 (a_node k)))
+read_is_due (Marks zero) p n = at_zero (IsNext (Marks zero)) zero (section_item_at p) (mark_at p) refl (by_section (IsNext (Marks zero)) first_of_root p)
+read_is_due (Marks (suc k)) p n = past_zero (IsNext (Marks (suc k))) k (section_item_at p) (mark_at p) (then_gives (IsNext (Marks (suc k))) (byte_at p) _ (λ b.
+    either (IsNext (Marks (suc k))) (b.0 == 0) _ _ (gives (IsNext (Marks (suc k))) _ b.1 (a_mark k)) (either (IsNext (Marks (suc k))) (b.0 == 1) _ _ (gives (IsNext (Marks (suc k))) _ b.1 (a_mark k)) (fails (IsNext (Marks (suc k))) _))))
+read_is_due (Sections zero) p n = at_zero (IsNext (Sections zero)) zero (closed_at p) (section_item_at p) refl (then_gives (IsNext (Sections zero)) (more_at p) _ (λ more. either (IsNext (Sections zero)) more.0 _ _ (fails (IsNext (Sections zero)) (record { kind = TrailingBytes; at = p.at })) (gives (IsNext (Sections zero)) item.End more.1 refl)))
+read_is_due (Sections (suc w)) p n = past_zero (IsNext (Sections (suc w))) w (closed_at p) (section_item_at p) (by_section (IsNext (Sections (suc w))) (of_section w) p)
+read_is_due Done p n = absurd (n refl)

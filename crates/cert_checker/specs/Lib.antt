@@ -1,0 +1,11 @@
+pub mod Own
+pub mod Open
+pub mod Contexts
+pub mod Steps
+pub mod Faults
+pub mod After
+pub mod Accepted
+pub mod Met
+pub mod Once
+pub mod Standing
+pub mod Outcomes

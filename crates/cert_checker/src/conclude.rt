@@ -1,0 +1,203 @@
+//! Whether a step is concluded.
+ghost use Rattle.std.specs.Prelude.{◌≡◌, ◌↔◌, IsTrue, Some, None, MatchOption, Option, IfOk, length};
+ghost use Rattle.fx_model.specs.declared.Node.{Node};
+ghost use Rattle.cert_checker.specs.Steps as spec;
+ghost use Rattle.cert_checker.specs.Steps.{Givens, Concludes, IsMetWith, IsLike, Found};
+
+use crate::open::OpenSteps;
+use crate::subject::Subject;
+use cert_bytes::StepRow;
+use expr_dag::Dag;
+use facts::{Fact, Slot, meet, slot, stronger};
+use fx_model::{ExprId, Node};
+use interval::Interval;
+use std::alloc::AllocError;
+use theorem_list::conclude;
+
+// Whether each node of the fact is in the list.
+fn are_known(nodes: &Dag, fact: &Fact) -> bool
+    ensures { IsTrue result ↔ spec.AreKnown nodes.now fact.now }
+{
+    match *fact {
+        Fact::Bnd(x, _) => nodes.knows(x),
+        Fact::Abs(x, _) => nodes.knows(x),
+        Fact::Rel(x, y, _) => nodes.knows(x) && nodes.knows(y),
+        Fact::Fix(x, _) => nodes.knows(x),
+        Fact::Nzr(x) => nodes.knows(x),
+        Fact::Void => true,
+    }
+}
+
+// The whole line for an expression, where it is a variable.
+fn variable_fact(nodes: &Dag, x: ExprId) -> Option<Fact>
+    ensures { result ≡ spec.variable_fact x (spec.node_of nodes.now x) }
+{
+    match nodes.get(x) {
+        Some(Node::Var(_)) => Some(Fact::Bnd(x, Interval::whole())),
+        _ => None,
+    }
+}
+
+fn or_else(first: Option<Fact>, second: Option<Fact>) -> Option<Fact>
+    ensures { result ≡ spec.or_else first second }
+{
+    match first {
+        Some(fact) => Some(fact),
+        None => second,
+    }
+}
+
+// The whole line for the first variable of the fact.
+fn whole_line(nodes: &Dag, fact: &Fact) -> Option<Fact>
+    ensures { result ≡ spec.whole_line nodes.now fact.now }
+{
+    match *fact {
+        Fact::Bnd(x, _) => variable_fact(nodes, x),
+        Fact::Abs(x, _) => variable_fact(nodes, x),
+        Fact::Rel(x, y, _) => or_else(variable_fact(nodes, x), variable_fact(nodes, y)),
+        Fact::Fix(x, _) => variable_fact(nodes, x),
+        Fact::Nzr(x) => variable_fact(nodes, x),
+        Fact::Void => None,
+    }
+}
+
+// The slot that the rule's conclusion is wanted on.
+fn target_of(fact: &Fact, with: Option<Fact>) -> Slot
+    ensures { result ≡ spec.target_of fact.now with }
+{
+    match (*fact, with) {
+        (Fact::Void, Some(other)) => slot(&other),
+        _ => slot(fact),
+    }
+}
+
+fn without(premises: &[Fact], fact: Option<Fact>) -> Option<Fact>
+    ensures { result ≡ spec.without premises.now fact }
+{
+    if premises.is_empty() { fact } else { None }
+}
+
+fn only_for(arg: u16, fact: Option<Fact>) -> Option<Fact>
+    ensures { result ≡ spec.only_for arg fact }
+{
+    if arg == 0 { fact } else { None }
+}
+
+// What the step's rule gives.
+fn gives(
+    subject: &Subject,
+    case: usize,
+    nodes: &Dag,
+    piece: Option<Fact>,
+    row: &StepRow,
+    premises: &[Fact],
+    with: Option<Fact>,
+) -> Option<Fact>
+    ensures { result ≡ spec.gives (record { facts = spec.case_facts subject.now.cases case; hints = subject.now.hints; nodes = nodes.now; piece = piece }) row.now premises.now with }
+{
+    if row.rule == 100 {
+        return without(premises, hypothesis(subject.facts(case), row.arg));
+    }
+    if row.rule == 101 {
+        return without(premises, only_for(row.arg, whole_line(nodes, &row.fact)));
+    }
+    if row.rule == 102 {
+        return without(premises, only_for(row.arg, piece));
+    }
+    let target = target_of(&row.fact, with);
+    conclude(
+        nodes,
+        subject.hints.as_slice(),
+        row.rule,
+        row.arg,
+        premises,
+        target,
+    )
+}
+
+fn hypothesis(facts: &[Fact], arg: u16) -> Option<Fact>
+    ensures { result ≡ spec.fact_of facts.now arg }
+{
+    facts.get(usize::from(arg)).copied()
+}
+
+fn met_with(given: Option<Fact>, with: Option<Fact>) -> Option<Fact>
+    ensures { result ≡ spec.met_with given with }
+{
+    match (given, with) {
+        (None, _) => None,
+        (Some(fact), None) => Some(fact),
+        (Some(fact), Some(other)) => meet(&fact, &other),
+    }
+}
+
+fn is_enough(given: Option<Fact>, fact: &Fact) -> bool
+    ensures { IsTrue result ↔ spec.IsEnough given fact.now }
+{
+    match given {
+        Some(conclusion) => stronger(&conclusion, fact),
+        None => false,
+    }
+}
+
+/// Whether the stated fact is no stronger than what the rule gives from these premises, met with the fact that is cited for that.
+pub fn is_concluded(
+    subject: &Subject,
+    case: usize,
+    nodes: &Dag,
+    piece: Option<Fact>,
+    row: &StepRow,
+    premises: &[Fact],
+    with: Option<Fact>,
+) -> bool
+    ensures { IsTrue result ↔ Concludes (record { facts = spec.case_facts subject.now.cases case; hints = subject.now.hints; nodes = nodes.now; piece = piece }) row.now premises.now with }
+{
+    if !are_known(nodes, &row.fact) {
+        return false;
+    }
+    let given = gives(subject, case, nodes, piece, row, premises, with);
+    is_enough(met_with(given, with), &row.fact)
+}
+
+/// The facts of the premises, one after the other; false exactly where one of them can't be cited.
+pub fn premise_facts(
+    steps: &OpenSteps,
+    numbers: &[u64],
+    premises: &mut Vec<Fact>,
+) -> Result<bool, AllocError>
+    ensures { IfOk result (Found (spec.step_facts steps.now.rows numbers.now) premises.new.items) }
+{
+    premises.clear();
+    let mut left = numbers;
+    while let [number, later @ ..] = left {
+        let Some(fact) = steps.find(*number) else {
+            return Ok(false);
+        };
+        premises.push(fact)?;
+        left = later;
+    }
+    Ok(true)
+}
+
+// Whether the stated fact and the one that it is met with are on one slot, or one is VOID.
+pub fn is_like(fact: &Fact, with: Option<Fact>) -> bool
+    ensures { IsTrue result ↔ IsLike fact.now with }
+{
+    match with {
+        None => true,
+        Some(other) => meet(fact, &other).is_some(),
+    }
+}
+
+// What the step is met with, if anything; None where it can't be cited.
+pub fn with_fact(steps: &OpenSteps, with: Option<u64>) -> Option<Option<Fact>>
+    ensures { MatchOption result ((f : Option Fact) → ¬ IsMetWith steps.now.rows with f) (λ f. IsMetWith steps.now.rows with f) }
+{
+    match with {
+        None => Some(None),
+        Some(number) => match steps.find(number) {
+            None => None,
+            Some(fact) => Some(Some(fact)),
+        },
+    }
+}

@@ -1,0 +1,38 @@
+//! What acceptance promises, for callers to cite. Nothing here is done at run time.
+ghost use Rattle.cert_checker.specs.Accepted.{HaveOneRoot};
+ghost use Rattle.cert_checker.specs.Met.{HoldsOverCertificates, AcceptedHolds};
+ghost use Rattle.cert_checker.specs.Outcomes.{ComesOnce, CheckedHolds};
+ghost use Rattle.cert_checker.specs.Once.{JudgedOnce, LeadsOnce, LeadsOrFails, FailsOnce};
+
+use expr_dag::values_stay;
+use goals::{lines_hold, settling_facts};
+use theorem_list::conclusions_are_sound;
+
+/// Nothing is done. The clauses tell a caller that the lines of an accepted certificate hold of every assignment that meets
+/// the subject: of which the rows of its hints are true, and the facts of one of its cases hold. The last speaks of bytes that
+/// are accepted.
+pub fn accepted_lines_hold()
+    ensures certificate { HoldsOverCertificates }
+    ensures script { AcceptedHolds }
+    ensures bytes { CheckedHolds }
+{
+    lines_hold();
+    settling_facts();
+    conclusions_are_sound();
+    values_stay();
+}
+
+/// Nothing is done. The clauses tell a caller that each item is judged in one way: items lead to one context or have one first
+/// fault, and never both.
+pub fn items_are_judged_once()
+    ensures judged { JudgedOnce }
+    ensures leads { LeadsOnce }
+    ensures apart { LeadsOrFails }
+    ensures fails { FailsOnce }
+    ensures bytes { ComesOnce }
+{}
+
+/// Nothing is done. The clause tells a caller that a certificate has one root section.
+pub fn one_root_section()
+    ensures { HaveOneRoot }
+{}

@@ -1,0 +1,18 @@
+//! The checker of certificates: which items are accepted, and the lines that they show.
+#![tactic(auto)]
+
+mod chain;
+mod conclude;
+mod cuts;
+mod fault;
+mod judge;
+mod laws;
+mod lines;
+mod nodes;
+mod open;
+mod subject;
+
+pub use chain::Chain;
+pub use fault::{CheckFault, TakeStop};
+pub use laws::{accepted_lines_hold, items_are_judged_once, one_root_section};
+pub use subject::Subject;
