@@ -1,12 +1,10 @@
 -- What is answered to a script, from what its boxes come to.
 use Rattle.std.specs.Prelude.{◌≡◌, ℕ, List, length}
-use Rattle.std.proofs.Common.{sym, ◌∙◌, ap, subst}
+use Rattle.std.proofs.Common.{◌∙◌, ap, subst}
 use Rattle.std.proofs.lemmas.List.FromFn.{length-map-range_with_len}
-use Rattle.fx_model.specs.Expression.{Assignment}
 use Rattle.facts.specs.declared.hint.HintMark.{HintMark}
 use Rattle.goals.specs.declared.line.Line.{Line}
 use Rattle.script_grammar.specs.Spells.{View, Spells, GoalsHaveSpans}
-use Rattle.script_meets.specs.Meets.{Meets}
 use Rattle.rewrite_hints.specs.Marks.{AreMarks}
 use Rattle.universe.specs.Universes.{IsUniverse, IsTooLarge}
 use Rattle.rule_universe.specs.Worlds.{World}

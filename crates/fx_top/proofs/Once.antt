@@ -1,11 +1,9 @@
 -- One answer is defined for a text.
 use Rattle.std.specs.Prelude.{◌⊎◌}
 use Rattle.std.proofs.Common.{◌≡◌, ◌≢◌, inl, inr, ℕ, List, Option, Some, None, refl, sym, ap, ◌∙◌, subst}
-use Rattle.facts.specs.declared.hint.HintMark.{HintMark}
 use Rattle.goals.specs.declared.line.Line.{Line}
-use Rattle.script_judge.specs.declared.refusal.Refusal.{Refusal}
 use Rattle.script_judge.specs.First.{FirstsAreUnique}
-use Rattle.script_grammar.specs.Spells.{View, Spells, IsRefused, SpellsOnce, NeverBoth}
+use Rattle.script_grammar.specs.Spells.{View, Spells, SpellsOnce, NeverBoth}
 use Rattle.rewrite_hints.specs.Marks.{AreMarks}
 use Rattle.universe.specs.OneMark.{MarksAreOne}
 use Rattle.settler.specs.Answers.{Options, Answer, expr_limit, box_limit, unproved, proved, IsScriptAnswer, AnswersAreOne, HasTooManyExpressions, HasTooManyBoxes, plan_of}

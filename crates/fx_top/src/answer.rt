@@ -1,5 +1,5 @@
 // The status and the lines for a text.
-ghost use Rattle.std.specs.Prelude.{◌≡◌, ◌≤◌, IfOk};
+ghost use Rattle.std.specs.Prelude.{◌≤◌, IfOk};
 ghost use Rattle.universe.specs.Universes.{IsUniverse, IsTooLarge};
 ghost use Rattle.fx_top.specs.Answers.{ProvePrints, options_from};
 

@@ -1,15 +1,8 @@
-use Rattle.std.proofs.Common.{◌≡◌, sym, ap, ◌∙◌, subst, rules, inr, length}
-use Rattle.goals.specs.declared.line.Line.{Line}
-use Rattle.script_claims.specs.declared.claim.Claim.{Claim}
+use Rattle.std.proofs.Common.{◌≡◌, subst, rules, inr, length}
 use Rattle.script_truths.specs.Truths.{HasUniverse}
-use Rattle.bisect.specs.declared.outcome.Leaf.{Leaf}
-use Rattle.bisect.specs.declared.outcome.Outcome.TheVariants as outcome
 use Rattle.bisect.specs.Gathered.{lines_of}
 use Rattle.settler.specs.Answers.{Options, ComesTo, plan_of}
 use Rattle.report.specs.Proved.{answer_text}
-use Rattle.rewrite_hints.specs.Marks.{AreMarks}
-use Rattle.box_tree.specs.Regions.{PlanParts}
-use Rattle.box_tree.specs.Root.{plan_by}
 use Rattle.fx_top.specs.Answers.{options_from}
 use Rattle.fx_top.proofs.Answered.{comes_to, answered}
 use Rattle.fx_top.proofs.answer.tree_answer.Goals as goal

@@ -1,4 +1,4 @@
-use Rattle.std.proofs.Common.{◌≡◌, Err, ap, subst, rules}
+use Rattle.std.proofs.Common.{Err, ap, subst, rules}
 use Rattle.command_line.specs.Reading.{asked_of}
 use Rattle.fx_top.specs.Answers.{ProvePrints, options_of}
 use Rattle.fx_top.specs.Outside.{IsText}
