@@ -1,4 +1,4 @@
-//! Measures by the clock: the time of one operation, of one rule, of the reading of a text, and of a hint.
+//! Measures by the clock: the time of one operation, of one rule, of the reading of a text, of a hint, and of whole runs.
 //!
 //! The one argument names the measure. Nothing is asserted of a figure.
 #![tactic(auto)]
@@ -7,6 +7,7 @@ mod filled;
 mod hints;
 mod numbers;
 mod operations;
+mod proving;
 mod reading;
 mod rules;
 mod scripts;
@@ -27,7 +28,8 @@ fn measure(rt: &(impl Clock + Print + AllocGlobal), name: &str, text: Option<&st
         "words" => texts::measure(rt),
         "parse" => scripts::measure(rt, text),
         "hint" => hints::measure(rt),
-        _ => Ok(println!(rt; "measures: product, sum, quotient, rule, words, parse, hint")?),
+        "prove" => proving::measure(rt),
+        _ => Ok(println!(rt; "measures: product, sum, quotient, rule, words, parse, hint, prove")?),
     }
 }
 

@@ -1,0 +1,61 @@
+//! The time of whole runs of the program, over a file and output in memory.
+
+use anyhow::Result;
+use fx_edge::{OpenGate, SureFolder, SureSink};
+use fx_top::{Status, fx_run};
+use std::alloc::{AllocError, Global};
+use std::rt::Clock;
+use std::time::Instant;
+
+/// How often a script is proved. The least time counts.
+const TURNS: u32 = 5;
+
+/// Linear interpolation with 15 fraction bits and a truncated product.
+const SMALL: &str =
+    "@q = fixed<-15,dn>; d q= b - a; p q= d * t; r q= a + p; Mr = a + (b - a) * t; { @FIX(a,-15) /\\ @FIX(b,-15) /\\ @FIX(t,-15) /\\ a in [0,1] /\\ b in [0,1] /\\ t in [0,1] -> r in ? /\\ r - Mr in ? }";
+
+/// A polynomial of degree 12 whose operations are rounded, against exact arithmetic, over 64 pieces: 65 boxes of 3,471 instances.
+const LARGE: &str =
+    "@q = fixed<-12,dn>;\ny q= (((((((((((7b-6 * x + 34b-6) * x + 61b-6) * x + 24b-6) * x + 51b-6) * x + 14b-6) * x + 41b-6) * x + 4b-6) * x + 31b-6) * x + 58b-6) * x + 21b-6) * x + 48b-6) * x + 11b-6;\nMy = (((((((((((7b-6 * x + 34b-6) * x + 61b-6) * x + 24b-6) * x + 51b-6) * x + 14b-6) * x + 41b-6) * x + 4b-6) * x + 31b-6) * x + 58b-6) * x + 21b-6) * x + 48b-6) * x + 11b-6;\n{ x in [0,1] -> y - My in ? }\n$ x in 64;";
+
+// The words, as texts of their own.
+fn words_of(alloc: Global, words: &[&str]) -> Result<Vec<String>, AllocError> {
+    let mut all = Vec::new(alloc);
+    for word in words {
+        all.push(String::from_str(alloc, *word)?)?;
+    }
+    Ok(all)
+}
+
+fn folder_with(alloc: Global, text: &str) -> Result<SureFolder, AllocError> {
+    let mut files = Vec::new(alloc);
+    files.push((
+        String::from_str(alloc, "a")?,
+        text.as_bytes().to_vec(alloc)?,
+    ))?;
+    SureFolder::new(alloc, files, 4096)
+}
+
+// The least time of a run in microseconds, and how it ended.
+fn least_time(rt: &(impl Clock + AllocGlobal), text: &str) -> Result<(u128, Status)> {
+    let words = words_of(rt.alloc(), &["prove", "a", "--rounds", "64"])?;
+    let mut least = u128::MAX;
+    let mut last = Status::OutOfMemory;
+    for _ in 0..TURNS {
+        let mut folder = folder_with(rt.alloc(), text)?;
+        let mut out = SureSink::new(rt.alloc(), 4096)?;
+        let start = Instant::now(rt)?;
+        last = fx_run(rt.alloc(), &words, &mut folder, &mut out, &OpenGate);
+        least = least.min(start.elapsed(rt)?.as_micros());
+    }
+    Ok((least, last))
+}
+
+/// Prints the time of a run of `prove` on a script of a few lines and on one of 65 boxes, with 64 rounds.
+pub fn measure(rt: &(impl Clock + Print + AllocGlobal)) -> Result<()> {
+    for (name, text) in [("small", SMALL), ("65 boxes", LARGE)] {
+        let (least, last) = least_time(rt, text)?;
+        println!(rt; "prove: {least} us for {name} ({last:?})")?;
+    }
+    Ok(())
+}
