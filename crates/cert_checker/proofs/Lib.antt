@@ -10,6 +10,10 @@ pub mod OverScripts
 pub mod Once
 pub mod OutcomesOnce
 pub mod ReadItems
+pub mod Order
+pub mod Turns
+pub mod Spelled
+pub mod Exact
 pub mod Roots
 pub mod Find
 pub mod Premises

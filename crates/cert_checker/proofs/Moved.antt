@@ -23,7 +23,7 @@ use Rattle.goals.specs.declared.line.Line.{Line}
 use Rattle.goals.specs.declared.line.Line.TheVariants as line
 use Rattle.goals.specs.Lies.{OfBoth}
 use Rattle.goals.specs.Holds.{LineHolds}
-use Rattle.cert_checker.specs.Met.{SlotIsAmong, NeedIsAmong, RowIsAmong, LinesHold}
+use Rattle.cert_checker.specs.Met.{SlotIsAmong, NeedIsAmong, RowIsAmong, GoalHolds, LinesHold}
 
 -- the first n expressions have the same values
 abbrev pub AreSame : ℕ → List Node → List Node → Assignment → Type 0
@@ -79,9 +79,17 @@ module _ (n : ℕ) (ns ms : List Node) (a : Assignment) (same : AreSame n ns ms 
   line_moved slot.Void line.None l h = absurd h
   line_moved s line.Empty l h = absurd h
 
+  goal_moved : (g : Goal) (l : Line) → SlotIsAmong n g.of → GoalHolds ns a g l → GoalHolds ms a g l
+  goal_moved g l named h = record {
+    line = line_moved g.of l named h.line;
+    fact = h.fact;
+    settles = h.settles;
+    holds = fact_moved h.fact (subst (SlotIsAmong n) (sym h.settles.0) named) h.holds;
+  }
+
   pub lines_moved : (goals : List Goal) (lines : List Line) → AllByRecursion (λ (g : Goal). SlotIsAmong n g.of) goals → LinesHold ns a goals lines → LinesHold ms a goals lines
   lines_moved [] [] l h = tt
-  lines_moved (g ∷ goals) (line ∷ lines) l h = (line_moved g.of line l.0 h.0, lines_moved goals lines l.1 h.1)
+  lines_moved (g ∷ goals) (line ∷ lines) l h = (goal_moved g line l.0 h.0, lines_moved goals lines l.1 h.1)
   lines_moved [] (line ∷ lines) l h = absurd h
   lines_moved (g ∷ goals) [] l h = absurd h
 

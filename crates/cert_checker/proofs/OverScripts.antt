@@ -15,7 +15,7 @@ use Rattle.cert_bytes.specs.Reading.{Cursor}
 use Rattle.cert_checker.specs.Contexts.{Context, first}
 use Rattle.cert_checker.specs.declared.subject.Subject.{Subject}
 use Rattle.cert_checker.specs.Steps.{case_facts}
-use Rattle.cert_checker.specs.Met.{SlotIsAmong, NamesNodes, MeetsOver, Meets, LinesHold, AcceptedHolds}
+use Rattle.cert_checker.specs.Met.{SlotIsAmong, NamesNodes, MeetsOver, Meets, LinesHold, AcceptedHolds, InOrderHolds}
 use Rattle.cert_checker.specs.Accepted.{LeadsTo, AreInOrder}
 use Rattle.cert_checker.specs.After.{after}
 use Rattle.cert_checker.specs.Outcomes.{accepted, Comes, CheckedHolds}
@@ -55,12 +55,15 @@ shown_hold_of_scripts laws sound stay s items end due leads all ordered names a 
     } in
     lines_moved (length s.nodes) ns s.nodes a (turned (length s.nodes) s.nodes ns a same) s.goals end.lines names.goals (shown_hold laws sound s items end due leads all a ordered over)
 
+pub in_order_holds : LineLaws → AreSound → ValuesStay → InOrderHolds
+in_order_holds laws sound stay s items end one ordered names due leads a meets = shown_hold_of_scripts laws sound stay s items end due leads (have_one_root s items end due leads ∙ sym one) ordered names a meets
+
 pub accepted_holds : LineLaws → AreSound → ValuesStay → AcceptedHolds
 accepted_holds laws sound stay s items lines ordered names acc a meets =
     subst (LinesHold s.nodes a s.goals) acc.shown (shown_hold_of_scripts laws sound stay s items acc.end (in_order (Some Head) items acc.certificate) acc.leads acc.cases ordered names a meets)
 
 -- items that are read and taken to the end are in order
-come_in_order : (s : Subject) (d : Due) (p : Cursor) (c end : Context) (items : List Item) → Comes s d p c items (accepted end) → AreInOrder (Some d) items × LeadsTo s c items end
+pub come_in_order : (s : Subject) (d : Due) (p : Cursor) (c end : Context) (items : List Item) → Comes s d p c items (accepted end) → AreInOrder (Some d) items × LeadsTo s c items end
 come_in_order s d p c end [] h = (h.0, h.1)
 come_in_order s d p c end (i ∷ items) h =
     let next = read_is_due d p h.0 i h.1.0 h.1.1 in
@@ -70,5 +73,4 @@ come_in_order s d p c end (i ∷ items) h =
 pub checked_holds : LineLaws → AreSound → ValuesStay → CheckedHolds
 checked_holds laws sound stay s p end one ordered names comes a meets =
     let t = come_in_order s Head p (first s) end comes.0 comes.1 in
-    let root = have_one_root s comes.0 end t.0 t.1 in
-    shown_hold_of_scripts laws sound stay s comes.0 end t.0 t.1 (root ∙ sym one) ordered names a meets
+    in_order_holds laws sound stay s comes.0 end one ordered names t.0 t.1 a meets

@@ -51,7 +51,7 @@ module _ (P : Item → Type 0) where
 abbrev pub IsNext : Due → Item → Type 0
 IsNext d i = due_after d i ≡ Some (due_behind d i)
 
-first_of_root : (i : Item) → IsOfSection i → IsNext (Marks zero) i
+pub first_of_root : (i : Item) → IsOfSection i → IsNext (Marks zero) i
 first_of_root (item.Step s) h = refl
 first_of_root (item.Cut x ps) h = refl
 first_of_root (item.Leaf refs) h = refl
@@ -65,7 +65,7 @@ first_of_root item.End h = absurd h
 later : (w n m : ℕ) → m ≡ w + n → Some (Sections m) ≡ Some (split_into n (Sections (suc w)))
 later w n m e = let z : (suc w == 0) ≡ false = grind arith in let f : m ≡ (suc w - 1) + n = omega (arith, e) in rw z (ap (λ k. Some (Sections k)) f)
 
-of_section : (w : ℕ) (i : Item) → IsOfSection i → IsNext (Sections (suc w)) i
+pub of_section : (w : ℕ) (i : Item) → IsOfSection i → IsNext (Sections (suc w)) i
 of_section w (item.Step s) h = later w 1 (suc w) (omega arith)
 of_section w (item.Cut x ps) h = later w (length ps + 1) (w + (length ps + 1)) refl
 of_section w (item.Leaf refs) h = later w 0 w (omega arith)
@@ -76,10 +76,10 @@ of_section w (item.Marks n) h = absurd h
 of_section w (item.Mark m) h = absurd h
 of_section w item.End h = absurd h
 
-a_node : (k : ℕ) → Some (Nodes k) ≡ Some (behind_node (Nodes (suc k)))
+pub a_node : (k : ℕ) → Some (Nodes k) ≡ Some (behind_node (Nodes (suc k)))
 a_node k = let z : (suc k == 0) ≡ false = grind arith in let f : k ≡ suc k - 1 = omega arith in rw z (ap (λ n. Some (Nodes n)) f)
 
-a_mark : (k : ℕ) → Some (Marks k) ≡ Some (behind_mark (Marks (suc k)))
+pub a_mark : (k : ℕ) → Some (Marks k) ≡ Some (behind_mark (Marks (suc k)))
 a_mark k = let z : (suc k == 0) ≡ false = grind arith in let f : k ≡ suc k - 1 = omega arith in rw z (ap (λ n. Some (Marks n)) f)
 
 at_zero : (P : Item → Type 0) (n : ℕ) (r t : Read Item) → n ≡ 0 → Gives P r → Gives P (if n == 0 then r else t)

@@ -44,7 +44,7 @@ module _ (laws : LineLaws) (nodes : List Node) (a : Assignment) where
   pub kept_lines : (steps : List Citable) (goals : List Goal) (lines : List Line) (refs : List ℕ) → LinesHold nodes a goals lines → LinesHold nodes a goals (lines_with steps lines refs)
   kept_lines steps [] [] refs h = h
   kept_lines steps (g ∷ goals) (l ∷ lines) [] h = h
-  kept_lines steps (g ∷ goals) (l ∷ lines) (r ∷ refs) h = (kept_cited g.of l (step_fact steps r) h.0, kept_lines steps goals lines refs h.1)
+  kept_lines steps (g ∷ goals) (l ∷ lines) (r ∷ refs) h = (record { line = kept_cited g.of l (step_fact steps r) h.0.line; fact = h.0.fact; settles = h.0.settles; holds = h.0.holds }, kept_lines steps goals lines refs h.1)
   kept_lines steps [] (l ∷ lines) refs h = absurd h
   kept_lines steps (g ∷ goals) [] refs h = absurd h
 
@@ -57,7 +57,8 @@ module _ (laws : LineLaws) (nodes : List Node) (a : Assignment) where
   new_lines steps holds [] [] [] n s = tt
   new_lines steps holds (g ∷ goals) (l ∷ lines) (r ∷ refs) n s =
       let P : Option Fact → Type 0 = λ o. LineHolds nodes a g.of (with_cited l o) in
-      (subst P (sym s.0.1) (new_line g l s.0.0 s.0.2 (holds r s.0.0 s.0.1)), new_lines steps holds goals lines refs n s.1)
+      let held = holds r s.0.0 s.0.1 in
+      (record { line = subst P (sym s.0.1) (new_line g l s.0.0 s.0.2 held); fact = s.0.0; settles = s.0.2; holds = held }, new_lines steps holds goals lines refs n s.1)
   new_lines steps holds [] [] (r ∷ refs) n s = absurd s
   new_lines steps holds (g ∷ goals) (l ∷ lines) [] n s = absurd s
   new_lines steps holds [] (l ∷ lines) refs n s = absurd n

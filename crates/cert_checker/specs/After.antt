@@ -1,10 +1,11 @@
 -- What an item that nothing is wrong with makes of the context.
-use Rattle.std.specs.Prelude.{◌≤◌, ◌+◌, ℕ, Bool, true, false, List, [], ◌∷◌, ◌++◌, length, take, nat_lt, if◌then◌else◌, Option, Some, None}
+use Rattle.std.specs.Prelude.{◌≤◌, ◌+◌, ℕ, Bool, false, List, [], ◌∷◌, ◌++◌, length, take, nat_lt, if◌then◌else◌, Option, Some, None}
 use Rattle.facts.specs.declared.fact.Fact.{Fact}
 use Rattle.fx_model.specs.declared.ExprId.{ExprId}
 use Rattle.dyadic.specs.declared.number.Dyadic.{Dyadic}
 use Rattle.cert_bytes.specs.declared.item.Item.{Item}
 use Rattle.cert_bytes.specs.declared.item.Item.TheVariants as item
+use Rattle.cert_bytes.specs.Due.{is_end}
 use Rattle.goals.specs.declared.line.Line.{Line}
 use Rattle.goals.specs.Joined.{joined}
 use Rattle.cert_checker.specs.declared.open.Citable.{Citable}
@@ -80,10 +81,6 @@ changed_by c (item.Cut x ps) = record c { section = c.section + 1; cuts = new_cu
 changed_by c (item.Leaf refs) = behind (record c { lines = lines_with c.steps c.lines refs })
 changed_by c (item.Dead r) = behind c
 changed_by c item.End = c
-
-abbrev pub is_end : Item → Bool
-is_end item.End = true
-is_end _ = false
 
 -- the context behind the item
 abbrev pub after : Context → Item → Context

@@ -8,4 +8,6 @@ pub mod Accepted
 pub mod Met
 pub mod Once
 pub mod Standing
+pub mod Stops
 pub mod Outcomes
+pub mod Checking

@@ -1,5 +1,5 @@
 -- What meets a subject, and what the lines of an accepted certificate say of it.
-use Rattle.std.specs.Prelude.{◌<◌, ⊤, ℕ, List, [], ◌∷◌, length}
+use Rattle.std.specs.Prelude.{◌≡◌, ◌<◌, ⊤, ℕ, List, [], ◌∷◌, length, Some}
 use Rattle.std.specs.List.{AllByRecursion}
 use Rattle.fx_model.specs.Expression.{Assignment, IsOrdered}
 use Rattle.fx_model.specs.declared.ExprId.{ExprId}
@@ -15,11 +15,14 @@ use Rattle.facts.specs.Order.{slot_of}
 use Rattle.theorem_list.specs.Promises.{RowsAreTrue}
 use Rattle.goals.specs.declared.goal.Goal.{Goal}
 use Rattle.goals.specs.declared.line.Line.{Line}
+use Rattle.goals.specs.Settles.{Settles}
 use Rattle.goals.specs.Holds.{LineHolds}
 use Rattle.cert_bytes.specs.declared.item.Item.{Item}
+use Rattle.cert_bytes.specs.declared.order.Due.TheVariants.{Head}
 use Rattle.cert_checker.specs.declared.subject.Subject.{Subject}
 use Rattle.cert_checker.specs.Steps.{case_facts}
-use Rattle.cert_checker.specs.Accepted.{Accepts}
+use Rattle.cert_checker.specs.Contexts.{Context, first}
+use Rattle.cert_checker.specs.Accepted.{LeadsTo, AreInOrder, Accepts}
 
 -- ---- what a subject names
 
@@ -64,10 +67,17 @@ pub record MeetsOver (nodes : List Node) (s : Subject) (a : Assignment) : Type 0
 abbrev pub Meets : Subject → Assignment → Type 0
 Meets s a = MeetsOver s.nodes s a
 
--- Each line says something true of its goal.
+-- The line says something true of its goal, and a fact that settles the goal holds.
+pub record GoalHolds (nodes : List Node) (a : Assignment) (g : Goal) (l : Line) : Type 0 where
+  pub line : LineHolds nodes a g.of l
+  pub fact : Fact
+  pub settles : Settles g fact
+  pub holds : Holds nodes a fact
+
+-- This is so of each goal and its line.
 abbrev pub LinesHold : List Node → Assignment → List Goal → List Line → Type 0
 LinesHold nodes a [] [] = ⊤
-LinesHold nodes a (g ∷ goals) (l ∷ lines) = LineHolds nodes a g.of l × LinesHold nodes a goals lines
+LinesHold nodes a (g ∷ goals) (l ∷ lines) = GoalHolds nodes a g l × LinesHold nodes a goals lines
 LinesHold nodes a _ _ = ⊥
 
 -- ---- what acceptance promises
@@ -80,3 +90,7 @@ HoldsOverCertificates = (s : Subject) (items : List Item) (lines : List Line) (a
 -- Over the script's own nodes: each line of an accepted certificate holds of every assignment that meets the subject, whoever wrote it.
 abbrev pub AcceptedHolds : Type 0
 AcceptedHolds = (s : Subject) (items : List Item) (lines : List Line) → IsOrdered s.nodes → NamesNodes s → Accepts s items lines → (a : Assignment) → Meets s a → LinesHold s.nodes a s.goals lines
+
+-- The same of items in order, whatever the bytes are that spell them.
+abbrev pub InOrderHolds : Type 0
+InOrderHolds = (s : Subject) (items : List Item) (end : Context) → length s.cases ≡ 1 → IsOrdered s.nodes → NamesNodes s → AreInOrder (Some Head) items → LeadsTo s (first s) items end → (a : Assignment) → Meets s a → LinesHold s.nodes a s.goals end.lines

@@ -1,17 +1,21 @@
 -- What comes of a certificate's bytes: they are accepted, or this is the first fault in the order of reading.
-use Rattle.std.specs.Prelude.{◌≡◌, List, [], ◌∷◌, length, Some, None, Ok, Err}
+use Rattle.std.specs.Prelude.{◌≡◌, ◌≤◌, ℕ, List, [], ◌∷◌, length, Option, Some, None, Result, Ok, Err}
 use Rattle.fx_model.specs.Expression.{Assignment, IsOrdered}
 use Rattle.cert_bytes.specs.declared.fault.CertFault.{CertFault}
 use Rattle.cert_bytes.specs.declared.item.Item.{Item}
 use Rattle.cert_bytes.specs.declared.order.Due.{Due}
 use Rattle.cert_bytes.specs.declared.order.Due.TheVariants.{Head, Done}
 use Rattle.cert_bytes.specs.Due.{due_behind}
-use Rattle.cert_bytes.specs.Reading.{Cursor, item_at}
+use Rattle.cert_bytes.specs.Certificates.{SpellsCertificate}
+use Rattle.cert_bytes.specs.Reading.{Cursor, cursor, item_at}
+use Rattle.cert_bytes.specs.ReadOut.{AreBytes}
 use Rattle.cert_checker.specs.declared.fault.CheckFault.{CheckFault}
 use Rattle.cert_checker.specs.declared.subject.Subject.{Subject}
 use Rattle.cert_checker.specs.Contexts.{Context, first}
 use Rattle.cert_checker.specs.Faults.{JudgesItem}
 use Rattle.cert_checker.specs.After.{after}
+use Rattle.cert_checker.specs.Accepted.{Accepts}
+use Rattle.goals.specs.declared.line.Line.{Line}
 use Rattle.cert_checker.specs.Met.{NamesNodes, Meets, LinesHold}
 
 -- All is read and nothing is wrong, with what it comes to; the bytes have a fault; or an item has one.
@@ -42,3 +46,11 @@ ComesOnce = (s : Subject) (p : Cursor) (o other : Outcome) → ComesOf s p o →
 -- Where bytes are accepted, each line holds of every assignment that meets the subject, whoever wrote them.
 abbrev pub CheckedHolds : Type 0
 CheckedHolds = (s : Subject) (p : Cursor) (end : Context) → length s.cases ≡ 1 → IsOrdered s.nodes → NamesNodes s → ComesOf s p (accepted end) → (a : Assignment) → Meets s a → LinesHold s.nodes a s.goals end.lines
+
+-- What comes of bytes from their first one, where they are accepted: they spell a certificate, which is accepted with these lines.
+abbrev pub AcceptedAreSpelled : Type 0
+AcceptedAreSpelled = (s : Subject) (bytes : List ℕ) (end : Context) → AreBytes bytes → length s.cases ≡ 1 → ComesOf s (cursor bytes 0) (accepted end) → (items : List Item) × SpellsCertificate bytes items × Accepts s items end.lines
+
+-- A certificate that is accepted is read and accepted, as far as byte 2^44 isn't asked for.
+abbrev pub SpelledAreAccepted : Type 0
+SpelledAreAccepted = (s : Subject) (bytes : List ℕ) (items : List Item) (lines : List Line) → length bytes ≤ 17592186044416 → SpellsCertificate bytes items → Accepts s items lines → (end : Context) × ComesOf s (cursor bytes 0) (accepted end) × (end.lines ≡ lines)

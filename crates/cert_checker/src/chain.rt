@@ -5,12 +5,12 @@ ghost use Rattle.cert_bytes.specs.declared.item.Item.TheVariants as item;
 ghost use Rattle.cert_bytes.specs.Certificates.{HasSpelling};
 ghost use Rattle.cert_checker.specs.Faults.{IsJudged, JudgesItem};
 ghost use Rattle.cert_checker.specs.Standing.{Standing, begun, Changes, Takes, HasRoom, left};
-ghost use Rattle.cert_checker.specs.After.{is_end};
+ghost use Rattle.cert_bytes.specs.Due.{is_end};
 
 use crate::cuts::Cuts;
 use crate::fault::{CheckFault, TakeStop};
 use crate::judge::{judge_cut, judge_dead, judge_leaf, judge_step};
-use crate::lines::{add_leaf, no_lines};
+use crate::lines::{Lines, add_leaf, no_lines};
 use crate::nodes::{judge_count, judge_mark, judge_marks, take_node};
 use crate::open::{OpenCut, OpenSteps};
 use crate::subject::Subject;
@@ -18,6 +18,7 @@ use cert_bytes::{Item, StepRow};
 use dyadic::Points;
 use expr_dag::Dag;
 use facts::{Fact, HintMark};
+use fx_edge::Items;
 use fx_model::{ExprId, Node};
 use goals::Line;
 use std::alloc::{AllocError, Global};
@@ -132,6 +133,25 @@ impl Chain {
             Some(self.lines.as_slice())
         } else {
             None
+        }
+    }
+
+    /// Whether the last item taken was the end.
+    pub fn is_ended(&self) -> bool
+        ensures { result ≡ self.now.context.ended }
+    {
+        self.ended
+    }
+
+    /// What the leaves show of each goal, with the marks of the subject.
+    pub fn into_lines(self) -> Lines
+        ensures { result ≡ record { rows = self.context.lines; marks = self.subject.marks } }
+    {
+        let Chain { subject, lines, .. } = self;
+        let Subject { marks, .. } = subject;
+        Lines {
+            rows: Items::from_vec(lines),
+            marks,
         }
     }
 

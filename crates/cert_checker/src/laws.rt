@@ -1,19 +1,21 @@
 //! What acceptance promises, for callers to cite. Nothing here is done at run time.
 ghost use Rattle.cert_checker.specs.Accepted.{HaveOneRoot};
-ghost use Rattle.cert_checker.specs.Met.{HoldsOverCertificates, AcceptedHolds};
-ghost use Rattle.cert_checker.specs.Outcomes.{ComesOnce, CheckedHolds};
+ghost use Rattle.cert_checker.specs.Met.{HoldsOverCertificates, AcceptedHolds, InOrderHolds};
+ghost use Rattle.cert_checker.specs.Outcomes.{ComesOnce, CheckedHolds, AcceptedAreSpelled, SpelledAreAccepted};
 ghost use Rattle.cert_checker.specs.Once.{JudgedOnce, LeadsOnce, LeadsOrFails, FailsOnce};
 
+use cert_bytes::certificates_are_spelled_once;
 use expr_dag::values_stay;
 use goals::{lines_hold, settling_facts};
 use theorem_list::conclusions_are_sound;
 
 /// Nothing is done. The clauses tell a caller that the lines of an accepted certificate hold of every assignment that meets
-/// the subject: of which the rows of its hints are true, and the facts of one of its cases hold. The last speaks of bytes that
-/// are accepted.
+/// the subject: of which the rows of its hints are true, and the facts of one of its cases hold; and so does a fact that settles
+/// each goal. The last two speak of items in order, whatever spells them, and of bytes that are accepted.
 pub fn accepted_lines_hold()
     ensures certificate { HoldsOverCertificates }
     ensures script { AcceptedHolds }
+    ensures order { InOrderHolds }
     ensures bytes { CheckedHolds }
 {
     lines_hold();
@@ -36,3 +38,11 @@ pub fn items_are_judged_once()
 pub fn one_root_section()
     ensures { HaveOneRoot }
 {}
+
+/// Nothing is done. The clauses tell a caller that bytes are accepted exactly where they spell a certificate that is accepted.
+pub fn bytes_are_accepted()
+    ensures spelled { AcceptedAreSpelled }
+    ensures accepted { SpelledAreAccepted }
+{
+    certificates_are_spelled_once();
+}

@@ -2,6 +2,7 @@
 #![tactic(auto)]
 
 mod chain;
+mod check;
 mod conclude;
 mod cuts;
 mod fault;
@@ -13,6 +14,8 @@ mod open;
 mod subject;
 
 pub use chain::Chain;
-pub use fault::{CheckFault, TakeStop};
-pub use laws::{accepted_lines_hold, items_are_judged_once, one_root_section};
+pub use check::check_subject;
+pub use fault::{CheckFault, CheckStop, TakeStop};
+pub use laws::{accepted_lines_hold, bytes_are_accepted, items_are_judged_once, one_root_section};
+pub use lines::Lines;
 pub use subject::Subject;

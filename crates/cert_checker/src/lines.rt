@@ -4,9 +4,19 @@ ghost use Rattle.goals.specs.declared.line.Line.TheVariants as line;
 ghost use Rattle.cert_checker.specs.After.{lines_with, with_cited};
 
 use crate::open::OpenSteps;
-use facts::Fact;
+use facts::{Fact, HintMark};
+use fx_edge::Items;
 use goals::{Goal, Line};
 use std::alloc::{AllocError, Global};
+
+/// What an accepted certificate shows.
+#[derive(Debug, Drop)]
+pub struct Lines {
+    /// One for each goal.
+    pub rows: Items<Line>,
+    /// One for each rewriting hint.
+    pub marks: Items<HintMark>,
+}
 
 /// The line of each goal, before any leaf.
 pub fn no_lines(alloc: Global, goals: &[Goal]) -> Result<Vec<Line>, AllocError>
