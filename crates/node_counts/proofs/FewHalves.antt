@@ -1,5 +1,5 @@
 -- A script that the judge lets pass halves few variables: no more numbers than names.
-use Rattle.std.proofs.Common.{◌≡◌, ℕ, ◌+◌, ◌≤◌, ◌<◌, nat_lt, List, [], ◌∷◌, ◌++◌, length, None, Some, Bool, true, false, not, ◌&&◌, ◌||◌, if◌then◌else◌, refl, sym, ap, ◌∙◌, subst, arith, length-append, eq-eqb, ◌⊎◌, inl, inr}
+use Rattle.std.proofs.Common.{◌≡◌, ◌+◌, ◌≤◌, List, [], ◌∷◌, ◌++◌, length, None, Some, Bool, true, false, not, ◌||◌, if◌then◌else◌, refl, sym, ap, ◌∙◌, subst, arith, length-append, eq-eqb, ◌⊎◌, inl, inr}
 use Rattle.std.specs.List.{AllByRecursion, list_any}
 use Rattle.std.specs.Str.{bytes_eq}
 use Rattle.std.proofs.lemmas.Slice.Eq.{bytes_eq-Decides}
@@ -158,7 +158,7 @@ need_list_keeps : (l : NeedList) (x : NeedsSoFar) → Keeps x.0 (with_need_list 
 need_list_keeps (last_need n) x = need_keeps n x
 need_list_keeps (more_needs n l) x = keeps_both (need_keeps n x) (need_list_keeps l (with_need n x))
 
-needs_keep : (n : Needs) (k : Known) → Keeps k (needs_value n k).0
+pub needs_keep : (n : Needs) (k : Known) → Keeps k (needs_value n k).0
 needs_keep always k = keeps_itself k
 needs_keep (provided l) k = need_list_keeps l (k, [])
 

@@ -1,17 +1,15 @@
 -- A script that the judge lets pass has few hints.
-use Rattle.std.proofs.Common.{◌≡◌, ℕ, zero, suc, ◌+◌, ◌≤◌, ◌<◌, nat_lt, List, [], ◌∷◌, ◌++◌, length, None, Bool, true, false, if◌then◌else◌, refl, ap, ◌∙◌, subst, arith, le_trans, le_refl, length-append}
-use Rattle.std.specs.List.{AllByRecursion}
+use Rattle.std.proofs.Common.{◌≡◌, ℕ, ◌+◌, ◌≤◌, nat_lt, List, [], ◌∷◌, length, None, Bool, refl, ap, subst, arith, le_refl}
 use Rattle.std.proofs.lemmas.Bool.{ltb-false}
 use Rattle.script_words.specs.declared.class.Sign.TheVariants as s
 use Rattle.script_words.specs.Words.{sign}
 use Rattle.script_shape.specs.declared.due.Due.TheVariants as d
-use Rattle.script_shape.specs.Tree.{Prop, Formula, single, and, implies, Points, last_point, more_points, Cut, in_four, pieces, at_points, Hint, rewrite, like, split, halving, Hints, no_hint, hint, Script, formula, define}
+use Rattle.script_shape.specs.Tree.{Prop, Formula, single, and, implies, Hints, no_hint, hint, Script, formula, define}
 use Rattle.script_shape.specs.Roles.{Leaf, at, prop_leaves, formula_leaves, hint_leaves, hints_leaves, definition_leaves, script_leaves}
-use Rattle.script_shape.specs.Inner.{EachRole}
 use Rattle.script_judge.specs.declared.counts.Counts.{Counts}
 use Rattle.script_judge.specs.declared.counts.Place.TheVariants as place
 use Rattle.script_judge.specs.Counts.{one_if, begins_hint, place_after}
-use Rattle.script_judge.specs.Judge.{Seen, seen_after, has_arrow, form_refusal, limit_kind, limit_refusal, refusal_at, Judged, nothing_seen}
+use Rattle.script_judge.specs.Judge.{Seen, seen_after, has_arrow, form_refusal, limit_kind, limit_refusal, Judged, nothing_seen}
 use Rattle.node_counts.proofs.Kept.{fails, neither, both_none}
 use Rattle.node_counts.proofs.Passing.{Passes, passes_all, passes_both}
 use Rattle.node_counts.proofs.WordRoles.{IsOfProp, prop_roles, IsOfHint, hint_roles}

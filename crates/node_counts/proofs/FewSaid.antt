@@ -1,5 +1,5 @@
 -- What few hints say is little.
-use Rattle.std.proofs.Common.{◌≡◌, ℕ, ◌+◌, ◌≤◌, ◌<◌, nat_lt, List, [], ◌∷◌, ◌++◌, length, None, Bool, true, false, if◌then◌else◌, refl, arith, length-append}
+use Rattle.std.proofs.Common.{◌≡◌, ℕ, ◌+◌, ◌≤◌, nat_lt, List, [], ◌∷◌, ◌++◌, length, None, Bool, true, false, if◌then◌else◌, refl, arith, length-append}
 use Rattle.std.specs.List.{AllByRecursion}
 use Rattle.std.proofs.lemmas.Bool.{ltb-true}
 use Rattle.dyadic.specs.declared.number.Dyadic.{Dyadic}
@@ -8,8 +8,6 @@ use Rattle.dyadic.specs.declared.number.End.TheVariants as end
 use Rattle.interval.specs.Results.{point_of}
 use Rattle.literal_order.specs.Values.{written_value}
 use Rattle.script_shape.specs.Tree.{Points, last_point, more_points, Cut, in_four, pieces, at_points, Names, last_name, more_names, Halving, halved_by, with_goal, Hint, rewrite, like, split, halving, Hints, no_hint, hint, Script, formula, define}
-use Rattle.script_shape.specs.Roles.{script_leaves}
-use Rattle.script_judge.specs.Judge.{Judged, nothing_seen}
 use Rattle.script_nodes.specs.Known.{Known}
 use Rattle.script_nodes.specs.Operators.{digits_text, number_of}
 use Rattle.script_nodes.specs.Values.{expr_value}

@@ -33,11 +33,11 @@ or_second : (a b : Bool) → b ≡ true → (a || b) ≡ true
 or_second true b h = refl
 or_second false b h = h
 
-more_some : (o : Option Name) (names : List Name) → IsMore names (with_some o names)
+pub more_some : (o : Option Name) (names : List Name) → IsMore names (with_some o names)
 more_some None names text h = h
 more_some (Some n) names text h = or_second (bytes_eq n text) _ h
 
-abbrev SubjectAmong : List Name → Subject → Type 0
+abbrev pub SubjectAmong : List Name → Subject → Type 0
 SubjectAmong names nothing = Unit {0}
 SubjectAmong names (node_of variable) = Among names variable
 SubjectAmong names other = Unit {0}
@@ -208,9 +208,13 @@ split_tests side used bad rangeless defined none point past e =
     let h = neither defined none g.0 in
     (d.0, h.0)
 
--- a split variable that isn't refused was seen, and is no operator's name
-pub split_among : (ops : List Name) (v : Verdict) (seen : Seen) (w : Word) (behind : List Leaf) (text : Name) → refusal_at v seen d.SplitName w behind ≡ None → IsKept ops seen → split_name d.SplitName w ≡ Some text → Among seen.names.known text × (is_among ops text ≡ false)
-split_among ops v seen w behind text e k n =
+-- what holds of a split variable that isn't refused
+record IsSplit (seen : Seen) (text : Name) : Type 0 where
+  plain : is_among seen.names.defined text ≡ false
+  ranged : is_some (range_of seen.splits.ranges text) ≡ true
+
+split_passed : (v : Verdict) (seen : Seen) (w : Word) (behind : List Leaf) (text : Name) → refusal_at v seen d.SplitName w behind ≡ None → split_name d.SplitName w ≡ Some text → IsSplit seen text
+split_passed v seen w behind text e n =
     let named = split_name d.SplitName w in
     let form = both_none (form_refusal v seen d.SplitName w (has_arrow behind) behind) (limit_refusal (seen_after v seen d.SplitName w) d.SplitName w) e in
     let tests = split_tests (is_on_wrong_side d.SplitName w (has_arrow behind) (is_empty behind)) (is_used seen.names (defines d.SplitName w) behind) (is_bad_bound seen.bounds v.number)
@@ -218,4 +222,14 @@ split_among ops v seen w behind text e k n =
     let plain : is_some_among seen.names.defined (Some text) ≡ false = ap (is_some_among seen.names.defined) (sym n) ∙ tests.1 in
     let ranged : is_rangeless seen.splits.ranges (is_some_among seen.names.defined (Some text)) (Some text) ≡ false =
     ap (λ o. is_rangeless seen.splits.ranges (is_some_among seen.names.defined o) o) (sym n) ∙ tests.0 in
-    (ranged_among seen.names.known seen.splits.ranges text k.ranges (has_range (is_among seen.names.defined text) (range_of seen.splits.ranges text) plain ranged), none_more (is_among ops text) (is_among seen.names.defined text) (k.operators text) plain)
+    record { plain = plain; ranged = has_range (is_among seen.names.defined text) (range_of seen.splits.ranges text) plain ranged }
+
+-- it has a range
+pub split_ranged : (v : Verdict) (seen : Seen) (w : Word) (behind : List Leaf) (text : Name) → refusal_at v seen d.SplitName w behind ≡ None → split_name d.SplitName w ≡ Some text → is_some (range_of seen.splits.ranges text) ≡ true
+split_ranged v seen w behind text e n = (split_passed v seen w behind text e n).ranged
+
+-- it was seen, and is no operator's name
+pub split_among : (ops : List Name) (v : Verdict) (seen : Seen) (w : Word) (behind : List Leaf) (text : Name) → refusal_at v seen d.SplitName w behind ≡ None → IsKept ops seen → split_name d.SplitName w ≡ Some text → Among seen.names.known text × (is_among ops text ≡ false)
+split_among ops v seen w behind text e k n =
+    let p = split_passed v seen w behind text e n in
+    (ranged_among seen.names.known seen.splits.ranges text k.ranges p.ranged, none_more (is_among ops text) (is_among seen.names.defined text) (k.operators text) p.plain)

@@ -17,3 +17,10 @@ mod FewSaid
 mod Numbers
 mod FewHalves
 mod FewOrdered
+mod Told
+mod Plain
+mod Subjects
+mod Aliases
+mod BoundRanges
+mod PropRanges
+mod HintRanges

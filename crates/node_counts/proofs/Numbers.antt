@@ -1,11 +1,11 @@
 -- The number of a name stays, whatever is read.
-use Rattle.std.proofs.Common.{◌≡◌, ℕ, List, [], ◌∷◌, ◌++◌, Option, Some, None, Bool, true, false, ◌&&◌, if◌then◌else◌, refl, sym, ap, ◌∙◌, subst}
+use Rattle.std.proofs.Common.{◌≡◌, ℕ, List, [], ◌∷◌, ◌++◌, Option, Some, None, Bool, true, false, if◌then◌else◌, refl, sym, ap, ◌∙◌, subst}
 use Rattle.std.specs.List.{list_any, position_or_len}
 use Rattle.std.specs.Str.{bytes_eq}
 use Rattle.fx_model.specs.declared.Rounding.{Rounding}
 use Rattle.fx_model.specs.declared.ExprId.{ExprId}
 use Rattle.fx_model.specs.declared.Node.{Node}
-use Rattle.fx_model.specs.declared.Node.TheVariants.{Var, Neg, Add, Sub, Mul, Div, Abs, Round}
+use Rattle.fx_model.specs.declared.Node.TheVariants.{Var, Neg, Add, Mul, Abs, Round}
 use Rattle.expr_dag.specs.Nodes.{same_node, place_of, placed, with_node}
 use Rattle.expr_dag.specs.Same.{itself}
 use Rattle.script_shape.specs.Tree.{Expr, term, sum, difference, Term, factor, product, quotient, Factor, negation, atom, Atom, number, variable, parenthesized, absolute, called, rounded, fused}

@@ -3,10 +3,12 @@
 
 ghost use Rattle.node_counts.specs.Counted.{NodesAreCounted};
 ghost use Rattle.node_counts.specs.Few.{HintsAreFew};
+ghost use Rattle.node_counts.specs.Ranges.{SplitsHaveRanges};
 
+use script_bounds::outward_is_least;
 use script_claims::formulas_are_read;
 use script_hints::laws::reads_hints;
-use script_nodes::laws::reads_trees;
+use script_nodes::laws::{literals_are_told, reads_trees};
 use script_shape::shape::{leaves_are_of_trees, roles_are_unique};
 
 /// Nothing is done. The clause tells a caller that a script of a text whose words pass the judge has no more than 512 nodes.
@@ -26,3 +28,12 @@ pub fn nodes_are_counted()
 pub fn hints_are_counted()
     ensures { HintsAreFew }
 {}
+
+/// Nothing is done. The clause tells a caller that in a script whose words pass the judge each variable that a hint splits has a
+/// hypothesis on its node, with two bounds that are finite when they are rounded outward.
+pub fn splits_have_ranges()
+    ensures { SplitsHaveRanges }
+{
+    literals_are_told();
+    outward_is_least();
+}

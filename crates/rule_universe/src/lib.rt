@@ -2,10 +2,13 @@
 //! the instances that take it.
 #![tactic(auto)]
 
+mod flat_rows;
+mod placed;
 mod places;
 mod universe;
 mod users;
 
 pub use facts::Instance;
 pub use goals::Goal;
+pub use placed::Placed;
 pub use universe::Universe;

@@ -1,10 +1,16 @@
 //! A universe, whose lists nothing changes.
 
-ghost use Rattle.std.specs.Prelude.{◌≡◌, ◌≤◌, length, map, IfOk};
+ghost use Rattle.std.specs.Prelude.{◌≡◌, ◌<◌, ◌≤◌, Some, length, slice_get, IfOk};
 ghost use Rattle.fx_model.specs.Expression.{IsOrdered};
-ghost use Rattle.rule_universe.specs.Worlds.{World, IsWhole};
+ghost use Rattle.facts.specs.declared.fact.Slot.{Slot};
+ghost use Rattle.facts.specs.declared.instance.Instance.{Instance};
+ghost use Rattle.rule_universe.specs.Worlds.{World, IsWhole, HasSlot};
+ghost use Rattle.rule_universe.specs.Places.{IsPlace};
+ghost use Rattle.rule_universe.specs.Placed.{ArePlaced, AreTargets};
 ghost use Rattle.rule_universe.specs.Users.{AreUsers};
 
+use crate::flat_rows::{FlatRows, flat_rows};
+use crate::placed::{Placed, known_place, placed_premises, target_places};
 use crate::places::place_of;
 use crate::users::user_rows;
 use expr_dag::Dag;
@@ -29,18 +35,23 @@ pub struct Universe {
     hypotheses: Vec<Fact>,
     hints: Vec<HintRow>,
     instances: Vec<Instance>,
+    // By instance, the place of its target.
+    targets: Vec<u16>,
+    // By instance, its premises with their places.
+    premises: FlatRows<Placed>,
     // By place of a slot, the numbers of the instances that take it.
-    users: Vec<Vec<u32>>,
+    users: FlatRows<u32>,
 }
 
 impl Model for Universe {
-    ghost use Rattle.std.specs.Prelude.{◌≡◌, ◌≤◌, length, map};
+    ghost use Rattle.std.specs.Prelude.{◌≡◌, ◌≤◌, length};
     ghost use Rattle.std.specs.Coded.{codes};
     ghost use Rattle.facts.specs.contracts.fact.Fact as fact_row;
     ghost use Rattle.facts.specs.contracts.hint.HintRow as hint_row;
     ghost use Rattle.goals.specs.contracts.goal.Goal as goal_row;
     ghost use Rattle.facts.specs.contracts.instance.Instance as instance_row;
     ghost use Rattle.rule_universe.specs.Worlds.{World, IsWhole};
+    ghost use Rattle.rule_universe.specs.Placed.{ArePremises, AreTargets};
     ghost use Rattle.rule_universe.specs.Rows.{AreRows};
 
     ghost Value = { World };
@@ -63,7 +74,8 @@ impl Model for Universe {
       hypotheses = u.hypotheses.items;
       hints = u.hints.items;
       instances = u.instances.items;
-    }) × (u.pairs.items ≡ u.index) × AreRows (length u.nodes) u.index u.instances.items (length u.instances.items) (map (λ row. row.items) u.users.items) × (length u.goals.items ≤ 65535) };
+    }) × (u.pairs.items ≡ u.index) × AreRows (length u.nodes) u.index u.instances.items (length u.instances.items) u.users × (length u.goals.items ≤ 65535)
+        × AreTargets (length u.nodes) u.index u.instances.items u.targets.items × ArePremises (length u.nodes) u.index u.instances.items u.premises };
 }
 
 impl Universe {
@@ -84,7 +96,10 @@ impl Universe {
         if goals.len() > MOST_GOALS {
             return Err(AllocError);
         }
-        let users = user_rows(alloc, &nodes, &pairs, &instances)?;
+        let rows = user_rows(alloc, &nodes, &pairs, &instances)?;
+        let users = flat_rows(alloc, &rows)?;
+        let targets = target_places(alloc, &nodes, &pairs, &instances)?;
+        let premises = placed_premises(alloc, &nodes, &pairs, &instances)?;
         let list = pairs.to_vec(alloc)?;
         Ok(Universe {
             nodes,
@@ -94,6 +109,8 @@ impl Universe {
             hypotheses,
             hints,
             instances,
+            targets,
+            premises,
             users,
         })
     }
@@ -140,12 +157,46 @@ impl Universe {
         &self.instances
     }
 
+    /// The place of a slot of the universe: bounds, sizes, multiples, expressions that aren't 0, pairs, and VOID last.
+    pub fn place(&self, s: Slot) -> u16
+        requires { HasSlot self.now s }
+        ensures { IsPlace (length self.now.nodes) self.now.pairs s result }
+    {
+        known_place(&self.nodes, &self.index, s)
+    }
+
+    /// By instance, the place of its target.
+    pub fn targets(&self) -> &[u16]
+        ensures { AreTargets (length self.now.nodes) self.now.pairs self.now.instances result.now }
+    {
+        &self.targets
+    }
+
+    /// The premises of the instance with this number, from 0, with their places.
+    pub fn premises(&self, k: usize) -> &[Placed]
+        requires { k < length self.now.instances }
+        ensures { (i : Instance) → slice_get self.now.instances k ≡ Some i → ArePlaced (length self.now.nodes) self.now.pairs i.premises result.now }
+    {
+        self.premises.row(k)
+    }
+
+    /// The rising numbers, from 0, of the instances that have the slot with this place among their premises.
+    pub fn users_at(&self, place: u16) -> &[u32]
+        ensures { (s : Slot) → IsPlace (length self.now.nodes) self.now.pairs s place → AreUsers self.now.instances s result.now }
+    {
+        if (place as usize) < self.users.len() {
+            self.users.row(place as usize)
+        } else {
+            &[]
+        }
+    }
+
     /// The rising numbers, from 0, of the instances that have the slot among their premises.
     pub fn users(&self, s: Slot) -> &[u32]
         ensures { AreUsers self.now.instances s result.now }
     {
         match place_of(&self.nodes, &self.index, s) {
-            Some(p) => self.users[p].as_slice(),
+            Some(p) => self.users.row(p),
             None => &[],
         }
     }

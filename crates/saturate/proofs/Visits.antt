@@ -2,7 +2,7 @@
 use Rattle.std.specs.Prelude.{◌≡◌, ◌≢◌, ◌⊎◌, ◌<◌, ◌+◌, ℕ, Bool, true, false, List, [], ◌∷◌, ◌++◌, length, Some, None, slice_get, slice_set, Contains, refl}
 use Rattle.std.proofs.Common.{sym, ◌∙◌, ap, subst, inl, inr, arith, rules, get_or, take, drop, add-one, zero, suc}
 use lib.ListN.{replicate}
-use Rattle.std.proofs.lemmas.List.{drop_all, take_all, append-nil}
+use Rattle.std.proofs.lemmas.List.{drop_all, take_all, append-nil, map-append}
 use Rattle.std.proofs.Math.Seq.{take-suc}
 use Rattle.std.proofs.lemmas.List.Elements.{Contains-push, Contains-push_cases, Contains-append_left}
 use Rattle.std.proofs.lemmas.Option.{slice_get_read}
@@ -22,7 +22,9 @@ use Rattle.derivation.specs.Counts.{IsRisen, risen_after}
 use Rattle.derivation.specs.Parts.{conclusion_reads, slot_cases, void_cases, stronger_slot}
 use Rattle.derivation.specs.Ahead.{ahead_skip, ahead_step, ahead_quiet, ahead_next}
 use Rattle.saturate.specs.declared.kept.Table.{Table}
-use Rattle.saturate.specs.Tables.{fact_at, HasPlace}
+use Rattle.rule_universe.specs.declared.placed.Placed.{Placed}
+use Rattle.rule_universe.specs.Placed.{slots_of}
+use Rattle.saturate.specs.Tables.{fact_at, HasPlace, IsFoundAt}
 use Rattle.saturate.specs.Visits.{IsVisit}
 
 -- ---- places
@@ -32,6 +34,13 @@ place_for t k s w h = elim w [ inl e ↦ subst (HasPlace t) (sym e) h | inr v �
 
 pub meet_place : (t : Table) (g c k : Fact) → meet_of g c ≡ Some k → HasPlace t (slot_of c) → HasPlace t (slot_of k)
 meet_place t g c k e h = place_for t k (slot_of c) (elim (IsStronger-slot k c (meet-IsMeet g c k e).right) [ inl v ↦ inr v | inr s ↦ inl s ]) h
+
+-- where what a fact on another's slot, or VOID, finds its place
+found_for : (t : Table) (k : Fact) (s : Slot) (p : ℕ) → (slot_of k ≡ s) ⊎ (k ≡ fact.Void) → IsFoundAt t s p → IsFoundAt t (slot_of k) p
+found_for t k s p w h = elim w [ inl e ↦ subst (λ q. IsFoundAt t q p) (sym e) h | inr v ↦ subst (λ f. IsFoundAt t (slot_of f) p) (sym v) tt ]
+
+pub meet_found : (t : Table) (g c k : Fact) (p : ℕ) → meet_of g c ≡ Some k → IsFoundAt t (slot_of c) p → IsFoundAt t (slot_of k) p
+meet_found t g c k p e h = found_for t k (slot_of c) p (elim (IsStronger-slot k c (meet-IsMeet g c k e).right) [ inl v ↦ inr v | inr s ↦ inl s ]) h
 
 -- the slot of what is kept
 pub meet_slot : (g c k : Fact) → meet_of g c ≡ Some k → (slot_of k ≡ slot_of c) ⊎ (slot_of k ≡ slot.Void)
@@ -59,6 +68,11 @@ pub conclusion_place : (rules : RuleList) → IsOnTargetList rules → (at : At)
 conclusion_place rules on_target at i c t e h =
     let r = conclusion_reads rules at i c e in
     place_for t c i.target (on_target i.rule i.arg r.0 i.target c r.2) h
+
+pub conclusion_found : (rules : RuleList) → IsOnTargetList rules → (at : At) (i : Instance) (c : Fact) (t : Table) (p : ℕ) → conclusion rules at i ≡ Some c → IsFoundAt t i.target p → IsFoundAt t (slot_of c) p
+conclusion_found rules on_target at i c t p e h =
+    let r = conclusion_reads rules at i c e in
+    found_for t c i.target p (on_target i.rule i.arg r.0 i.target c r.2) h
 
 -- ---- the instance with number n
 pub visited_ahead : (u : Setting) (at : At) (next new : Table) (n : ℕ) (i : Instance) → IsAhead u at (fact_at next) (λ j. j < n) → slice_get u.instances n ≡ Some i → IsVisit u.rules at next new i →
@@ -108,6 +122,10 @@ risen_pushed before changed t next new e others r s w =
       | inr d ↦ elim (pushed_cases before changed t s e w) [ inl h ↦ inl (h, others s d) | inr q ↦ absurd (d q) ]
     ]
 
+-- ---- changes, by their slots
+pub slots_pushed : (old new : List Placed) (p : Placed) → new ≡ old ++ p ∷ [] → slots_of new ≡ slots_of old ++ p.slot ∷ []
+slots_pushed old new p e = ap slots_of e ∙ map-append (λ (q : Placed). q.slot) old (p ∷ [])
+
 -- ---- lists by number
 pub item_at : {X : Type 0} (items all : List X) (k : ℕ) (x : X) → items ≡ all → k < length items → x ≡ get_or items k x → slice_get all k ≡ Some x
 item_at items all k x e h r = subst (λ l. slice_get l k ≡ Some x) e (slice_get_read items (length items) k x refl h r)
@@ -130,13 +148,6 @@ set_cases (d ∷ due) zero (suc k) e = inl e
 set_cases (d ∷ due) (suc j) zero e = inl e
 set_cases (d ∷ due) (suc j) (suc k) e = elim (set_cases due j k e) [ inl h ↦ inl h | inr q ↦ inr (ap suc q) ]
 
-pub set_clears : (due : List Bool) (j k : ℕ) → slice_get (slice_set due j false) k ≡ Some true → (slice_get due k ≡ Some true) × (k ≢ j)
-set_clears [] j k e = cc
-set_clears (d ∷ due) zero zero e = cc
-set_clears (d ∷ due) zero (suc k) e = (e, λ q. (let h : 0 ≡ suc k = sym q in omega (arith, h)))
-set_clears (d ∷ due) (suc j) zero e = (e, λ q. omega (arith, q))
-set_clears (d ∷ due) (suc j) (suc k) e = let w = set_clears due j k e in (w.0, λ q. w.1 (omega (arith, q)))
-
 pub set_keeps : (due : List Bool) (j k : ℕ) → slice_get due k ≡ Some true → slice_get (slice_set due j true) k ≡ Some true
 set_keeps [] j k e = e
 set_keeps (d ∷ due) zero zero e = refl
@@ -148,6 +159,11 @@ pub all_true : (n k : ℕ) → slice_get (replicate n true) k ≡ Some false →
 all_true zero k e = cc
 all_true (suc n) zero e = cc
 all_true (suc n) (suc k) e = all_true n k e
+
+pub none_true : (n k : ℕ) → slice_get (replicate n false) k ≡ Some true → ⊥
+none_true zero k e = cc
+none_true (suc n) zero e = cc
+none_true (suc n) (suc k) e = none_true n k e
 
 -- a list that was lent for writing
 pub written_back : {X : Type 0} (xs ys : List X) (n : ℕ) → length xs ≡ length ys → n ≡ length ys → take n (xs ++ drop (length xs) ys) ≡ xs

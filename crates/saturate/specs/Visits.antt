@@ -1,5 +1,5 @@
 -- What one instance does to a table. Only private functions cite these.
-use Rattle.std.specs.Prelude.{◌≡◌, ◌⊎◌, List, Some, None, Contains}
+use Rattle.std.specs.Prelude.{◌≡◌, ◌⊎◌, List, Some, None, length, Contains}
 use Rattle.facts.specs.declared.fact.Fact.{Fact}
 use Rattle.facts.specs.declared.fact.Slot.{Slot}
 use Rattle.facts.specs.declared.fact.Slot.TheVariants as slot
@@ -10,20 +10,26 @@ use Rattle.derivation.specs.Rounds.{conclusion, Improves}
 use Rattle.derivation.specs.Counts.{IsRisen}
 use Rattle.saturate.specs.declared.kept.Table.{Table}
 use Rattle.saturate.specs.Tables.{fact_at}
-use Rattle.saturate.specs.Universes.{World, HasSlot}
+use Rattle.rule_universe.specs.declared.placed.Placed.{Placed}
+use Rattle.rule_universe.specs.Placed.{IsPlaced}
+use Rattle.saturate.specs.Universes.{World}
 
 -- The instance concludes nothing and the second table is the first, or what it concludes came to it.
 abbrev pub IsVisit : RuleList → At → Table → Table → Instance → Type 0
 IsVisit rules at next new i = ((conclusion rules at i ≡ None) × (new ≡ next)) ⊎ ((c : Fact) × (k : Fact) × (conclusion rules at i ≡ Some c) × Improves (fact_at next) (fact_at new) c k)
 
--- The slots that a list of changes gained are the target or VOID.
-abbrev pub GainsTarget : List Slot → List Slot → Slot → Type 0
-GainsTarget before after target = (s : Slot) → Contains after s → Contains before s ⊎ ((s ≡ target) ⊎ (s ≡ slot.Void))
+-- It has the place of its slot, or its slot is VOID.
+abbrev pub IsKnown : World → Placed → Type 0
+IsKnown u p = IsPlaced (length u.nodes) u.pairs p ⊎ (p.slot ≡ slot.Void)
+
+-- What a list of changes gained has its places.
+abbrev pub GainsKnown : World → List Placed → List Placed → Type 0
+GainsKnown u before after = (p : Placed) → Contains after p → Contains before p ⊎ IsKnown u p
 
 -- Each slot of the later list was in the earlier one and has the same fact, or its fact rose.
 abbrev pub RiseOrStay : List Slot → List Slot → At → At → Type 0
 RiseOrStay before after at new = (s : Slot) → Contains after s → (Contains before s × (new s ≡ at s)) ⊎ IsRisen (at s) (new s)
 
--- The slots are the universe's.
-abbrev pub AreSlotsOf : World → List Slot → Type 0
-AreSlotsOf u changed = (s : Slot) → Contains changed s → HasSlot u s
+-- All have their places.
+abbrev pub AreKnown : World → List Placed → Type 0
+AreKnown u changed = (p : Placed) → Contains changed p → IsKnown u p

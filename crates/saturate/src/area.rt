@@ -3,7 +3,8 @@ ghost use Rattle.std.specs.Prelude.{◌≡◌, OnOk, true, replicate};
 ghost use Rattle.saturate.specs.Tables.{IsCopy};
 
 use crate::kept::Table;
-use facts::{Fact, Slot};
+use facts::Fact;
+use rule_universe::Placed;
 use std::alloc::{AllocError, Global};
 
 /// Memory for the rounds of a box, which a thread hands from box to box; so a box asks for its own table alone. What it holds
@@ -15,7 +16,7 @@ pub struct Area {
     // Which instances the round looks at.
     pub(crate) due: Vec<bool>,
     // The slots that the round changed.
-    pub(crate) changed: Vec<Slot>,
+    pub(crate) changed: Vec<Placed>,
     // The premises of one instance.
     pub(crate) premises: Vec<Fact>,
 }

@@ -43,7 +43,7 @@ fn settle_child<L: Ledger>(
     uni.laws();
     rules_are_lawful();
     let mut start = parent.copy(alloc)?;
-    let _changed = improve(&mut start, Fact::Bnd(piece.0, piece.1));
+    let _changed = improve(&mut start, Fact::Bnd(piece.0, piece.1), (piece.0).0);
     rounds(uni, start, height, area, steps)
 }
 

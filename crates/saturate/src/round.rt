@@ -1,82 +1,125 @@
 //! One round: each instance that is due is applied once to the table of the round before.
-ghost use Rattle.std.specs.Prelude.{◌≡◌, Some, None, IfOk, length, slice_get, ℕ, Contains, count_by, ◌≤◌, ◌+◌};
-ghost use Rattle.fx_model.specs.declared.Node.{Node};
+ghost use Rattle.std.specs.Prelude.{◌≡◌, Some, None, IfOk, length, slice_get, Contains, count_by, ◌<◌, ◌≤◌, ◌+◌};
 ghost use Rattle.facts.specs.declared.fact.Slot.{Slot};
 ghost use Rattle.facts.specs.declared.fact.Slot.TheVariants as slot;
+ghost use Rattle.facts.specs.declared.instance.Instance.{Instance as Applied};
 ghost use Rattle.theorem_list.specs.Concludes.{concludes};
 ghost use Rattle.derivation.specs.Rounds.{conclusion, IsAhead, AllSeen, IsSame};
 ghost use Rattle.derivation.specs.Changes.{IsQuiet, IsListed};
 ghost use Rattle.derivation.specs.Counts.{AreRisen};
-ghost use Rattle.saturate.specs.Tables.{fact_at, HasPlace};
+ghost use Rattle.rule_universe.specs.declared.placed.Placed.{Placed as Placement};
+ghost use Rattle.rule_universe.specs.Places.{IsPlace};
+ghost use Rattle.rule_universe.specs.Placed.{slots_of};
+ghost use Rattle.saturate.specs.Tables.{fact_at, IsFoundAt, IsShaped};
 ghost use Rattle.saturate.specs.Universes.{setting_of, HasAllPlaces};
-ghost use Rattle.saturate.specs.Visits.{IsVisit, GainsTarget, RiseOrStay, AreSlotsOf};
+ghost use Rattle.saturate.specs.Visits.{IsVisit, GainsKnown, RiseOrStay, AreKnown};
 
 use crate::improve::improve;
 use crate::kept::Table;
 use crate::laws::rules_are_lawful;
 use crate::steps::Steps;
 use expr_dag::Dag;
-use facts::{Fact, HintRow, Instance, Slot};
-use rule_universe::Universe;
+use facts::{Fact, HintRow, Instance};
+use rule_universe::{Placed, Universe};
 use std::alloc::AllocError;
 use std::sync::ledger::Ledger;
 use theorem_list::conclude;
 
-// What the instance concludes from the table. The list of premises is scratch.
-fn apply<L: Ledger>(
-    dag: &Dag,
-    hints: &[HintRow],
-    instance: &Instance,
-    now: &Table,
-    premises: &mut Vec<Fact>,
-    steps: &mut Steps<L>,
-) -> Result<Option<Fact>, AllocError>
-    ensures is { IfOk result (λ r. r ≡ conclusion (concludes dag.now hints.now) (fact_at now.now) instance.now) }
-    ensures cost { steps.new ≤ steps.old + 1 }
+// What the instance concludes from these premises.
+fn conclude_by(dag: &Dag, hints: &[HintRow], instance: &Instance, premises: &[Fact]) -> Option<Fact>
+    ensures { result ≡ concludes dag.now hints.now instance.now.rule instance.now.arg premises.now instance.now.target }
 {
-    premises.clear();
-    for s in instance.premises.as_slice() {
-        match now.strongest(*s) {
-            Some(f) => premises.push(f)?,
-            None => return Ok(None),
-        }
-    }
-    steps.tick();
-    Ok(conclude(
+    conclude(
         dag,
         hints,
         instance.rule,
         instance.arg,
         premises,
         instance.target,
-    ))
+    )
 }
 
-// Applies an instance to the one table, keeps in the other what comes of it, and lists the slot that changed, if one did.
-fn visit<L: Ledger>(
+// What the instance concludes from the table. Its premises are given with their places; the list of facts is scratch.
+fn apply<L: Ledger>(
     dag: &Dag,
     hints: &[HintRow],
     instance: &Instance,
+    placed: &[Placed],
+    now: &Table,
+    premises: &mut Vec<Fact>,
+    steps: &mut Steps<L>,
+) -> Result<Option<Fact>, AllocError>
+    requires slots { slots_of placed.now ≡ instance.now.premises }
+    requires found { (p : Placement) → Contains placed.now p → IsFoundAt now.now p.slot p.place }
+    ensures is { IfOk result (λ r. r ≡ conclusion (concludes dag.now hints.now) (fact_at now.now) instance.now) }
+    ensures cost { steps.new ≤ steps.old + 1 }
+{
+    premises.clear();
+    for p in placed {
+        match now.strongest_at(*p) {
+            Some(f) => premises.push(f)?,
+            None => return Ok(None),
+        }
+    }
+    steps.tick();
+    Ok(conclude_by(dag, hints, instance, premises))
+}
+
+// The instance with this number.
+fn instance_at(uni: &Universe, k: usize) -> &Instance
+    requires { k < length uni.now.instances }
+    ensures { slice_get uni.now.instances k ≡ Some result.now }
+{
+    &uni.instances()[k]
+}
+
+// The place of its target.
+fn target_place(uni: &Universe, k: usize) -> u16
+    requires { k < length uni.now.instances }
+    ensures { (i : Applied) → slice_get uni.now.instances k ≡ Some i → IsPlace (length uni.now.nodes) uni.now.pairs i.target result }
+{
+    uni.targets()[k]
+}
+
+// Applies the instance with this number to the one table, keeps in the other what comes of it, and lists the slot that changed,
+// if one did.
+fn visit<L: Ledger>(
+    uni: &Universe,
+    k: usize,
     now: &Table,
     next: &mut Table,
-    changed: &mut Vec<Slot>,
+    changed: &mut Vec<Placed>,
     premises: &mut Vec<Fact>,
     steps: &mut Steps<L>,
 ) -> Result<(), AllocError>
-    requires place { HasPlace next.old instance.now.target }
+    requires within { k < length uni.now.instances }
+    requires places_now { HasAllPlaces uni.now now.now }
+    requires places { HasAllPlaces uni.now next.old }
     requires no_void { fact_at next.old slot.Void ≡ None }
-    ensures visit { IfOk result (λ _. IsVisit (concludes dag.now hints.now) (fact_at now.now) next.old next.new instance.now) }
-    ensures listed { IfOk result (λ _. IsListed changed.new.items (fact_at next.old) (fact_at next.new)) }
-    ensures kept { IfOk result (λ _. (s : Slot) → Contains changed.old.items s → Contains changed.new.items s) }
-    ensures slots { IfOk result (λ _. GainsTarget changed.old.items changed.new.items instance.now.target) }
-    ensures risen { IfOk result (λ _. RiseOrStay changed.old.items changed.new.items (fact_at next.old) (fact_at next.new)) }
-    ensures places { (s : Slot) → HasPlace next.old s → HasPlace next.new s }
+    ensures visit { IfOk result (λ _. (i : Applied) → slice_get uni.now.instances k ≡ Some i → IsVisit (concludes uni.now.nodes uni.now.hints) (fact_at now.now) next.old next.new i) }
+    ensures listed { IfOk result (λ _. IsListed (slots_of changed.new.items) (fact_at next.old) (fact_at next.new)) }
+    ensures kept { IfOk result (λ _. (s : Slot) → Contains (slots_of changed.old.items) s → Contains (slots_of changed.new.items) s) }
+    ensures known { IfOk result (λ _. GainsKnown uni.now changed.old.items changed.new.items) }
+    ensures risen { IfOk result (λ _. RiseOrStay (slots_of changed.old.items) (slots_of changed.new.items) (fact_at next.old) (fact_at next.new)) }
+    ensures shape { IsShaped next.old next.new }
     ensures cost { steps.new ≤ steps.old + 1 }
 {
+    uni.laws();
     rules_are_lawful();
-    if let Some(c) = apply(dag, hints, instance, now, premises, steps)? {
-        if let Some(s) = improve(next, c) {
-            changed.push(s)?;
+    let instance = instance_at(uni, k);
+    let placed = uni.premises(k);
+    let place = target_place(uni, k);
+    if let Some(c) = apply(
+        uni.dag(),
+        uni.hints(),
+        instance,
+        placed,
+        now,
+        premises,
+        steps,
+    )? {
+        if let Some(s) = improve(next, c, place) {
+            changed.push(Placed { slot: s, place })?;
         }
     }
     Ok(())
@@ -88,7 +131,7 @@ pub(crate) fn round<L: Ledger>(
     now: &Table,
     next: &mut Table,
     due: &[bool],
-    changed: &mut Vec<Slot>,
+    changed: &mut Vec<Placed>,
     premises: &mut Vec<Fact>,
     steps: &mut Steps<L>,
 ) -> Result<(), AllocError>
@@ -96,29 +139,20 @@ pub(crate) fn round<L: Ledger>(
     requires no_void { fact_at now.now slot.Void ≡ None }
     requires due { length due.now ≡ length uni.now.instances }
     requires quiet { IsQuiet (setting_of uni.now) due.now (fact_at now.now) }
+    requires places_now { HasAllPlaces uni.now now.now }
     requires places { HasAllPlaces uni.now next.old }
     ensures ahead { IfOk result (λ _. IsAhead (setting_of uni.now) (fact_at now.now) (fact_at next.new) AllSeen) }
-    ensures listed { IfOk result (λ _. IsListed changed.new.items (fact_at now.now) (fact_at next.new)) }
-    ensures slots { IfOk result (λ _. AreSlotsOf uni.now changed.new.items) }
-    ensures risen { IfOk result (λ _. AreRisen changed.new.items (fact_at now.now) (fact_at next.new)) }
+    ensures listed { IfOk result (λ _. IsListed (slots_of changed.new.items) (fact_at now.now) (fact_at next.new)) }
+    ensures known { IfOk result (λ _. AreKnown uni.now changed.new.items) }
+    ensures risen { IfOk result (λ _. AreRisen (slots_of changed.new.items) (fact_at now.now) (fact_at next.new)) }
     ensures places { HasAllPlaces uni.now next.new }
     ensures cost { IfOk result (λ _. steps.new ≤ steps.old + count_by (λ b. b) due.now) }
 {
     uni.laws();
     changed.clear();
-    let instances = uni.instances();
-    for (k, instance) in instances.iter().enumerate() {
+    for k in 0..uni.instances().len() {
         if due[k] {
-            visit(
-                uni.dag(),
-                uni.hints(),
-                instance,
-                now,
-                next,
-                changed,
-                premises,
-                steps,
-            )?;
+            visit(uni, k, now, next, changed, premises, steps)?;
             if next.void {
                 return Ok(());
             }

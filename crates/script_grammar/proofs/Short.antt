@@ -1,4 +1,4 @@
--- A script that a text spells has few nodes and few hints.
+-- A script that a text spells has few nodes and few hints, and its splits have ranges.
 use Rattle.std.specs.Prelude.{◌≡◌, ℕ, ◌≤◌, List, length, Option, Some, None, Bool, true, false, if◌then◌else◌, refl}
 use Rattle.std.proofs.Common.{◌<◌, sym, ap, ◌∙◌, subst, arith}
 use Rattle.script_words.specs.Lex.{LexesOnce}
@@ -14,11 +14,13 @@ use Rattle.script_nodes.specs.Known.{Known, nothing_known}
 use Rattle.script_nodes.specs.Definitions.{definition_value}
 use Rattle.node_counts.specs.Counted.{known_behind, NodesAreCounted}
 use Rattle.node_counts.specs.Few.{HasFewHints, hints_behind, HintsAreFew}
+use Rattle.node_counts.specs.Ranges.{HaveRanges, hypotheses_behind, SplitsHaveRanges}
 use Rattle.goal_spans.specs.Reading.{spans_read}
 use Rattle.script_grammar.specs.Meaning.{Meaning, meaning_from}
 use Rattle.script_grammar.specs.Steps.{start, nodes_at, read_words}
 use Rattle.script_grammar.specs.Spells.{View, view_of, Spells, SpelledAreShort}
 use Rattle.script_grammar.specs.Few.{SpelledHaveFewHints}
+use Rattle.script_grammar.specs.Ranges.{SpelledHaveRanges}
 use Rattle.script_grammar.proofs.Accepted.{reading_leaves, IsAccepted}
 
 known_of : (tree : Script) (k : Known) → length (meaning_from tree k).known.nodes ≡ length (known_behind tree k).nodes
@@ -71,6 +73,18 @@ hints_of (define x rest) k = hints_of rest (definition_value x k)
 pub spelled_few : HintsAreFew → LexesOnce → LeavesAreOfTrees → SpelledHaveFewHints
 spelled_few few lexes are text s p =
     subst HasFewHints (sym (hints_of p.tree nothing_known) ∙ ap (λ (v : View). v.hints) (sym p.says)) (few p.tree nothing_known (spelled_judged lexes are text s p))
+
+-- ---- and ranges for its splits
+
+hypotheses_of : (tree : Script) (k : Known) → (meaning_from tree k).hypotheses ≡ hypotheses_behind tree k
+hypotheses_of (formula f h) k = refl
+hypotheses_of (define x rest) k = hypotheses_of rest (definition_value x k)
+
+pub spelled_ranged : SplitsHaveRanges → LexesOnce → LeavesAreOfTrees → SpelledHaveRanges
+spelled_ranged ranged lexes are text s p =
+    let m = meaning_from p.tree nothing_known in
+    let has : HaveRanges m.hypotheses m.hints = subst (λ cs. HaveRanges cs m.hints) (sym (hypotheses_of p.tree nothing_known)) (subst (HaveRanges (hypotheses_behind p.tree nothing_known)) (sym (hints_of p.tree nothing_known)) (ranged p.tree nothing_known (spelled_judged lexes are text s p))) in
+    subst (λ (v : View). HaveRanges v.hypotheses v.hints) (sym p.says) has
 
 -- ---- so the list is never full
 

@@ -4,4 +4,5 @@ pub mod Spells
 pub mod Views
 pub mod Names
 pub mod Few
+pub mod Ranges
 pub mod Read

@@ -2,11 +2,12 @@
 ghost use Rattle.script_grammar.specs.Steps.{ReadsScripts};
 ghost use Rattle.script_grammar.specs.Names.{SpelledNamesNodes};
 ghost use Rattle.script_grammar.specs.Few.{SpelledHaveFewHints};
+ghost use Rattle.script_grammar.specs.Ranges.{SpelledHaveRanges};
 ghost use Rattle.script_grammar.specs.Spells.{SpellsOnce, NeverBoth, SpellsAll, FirstsExist, GoalsHaveSpans, SpelledAreShort};
 ghost use Rattle.script_grammar.specs.Read.{SpelledAreRead};
 
 use goal_spans::spans_are_read;
-use node_counts::{hints_are_counted, nodes_are_counted};
+use node_counts::{hints_are_counted, nodes_are_counted, splits_have_ranges};
 use script_claims::formulas_are_read;
 use script_hints::laws::reads_hints;
 use script_judge::first::firsts_are_unique;
@@ -76,6 +77,16 @@ pub fn spelled_have_few_hints()
     ensures { SpelledHaveFewHints }
 {
     hints_are_counted();
+    lexed_once();
+    leaves_are_of_trees();
+}
+
+/// Nothing is done. The clause tells a caller that in a script that a text spells each variable that a hint splits has a
+/// hypothesis on its node, with two bounds that are finite when they are rounded outward.
+pub fn spelled_have_ranges()
+    ensures { SpelledHaveRanges }
+{
+    splits_have_ranges();
     lexed_once();
     leaves_are_of_trees();
 }

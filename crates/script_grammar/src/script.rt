@@ -4,10 +4,11 @@ ghost use Rattle.std.specs.Option.{option_copied};
 ghost use Rattle.script_claims.specs.Facts.{HasNormalBounds as HasNormalClaimBounds};
 ghost use Rattle.script_hints.specs.Needs.{HasNormalBounds};
 ghost use Rattle.node_counts.specs.Few.{HasFewHints};
+ghost use Rattle.node_counts.specs.Ranges.{HaveRanges};
 ghost use Rattle.script_grammar.specs.Names.{NamesNodes};
 ghost use Rattle.fx_model.specs.Expression.{IsOrdered};
 
-use crate::laws::{spelled_have_few_hints, spelled_name_nodes};
+use crate::laws::{spelled_have_few_hints, spelled_have_ranges, spelled_name_nodes};
 use expr_dag::Dag;
 use goal_spans::Span;
 use script_claims::{Claim, Sides};
@@ -137,15 +138,17 @@ impl<'a> Script<'a> {
     }
 
     /// Nothing is done. The clauses tell a caller that the text spells the script, that each node is made of earlier ones, that
-    /// the claims and the hints speak of its nodes, and that the hints are few.
+    /// the claims and the hints speak of its nodes, that the hints are few, and that the variables that they split have ranges.
     pub fn laws(&self)
         ensures spelled { Spells self.now.text self.now }
         ensures ordered { IsOrdered self.now.nodes }
         ensures names { NamesNodes self.now }
         ensures few { HasFewHints self.now.hints }
+        ensures ranges { HaveRanges self.now.hypotheses self.now.hints }
     {
         spelled_name_nodes();
         spelled_have_few_hints();
+        spelled_have_ranges();
         self.nodes.dag().laws();
     }
 

@@ -1,5 +1,6 @@
 use Rattle.std.proofs.Common.{subst}
 use Rattle.node_counts.specs.Few.{HasFewHints}
+use Rattle.node_counts.specs.Ranges.{HaveRanges}
 use Rattle.script_grammar.specs.Names.{NamesNodes}
 use Rattle.script_grammar.specs.Spells.{View}
 use Rattle.script_grammar.proofs.script.Script.laws.Goals as goal
@@ -9,3 +10,6 @@ returns-clause-names c = subst NamesNodes c.self.view_is (c.spelled_name_nodes.e
 
 pub returns-clause-few : goal.returns-clause-few
 returns-clause-few c = subst (λ (v : View). HasFewHints v.hints) c.self.view_is (c.spelled_have_few_hints.ensures _ _ c.self.invariant.0)
+
+pub returns-clause-ranges : goal.returns-clause-ranges
+returns-clause-ranges c = subst (λ (v : View). HaveRanges v.hypotheses v.hints) c.self.view_is (c.spelled_have_ranges.ensures _ _ c.self.invariant.0)
