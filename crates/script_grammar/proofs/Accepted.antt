@@ -14,7 +14,6 @@ use Rattle.script_judge.specs.First.{IsFirstRefusal}
 use Rattle.script_claims.specs.Claims.{Sides}
 use Rattle.script_hints.specs.Reading.{HintReading}
 use Rattle.goal_spans.specs.declared.span.Span.{Span}
-use Rattle.goal_spans.specs.Spans.{goal_spans}
 use Rattle.goal_spans.specs.Reading.{spans_read, ReadsSpans}
 use Rattle.script_grammar.specs.declared.stage.Stage.{Stage}
 use Rattle.script_grammar.specs.declared.stage.Stage.TheVariants as stage

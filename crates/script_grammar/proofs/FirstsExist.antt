@@ -2,7 +2,7 @@
 use Rattle.std.proofs.Common.{◌≡◌, ◌⊎◌, ℕ, zero, suc, ◌+◌, ◌^◌, ◌<◌, ◌≤◌, List, [], ◌∷◌, length, take, Option, Some, None, Bool, true, false, IsUtf8, inl, inr, ⊎_elim, refl, sym, ap, ◌∙◌, subst, arith, take_all, true≢false}
 use Rattle.std.specs.Prelude.{IsTrue, ◌↔◌}
 use Rattle.std.specs.Str.{IsValidUpTo, is_utf8}
-use Rattle.std.proofs.lemmas.Bool.{cases_Bool, cases_lt}
+use Rattle.std.proofs.lemmas.Bool.{cases_lt}
 use Rattle.std.proofs.lemmas.Str.{IsUtf8-from_is_utf8, is_utf8-from_IsUtf8, IsUtf8-nil}
 use Rattle.fx_model.specs.Fraction.{Fraction}
 use Rattle.fx_model.specs.Grid.{signed}
@@ -19,11 +19,10 @@ use Rattle.script_shape.specs.declared.due.Due.TheVariants as d
 use Rattle.script_shape.specs.Tree.{BeginsScript}
 use Rattle.script_shape.specs.Roles.{Leaf, script_leaves, HasRoles}
 use Rattle.script_shape.specs.ShapeLaw.{ShapesExist}
-use Rattle.script_judge.specs.declared.refusal.Refusal.{Refusal}
 use Rattle.script_judge.specs.declared.refusal.RefusalKind.{RefusalKind}
 use Rattle.script_judge.specs.declared.fault.Fault.{Fault}
 use Rattle.script_judge.specs.Reading.{Reading, IsReadingOf, not_text, too_long}
-use Rattle.script_judge.specs.First.{IsFirstRefusal, unread, read}
+use Rattle.script_judge.specs.First.{unread, read}
 use Rattle.script_judge.specs.Bounds.{IsWordNumber, IsMagnitude, IsBoundText, IsBoundOf}
 use Rattle.script_judge.specs.Numbers.{Verdict, IsPastWord, IsPast, is_number, Tells}
 use Rattle.script_judge.specs.Sides.{has_arrow}

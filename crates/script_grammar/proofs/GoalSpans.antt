@@ -4,11 +4,9 @@ use Rattle.std.proofs.Common.{sym, ap, ◌∙◌, length-append}
 use Rattle.script_shape.specs.Tree.{Formula, single, and, implies, Script, formula, define, formula_words, definition_words}
 use Rattle.script_nodes.specs.Known.{Known, nothing_known}
 use Rattle.script_nodes.specs.Definitions.{definition_value}
-use Rattle.script_claims.specs.declared.claim.Claim.{Claim}
 use Rattle.script_claims.specs.Claims.{formula_claims, prop_claim}
-use Rattle.goal_spans.specs.declared.span.Span.{Span}
 use Rattle.goal_spans.specs.Spans.{span_at, formula_spans, script_spans}
-use Rattle.script_grammar.specs.Meaning.{Meaning, meaning_from}
+use Rattle.script_grammar.specs.Meaning.{meaning_from}
 use Rattle.script_grammar.specs.Spells.{View, GoalsHaveSpans}
 
 longer : {A : Type 0} (xs : List A) (x : A) → length (xs ++ (x ∷ [])) ≡ length xs + 1

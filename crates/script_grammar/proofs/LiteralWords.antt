@@ -12,7 +12,7 @@ use Rattle.std.proofs.Math.Seq.{take-add}
 use Rattle.literal.specs.declared.scan.Form.{Form}
 use Rattle.literal.specs.declared.scan.Form.TheVariants.{Decimal, Binary, Hexadecimal}
 use Rattle.literal.specs.declared.scan.Mark.TheVariants.{Unmarked, Plus, Minus}
-use Rattle.literal.specs.Spelling.{Exponent, Spelling, exponent_bytes, letter, point_bytes, scale_bytes, IsLiteral}
+use Rattle.literal.specs.Spelling.{Exponent, exponent_bytes, letter, point_bytes, scale_bytes, IsLiteral}
 use Rattle.script_words.specs.declared.class.Sign.{Sign}
 use Rattle.script_words.specs.declared.lex.Run.{Run}
 use Rattle.script_words.specs.declared.lex.Run.TheVariants as run
@@ -22,7 +22,7 @@ use Rattle.script_words.specs.declared.lex.TokenKind.TheVariants as kind
 use Rattle.script_words.specs.Literals.{is_in, run_len, part_len, signed_len, exponent_len, scaled_len, is_hex, literal_len}
 use Rattle.script_words.specs.Signs.{sign_at, reserved_word}
 use Rattle.script_words.specs.Lex.{blank_len, word_kind, sign_token, front, Lexes, ends, bad, token}
-use Rattle.script_words.specs.Words.{Word, name, rounding, literal, sign}
+use Rattle.script_words.specs.Words.{Word, name, rounding, literal}
 use Rattle.script_words.specs.Named.{Naming, naming_after, defined_by, spelled_of, kind_word, token_word, words_from}
 
 -- ---- digits

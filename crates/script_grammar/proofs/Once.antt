@@ -9,7 +9,6 @@ use Rattle.script_judge.specs.declared.refusal.Refusal.{Refusal}
 use Rattle.script_judge.specs.Reading as reading
 use Rattle.script_judge.specs.Reading.{Reading, IsReadable, IsReadingOf, IsFaultOf, IsScriptText, fault}
 use Rattle.script_judge.specs.First.{IsFirstRefusal, unread, read, first_of, refusal_of, FirstsAreUnique}
-use Rattle.script_nodes.specs.Known.{nothing_known}
 use Rattle.goal_spans.specs.Spans.{goal_spans}
 use Rattle.goal_spans.specs.Reading.{spans_read, ReadsSpans}
 use Rattle.script_grammar.specs.Meaning.{Meaning, meaning_of}

@@ -1,5 +1,4 @@
 -- What a script names are its nodes.
-use Rattle.std.specs.Prelude.{◌≡◌, ℕ, List, length}
 use Rattle.std.specs.List.{AllByRecursion}
 use Rattle.std.proofs.Common.{sym, subst}
 use Rattle.script_shape.specs.Tree.{Script, formula, define}
@@ -10,7 +9,7 @@ use Rattle.script_claims.specs.Claims.{formula_claims}
 use Rattle.script_hints.specs.Hints.{no_hints, with_hints}
 use Rattle.goal_spans.specs.Spans.{goal_spans}
 use Rattle.script_grammar.specs.Meaning.{Meaning, meaning_from, meaning_of}
-use Rattle.script_grammar.specs.Spells.{View, view_of}
+use Rattle.script_grammar.specs.Spells.{view_of}
 use Rattle.script_grammar.specs.Names.{ClaimIsOf, HintsAreOf, NamesNodes, SpelledNamesNodes}
 use Rattle.script_grammar.proofs.ExpressionNames.{Fits, definition_grows}
 use Rattle.script_grammar.proofs.ClaimNames.{claims_more, formula_claimed}

@@ -7,11 +7,10 @@ use Rattle.std.proofs.lemmas.Bool.{ltb-false, lt-ltb, le-ltb, cases_lt}
 use Rattle.literal.specs.Spelling.{IsLiteral}
 use Rattle.literal.specs.Normal.{IsReading, IsPastLimits}
 use Rattle.script_words.specs.Lex.{LexesOnce}
-use Rattle.script_words.specs.Words.{Word, name, rounding, literal, sign}
+use Rattle.script_words.specs.Words.{Word, literal}
 use Rattle.script_words.specs.Named.{nothing, words_of}
 use Rattle.script_shape.specs.declared.due.Due.{Due}
 use Rattle.script_shape.specs.declared.due.Due.TheVariants as d
-use Rattle.script_shape.specs.Tree.{script_words}
 use Rattle.script_shape.specs.Roles.{Leaf, script_leaves, LeavesAreOfTrees, LeavesSpell}
 use Rattle.script_judge.specs.declared.refusal.RefusalKind.{RefusalKind}
 use Rattle.script_judge.specs.declared.fault.Fault.{Fault}
@@ -20,11 +19,10 @@ use Rattle.script_judge.specs.Bounds.{is_bad_bound}
 use Rattle.script_judge.specs.Splits.{is_rangeless, is_bad_point}
 use Rattle.script_judge.specs.Numbers.{Verdict, Tells, has_no_pieces, is_past_lsb, is_past_pieces}
 use Rattle.script_judge.specs.declared.counts.Counts.{Counts}
-use Rattle.script_judge.specs.Judge.{Seen, nothing_seen, is_on_wrong_side, is_empty, or_else, form_kind, form_refusal, limit_kind, limit_refusal, seen_after, refusal_at, Judged, none_refused, refused, passed, has_arrow}
+use Rattle.script_judge.specs.Judge.{Seen, is_on_wrong_side, is_empty, or_else, form_kind, form_refusal, limit_kind, limit_refusal, seen_after, refusal_at, Judged, refused, passed, has_arrow}
 use Rattle.script_nodes.specs.Literals.{literal_of, LiteralsAreTold}
 use Rattle.script_nodes.specs.Operators.{number_of}
 use Rattle.script_claims.specs.Claims.{exponent_size}
-use Rattle.script_grammar.specs.Spells.{View, Spells}
 use Rattle.script_grammar.specs.Read.{AreDigits, IsRead, SpelledAreRead}
 use Rattle.script_grammar.proofs.Short.{spelled_judged}
 use Rattle.script_grammar.proofs.LiteralWords.{IsSpelled, words_spelled}
