@@ -1,5 +1,5 @@
 -- Bytes that are accepted spell a certificate that is accepted, and the other way round.
-use Rattle.std.proofs.Common.{◌≡◌, List, [], ◌∷◌, length, refl, sym, ◌∙◌}
+use Rattle.std.proofs.Common.{List, [], ◌∷◌, refl, sym, ◌∙◌}
 use Rattle.cert_bytes.specs.declared.item.Item.{Item}
 use Rattle.cert_bytes.specs.declared.order.Due.{Due}
 use Rattle.cert_bytes.specs.declared.order.Due.TheVariants.{Head}
@@ -9,7 +9,7 @@ use Rattle.cert_bytes.specs.ReadOut.{AreRead, ReadsAreSpelled, SpelledAreRead}
 use Rattle.cert_checker.specs.declared.subject.Subject.{Subject}
 use Rattle.cert_checker.specs.Contexts.{Context, first}
 use Rattle.cert_checker.specs.After.{after}
-use Rattle.cert_checker.specs.Accepted.{LeadsTo, Accepts}
+use Rattle.cert_checker.specs.Accepted.{LeadsTo}
 use Rattle.cert_checker.specs.Outcomes.{accepted, Comes, AcceptedAreSpelled, SpelledAreAccepted}
 use Rattle.cert_checker.proofs.OverScripts.{come_in_order}
 use Rattle.cert_checker.proofs.Roots.{have_one_root}

@@ -1,6 +1,6 @@
 -- One turn of checking after the other.
-use Rattle.std.proofs.Common.{◌≡◌, ◌≤◌, ◌<◌, ◌+◌, ◌-◌, ◌^◌, ℕ, Bool, true, false, List, [], ◌∷◌, length, Option, Some, None, Result, Ok, Err, refl, sym, ap, subst, ◌∙◌, arith}
-use Rattle.std.specs.Prelude.{⊤, IsErrOf}
+use Rattle.std.proofs.Common.{◌≡◌, ◌≤◌, ◌<◌, ◌+◌, ◌-◌, ◌^◌, ℕ, Bool, true, false, List, [], ◌∷◌, length, Option, Some, None, Err, refl, sym, ap, subst, ◌∙◌, arith}
+use Rattle.std.specs.Prelude.{IsErrOf}
 use Rattle.std.proofs.lemmas.List.{length-map}
 use Rattle.fx_model.specs.Expression.{Assignment, IsOrdered}
 use Rattle.fx_edge.specs.Outside.{Rose}
@@ -11,7 +11,6 @@ use Rattle.cert_bytes.specs.declared.item.Item.TheVariants as item
 use Rattle.cert_bytes.specs.declared.order.Due.{Due}
 use Rattle.cert_bytes.specs.declared.order.Due.TheVariants.{Head, Done}
 use Rattle.cert_bytes.specs.Due.{due_behind, is_end, is_due}
-use Rattle.cert_bytes.specs.Reading.{item_at}
 use Rattle.cert_bytes.specs.Pieces.{cursor_of}
 use Rattle.cert_bytes.specs.Readers.{Progress}
 use Rattle.cert_checker.specs.declared.fault.CheckFault.{CheckFault}

@@ -1,5 +1,5 @@
 -- What comes of a certificate's bytes: they are accepted, or this is the first fault in the order of reading.
-use Rattle.std.specs.Prelude.{◌≡◌, ◌≤◌, ℕ, List, [], ◌∷◌, length, Option, Some, None, Result, Ok, Err}
+use Rattle.std.specs.Prelude.{◌≡◌, ◌≤◌, ℕ, List, [], ◌∷◌, length, Some, None, Ok, Err}
 use Rattle.fx_model.specs.Expression.{Assignment, IsOrdered}
 use Rattle.cert_bytes.specs.declared.fault.CertFault.{CertFault}
 use Rattle.cert_bytes.specs.declared.item.Item.{Item}

@@ -1,10 +1,7 @@
-use Rattle.std.proofs.Common.{rules, arith, ◌≡◌, ◌≤◌, ◌∙◌, sym, ap, subst, refl, ℕ, List, Some, Err, true, false, Result}
-use Rattle.std.specs.Prelude.{IsErrOf}
+use Rattle.std.proofs.Common.{rules, arith, ◌≡◌, ◌∙◌, ap, true, false}
 use Rattle.std.proofs.lemmas.Result.{err_from_is_err_and}
-use Rattle.cert_bytes.specs.Pieces.{cursor_of}
-use Rattle.cert_checker.specs.declared.fault.CheckStop.TheVariants as CheckStop
 use Rattle.cert_checker.specs.declared.lines.Lines.{Lines}
-use Rattle.cert_checker.proofs.Turns.{steady_on, reaches_on, stops, shows, shown_holds, counts, marks_are, fewer_turns, rose_so}
+use Rattle.cert_checker.proofs.Turns.{steady_on, reaches_on, stops, shows, shown_holds, counts, marks_are, rose_so}
 use Rattle.cert_checker.proofs.check.check_items.Goals as goal
 
 pub loop-chain-preserved : goal.loop-chain-preserved

@@ -1,4 +1,3 @@
-use Rattle.std.proofs.Common.{Some}
 use Rattle.cert_bytes.specs.Pieces.{cursor_of}
 use Rattle.cert_checker.proofs.Exact.{answered_is_it, accepted_so}
 use Rattle.cert_checker.proofs.check.check_subject.Goals as goal
