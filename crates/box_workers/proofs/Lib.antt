@@ -1,0 +1,15 @@
+pub mod Answering
+pub mod Finishing
+pub mod Joining
+pub mod Order
+pub mod Pushing
+pub mod Running
+pub mod Sent
+pub mod Starting
+pub mod Sums
+pub mod Taking
+pub mod Turns
+pub mod Walking
+pub mod Whole
+pub mod Paths
+pub mod Weights
