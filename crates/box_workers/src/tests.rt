@@ -8,8 +8,9 @@ ghost use Rattle.box_tree.specs.declared.cut.Cut.TheVariants.{Bottom};
 ghost use Rattle.literal_order.specs.Values.{IsWritten};
 
 use crate::counts::Counts;
+use crate::record::work_at;
+use crate::site::Site;
 use crate::task::BoxTask;
-use crate::worker::work;
 use crate::workers::run;
 use bisect::{Outcome, Posted, Settler, State, Verdict};
 use box_deques::{Naming, hands, pool};
@@ -249,19 +250,10 @@ fn work_with<W: World, Q: Naming<Board<Spot<W>>>, R: Wait>(
     };
     let settler = two_ways::<W>(NONE);
     let counts = Counts::new();
+    let site = Site::new(alloc, &settler, &OpenGate, plan, board, &counts);
+    let none = Vec::new(alloc);
     let hand = &mut hands[0];
-    let done = work(
-        rt,
-        alloc,
-        &settler,
-        &OpenGate,
-        plan,
-        board,
-        lane,
-        &[],
-        hand,
-        &counts,
-    );
+    let done = work_at(rt, &site, lane, none.as_slice(), hand);
     Ok((done.settled.len(), done.split.len(), done.held.is_some()))
 }
 
