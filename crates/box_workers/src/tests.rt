@@ -310,11 +310,13 @@ fn one_worker_has_all_boxes_in_its_record(rt: HostRuntime) -> Result<(), Fail> {
 fn a_refused_call_changes_no_leaf(rt: HostRuntime) -> Result<(), Fail> {
     for refused in 0..15u64 {
         let found = answer(&rt, rt.alloc(), &OpenGate, 16, refused, 4, 4096)?;
-        assert_eq!(rt;
-            (found.boxes, found.leaves, found.calls),
-            (15, 8, 16),
-            "call {refused}"
-        );
+        let whole = Found {
+            boxes: 15,
+            leaves: 8,
+            first: None,
+            calls: 16,
+        };
+        assert_eq!(rt; found, whole, "call {refused}");
     }
     Ok(())
 }
@@ -327,7 +329,13 @@ fn two_workers_share_boxes(rt: HostRuntime) -> Result<(), Fail> {
         met: AtomicU64::new(0),
     };
     let found = answer(&rt, rt.alloc(), &gate, 16, NONE, 2, 4096)?;
-    assert_eq!(rt; (found.boxes, found.leaves, found.calls), (15, 8, 15));
+    let whole = Found {
+        boxes: 15,
+        leaves: 8,
+        first: None,
+        calls: 15,
+    };
+    assert_eq!(rt; found, whole);
     assert_eq!(rt; gate.entered.load(Ordering::SeqCst), 15);
     assert_eq!(rt; gate.met.load(Ordering::SeqCst), 1);
     Ok(())
