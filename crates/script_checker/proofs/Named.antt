@@ -1,6 +1,6 @@
 -- What a script's subject names are its nodes.
-use Rattle.std.proofs.Common.{◌≡◌, ◌<◌, ℕ, zero, suc, List, [], ◌∷◌, Option, Some, None, length, map, refl, sym, ap, subst, ◌∙◌, arith}
-use Rattle.std.specs.Prelude.{slice_get, slice_index_or}
+use Rattle.std.proofs.Common.{◌≡◌, ◌<◌, ℕ, zero, suc, List, [], ◌∷◌, Option, Some, None, length, map, refl, sym, subst, arith}
+use Rattle.std.specs.Prelude.{slice_get}
 use Rattle.std.specs.List.{AllByRecursion}
 use Rattle.std.proofs.lemmas.Option.{slice_get_within, get_or_from_slice_get}
 use Rattle.fx_model.specs.Expression.{IsOrdered, ChildrenBelow}
@@ -21,7 +21,7 @@ use Rattle.goals.specs.declared.goal.Goal.{Goal}
 use Rattle.script_bounds.specs.Bounds.{written_range, outward_of}
 use Rattle.script_claims.specs.declared.claim.Claim.{Claim}
 use Rattle.script_claims.specs.declared.claim.Claim.TheVariants.{Bounded, Asked, Relative, RelativeAsked, Multiple}
-use Rattle.script_claims.specs.Facts.{hypothesis_fact, rel_of, relative_fact}
+use Rattle.script_claims.specs.Facts.{hypothesis_fact, rel_of}
 use Rattle.script_hints.specs.declared.hint.Constraint.{Constraint}
 use Rattle.script_hints.specs.declared.hint.Constraint.TheVariants as constraint
 use Rattle.script_hints.specs.declared.hint.Hint.{Hint}

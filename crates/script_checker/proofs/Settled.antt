@@ -1,5 +1,5 @@
 -- A goal is true where a fact that settles it holds.
-use Rattle.std.proofs.Common.{◌≡◌, List, Some, None, refl, subst, inl, inr, ⊎_elim}
+use Rattle.std.proofs.Common.{◌≡◌, List, Some, None, subst, inl, inr, ⊎_elim}
 use Rattle.std.specs.Option.{IsSomeAnd}
 use Rattle.fx_model.specs.Fraction.{Fraction, ◌-ℚ◌, ◌/ℚ◌, one_ℚ}
 use Rattle.fx_model.specs.Enclosure.{Lies, within_in}

@@ -19,8 +19,8 @@ pub fn accepted_lines_hold_of_scripts()
     met_scripts();
 }
 
-/// Nothing is done. The clause tells a caller that one thing comes of a certificate's bytes for a script: whatever answers are
-/// got of them, these differ only where a read failed or memory wasn't found.
+/// Nothing is done. The clause tells a caller that one thing comes of a certificate's bytes for a script: they are accepted, with
+/// what that comes to, or have one first fault.
 pub fn checks_are_one()
     ensures { ChecksAreOne }
 {

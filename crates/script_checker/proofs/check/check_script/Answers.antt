@@ -1,4 +1,4 @@
-use Rattle.std.proofs.Common.{◌<◌, List, Some, length, subst}
+use Rattle.std.proofs.Common.{◌<◌, List, length, subst}
 use Rattle.script_claims.specs.declared.claim.Claim.{Claim}
 use Rattle.cert_bytes.specs.Pieces.{cursor_of}
 use Rattle.script_checker.proofs.Settled.{ClaimLaws}
