@@ -1,0 +1,5 @@
+pub mod Named
+pub mod Settled
+pub mod Held
+pub mod OneSubject
+pub mod Counted

@@ -1,0 +1,63 @@
+-- What checking a script's certificate answers, and what its lines promise.
+use Rattle.std.specs.Prelude.{◌≡◌, ⊤, ℕ, List, Some, Result, Ok, Err, slice_get}
+use Rattle.fx_model.specs.Expression.{Assignment, IsOrdered}
+use Rattle.goals.specs.declared.line.Line.{Line}
+use Rattle.goals.specs.Holds.{LineHolds}
+use Rattle.script_claims.specs.declared.claim.Claim.{Claim}
+use Rattle.script_claims.specs.Facts.{slot_of}
+use Rattle.script_claims.specs.Meets.{IsTrueAt}
+use Rattle.script_grammar.specs.Spells.{View}
+use Rattle.script_grammar.specs.Names.{NamesNodes}
+use Rattle.script_meets.specs.Meets.{Meets}
+use Rattle.cert_bytes.specs.declared.item.Item.{Item}
+use Rattle.cert_bytes.specs.Reading.{Cursor}
+use Rattle.cert_checker.specs.declared.fault.CheckStop.{CheckStop}
+use Rattle.cert_checker.specs.declared.fault.CheckStop.TheVariants as check_stop
+use Rattle.cert_checker.specs.declared.lines.Lines.{Lines}
+use Rattle.cert_checker.specs.declared.subject.Subject.{Subject}
+use Rattle.cert_checker.specs.Accepted.{Accepts}
+use Rattle.cert_checker.specs.Contexts.{Context}
+use Rattle.cert_checker.specs.Outcomes.{Outcome, accepted, unread, refused, ComesOf}
+use Rattle.cert_checker.specs.Checking.{ShowsLines, AreAccepted}
+use Rattle.script_checker.specs.Subjects.{IsSubjectOf}
+
+-- What comes of the bytes at the cursor for the script.
+abbrev pub ComesFor : View → Cursor → Outcome → Type 0
+ComesFor s p o = (t : Subject) × IsSubjectOf s t × ComesOf t p o
+
+-- The lines are those of a certificate that is accepted for the script so.
+pub record ShowsFor (s : View) (p : Cursor) (lines : Lines) : Type 0 where
+  pub subject : Subject
+  pub is : IsSubjectOf s subject
+  pub shows : ShowsLines subject p lines
+
+-- From the bytes at the cursor: lines where they are accepted, or their first fault. Where the folder failed or memory wasn't found,
+-- nothing is said.
+abbrev pub ChecksFor : View → Cursor → Result Lines CheckStop → Type 0
+ChecksFor s p (Ok lines) = ShowsFor s p lines
+ChecksFor s p (Err (check_stop.Cert f)) = ComesFor s p (unread f)
+ChecksFor s p (Err (check_stop.Check f)) = ComesFor s p (refused f)
+ChecksFor s p (Err check_stop.Failed) = ⊤
+ChecksFor s p (Err check_stop.OutOfMemory) = ⊤
+
+-- One thing comes of bytes for a script.
+abbrev pub ChecksAreOne : Type 0
+ChecksAreOne = (s : View) (p : Cursor) (o other : Outcome) → ComesFor s p o → ComesFor s p other → o ≡ other
+
+-- The bytes spell a certificate that is accepted for the script with these lines.
+pub record AreAcceptedFor (s : View) (bytes : List ℕ) (lines : List Line) : Type 0 where
+  pub subject : Subject
+  pub is : IsSubjectOf s subject
+  pub accepted : AreAccepted subject bytes lines
+
+-- Each goal has a line in its place, which holds of the assignment; and the goal is true, with bounds exactly as they are written.
+abbrev pub AreHeld : View → Assignment → List Line → Type 0
+AreHeld s a lines = (k : ℕ) (c : Claim) → slice_get s.goals k ≡ Some c → (l : Line) × (slice_get lines k ≡ Some l) × LineHolds s.nodes a (slot_of c) l × IsTrueAt s.nodes a c
+
+-- This is so of every assignment that meets the script, of the lines of each certificate that is accepted, whoever wrote it.
+abbrev pub AcceptedHoldsOfScripts : Type 0
+AcceptedHoldsOfScripts = (s : View) (t : Subject) (items : List Item) (lines : List Line) → IsOrdered s.nodes → NamesNodes s → IsSubjectOf s t → Accepts t items lines → (a : Assignment) → Meets a s → AreHeld s a lines
+
+-- It is so of the lines of bytes that are accepted, whoever wrote them.
+abbrev pub CheckedHoldsOfScripts : Type 0
+CheckedHoldsOfScripts = (s : View) (t : Subject) (p : Cursor) (end : Context) → IsOrdered s.nodes → NamesNodes s → IsSubjectOf s t → ComesOf t p (accepted end) → (a : Assignment) → Meets a s → AreHeld s a end.lines

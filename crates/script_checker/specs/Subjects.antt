@@ -1,0 +1,32 @@
+-- What a script asks of its certificates.
+use Rattle.std.specs.Prelude.{◌≡◌, List, [], ◌∷◌, Option, Some, None, map, min, length}
+use Rattle.facts.specs.declared.fact.Fact.{Fact}
+use Rattle.goals.specs.declared.goal.Goal.{Goal}
+use Rattle.script_claims.specs.declared.claim.Claim.{Claim}
+use Rattle.script_claims.specs.Facts.{hypothesis_fact, want_of, slot_of}
+use Rattle.script_grammar.specs.Spells.{View}
+use Rattle.rewrite_hints.specs.Marks.{AreRows, AreMarks}
+use Rattle.cert_checker.specs.declared.subject.Subject.{Subject}
+
+-- what a goal is about, and what settles it: its bounds rounded inward
+abbrev pub goal_of : Claim → Goal
+goal_of c = record { of = slot_of c; want = want_of c }
+
+abbrev pub with_fact : Option Fact → List Fact → List Fact
+with_fact (Some f) facts = f ∷ facts
+with_fact None facts = facts
+
+-- what the hypotheses give, their bounds rounded outward
+abbrev pub facts_of : List Claim → List Fact
+facts_of [] = []
+facts_of (c ∷ cs) = with_fact (hypothesis_fact c) (facts_of cs)
+
+-- The subject is what the script asks of its certificates: one case, of all its hypotheses; marks and rows of its rewritings.
+pub record IsSubjectOf (s : View) (t : Subject) : Type 0 where
+  pub nodes : t.nodes ≡ s.nodes
+  -- a script has no more variables than nodes, so these are all
+  pub variables : t.variables ≡ min (length s.variables) 65535
+  pub cases : t.cases ≡ facts_of s.hypotheses ∷ []
+  pub goals : t.goals ≡ map goal_of s.goals
+  pub marks : AreMarks s.nodes s.hints.rewrites t.marks
+  pub hints : AreRows s.nodes s.hints.rewrites t.hints

@@ -1,0 +1,61 @@
+//! A certificate under some name of a folder, checked for a script.
+ghost use Rattle.std.specs.Prelude.{◌≡◌, ◌≤◌, ℕ, List, Some, length, IfOk, IsErrOf};
+ghost use Rattle.fx_model.specs.Expression.{Assignment};
+ghost use Rattle.fx_edge.specs.Outside.{Rose};
+ghost use Rattle.script_meets.specs.Meets.{Meets};
+ghost use Rattle.rewrite_hints.specs.Marks.{AreMarks};
+ghost use Rattle.cert_bytes.specs.Pieces.{AgreesTold, cursor_of};
+ghost use Rattle.cert_bytes.specs.ReadOut.{AreBytes};
+ghost use Rattle.cert_checker.specs.declared.fault.CheckStop.TheVariants as CheckStop;
+ghost use Rattle.cert_checker.specs.Outcomes.{Outcome};
+ghost use Rattle.cert_checker.specs.Checking.{IsFresh, IsAnswer};
+ghost use Rattle.script_checker.specs.Checking.{ComesFor, ChecksFor, AreAcceptedFor, AreHeld};
+
+use crate::subject::subject_of;
+use cert_bytes::Reader;
+use cert_checker::{CheckStop, Lines, check_subject};
+use fx_edge::Folder;
+use rewrite_hints::rows_are_true;
+use script_claims::{goals_are_enough, hypotheses_hold};
+use script_grammar::Script;
+use script_meets::met_scripts;
+use std::alloc::Global;
+
+/// Checks the certificate under the reader's name for the script: its lines where it is accepted, or else the first fault in
+/// the order of reading. `Failed` comes only where a read of the folder failed in this call.
+pub fn check_script<F: Folder>(
+    alloc: Global,
+    script: &Script<'_>,
+    reader: &mut Reader,
+    folder: &mut F,
+) -> Result<Lines, CheckStop>
+    requires fresh { IsFresh reader.old }
+    requires agrees { AgreesTold (F.told folder.old reader.old.ahead.name) reader.old.ahead }
+    // What is answered comes of the bytes, where the folder tells them,
+    ensures checks { (all : List ℕ) → F.told folder.old reader.old.ahead.name ≡ Some all → ChecksFor script.now (cursor_of all reader.old.ahead) result }
+    // and what comes of them is answered, unless reads fail or memory isn't found.
+    ensures exact { (all : List ℕ) → F.told folder.old reader.old.ahead.name ≡ Some all → (o : Outcome) → ComesFor script.now (cursor_of all reader.old.ahead) o → IsAnswer o result }
+    // Lines come of bytes that spell a certificate which is accepted with them.
+    ensures accepts { (all : List ℕ) → F.told folder.old reader.old.ahead.name ≡ Some all → AreBytes all → IfOk result (λ lines. AreAcceptedFor script.now all lines.rows) }
+    // Whatever the bytes are, lines hold of every assignment that meets the script, and the goals are true of it.
+    ensures holds { IfOk result (λ lines. (a : Assignment) → Meets a script.now → AreHeld script.now a lines.rows) }
+    ensures count { IfOk result (λ lines. length lines.rows ≡ length script.now.goals) }
+    ensures marks { IfOk result (λ lines. AreMarks script.now.nodes script.now.hints.rewrites lines.marks) }
+    ensures agrees { AgreesTold (F.told folder.new reader.new.ahead.name) reader.new.ahead }
+    ensures name { reader.new.ahead.name ≡ reader.old.ahead.name }
+    ensures told { (other : List ℕ) → F.told folder.new other ≡ F.told folder.old other }
+    ensures later { F.read_faults folder.old ≤ F.read_faults folder.new }
+    ensures cause { IsErrOf result CheckStop.Failed → Rose (F.read_faults folder.old) (F.read_faults folder.new) }
+{
+    // A goal's number has 16 bits. No script has as many goals, though no clause says so.
+    if script.goals().len() >= 65535 {
+        return Err(CheckStop::OutOfMemory);
+    }
+    script.laws();
+    goals_are_enough();
+    hypotheses_hold();
+    rows_are_true();
+    met_scripts();
+    let subject = subject_of(alloc, script)?;
+    check_subject(alloc, subject, reader, folder)
+}

@@ -1,0 +1,56 @@
+//! What a script asks of its certificates.
+ghost use Rattle.std.specs.Prelude.{◌≡◌, ◌↔◌, ◌<◌, min, length, IsTrue, IfOk};
+ghost use Rattle.script_checker.specs.Subjects.{IsSubjectOf};
+
+use crate::claims::{facts_of, goals_of};
+use cert_checker::Subject;
+use fx_edge::Items;
+use rewrite_hints::{marks_of, rows_of};
+use script_grammar::Script;
+use std::alloc::{AllocError, Global};
+
+// Whether it has a variable with this number.
+#[tactic(auto, using(std::proofs::lemmas::Option::slice_get_within, crate::proofs::Counted::none_is_past))]
+fn has_variable(script: &Script<'_>, number: u16) -> bool
+    ensures { IsTrue result ↔ number < length script.now.variables }
+{
+    match script.variable(number) {
+        Some(_) => true,
+        None => false,
+    }
+}
+
+// How many variables it has, as far as a `u16` counts.
+fn variables_of(script: &Script<'_>) -> u16
+    ensures { result ≡ min (length script.now.variables) 65535 }
+{
+    for count in 0..u16::MAX {
+        if !has_variable(script, count) {
+            return count;
+        }
+    }
+    u16::MAX
+}
+
+/// The subject of a script: its nodes, what its hypotheses say as one case, what its goals want, and the marks and the rows of
+/// its rewritings.
+pub fn subject_of(alloc: Global, script: &Script<'_>) -> Result<Subject, AllocError>
+    ensures { IfOk result (IsSubjectOf script.now) }
+{
+    script.laws();
+    let nodes = script.nodes().copy()?;
+    let facts = facts_of(alloc, script.hypotheses())?;
+    let goals = goals_of(alloc, script.goals())?;
+    let marks = marks_of(alloc, script.nodes(), script.hints().rewrites.as_slice())?;
+    let hints = rows_of(alloc, script.nodes(), script.hints().rewrites.as_slice())?;
+    let mut cases = Vec::new(alloc);
+    cases.push(Items::from_vec(facts))?;
+    Ok(Subject {
+        nodes,
+        variables: variables_of(script),
+        cases: Items::from_vec(cases),
+        goals: Items::from_vec(goals),
+        marks: Items::from_vec(marks),
+        hints: Items::from_vec(hints),
+    })
+}
