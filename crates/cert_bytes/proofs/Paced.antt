@@ -11,11 +11,11 @@ moved known next start at p m f = omega (arith, p, m, f)
 still : (known next start at : ℕ) → known ≤ 64 * start → start ≤ at → next ≤ known → next ≤ 64 * at
 still known next start at p g f = omega (arith, p, g, f)
 
-pub paced_on : (i : Item) (known next start at : ℕ) → known ≤ 64 * start → start ≤ at → (IsOfSection i → start < at) → next ≤ known + 64 → (¬ IsOfSection i → next ≤ known) → next ≤ 64 * at
-paced_on (item.Step s) known next start at p g m f q = moved known next start at p (m tt) f
-paced_on (item.Cut x ps) known next start at p g m f q = moved known next start at p (m tt) f
-paced_on (item.Leaf refs) known next start at p g m f q = moved known next start at p (m tt) f
-paced_on (item.Dead r) known next start at p g m f q = moved known next start at p (m tt) f
+pub paced_on : (i : Item) (known next start at : ℕ) → known ≤ 64 * start → start ≤ at → (¬ (i ≡ item.End) → start < at) → next ≤ known + 64 → (¬ IsOfSection i → next ≤ known) → next ≤ 64 * at
+paced_on (item.Step s) known next start at p g m f q = moved known next start at p (m (λ e. cc)) f
+paced_on (item.Cut x ps) known next start at p g m f q = moved known next start at p (m (λ e. cc)) f
+paced_on (item.Leaf refs) known next start at p g m f q = moved known next start at p (m (λ e. cc)) f
+paced_on (item.Dead r) known next start at p g m f q = moved known next start at p (m (λ e. cc)) f
 paced_on (item.Nodes n) known next start at p g m f q = still known next start at p g (q (λ z. z))
 paced_on (item.Node n) known next start at p g m f q = still known next start at p g (q (λ z. z))
 paced_on (item.Marks n) known next start at p g m f q = still known next start at p g (q (λ z. z))

@@ -1,9 +1,9 @@
 //! What stands before the first section and behind the last, read through a folder.
-ghost use Rattle.std.specs.Prelude.{◌≡◌, ◌≤◌, ℕ, List, Some, length, IsErrOf, IfOk};
+ghost use Rattle.std.specs.Prelude.{◌<◌, ◌≡◌, ◌≤◌, ℕ, List, Some, length, IsErrOf, IfOk, true};
 ghost use Rattle.fx_edge.specs.Outside.{Rose};
 ghost use Rattle.cert_bytes.specs.Reading.{magic_at, version_at, preamble_at, head_at, node_item_at, marks_at, mark_at};
 ghost use Rattle.cert_bytes.specs.Certificates.{HasSpelling};
-ghost use Rattle.cert_bytes.specs.Due.{IsOfSection};
+ghost use Rattle.cert_bytes.specs.Due.{is_nodes, is_node, is_marks, is_mark};
 ghost use Rattle.cert_bytes.specs.Pieces.{Gives, AgreesTold, kept_of};
 
 use crate::fault::{CertKind, Stop, fault};
@@ -39,6 +39,7 @@ impl Source {
         ensures agrees { AgreesTold (F.told folder.new self.new.name) self.new }
         ensures kept { kept_of self.new ≡ kept_of self.old }
         ensures grows { self.old.at ≤ self.new.at }
+        ensures moves { IfOk result (λ _. self.old.at < self.new.at) }
         ensures told { (other : List ℕ) → F.told folder.new other ≡ F.told folder.old other }
         ensures later { F.read_faults folder.old ≤ F.read_faults folder.new }
         ensures cause { IsErrOf result Stop.Failed → Rose (F.read_faults folder.old) (F.read_faults folder.new) }
@@ -58,6 +59,7 @@ impl Source {
         ensures agrees { AgreesTold (F.told folder.new self.new.name) self.new }
         ensures kept { kept_of self.new ≡ kept_of self.old }
         ensures grows { self.old.at ≤ self.new.at }
+        ensures moves { IfOk result (λ _. self.old.at < self.new.at) }
         ensures told { (other : List ℕ) → F.told folder.new other ≡ F.told folder.old other }
         ensures later { F.read_faults folder.old ≤ F.read_faults folder.new }
         ensures cause { IsErrOf result Stop.Failed → Rose (F.read_faults folder.old) (F.read_faults folder.new) }
@@ -75,7 +77,8 @@ impl Source {
         ensures agrees { AgreesTold (F.told folder.new self.new.name) self.new }
         ensures kept { kept_of self.new ≡ kept_of self.old }
         ensures grows { self.old.at ≤ self.new.at }
-        ensures quiet { IfOk result (λ item. ¬ IsOfSection item) }
+        ensures moves { IfOk result (λ _. self.old.at < self.new.at) }
+        ensures kind { IfOk result (λ i. is_nodes i ≡ true) }
         ensures spelled { IfOk result HasSpelling }
         ensures told { (other : List ℕ) → F.told folder.new other ≡ F.told folder.old other }
         ensures later { F.read_faults folder.old ≤ F.read_faults folder.new }
@@ -94,7 +97,8 @@ impl Source {
         ensures agrees { AgreesTold (F.told folder.new self.new.name) self.new }
         ensures kept { kept_of self.new ≡ kept_of self.old }
         ensures grows { self.old.at ≤ self.new.at }
-        ensures quiet { IfOk result (λ item. ¬ IsOfSection item) }
+        ensures moves { IfOk result (λ _. self.old.at < self.new.at) }
+        ensures kind { IfOk result (λ i. is_node i ≡ true) }
         ensures spelled { IfOk result HasSpelling }
         ensures told { (other : List ℕ) → F.told folder.new other ≡ F.told folder.old other }
         ensures later { F.read_faults folder.old ≤ F.read_faults folder.new }
@@ -111,7 +115,8 @@ impl Source {
         ensures agrees { AgreesTold (F.told folder.new self.new.name) self.new }
         ensures kept { kept_of self.new ≡ kept_of self.old }
         ensures grows { self.old.at ≤ self.new.at }
-        ensures quiet { IfOk result (λ item. ¬ IsOfSection item) }
+        ensures moves { IfOk result (λ _. self.old.at < self.new.at) }
+        ensures kind { IfOk result (λ i. is_marks i ≡ true) }
         ensures spelled { IfOk result HasSpelling }
         ensures told { (other : List ℕ) → F.told folder.new other ≡ F.told folder.old other }
         ensures later { F.read_faults folder.old ≤ F.read_faults folder.new }
@@ -128,7 +133,8 @@ impl Source {
         ensures agrees { AgreesTold (F.told folder.new self.new.name) self.new }
         ensures kept { kept_of self.new ≡ kept_of self.old }
         ensures grows { self.old.at ≤ self.new.at }
-        ensures quiet { IfOk result (λ item. ¬ IsOfSection item) }
+        ensures moves { IfOk result (λ _. self.old.at < self.new.at) }
+        ensures kind { IfOk result (λ i. is_mark i ≡ true) }
         ensures spelled { IfOk result HasSpelling }
         ensures told { (other : List ℕ) → F.told folder.new other ≡ F.told folder.old other }
         ensures later { F.read_faults folder.old ≤ F.read_faults folder.new }

@@ -1,5 +1,5 @@
 //! Nodes, read through a folder.
-ghost use Rattle.std.specs.Prelude.{◌≡◌, ◌≤◌, pos, negsuc, ℕ, List, Some, length, IsErrOf, IfOk};
+ghost use Rattle.std.specs.Prelude.{◌<◌, ◌≡◌, ◌≤◌, pos, negsuc, ℕ, List, Some, length, IsErrOf, IfOk};
 ghost use Rattle.literal.specs.Spelling.{IsBetween};
 ghost use Rattle.literal.specs.Normal.{IsNormal};
 ghost use Rattle.expr_dag.specs.Nodes.{IsInLimits};
@@ -328,6 +328,7 @@ impl Source {
         ensures limits { IfOk result IsInLimits }
         ensures kept { kept_of self.new ≡ kept_of self.old }
         ensures grows { self.old.at ≤ self.new.at }
+        ensures moves { IfOk result (λ _. self.old.at < self.new.at) }
         ensures told { (other : List ℕ) → F.told folder.new other ≡ F.told folder.old other }
         ensures later { F.read_faults folder.old ≤ F.read_faults folder.new }
         ensures cause { IsErrOf result Stop.Failed → Rose (F.read_faults folder.old) (F.read_faults folder.new) }

@@ -1,8 +1,9 @@
 //! The item that is due, read through a folder.
-ghost use Rattle.std.specs.Prelude.{◌≡◌, ◌≤◌, ◌<◌, ℕ, List, Some, length, IsErrOf, IfOk};
+ghost use Rattle.std.specs.Prelude.{◌≡◌, ◌≤◌, ◌<◌, ℕ, List, Some, length, IsErrOf, IfOk, true};
 ghost use Rattle.fx_edge.specs.Outside.{Rose};
 ghost use Rattle.cert_bytes.specs.Reading.{more_at, closed_at, node_or_marks_at, mark_or_section_at, section_or_end_at, item_at};
-ghost use Rattle.cert_bytes.specs.Due.{IsOfSection};
+ghost use Rattle.cert_bytes.specs.declared.item.Item.TheVariants as item;
+ghost use Rattle.cert_bytes.specs.Due.{is_due, is_end};
 ghost use Rattle.cert_bytes.specs.Certificates.{HasSpelling};
 ghost use Rattle.cert_bytes.specs.Pieces.{Gives, AgreesTold, kept_of};
 
@@ -34,7 +35,8 @@ impl Source {
         ensures agrees { AgreesTold (F.told folder.new self.new.name) self.new }
         ensures kept { kept_of self.new ≡ kept_of self.old }
         ensures grows { self.old.at ≤ self.new.at }
-        ensures quiet { IfOk result (λ item. ¬ IsOfSection item) }
+        ensures reads { IfOk result (λ i. ¬ (i ≡ item.End) → self.old.at < self.new.at) }
+        ensures kind { IfOk result (λ i. is_end i ≡ true) }
         ensures spelled { IfOk result HasSpelling }
         ensures told { (other : List ℕ) → F.told folder.new other ≡ F.told folder.old other }
         ensures later { F.read_faults folder.old ≤ F.read_faults folder.new }
@@ -54,7 +56,8 @@ impl Source {
         ensures agrees { AgreesTold (F.told folder.new self.new.name) self.new }
         ensures kept { kept_of self.new ≡ kept_of self.old }
         ensures grows { self.old.at ≤ self.new.at }
-        ensures moves { IfOk result (λ item. IsOfSection item → self.old.at < self.new.at) }
+        ensures reads { IfOk result (λ i. ¬ (i ≡ item.End) → self.old.at < self.new.at) }
+        ensures due { IfOk result (λ i. is_due (Due.Nodes nodes) i ≡ true) }
         ensures spelled { IfOk result HasSpelling }
         ensures told { (other : List ℕ) → F.told folder.new other ≡ F.told folder.old other }
         ensures later { F.read_faults folder.old ≤ F.read_faults folder.new }
@@ -73,7 +76,8 @@ impl Source {
         ensures agrees { AgreesTold (F.told folder.new self.new.name) self.new }
         ensures kept { kept_of self.new ≡ kept_of self.old }
         ensures grows { self.old.at ≤ self.new.at }
-        ensures moves { IfOk result (λ item. IsOfSection item → self.old.at < self.new.at) }
+        ensures reads { IfOk result (λ i. ¬ (i ≡ item.End) → self.old.at < self.new.at) }
+        ensures due { IfOk result (λ i. is_due (Due.Marks marks) i ≡ true) }
         ensures spelled { IfOk result HasSpelling }
         ensures told { (other : List ℕ) → F.told folder.new other ≡ F.told folder.old other }
         ensures later { F.read_faults folder.old ≤ F.read_faults folder.new }
@@ -92,7 +96,8 @@ impl Source {
         ensures agrees { AgreesTold (F.told folder.new self.new.name) self.new }
         ensures kept { kept_of self.new ≡ kept_of self.old }
         ensures grows { self.old.at ≤ self.new.at }
-        ensures moves { IfOk result (λ item. IsOfSection item → self.old.at < self.new.at) }
+        ensures reads { IfOk result (λ i. ¬ (i ≡ item.End) → self.old.at < self.new.at) }
+        ensures due { IfOk result (λ i. is_due (Due.Sections sections) i ≡ true) }
         ensures spelled { IfOk result HasSpelling }
         ensures told { (other : List ℕ) → F.told folder.new other ≡ F.told folder.old other }
         ensures later { F.read_faults folder.old ≤ F.read_faults folder.new }
@@ -112,7 +117,8 @@ impl Source {
         ensures agrees { AgreesTold (F.told folder.new self.new.name) self.new }
         ensures kept { kept_of self.new ≡ kept_of self.old }
         ensures grows { self.old.at ≤ self.new.at }
-        ensures moves { IfOk result (λ item. IsOfSection item → self.old.at < self.new.at) }
+        ensures reads { IfOk result (λ i. ¬ (i ≡ item.End) → self.old.at < self.new.at) }
+        ensures due { IfOk result (λ i. is_due due i ≡ true) }
         ensures spelled { IfOk result HasSpelling }
         ensures told { (other : List ℕ) → F.told folder.new other ≡ F.told folder.old other }
         ensures later { F.read_faults folder.old ≤ F.read_faults folder.new }

@@ -1,9 +1,10 @@
 //! A certificate, read item by item.
-ghost use Rattle.std.specs.Prelude.{◌≡◌, ◌≤◌, ◌<◌, [], ℕ, List, Option, Some, None, IfOk, IsErrOf, length};
+ghost use Rattle.std.specs.Prelude.{◌^◌, ◌≡◌, ◌≤◌, ◌<◌, [], ℕ, List, Option, Some, None, IfOk, IsErrOf, length, true};
 ghost use Rattle.fx_edge.specs.Outside.{Rose};
+ghost use Rattle.cert_bytes.specs.declared.item.Item.TheVariants as item;
 ghost use Rattle.cert_bytes.specs.Reading.{item_at};
 ghost use Rattle.cert_bytes.specs.Pieces.{Gives, AgreesTold};
-ghost use Rattle.cert_bytes.specs.Due.{due_behind};
+ghost use Rattle.cert_bytes.specs.Due.{due_behind, is_due};
 ghost use Rattle.cert_bytes.specs.Readers.{Progress, Answers, IsUnmoved};
 ghost use Rattle.cert_bytes.specs.Certificates.{HasSpelling};
 
@@ -54,8 +55,12 @@ impl Reader {
         requires sound { self.old.fault ≡ None }
         requires agrees { AgreesTold (F.told folder.old self.old.ahead.name) self.old.ahead }
         ensures gives { (all : List ℕ) → F.told folder.old self.old.ahead.name ≡ Some all → Gives (λ x. x) all self.old.ahead self.new.ahead result (item_at self.old.due) }
+        ensures due { IfOk result (λ i. is_due self.old.due i ≡ true) }
         ensures spelled { IfOk result HasSpelling }
         ensures answers { Answers self.old result self.new }
+        ensures grows { self.old.ahead.at ≤ self.new.ahead.at }
+        ensures reads { IfOk result (λ i. ¬ (i ≡ item.End) → self.old.ahead.at < self.new.ahead.at) }
+        ensures within { self.new.ahead.at ≤ 2 ^ 44 }
         ensures few { length self.new.ahead.ahead ≤ 4096 }
         ensures agrees { AgreesTold (F.told folder.new self.new.ahead.name) self.new.ahead }
         ensures name { self.new.ahead.name ≡ self.old.ahead.name }
@@ -91,8 +96,12 @@ impl Reader {
         requires agrees { AgreesTold (F.told folder.old self.old.ahead.name) self.old.ahead }
         ensures gives { (all : List ℕ) → F.told folder.old self.old.ahead.name ≡ Some all → self.old.fault ≡ None → Gives (λ x. x) all self.old.ahead self.new.ahead result (item_at self.old.due) }
         ensures again { (f : CertFault) → self.old.fault ≡ Some f → (result ≡ Err (Stop.Fault f)) × (self.new ≡ self.old) }
+        ensures due { IfOk result (λ i. is_due self.old.due i ≡ true) }
         ensures spelled { IfOk result HasSpelling }
         ensures answers { Answers self.old result self.new }
+        ensures grows { self.old.ahead.at ≤ self.new.ahead.at }
+        ensures reads { IfOk result (λ i. ¬ (i ≡ item.End) → self.old.ahead.at < self.new.ahead.at) }
+        ensures within { self.new.ahead.at ≤ 2 ^ 44 }
         ensures few { length self.new.ahead.ahead ≤ 4096 }
         ensures agrees { AgreesTold (F.told folder.new self.new.ahead.name) self.new.ahead }
         ensures name { self.new.ahead.name ≡ self.old.ahead.name }

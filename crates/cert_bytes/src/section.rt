@@ -1,7 +1,8 @@
 //! Items of sections, read through a folder.
-ghost use Rattle.std.specs.Prelude.{◌≡◌, ◌≤◌, ◌<◌, ℕ, List, Some, length, IsErrOf, IfOk};
+ghost use Rattle.std.specs.Prelude.{◌≡◌, ◌≤◌, ◌<◌, ℕ, List, Some, length, IsErrOf, IfOk, true};
 ghost use Rattle.fx_edge.specs.Outside.{Rose};
 ghost use Rattle.cert_bytes.specs.Reading.{rule_at, claim_at, cited_at, step_at, step_item_at, cut_head_at, cut_at, leaf_at, dead_at, section_by, section_item_at};
+ghost use Rattle.cert_bytes.specs.Due.{is_of_section};
 ghost use Rattle.cert_bytes.specs.Certificates.{HasSpelling, IsCounted};
 ghost use Rattle.cert_bytes.specs.Pieces.{Gives, AgreesTold, kept_of};
 
@@ -92,6 +93,7 @@ impl Source {
         ensures agrees { AgreesTold (F.told folder.new self.new.name) self.new }
         ensures kept { kept_of self.new ≡ kept_of self.old }
         ensures grows { self.old.at ≤ self.new.at }
+        ensures kind { IfOk result (λ i. is_of_section i ≡ true) }
         ensures spelled { IfOk result HasSpelling }
         ensures told { (other : List ℕ) → F.told folder.new other ≡ F.told folder.old other }
         ensures later { F.read_faults folder.old ≤ F.read_faults folder.new }
@@ -124,6 +126,7 @@ impl Source {
         ensures agrees { AgreesTold (F.told folder.new self.new.name) self.new }
         ensures kept { kept_of self.new ≡ kept_of self.old }
         ensures grows { self.old.at ≤ self.new.at }
+        ensures kind { IfOk result (λ i. is_of_section i ≡ true) }
         ensures spelled { IfOk result HasSpelling }
         ensures told { (other : List ℕ) → F.told folder.new other ≡ F.told folder.old other }
         ensures later { F.read_faults folder.old ≤ F.read_faults folder.new }
@@ -141,6 +144,7 @@ impl Source {
         ensures agrees { AgreesTold (F.told folder.new self.new.name) self.new }
         ensures kept { kept_of self.new ≡ kept_of self.old }
         ensures grows { self.old.at ≤ self.new.at }
+        ensures kind { IfOk result (λ i. is_of_section i ≡ true) }
         ensures spelled { IfOk result HasSpelling }
         ensures told { (other : List ℕ) → F.told folder.new other ≡ F.told folder.old other }
         ensures later { F.read_faults folder.old ≤ F.read_faults folder.new }
@@ -156,6 +160,7 @@ impl Source {
         ensures agrees { AgreesTold (F.told folder.new self.new.name) self.new }
         ensures kept { kept_of self.new ≡ kept_of self.old }
         ensures grows { self.old.at ≤ self.new.at }
+        ensures kind { IfOk result (λ i. is_of_section i ≡ true) }
         ensures spelled { IfOk result HasSpelling }
         ensures told { (other : List ℕ) → F.told folder.new other ≡ F.told folder.old other }
         ensures later { F.read_faults folder.old ≤ F.read_faults folder.new }
@@ -171,6 +176,7 @@ impl Source {
         ensures agrees { AgreesTold (F.told folder.new self.new.name) self.new }
         ensures kept { kept_of self.new ≡ kept_of self.old }
         ensures grows { self.old.at ≤ self.new.at }
+        ensures kind { IfOk result (λ i. is_of_section i ≡ true) }
         ensures spelled { IfOk result HasSpelling }
         ensures told { (other : List ℕ) → F.told folder.new other ≡ F.told folder.old other }
         ensures later { F.read_faults folder.old ≤ F.read_faults folder.new }
@@ -193,6 +199,7 @@ impl Source {
         ensures agrees { AgreesTold (F.told folder.new self.new.name) self.new }
         ensures kept { kept_of self.new ≡ kept_of self.old }
         ensures grows { self.old.at ≤ self.new.at }
+        ensures kind { IfOk result (λ i. is_of_section i ≡ true) }
         ensures spelled { IfOk result HasSpelling }
         ensures moves { IfOk result (λ _. self.old.at < self.new.at) }
         ensures told { (other : List ℕ) → F.told folder.new other ≡ F.told folder.old other }

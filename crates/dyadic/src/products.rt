@@ -32,6 +32,7 @@ fn size_of(a: Dyadic) -> u128
     a.mantissa().unsigned_abs() as u128
 }
 
+#[inline(always)]
 fn product(a: Dyadic, b: Dyadic) -> Signed
     ensures exact { result.size.inexact ≡ false }
     ensures cuts { IsSigned result (value_of a *ℚ value_of b) }
@@ -45,6 +46,7 @@ fn product(a: Dyadic, b: Dyadic) -> Signed
 }
 
 // The quotient, with enough digits to be rounded.
+#[inline(always)]
 fn quotient(a: Dyadic, b: Dyadic) -> Signed
     requires { value_of b ≢ zero_ℚ }
     ensures cuts { IsSigned result (value_of a /ℚ value_of b) }
@@ -59,6 +61,7 @@ fn quotient(a: Dyadic, b: Dyadic) -> Signed
 }
 
 /// The greatest grid number that is at most the product.
+#[inline(always)]
 pub fn mul_down(a: Dyadic, b: Dyadic) -> End
     ensures { IsDown (value_of a *ℚ value_of b) (bound_of result) }
 {
@@ -66,6 +69,7 @@ pub fn mul_down(a: Dyadic, b: Dyadic) -> End
 }
 
 /// The least grid number that is at least the product.
+#[inline(always)]
 pub fn mul_up(a: Dyadic, b: Dyadic) -> End
     ensures { IsUp (value_of a *ℚ value_of b) (bound_of result) }
 {
@@ -73,6 +77,7 @@ pub fn mul_up(a: Dyadic, b: Dyadic) -> End
 }
 
 /// The greatest grid number that is at most the quotient.
+#[inline(always)]
 pub fn div_down(a: Dyadic, b: Dyadic) -> End
     requires { value_of b ≢ zero_ℚ }
     ensures { IsDown (value_of a /ℚ value_of b) (bound_of result) }
@@ -81,6 +86,7 @@ pub fn div_down(a: Dyadic, b: Dyadic) -> End
 }
 
 /// The least grid number that is at least the quotient.
+#[inline(always)]
 pub fn div_up(a: Dyadic, b: Dyadic) -> End
     requires { value_of b ≢ zero_ℚ }
     ensures { IsUp (value_of a /ℚ value_of b) (bound_of result) }
@@ -89,6 +95,7 @@ pub fn div_up(a: Dyadic, b: Dyadic) -> End
 }
 
 // n * 2^two / d, with enough digits to be rounded.
+#[inline(always)]
 fn ratio(n: i128, d: u128, two: i32) -> Signed
     requires numerator { unsigned_abs n ≤ 100000000000000000000000000000000000000 }
     requires not_zero { 0 < d }
@@ -107,6 +114,7 @@ fn ratio(n: i128, d: u128, two: i32) -> Signed
 }
 
 /// The greatest grid number that is at most `n * 2^two / d`.
+#[inline(always)]
 pub fn ratio_down(n: i128, d: u128, two: i32) -> End
     requires numerator { unsigned_abs n ≤ 100000000000000000000000000000000000000 }
     requires not_zero { 0 < d }
@@ -119,6 +127,7 @@ pub fn ratio_down(n: i128, d: u128, two: i32) -> End
 }
 
 /// The least grid number that is at least `n * 2^two / d`.
+#[inline(always)]
 pub fn ratio_up(n: i128, d: u128, two: i32) -> End
     requires numerator { unsigned_abs n ≤ 100000000000000000000000000000000000000 }
     requires not_zero { 0 < d }

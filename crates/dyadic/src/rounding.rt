@@ -32,6 +32,7 @@ fn with_sign(negative: bool, size: Dyadic) -> Dyadic
 }
 
 // The rounding down of a value.
+#[inline(always)]
 pub fn down(value: Signed) -> End
     requires long { value.size.inexact ≡ true → IsLong value.size }
     requires low { negsuc 2999 ≤ℤ value.size.two }
@@ -45,6 +46,7 @@ pub fn down(value: Signed) -> End
 }
 
 // The rounding up of a value.
+#[inline(always)]
 pub fn up(value: Signed) -> End
     requires long { value.size.inexact ≡ true → IsLong value.size }
     requires low { negsuc 2999 ≤ℤ value.size.two }
@@ -58,6 +60,7 @@ pub fn up(value: Signed) -> End
 }
 
 // The greatest grid number that is at most the value of a cut.
+#[inline(always)]
 fn toward_zero(cut: Cut) -> Dyadic
     requires long { IsLong cut }
     requires low { negsuc 2999 ≤ℤ cut.two }
@@ -73,6 +76,7 @@ fn toward_zero(cut: Cut) -> Dyadic
 }
 
 // The least grid number that is at least the value of a cut.
+#[inline(always)]
 fn from_zero(cut: Cut) -> Option<Dyadic>
     requires long { IsLong cut }
     requires low { negsuc 2999 ≤ℤ cut.two }
@@ -95,6 +99,7 @@ fn from_zero(cut: Cut) -> Option<Dyadic>
 }
 
 // The rounding down of a cut value with a sign.
+#[inline(always)]
 pub fn round_down(negative: bool, cut: Cut) -> End
     requires long { IsLong cut }
     requires low { negsuc 2999 ≤ℤ cut.two }
@@ -112,6 +117,7 @@ pub fn round_down(negative: bool, cut: Cut) -> End
 }
 
 // The rounding up of a cut value with a sign.
+#[inline(always)]
 pub fn round_up(negative: bool, cut: Cut) -> End
     requires long { IsLong cut }
     requires low { negsuc 2999 ≤ℤ cut.two }

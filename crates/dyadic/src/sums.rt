@@ -47,6 +47,7 @@ impl Term {
 }
 
 // The sum of two terms. What lies far below the first digits is only known to be there.
+#[inline(always)]
 pub fn sum(a: Term, b: Term) -> Signed
     requires a_small { unsigned_abs a.mantissa < 73786976294838206464 }
     requires b_small { unsigned_abs b.mantissa < 73786976294838206464 }
@@ -83,6 +84,7 @@ fn alone(a: Term) -> Signed
 }
 
 // The sum where the first term isn't 0 and has the greater exponent.
+#[inline(always)]
 fn ordered_sum(a: Term, b: Term) -> Signed
     requires a_small { unsigned_abs a.mantissa < 73786976294838206464 }
     requires b_small { unsigned_abs b.mantissa < 73786976294838206464 }
@@ -223,6 +225,7 @@ pub fn term_of(a: Dyadic) -> Term
 }
 
 /// The greatest grid number that is at most the sum.
+#[inline(always)]
 pub fn add_down(a: Dyadic, b: Dyadic) -> End
     ensures { IsDown (value_of a +ℚ value_of b) (bound_of result) }
 {
@@ -230,6 +233,7 @@ pub fn add_down(a: Dyadic, b: Dyadic) -> End
 }
 
 /// The least grid number that is at least the sum.
+#[inline(always)]
 pub fn add_up(a: Dyadic, b: Dyadic) -> End
     ensures { IsUp (value_of a +ℚ value_of b) (bound_of result) }
 {

@@ -1,6 +1,6 @@
 //! The spans of goals, read word by word.
 
-ghost use Rattle.std.specs.Prelude.{◌≡◌, ◌+◌, ◌<◌, ◌^◌, map, IfOk, OnOk};
+ghost use Rattle.std.specs.Prelude.{◌≡◌, ◌+◌, ◌<◌, ◌^◌, map, IfOk, OnOk, OnErr};
 ghost use Rattle.script_words.specs.Named.{word_of};
 ghost use Rattle.script_shape.specs.Roles.{leaves_of};
 ghost use Rattle.goal_spans.specs.Reading as spec;
@@ -66,7 +66,8 @@ impl SpanReader {
 
     // The proposition in hand is one more goal.
     fn add(&mut self) -> Result<(), AllocError>
-        ensures { OnOk result (self.new ≡ spec.with_goal self.old) }
+        ensures added { OnOk result (self.new ≡ spec.with_goal self.old) }
+        ensures refused { OnErr result (self.new ≡ self.old) }
     {
         self.spans.push(Span {
             first: self.first,
@@ -98,7 +99,8 @@ impl SpanReader {
     // Takes the sign behind a proposition.
     fn connect(&mut self, word: Word<'_>) -> Result<(), AllocError>
         requires { self.old.at + 1 < 2 ^ 64 }
-        ensures { OnOk result (self.new ≡ spec.connected (word_of word.entry) self.old) }
+        ensures connected { OnOk result (self.new ≡ spec.connected (word_of word.entry) self.old) }
+        ensures refused { OnErr result (self.new ≡ self.old) }
     {
         if matches!(word, Word::Sign(Sign::Arrow)) {
             self.spans.clear();
@@ -112,7 +114,8 @@ impl SpanReader {
 
     // Takes the brace behind the formula.
     fn close(&mut self) -> Result<(), AllocError>
-        ensures { OnOk result (self.new ≡ spec.closed self.old) }
+        ensures closed { OnOk result (self.new ≡ spec.closed self.old) }
+        ensures refused { OnErr result (self.new ≡ self.old) }
     {
         self.add()?;
         self.stage = Stage::Hints;
@@ -122,7 +125,8 @@ impl SpanReader {
     // Takes a word of the formula, or the brace behind it, by its role.
     fn within(&mut self, role: Due, word: Word<'_>) -> Result<(), AllocError>
         requires { self.old.at + 1 < 2 ^ 64 }
-        ensures { OnOk result (self.new ≡ spec.in_formula role (word_of word.entry) self.old) }
+        ensures read { OnOk result (self.new ≡ spec.in_formula role (word_of word.entry) self.old) }
+        ensures refused { OnErr result (self.new ≡ self.old) }
     {
         match role {
             Due::Relation => self.relate(word),
@@ -134,12 +138,13 @@ impl SpanReader {
         Ok(())
     }
 
-    // Takes a word by its role.
+    // Takes a word by its role. Where memory runs out it is as it was.
     #[tactic(auto, unfolding(crate::specs::Reading::read_word))]
     fn token(&mut self, role: Due, word: Word<'_>) -> Result<(), AllocError>
         requires { self.old.at + 1 < 2 ^ 64 }
         ensures read { OnOk result (self.new ≡ spec.read_word role (word_of word.entry) self.old) }
         ensures counted { OnOk result (self.new.at ≡ self.old.at + 1) }
+        ensures refused { OnErr result (self.new ≡ self.old) }
     {
         let later = self.at + 1;
         match self.stage {

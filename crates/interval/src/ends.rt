@@ -32,6 +32,7 @@ pub fn opposite(end: End) -> End
 }
 
 // The lower end of a sum.
+#[inline(always)]
 pub fn low_sum(a: End, b: End) -> End
     ensures { LowSum (bound_of a) (bound_of b) (bound_of result) }
 {
@@ -45,6 +46,7 @@ pub fn low_sum(a: End, b: End) -> End
 }
 
 // The upper end of a sum.
+#[inline(always)]
 pub fn high_sum(a: End, b: End) -> End
     ensures { HighSum (bound_of a) (bound_of b) (bound_of result) }
 {

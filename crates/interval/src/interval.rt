@@ -56,6 +56,7 @@ impl Interval {
     }
 
     // The two ends, where they are finite.
+    #[inline(always)]
     fn span(self) -> Option<Span>
         ensures { IsSpan self result }
     {
@@ -65,6 +66,7 @@ impl Interval {
     }
 
     /// The negatives.
+    #[inline(always)]
     pub fn neg(self) -> Interval
         ensures exact { IsExact (Negations (range_of self)) (range_of result) }
         ensures best { IsNegation (range_of self) (range_of result) }
@@ -113,6 +115,7 @@ impl Interval {
     }
 
     /// The least interval that holds every sum.
+    #[inline(always)]
     pub fn add(self, other: Interval) -> Interval
         ensures best { IsSum (range_of self) (range_of other) (range_of result) }
         ensures is { result ≡ sum_of self other }
@@ -124,6 +127,7 @@ impl Interval {
     }
 
     /// The least interval that holds every difference.
+    #[inline(always)]
     pub fn sub(self, other: Interval) -> Interval
         ensures best { IsDifference (range_of self) (range_of other) (range_of result) }
         ensures is { result ≡ difference_of self other }
@@ -135,6 +139,7 @@ impl Interval {
     }
 
     /// The least interval that holds every product, or the whole line where an end is infinite.
+    #[inline(always)]
     pub fn mul(self, other: Interval) -> Interval
         ensures best { IsProduct (range_of self) (range_of other) (range_of result) }
         ensures is { result ≡ product_of self other }
@@ -142,6 +147,7 @@ impl Interval {
         self.product(other)
     }
 
+    #[inline(always)]
     fn product(self, other: Interval) -> Interval
         ensures { IsProduct (range_of self) (range_of other) (range_of result) }
     {
@@ -193,6 +199,7 @@ impl Interval {
 
     /// The least interval that holds every quotient, or the whole line where an end is infinite.
     /// None where 0 lies in the divisor.
+    #[inline(always)]
     pub fn div(self, other: Interval) -> Option<Interval>
         ensures zero { IsNone result ↔ Lies (range_of other) zero_ℚ }
         ensures quotient { IfSome result (λ made. IsQuotient (range_of self) (range_of other) (range_of made)) }
@@ -205,6 +212,7 @@ impl Interval {
     }
 
     // The quotient by an interval in which 0 doesn't lie.
+    #[inline(always)]
     fn quotient_by(self, other: Interval) -> Interval
         requires { ¬ Lies (range_of other) zero_ℚ }
         ensures { IsQuotient (range_of self) (range_of other) (range_of result) }
@@ -219,6 +227,7 @@ impl Interval {
     }
 
     // The quotient by an interval without 0.
+    #[inline(always)]
     fn quotient(x: &Span, y: &Span) -> Interval
         requires { ¬ Lies (span_of y.now) zero_ℚ }
         ensures { IsEnclosure (Quotients (span_of x.now) (span_of y.now)) (range_of result) }
@@ -231,6 +240,7 @@ impl Interval {
     }
 
     // The quotient by numbers above 0.
+    #[inline(always)]
     fn rising_quotient(x: &Span, y: &Span) -> Interval
         requires { zero_ℚ <ℚ value_of y.now.low }
         ensures { IsEnclosure (Quotients (span_of x.now) (span_of y.now)) (range_of result) }

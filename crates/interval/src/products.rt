@@ -9,6 +9,7 @@ use crate::span::Span;
 use dyadic::{End, lesser, mul_down};
 
 // The lower end of the product.
+#[inline(always)]
 pub fn low_product(x: &Span, y: &Span) -> End
     ensures { IsInfimum (Products (span_of x.now) (span_of y.now)) (bound_of result) }
 {
@@ -34,6 +35,7 @@ pub fn low_product(x: &Span, y: &Span) -> End
 }
 
 // The upper end: the lower end of the products with the negatives, on the other side of 0.
+#[inline(always)]
 pub fn high_product(x: &Span, y: &Span) -> End
     ensures { IsSupremum (Products (span_of x.now) (span_of y.now)) (bound_of result) }
 {

@@ -11,6 +11,7 @@ use crate::span::Span;
 use dyadic::{End, div_down};
 
 // The lower end of the quotient.
+#[inline(always)]
 pub fn low_quotient(x: &Span, y: &Span) -> End
     requires { zero_ℚ <ℚ value_of y.now.low }
     ensures { IsInfimum (Quotients (span_of x.now) (span_of y.now)) (bound_of result) }
@@ -23,6 +24,7 @@ pub fn low_quotient(x: &Span, y: &Span) -> End
 }
 
 // The upper end: the lower end of the quotients of the negatives, on the other side of 0.
+#[inline(always)]
 pub fn high_quotient(x: &Span, y: &Span) -> End
     requires { zero_ℚ <ℚ value_of y.now.low }
     ensures { IsSupremum (Quotients (span_of x.now) (span_of y.now)) (bound_of result) }

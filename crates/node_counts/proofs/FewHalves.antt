@@ -2,52 +2,40 @@
 use Rattle.std.proofs.Common.{◌≡◌, ℕ, ◌+◌, ◌≤◌, ◌<◌, nat_lt, List, [], ◌∷◌, ◌++◌, length, None, Some, Bool, true, false, not, ◌&&◌, ◌||◌, if◌then◌else◌, refl, sym, ap, ◌∙◌, subst, arith, length-append, eq-eqb, ◌⊎◌, inl, inr}
 use Rattle.std.specs.List.{AllByRecursion, list_any}
 use Rattle.std.specs.Str.{bytes_eq}
-use Rattle.std.proofs.lemmas.Bool.{ltb-false}
 use Rattle.std.proofs.lemmas.Slice.Eq.{bytes_eq-Decides}
 use Rattle.fx_model.specs.declared.ExprId.{ExprId}
-use Rattle.script_words.specs.declared.class.Spelled.TheVariants as spelled
 use Rattle.script_words.specs.declared.class.Sign.TheVariants as s
 use Rattle.script_words.specs.Words.{Word, sign}
 use Rattle.script_shape.specs.declared.due.Due.{Due}
 use Rattle.script_shape.specs.declared.due.Due.TheVariants as d
-use Rattle.script_shape.specs.Tree.{AnyName, plain, operator, Expr, Need, nonzero, below, not_above, above, not_below, NeedList, last_need, more_needs, Needs, always, provided, Points, last_point, more_points, Cut, in_four, pieces, at_points, Names, last_name, more_names, Halving, halved_by, with_goal, Hint, rewrite, like, split, halving, Hints, no_hint, hint, Whole, natural, opposite, Range, asked, between, Prop, lies_in, relative_in, at_most, at_least, multiple, Formula, single, and, implies, How, exactly, rounded_by, rounded_apart, rounded_joined, Definition, names_operator, names_value, Script, formula, define}
-use Rattle.script_shape.specs.Roles.{Leaf, at, bound_leaves, expr_leaves, name_leaves, need_leaves, need_list_leaves, needs_leaves, points_leaves, cut_leaves, names_leaves, halving_leaves, hint_leaves, hints_leaves, special_leaves, whole_leaves, operator_leaves, range_leaves, prop_leaves, formula_leaves, how_leaves, definition_leaves, script_leaves}
-use Rattle.script_shape.specs.Inner.{EachRole, IsInner, each_of_both, each_as, name_roles, special_roles, digits_roles, bound_roles, operator_roles, expr_inner}
+use Rattle.script_shape.specs.Tree.{AnyName, plain, operator, Expr, Need, nonzero, below, not_above, above, not_below, NeedList, last_need, more_needs, Needs, always, provided, Cut, Names, last_name, more_names, Halving, halved_by, with_goal, Hint, rewrite, like, split, halving, Hints, no_hint, hint, Prop, Formula, single, and, implies, How, exactly, rounded_by, rounded_apart, rounded_joined, Definition, names_operator, names_value, Script, formula, define}
+use Rattle.script_shape.specs.Roles.{Leaf, expr_leaves, name_leaves, needs_leaves, cut_leaves, names_leaves, halving_leaves, hint_leaves, hints_leaves, operator_leaves, prop_leaves, formula_leaves, how_leaves, definition_leaves, script_leaves}
+use Rattle.script_shape.specs.Inner.{EachRole, IsInner, each_of_both, each_as, name_roles, operator_roles, expr_inner}
 use Rattle.script_judge.specs.Names.{Name, is_among, split_name, halved_after}
-use Rattle.script_judge.specs.declared.counts.Counts.{Counts}
 use Rattle.script_judge.specs.Numbers.{Verdict}
-use Rattle.script_judge.specs.Judge.{Seen, seen_after, has_arrow, form_refusal, limit_kind, limit_refusal, Judged, nothing_seen}
+use Rattle.script_judge.specs.Judge.{Seen, seen_after, has_arrow, form_refusal, limit_refusal, Judged, nothing_seen}
 use Rattle.script_nodes.specs.Definitions.{definition_value}
 use Rattle.script_claims.specs.Claims.{formula_claims}
 use Rattle.node_counts.specs.Few.{hints_behind}
-use Rattle.node_counts.proofs.Kept.{fails, neither, both_none}
-use Rattle.node_counts.proofs.FewHints.{hints_of}
+use Rattle.node_counts.proofs.Kept.{both_none}
+use Rattle.node_counts.proofs.FewHints.{limits_hold, hints_of}
+use Rattle.node_counts.proofs.WordRoles.{IsOfProp, prop_roles, IsOfPart, needs_roles, cut_roles}
 use Rattle.script_nodes.specs.Known.{Known, named}
 use Rattle.script_nodes.specs.Values.{expr_value}
-use Rattle.script_hints.specs.Hints.{needs_value, NeedsSoFar, with_need, with_need_list, name_text, same_number, with_variable, HintsSoFar, with_halved, with_names, with_halving, with_hint, with_hints, no_hints}
+use Rattle.script_hints.specs.Hints.{needs_value, NeedsSoFar, with_need, with_need_list, same_number, with_variable, HintsSoFar, with_halved, with_names, with_halving, with_hint, with_hints, no_hints}
+use Rattle.script_nodes.specs.Definitions.{name_text}
 use Rattle.node_counts.proofs.There.{any_before, any_last}
 use Rattle.node_counts.proofs.Passing.{Passes, passes_all, passes_both}
 use Rattle.node_counts.proofs.Numbers.{HasNumber, Keeps, keeps_both, keeps_itself, named_keeps, expr_keeps, named_has, number_once}
 
 -- ---- the judge lets no more than 4 pass
 
-limit_halved : (opened halved : ℕ) (c : Counts) (lsb past : Bool) → limit_kind opened halved c lsb past ≡ None → halved ≤ 4
-limit_halved opened halved c lsb past h =
-    let nesting = fails (nat_lt 64 opened) _ _ h in
-    let definitions = fails (nat_lt 256 c.definitions) _ _ nesting.1 in
-    let propositions = fails (nat_lt 128 c.propositions) _ _ definitions.1 in
-    let hints = fails (nat_lt 64 c.hints) _ _ propositions.1 in
-    let nodes = fails (nat_lt 512 c.nodes) _ _ hints.1 in
-    let low = fails lsb _ _ nodes.1 in
-    let splits = fails _ _ _ low.1 in
-    ltb-false 4 halved (neither _ _ splits.0).1
-
 all_few : (ls : List Leaf) (seen last : Seen) → Passes seen ls last → length seen.names.halved ≤ 4 → length last.names.halved ≤ 4
 all_few [] seen last p h = subst (λ (z : Seen). length z.names.halved ≤ 4) p h
 all_few (l ∷ ls) seen last p h =
     let after = seen_after p.0 seen l.role l.word in
     let limits = both_none (form_refusal p.0 seen l.role l.word (has_arrow p.1) p.1) (limit_refusal after l.role l.word) p.2 in
-    all_few ls after last p.3 (limit_halved _ (length after.names.halved) after.counts _ _ limits.1)
+    all_few ls after last p.3 (limits_hold _ (length after.names.halved) after.counts _ _ limits.1).halved
 
 -- ---- the names that are halved have numbers among those that are
 
@@ -147,29 +135,15 @@ expr_quiet e = each_as IsInner IsNoSplit inner_no_split (expr_leaves e) (expr_in
 then_quiet : (e : Expr) (ls : List Leaf) → EachRole IsNoSplit ls → EachRole IsNoSplit (expr_leaves e ++ ls)
 then_quiet e ls h = each_of_both IsNoSplit (expr_leaves e) ls (expr_quiet e) h
 
-need_quiet : (n : Need) → EachRole IsNoSplit (need_leaves n)
-need_quiet (nonzero e t) = then_quiet e _ (tt, (tt, tt))
-need_quiet (below e b) = then_quiet e _ (tt, bound_roles IsNoSplit b tt tt)
-need_quiet (not_above e b) = then_quiet e _ (tt, bound_roles IsNoSplit b tt tt)
-need_quiet (above e b) = then_quiet e _ (tt, bound_roles IsNoSplit b tt tt)
-need_quiet (not_below e b) = then_quiet e _ (tt, bound_roles IsNoSplit b tt tt)
-
-need_list_quiet : (l : NeedList) → EachRole IsNoSplit (need_list_leaves l)
-need_list_quiet (last_need n) = need_quiet n
-need_list_quiet (more_needs n l) = each_of_both IsNoSplit (need_leaves n) _ (need_quiet n) (tt, need_list_quiet l)
+part_is_no_split : (r : Due) → IsOfPart r → IsNoSplit r
+part_is_no_split d.SplitName h = absurd h
+part_is_no_split r h = tt
 
 needs_quiet : (n : Needs) → EachRole IsNoSplit (needs_leaves n)
-needs_quiet always = tt
-needs_quiet (provided l) = (tt, each_of_both IsNoSplit (need_list_leaves l) _ (need_list_quiet l) (tt, tt))
-
-points_quiet : (l : Points) → EachRole IsNoSplit (points_leaves l)
-points_quiet (last_point b) = bound_roles IsNoSplit b tt tt
-points_quiet (more_points b l) = each_of_both IsNoSplit (bound_leaves b) _ (bound_roles IsNoSplit b tt tt) (tt, points_quiet l)
+needs_quiet n = each_as IsOfPart IsNoSplit part_is_no_split (needs_leaves n) (needs_roles n)
 
 cut_quiet : (c : Cut) → EachRole IsNoSplit (cut_leaves c)
-cut_quiet in_four = tt
-cut_quiet (pieces n) = (tt, digits_roles IsNoSplit d.Cut n tt)
-cut_quiet (at_points l) = (tt, (tt, each_of_both IsNoSplit (points_leaves l) _ (points_quiet l) (tt, tt)))
+cut_quiet c = each_as IsOfPart IsNoSplit part_is_no_split (cut_leaves c) (cut_roles c)
 
 -- ---- what is known stays while hints are read
 
@@ -280,20 +254,12 @@ hints_halve (hint n l) x seen last p h =
 
 -- ---- nothing is halved before the hints
 
-whole_quiet : (l : Whole) → EachRole IsNoSplit (whole_leaves l)
-whole_quiet (natural n) = digits_roles IsNoSplit d.Whole n tt
-whole_quiet (opposite n) = (tt, digits_roles IsNoSplit d.WholeDigits n tt)
-
-range_quiet : (r : Range) → EachRole IsNoSplit (range_leaves r)
-range_quiet asked = (tt, tt)
-range_quiet (between a b) = (tt, each_of_both IsNoSplit (bound_leaves a) _ (bound_roles IsNoSplit a tt tt) (tt, each_of_both IsNoSplit (bound_leaves b) _ (bound_roles IsNoSplit b tt tt) (tt, tt)))
+prop_is_no_split : (r : Due) → IsOfProp r → IsNoSplit r
+prop_is_no_split d.SplitName h = absurd h
+prop_is_no_split r h = tt
 
 prop_quiet : (p : Prop) → EachRole IsNoSplit (prop_leaves p)
-prop_quiet (lies_in e r) = then_quiet e _ (tt, range_quiet r)
-prop_quiet (relative_in a b r) = then_quiet a _ (tt, then_quiet b _ (tt, range_quiet r))
-prop_quiet (at_most e b) = then_quiet e _ (tt, bound_roles IsNoSplit b tt tt)
-prop_quiet (at_least e b) = then_quiet e _ (tt, bound_roles IsNoSplit b tt tt)
-prop_quiet (multiple f e k) = (tt, each_of_both IsNoSplit (special_leaves d.Fix spelled.Fix f) _ (special_roles IsNoSplit d.Fix spelled.Fix f tt) (tt, then_quiet e _ (tt, each_of_both IsNoSplit (whole_leaves k) _ (whole_quiet k) (tt, tt))))
+prop_quiet p = each_as IsOfProp IsNoSplit prop_is_no_split (prop_leaves p) (prop_roles p)
 
 formula_quiet : (f : Formula) → EachRole IsNoSplit (formula_leaves f)
 formula_quiet (single p) = prop_quiet p

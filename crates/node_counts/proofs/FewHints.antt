@@ -14,7 +14,8 @@ use Rattle.script_judge.specs.Counts.{one_if, begins_hint, place_after}
 use Rattle.script_judge.specs.Judge.{Seen, seen_after, has_arrow, form_refusal, limit_kind, limit_refusal, refusal_at, Judged, nothing_seen}
 use Rattle.node_counts.proofs.Kept.{fails, neither, both_none}
 use Rattle.node_counts.proofs.Passing.{Passes, passes_all, passes_both}
-use Rattle.node_counts.proofs.Places.{IsOfProp, IsOfHint, prop_roles, hint_roles, HasFirst, prop_first, hint_first, prop_enters, prop_stays, hint_enters, hint_stays, first_comes}
+use Rattle.node_counts.proofs.WordRoles.{IsOfProp, prop_roles, IsOfHint, hint_roles}
+use Rattle.node_counts.proofs.Places.{HasFirst, prop_first, hint_first, prop_enters, prop_stays, hint_enters, hint_stays, first_comes}
 
 -- ---- what the judge lets pass is within its limits
 
@@ -23,7 +24,14 @@ pub record IsWithin (seen : Seen) : Type 0 where
   pub splits : seen.counts.splits ≤ 4
   pub pieces : seen.counts.pieces ≤ 64
 
-limits_hold : (opened halved : ℕ) (c : Counts) (lsb past : Bool) → limit_kind opened halved c lsb past ≡ None → (c.hints ≤ 64) × (c.splits ≤ 4) × (c.pieces ≤ 64)
+-- the counts, and so many that are halved
+pub record AreWithin (n : ℕ) (c : Counts) : Type 0 where
+  pub hints : c.hints ≤ 64
+  pub splits : c.splits ≤ 4
+  pub halved : n ≤ 4
+  pub pieces : c.pieces ≤ 64
+
+pub limits_hold : (opened halved : ℕ) (c : Counts) (lsb past : Bool) → limit_kind opened halved c lsb past ≡ None → AreWithin halved c
 limits_hold opened halved c lsb past h =
     let nesting = fails (nat_lt 64 opened) _ _ h in
     let definitions = fails (nat_lt 256 c.definitions) _ _ nesting.1 in
@@ -33,15 +41,15 @@ limits_hold opened halved c lsb past h =
     let low = fails lsb _ _ nodes.1 in
     let splits = fails _ _ _ low.1 in
     let more = fails _ _ _ splits.1 in
-    (ltb-false 64 c.hints hints.0, ltb-false 4 c.splits (neither _ _ splits.0).0, ltb-false 64 c.pieces (neither _ _ more.0).0)
+    record { hints = ltb-false 64 c.hints hints.0; splits = ltb-false 4 c.splits (neither _ _ splits.0).0; halved = ltb-false 4 halved (neither _ _ splits.0).1; pieces = ltb-false 64 c.pieces (neither _ _ more.0).0 }
 
 pub all_within : (ls : List Leaf) (seen last : Seen) → Passes seen ls last → IsWithin seen → IsWithin last
 all_within [] seen last p h = subst IsWithin p h
 all_within (l ∷ ls) seen last p h =
     let after = seen_after p.0 seen l.role l.word in
     let limits = both_none (form_refusal p.0 seen l.role l.word (has_arrow p.1) p.1) (limit_refusal after l.role l.word) p.2 in
-    let holds = limits_hold _ _ after.counts _ _ limits.1 in
-    all_within ls after last p.3 (record { hints = holds.0; splits = holds.1; pieces = holds.2 })
+    let holds = limits_hold _ (length after.names.halved) after.counts _ _ limits.1 in
+    all_within ls after last p.3 (record { hints = holds.hints; splits = holds.splits; pieces = holds.pieces })
 
 -- ---- hints are counted
 

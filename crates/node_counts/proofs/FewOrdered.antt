@@ -8,7 +8,8 @@ use Rattle.script_nodes.specs.Values.{expr_value}
 use Rattle.script_nodes.specs.Definitions.{definition_value}
 use Rattle.script_claims.specs.Claims.{formula_claims}
 use Rattle.script_hints.specs.declared.hint.HintList.{HintList}
-use Rattle.script_hints.specs.Hints.{name_text, same_number, with_variable, ordered, halved, HintsSoFar, with_halved, with_names, with_halving, with_hint, with_hints, no_hints}
+use Rattle.script_hints.specs.Hints.{same_number, with_variable, ordered, halved, HintsSoFar, with_halved, with_names, with_halving, with_hint, with_hints, no_hints}
+use Rattle.script_nodes.specs.Definitions.{name_text}
 use Rattle.node_counts.specs.Few.{hints_behind}
 use Rattle.node_counts.proofs.FewHalves.{variable_there, variable_more, variable_length, all_last}
 

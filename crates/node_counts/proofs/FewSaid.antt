@@ -17,11 +17,12 @@ use Rattle.script_nodes.specs.Definitions.{definition_value}
 use Rattle.script_claims.specs.Claims.{formula_claims}
 use Rattle.script_hints.specs.declared.hint.Split.{Split}
 use Rattle.script_hints.specs.declared.hint.HintList.{HintList}
-use Rattle.script_hints.specs.Hints.{written_of, with_end, with_points, piece_count, cutting_of, HintsSoFar, with_halved, with_names, with_halving, with_hint, with_hints, no_hints}
+use Rattle.script_hints.specs.Hints.{with_end, with_points, piece_count, cutting_of, HintsSoFar, with_halved, with_names, with_halving, with_hint, with_hints, no_hints}
+use Rattle.script_nodes.specs.Written.{bound_written}
 use Rattle.script_hints.specs.Few.{HasFewPieces}
 use Rattle.node_counts.specs.Few.{HasFewHints, hints_behind, HintsAreFew}
 use Rattle.node_counts.proofs.FewHints.{hint_count, hints_counted, hints_of, hints_pass, all_within}
-use Rattle.node_counts.proofs.FewHalves.{halves_are_few}
+use Rattle.node_counts.proofs.FewHalves.{all_last, halves_are_few}
 use Rattle.node_counts.proofs.FewOrdered.{order_is_short}
 use Rattle.node_counts.proofs.FewCuts.{is_cut, cut_count, cuts_counted, point_count, CutIsFew, HintIsFew, AreFew, hints_few}
 
@@ -33,9 +34,9 @@ end_joined ps (end.At x) = omega (arith, length-append ps (x ∷ []))
 end_joined ps end.High = omega arith
 
 points_joined : (l : Points) (ps : List Dyadic) → length (with_points l ps) ≤ point_count l + length ps
-points_joined (last_point b) ps = end_joined ps (point_of (written_value (written_of b))).lo
+points_joined (last_point b) ps = end_joined ps (point_of (written_value (bound_written b))).lo
 points_joined (more_points b l) ps =
-    let e = (point_of (written_value (written_of b))).lo in
+    let e = (point_of (written_value (bound_written b))).lo in
     let a = end_joined ps e in
     let more = points_joined l (with_end ps e) in
     omega (arith, a, more)
@@ -54,36 +55,32 @@ cutting_few (at_points l) h = let a = points_joined l [] in omega (arith, a)
 
 -- ---- hints
 
-all_end : {A : Type 0} (P : A → Type 0) (xs : List A) (x : A) → AllByRecursion P xs → P x → AllByRecursion P (xs ++ (x ∷ []))
-all_end P [] x h p = (p, tt)
-all_end P (y ∷ xs) x h p = (h.0, all_end P xs x h.1 p)
-
 joined_within : {A : Type 0} (xs : List A) (x : A) (n : ℕ) → length xs ≤ n → length (xs ++ (x ∷ [])) ≤ 1 + n
 joined_within xs x n h = omega (arith, length-append xs (x ∷ []))
 
--- so many rewritings and likes at most, and so many cuts
-record IsWithin (a b : ℕ) (l : HintList) : Type 0 where
+-- the hints say so many rewritings and likes at most, and so many cuts
+record SayAtMost (a b : ℕ) (l : HintList) : Type 0 where
   rewrites : length l.rewrites ≤ a
   likes : length l.likes ≤ a
   cuts : length l.cuts ≤ b
   pieces : AllByRecursion (λ c. HasFewPieces c.cut) l.cuts
 
 module _ (a b : ℕ) where
-  names_said : (l : Names) (x : HintsSoFar) → IsWithin a b x.1 → IsWithin a b (with_names l x).1
+  names_said : (l : Names) (x : HintsSoFar) → SayAtMost a b x.1 → SayAtMost a b (with_names l x).1
   names_said (last_name n) x h = record { rewrites = h.rewrites; likes = h.likes; cuts = h.cuts; pieces = h.pieces }
   names_said (more_names n l) x h = names_said l (with_halved n x) (record { rewrites = h.rewrites; likes = h.likes; cuts = h.cuts; pieces = h.pieces })
 
-  halving_said : (l : Halving) (x : HintsSoFar) → IsWithin a b x.1 → IsWithin a b (with_halving l x).1
+  halving_said : (l : Halving) (x : HintsSoFar) → SayAtMost a b x.1 → SayAtMost a b (with_halving l x).1
   halving_said (halved_by e n) x h = names_said n ((expr_value None e x.0).0, x.1) h
   halving_said (with_goal e l) x h = halving_said l ((expr_value None e x.0).0, x.1) h
 
-  hint_said : (n : Hint) (x : HintsSoFar) → HintIsFew n → IsWithin a b x.1 → IsWithin (1 + a) (is_cut n + b) (with_hint n x).1
+  hint_said : (n : Hint) (x : HintsSoFar) → HintIsFew n → SayAtMost a b x.1 → SayAtMost (1 + a) (is_cut n + b) (with_hint n x).1
   hint_said (rewrite p q n) x f h = let r = h.rewrites in let i = h.likes in let c = h.cuts in record { rewrites = joined_within x.1.rewrites _ a r; likes = omega arith; cuts = omega arith; pieces = h.pieces }
   hint_said (like p q) x f h = let r = h.rewrites in let i = h.likes in let c = h.cuts in record { rewrites = omega arith; likes = joined_within x.1.likes _ a i; cuts = omega arith; pieces = h.pieces }
-  hint_said (split n c) x f h = let r = h.rewrites in let i = h.likes in let k = h.cuts in record { rewrites = omega arith; likes = omega arith; cuts = joined_within x.1.cuts _ b k; pieces = all_end (λ (c : Split). HasFewPieces c.cut) x.1.cuts _ h.pieces (cutting_few c f) }
+  hint_said (split n c) x f h = let r = h.rewrites in let i = h.likes in let k = h.cuts in record { rewrites = omega arith; likes = omega arith; cuts = joined_within x.1.cuts _ b k; pieces = all_last (λ (c : Split). HasFewPieces c.cut) x.1.cuts _ h.pieces (cutting_few c f) }
   hint_said (halving l) x f h = let w = halving_said l x h in let r = w.rewrites in let i = w.likes in let c = w.cuts in record { rewrites = omega arith; likes = omega arith; cuts = omega arith; pieces = w.pieces }
 
-hints_said : (a b : ℕ) (l : Hints) (x : HintsSoFar) → AreFew l → IsWithin a b x.1 → IsWithin (hint_count l + a) (cut_count l + b) (with_hints l x).1
+hints_said : (a b : ℕ) (l : Hints) (x : HintsSoFar) → AreFew l → SayAtMost a b x.1 → SayAtMost (hint_count l + a) (cut_count l + b) (with_hints l x).1
 hints_said a b no_hint x f h = let r = h.rewrites in let i = h.likes in let c = h.cuts in record { rewrites = omega arith; likes = omega arith; cuts = omega arith; pieces = h.pieces }
 hints_said a b (hint n l) x f h =
     let w = hints_said (1 + a) (is_cut n + b) l (with_hint n x) f.1 (hint_said a b n x f.0 h) in

@@ -1,14 +1,13 @@
 -- The words of a formula add no more nodes than are counted.
 use Rattle.std.proofs.Common.{◌≡◌, ◌+◌, ◌≤◌, List, [], ◌∷◌, ◌++◌, Option, Some, None, refl, ap, subst, arith}
 use Rattle.fx_model.specs.declared.ExprId.{ExprId}
-use Rattle.script_words.specs.declared.class.Spelled.TheVariants as spelled
 use Rattle.script_words.specs.declared.class.Sign.TheVariants as s
 use Rattle.script_words.specs.Words.{Word, sign}
 use Rattle.script_shape.specs.declared.due.Due.{Due}
 use Rattle.script_shape.specs.declared.due.Due.TheVariants as d
-use Rattle.script_shape.specs.Tree.{Expr, Whole, natural, opposite, Range, asked, between, Prop, lies_in, relative_in, at_most, at_least, multiple, Formula, single, and, implies}
-use Rattle.script_shape.specs.Roles.{Leaf, at, bound_leaves, whole_leaves, special_leaves, expr_leaves, range_leaves, prop_leaves, formula_leaves}
-use Rattle.script_shape.specs.Inner.{EachRole, IsInner, each_of_both, each_as, digits_roles, special_roles, bound_roles, expr_inner}
+use Rattle.script_shape.specs.Tree.{Prop, Formula, single, and, implies}
+use Rattle.script_shape.specs.Roles.{Leaf, at, prop_leaves, formula_leaves}
+use Rattle.script_shape.specs.Inner.{EachRole, each_of_both, each_as}
 use Rattle.script_judge.specs.Counts.{nodes_at}
 use Rattle.script_judge.specs.Names.{with_some, operand_name, is_some_apart}
 use Rattle.script_judge.specs.Numbers.{Verdict}
@@ -21,6 +20,7 @@ use Rattle.script_claims.specs.Claims.{no_claims, formula_claims}
 use Rattle.script_claims.specs.Parts.{relation_behind, in_behind}
 use Rattle.script_claims.specs.Reads.{State, from_claims, then_brace, taken, ended_with, ended, connected, at_role, read_claim, read_claims, ReadsFormulas}
 use Rattle.node_counts.proofs.Marks.{Free, AllFree, IsBody}
+use Rattle.node_counts.proofs.WordRoles.{IsOfProp, prop_roles}
 use Rattle.node_counts.proofs.Weights.{total, IsLeft, expr_total, read_total}
 use Rattle.node_counts.proofs.Passing.{Passes}
 use Rattle.node_counts.proofs.DefinitionCounts.{IsBetween}
@@ -99,34 +99,15 @@ claims_within ops (l ∷ ls) seen last st h f p t = claims_within ops ls (seen_a
 
 -- ---- the roles of a formula
 
-inner_body : (r : Due) → IsInner r → IsBody r
-inner_body d.Script h = absurd h
-inner_body d.NewName h = absurd h
-inner_body d.DefinedBy h = absurd h
-inner_body d.Equal h = absurd h
-inner_body r h = tt
-
-pub expr_body : (e : Expr) → EachRole IsBody (expr_leaves e)
-expr_body e = each_as IsInner IsBody inner_body (expr_leaves e) (expr_inner e)
-
--- an expression, and what stands behind it
-pub then_body : (e : Expr) (ls : List Leaf) → EachRole IsBody ls → EachRole IsBody (expr_leaves e ++ ls)
-then_body e ls h = each_of_both IsBody (expr_leaves e) ls (expr_body e) h
-
-whole_body : (l : Whole) → EachRole IsBody (whole_leaves l)
-whole_body (natural n) = digits_roles IsBody d.Whole n tt
-whole_body (opposite n) = (tt, digits_roles IsBody d.WholeDigits n tt)
-
-range_body : (r : Range) → EachRole IsBody (range_leaves r)
-range_body asked = (tt, tt)
-range_body (between a b) = (tt, each_of_both IsBody (bound_leaves a) _ (bound_roles IsBody a tt tt) (tt, each_of_both IsBody (bound_leaves b) _ (bound_roles IsBody b tt tt) (tt, tt)))
+prop_is_body : (r : Due) → IsOfProp r → IsBody r
+prop_is_body d.Script h = absurd h
+prop_is_body d.NewName h = absurd h
+prop_is_body d.DefinedBy h = absurd h
+prop_is_body d.Equal h = absurd h
+prop_is_body r h = tt
 
 prop_body : (p : Prop) → EachRole IsBody (prop_leaves p)
-prop_body (lies_in e r) = then_body e _ (tt, range_body r)
-prop_body (relative_in a b r) = then_body a _ (tt, then_body b _ (tt, range_body r))
-prop_body (at_most e b) = then_body e _ (tt, bound_roles IsBody b tt tt)
-prop_body (at_least e b) = then_body e _ (tt, bound_roles IsBody b tt tt)
-prop_body (multiple f e k) = (tt, each_of_both IsBody (special_leaves d.Fix spelled.Fix f) _ (special_roles IsBody d.Fix spelled.Fix f tt) (tt, then_body e _ (tt, each_of_both IsBody (whole_leaves k) _ (whole_body k) (tt, tt))))
+prop_body p = each_as IsOfProp IsBody prop_is_body (prop_leaves p) (prop_roles p)
 
 formula_body : (f : Formula) → EachRole IsBody (formula_leaves f)
 formula_body (single p) = prop_body p

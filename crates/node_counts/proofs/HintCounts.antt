@@ -3,9 +3,9 @@ use Rattle.std.proofs.Common.{◌≡◌, ◌+◌, ◌≤◌, List, [], ◌∷◌
 use Rattle.script_words.specs.Words.{Word, name, rounding, literal, sign}
 use Rattle.script_shape.specs.declared.due.Due.{Due}
 use Rattle.script_shape.specs.declared.due.Due.TheVariants as d
-use Rattle.script_shape.specs.Tree.{Need, nonzero, below, not_above, above, not_below, NeedList, last_need, more_needs, Needs, always, provided, Points, last_point, more_points, Cut, in_four, pieces, at_points, Names, last_name, more_names, Halving, halved_by, with_goal, Hint, rewrite, like, split, halving, Hints, no_hint, hint}
-use Rattle.script_shape.specs.Roles.{Leaf, bound_leaves, name_leaves, need_leaves, need_list_leaves, needs_leaves, points_leaves, cut_leaves, names_leaves, halving_leaves, hint_leaves, hints_leaves}
-use Rattle.script_shape.specs.Inner.{EachRole, each_of_both, name_roles, digits_roles, bound_roles}
+use Rattle.script_shape.specs.Tree.{Hint, Hints, no_hint, hint}
+use Rattle.script_shape.specs.Roles.{Leaf, hint_leaves, hints_leaves}
+use Rattle.script_shape.specs.Inner.{EachRole, each_of_both, each_as}
 use Rattle.script_judge.specs.Counts.{nodes_at}
 use Rattle.script_judge.specs.Names.{is_among, with_some, operand_name, split_name, is_some_apart}
 use Rattle.script_judge.specs.Numbers.{Verdict}
@@ -21,7 +21,8 @@ use Rattle.node_counts.proofs.Weights.{total, IsLeft, expr_total, read_total}
 use Rattle.node_counts.proofs.Kept.{Among, IsKept, kept_after, split_among}
 use Rattle.node_counts.proofs.Passing.{Passes}
 use Rattle.node_counts.proofs.DefinitionCounts.{IsBetween}
-use Rattle.node_counts.proofs.FormulaCounts.{expr_body, then_body, IsWithin, word_within}
+use Rattle.node_counts.proofs.FormulaCounts.{IsWithin, word_within}
+use Rattle.node_counts.proofs.WordRoles.{IsOfHint, hint_roles}
 
 -- ---- one word
 
@@ -81,43 +82,15 @@ module _ (ops : List Name) where
 
 -- ---- the roles of hints
 
-need_body : (n : Need) → EachRole IsBody (need_leaves n)
-need_body (nonzero e t) = then_body e _ (tt, (tt, tt))
-need_body (below e b) = then_body e _ (tt, bound_roles IsBody b tt tt)
-need_body (not_above e b) = then_body e _ (tt, bound_roles IsBody b tt tt)
-need_body (above e b) = then_body e _ (tt, bound_roles IsBody b tt tt)
-need_body (not_below e b) = then_body e _ (tt, bound_roles IsBody b tt tt)
-
-need_list_body : (l : NeedList) → EachRole IsBody (need_list_leaves l)
-need_list_body (last_need n) = need_body n
-need_list_body (more_needs n l) = each_of_both IsBody (need_leaves n) _ (need_body n) (tt, need_list_body l)
-
-needs_body : (n : Needs) → EachRole IsBody (needs_leaves n)
-needs_body always = tt
-needs_body (provided l) = (tt, each_of_both IsBody (need_list_leaves l) _ (need_list_body l) (tt, tt))
-
-points_body : (l : Points) → EachRole IsBody (points_leaves l)
-points_body (last_point b) = bound_roles IsBody b tt tt
-points_body (more_points b l) = each_of_both IsBody (bound_leaves b) _ (bound_roles IsBody b tt tt) (tt, points_body l)
-
-cut_body : (c : Cut) → EachRole IsBody (cut_leaves c)
-cut_body in_four = tt
-cut_body (pieces n) = (tt, digits_roles IsBody d.Cut n tt)
-cut_body (at_points l) = (tt, (tt, each_of_both IsBody (points_leaves l) _ (points_body l) (tt, tt)))
-
-names_body : (n : Names) → EachRole IsBody (names_leaves n)
-names_body (last_name n) = name_roles IsBody d.SplitName n tt
-names_body (more_names n l) = each_of_both IsBody (name_leaves d.SplitName n) _ (name_roles IsBody d.SplitName n tt) (tt, names_body l)
-
-halving_body : (r : Due) (h : Halving) → IsBody r → EachRole IsBody (halving_leaves r h)
-halving_body r (halved_by e n) b = then_body e _ (b, names_body n)
-halving_body r (with_goal e h) b = then_body e _ (b, halving_body d.GoalSplit h tt)
+hint_is_body : (r : Due) → IsOfHint r → IsBody r
+hint_is_body d.Script h = absurd h
+hint_is_body d.NewName h = absurd h
+hint_is_body d.DefinedBy h = absurd h
+hint_is_body d.Equal h = absurd h
+hint_is_body r h = tt
 
 hint_body : (h : Hint) → EachRole IsBody (hint_leaves h)
-hint_body (rewrite a b n) = then_body a _ (tt, then_body b _ (needs_body n))
-hint_body (like a b) = then_body a _ (tt, expr_body b)
-hint_body (split n c) = (tt, each_of_both IsBody (name_leaves d.SplitName n) _ (name_roles IsBody d.SplitName n tt) (cut_body c))
-hint_body (halving h) = halving_body d.HintRest h tt
+hint_body h = each_as IsOfHint IsBody hint_is_body (hint_leaves h) (hint_roles h)
 
 pub hints_body : (h : Hints) → EachRole IsBody (hints_leaves h)
 hints_body no_hint = tt

@@ -4,6 +4,7 @@ mod Sizes
 mod Weights
 mod Kept
 mod Passing
+mod WordRoles
 mod ExpressionCounts
 mod DefinitionCounts
 mod FormulaCounts

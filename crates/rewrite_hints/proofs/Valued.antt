@@ -12,17 +12,11 @@ use Rattle.fx_model.specs.declared.Node.{Node}
 use Rattle.fx_model.specs.declared.Node.TheVariants.{Var, Lit, Neg, Add, Sub, Mul, Div, Abs, Round}
 use Rattle.expr_dag.specs.Nodes.{IsAt}
 use Rattle.expr_dag.specs.Shapes.{node_at-value}
-use Rattle.fx_model.specs.Grid.{Bound, Below, At, Above}
-use Rattle.dyadic.specs.Ends.{bound_of}
-use Rattle.facts.specs.declared.hint.Need.{Need}
-use Rattle.facts.specs.declared.hint.Need.TheVariants as need
 use Rattle.facts.specs.declared.hint.HintRow.{HintRow}
-use Rattle.facts.specs.Rows as met
-use Rattle.facts.specs.Rows.{row_by_values}
-use Rattle.script_bounds.specs.Needs as side
+use Rattle.facts.specs.Rows.{IsMet, row_by_values}
 use Rattle.script_hints.specs.declared.hint.Hint.{Hint}
 use Rattle.script_hints.specs.Needs.{need_of}
-use Rattle.script_hints.specs.Meets.{IsMet, MetSidesAreEqual}
+use Rattle.script_hints.specs.Meets.{MetSidesAreEqual}
 use Rattle.rewrite_hints.specs.Divisors.{Occurs, IsDivisor, IsMadeOf}
 use Rattle.rewrite_hints.specs.Divisors.Occurs.{itself, inside}
 use Rattle.rewrite_hints.specs.Rows.{IsRowOf, RowsAreTrue, EqualSidesAreMet}
@@ -86,38 +80,12 @@ module _ (nodes : List Node) (o : IsOrdered nodes) (a : Assignment) (root : Expr
   pub root_valued : root.0 < length nodes → HasValue (value nodes a root)
   root_valued l = valued (suc root.0) root (omega arith) l itself
 
--- ---- constraints, as a row and as a hint have them
-under_as : (b : Bound) (apart : Bool) (x : Fraction) → met.IsUnder b apart x → side.IsUnder b apart x
-under_as Below apart x h = h
-under_as (At g) true x h = h
-under_as (At g) false x h = h
-under_as Above apart x h = h
-
-over_as : (b : Bound) (apart : Bool) (x : Fraction) → met.IsOver b apart x → side.IsOver b apart x
-over_as Below apart x h = h
-over_as (At g) true x h = h
-over_as (At g) false x h = h
-over_as Above apart x h = h
-
-some_as : (o : Option Fraction) (P Q : Fraction → Type 0) → ((x : Fraction) → P x → Q x) → IsSomeAnd o P → IsSomeAnd o Q
-some_as None P Q f h = h
-some_as (Some x) P Q f h = f x h
-
-met_as : (nodes : List Node) (a : Assignment) (n : Need) → met.IsMet nodes a n → IsMet nodes a n
-met_as nodes a (need.NotZero x) h = h
-met_as nodes a (need.Below x end apart) h = some_as (value nodes a x) _ _ (under_as (bound_of end) apart) h
-met_as nodes a (need.Above x end apart) h = some_as (value nodes a x) _ _ (over_as (bound_of end) apart) h
-
-all_as : {A : Type 0} (P Q : A → Type 0) → ((x : A) → P x → Q x) → (xs : List A) → AllByRecursion P xs → AllByRecursion Q xs
-all_as P Q f [] h = tt
-all_as P Q f (x ∷ xs) h = (f x h.0, all_as P Q f xs h.1)
-
+-- ---- rows
 all_at : {A : Type 0} (P : A → Type 0) (xs : List A) (k : ℕ) (x : A) → AllByRecursion P xs → slice_get xs k ≡ Some x → P x
 all_at P [] k x h e = absurd (none-some x e)
 all_at P (y ∷ ys) zero x h e = let s : y ≡ x = cc in subst P s h.0
 all_at P (y ∷ ys) (suc k) x h e = all_at P ys k x h.1 e
 
--- ---- rows
 pub rows_are_true : MetSidesAreEqual → RowsAreTrue
 rows_are_true enough nodes a h row o known r m = row_by_values nodes a row
     (λ n.
@@ -126,7 +94,7 @@ rows_are_true enough nodes a h row o known r m = row_by_values nodes a row
     let left = root_valued nodes o a h.left zero_free known in
     (left.0, ap (value nodes a) r.left ∙ left.1))
     (λ needs u v p q.
-    let all : AllByRecursion (IsMet nodes a) (map need_of h.constraints) = subst (AllByRecursion (IsMet nodes a)) r.needs (all_as (met.IsMet nodes a) (IsMet nodes a) (met_as nodes a) row.needs needs) in
+    let all : AllByRecursion (IsMet nodes a) (map need_of h.constraints) = subst (AllByRecursion (IsMet nodes a)) r.needs needs in
     enough nodes a h m all u v (ap (value nodes a) (sym r.left) ∙ p) (ap (value nodes a) (sym r.right) ∙ q))
 
 pub equal_sides_are_met : EqualSidesAreMet

@@ -7,7 +7,7 @@ use Rattle.dyadic.specs.Ends.{bound_of}
 use Rattle.dyadic.specs.Order.{le_bound}
 use Rattle.interval.specs.Results.{point_of}
 use Rattle.literal_order.specs.Values.{written_value}
-use Rattle.script_bounds.specs.Needs.{IsUnder, IsOver}
+use Rattle.facts.specs.Rows.{IsUnder, IsOver}
 use Rattle.script_bounds.specs.Sides.{UnderIsEnough, OverIsEnough}
 use Rattle.script_bounds.proofs.Rounded.{down_at, up_at}
 use Rattle.script_bounds.proofs.Needs.{apart, strictly}

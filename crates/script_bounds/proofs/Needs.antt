@@ -10,7 +10,8 @@ use Rattle.dyadic.specs.Compared.{BoundLe_in, BoundLe_out}
 use Rattle.interval.specs.Results.{point_of}
 use Rattle.literal_order.specs.declared.written.Written.{Written}
 use Rattle.literal_order.specs.Values.{written_value}
-use Rattle.script_bounds.specs.Needs.{is_point, below_of, above_of, IsUnder, IsOver}
+use Rattle.facts.specs.Rows.{IsUnder, IsOver}
+use Rattle.script_bounds.specs.Needs.{is_point, below_of, above_of}
 use Rattle.script_bounds.proofs.Rounded.{down_at, up_at}
 
 -- v lies from b to c, the nearest of the grid

@@ -1,7 +1,5 @@
 -- Constraints on one side.
-use Rattle.std.specs.Prelude.{◌≡◌, ⊤, ◌&&◌, Bool, true, false}
-use Rattle.fx_model.specs.Fraction.{Fraction, ◌≤ℚ◌, ◌<ℚ◌}
-use Rattle.fx_model.specs.Grid.{Bound, Below, At, Above}
+use Rattle.std.specs.Prelude.{◌&&◌, Bool}
 use Rattle.dyadic.specs.declared.number.End.{End}
 use Rattle.dyadic.specs.Ends.{bound_of}
 use Rattle.dyadic.specs.Order.{le_bound}
@@ -20,16 +18,3 @@ below_of w strict = ((point_of (written_value w)).lo, strict && is_point (point_
 
 abbrev pub above_of : Written → Bool → End × Bool
 above_of w strict = ((point_of (written_value w)).hi, strict && is_point (point_of (written_value w)))
-
--- x is at most the end, or below it
-abbrev pub IsUnder : Bound → Bool → Fraction → Type 0
-IsUnder Below apart x = ⊥
-IsUnder (At g) true x = x <ℚ g
-IsUnder (At g) false x = x ≤ℚ g
-IsUnder Above apart x = ⊤
-
-abbrev pub IsOver : Bound → Bool → Fraction → Type 0
-IsOver Below apart x = ⊤
-IsOver (At g) true x = g <ℚ x
-IsOver (At g) false x = g ≤ℚ x
-IsOver Above apart x = ⊥

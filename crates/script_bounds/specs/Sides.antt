@@ -4,7 +4,8 @@ use Rattle.fx_model.specs.Fraction.{Fraction, ◌≤ℚ◌, ◌<ℚ◌}
 use Rattle.dyadic.specs.Ends.{bound_of}
 use Rattle.literal_order.specs.declared.written.Written.{Written}
 use Rattle.literal_order.specs.Values.{written_value}
-use Rattle.script_bounds.specs.Needs.{below_of, above_of, IsUnder, IsOver}
+use Rattle.facts.specs.Rows.{IsUnder, IsOver}
+use Rattle.script_bounds.specs.Needs.{below_of, above_of}
 
 -- x is below the bound as it is written, or at most it where that isn't strict
 abbrev pub IsUnderWritten : Written → Bool → Fraction → Type 0

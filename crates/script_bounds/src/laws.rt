@@ -10,7 +10,8 @@ ghost use Rattle.literal_order.specs.Values.{written_value};
 ghost use Rattle.literal_order.specs.declared.written.Written.{Written};
 ghost use Rattle.script_bounds.specs.Bounds.{outward_of, inward_of};
 ghost use Rattle.script_bounds.specs.Sides.{UnderIsEnough, OverIsEnough};
-ghost use Rattle.script_bounds.specs.Needs.{IsUnder, IsOver, below_of, above_of};
+ghost use Rattle.facts.specs.Rows.{IsUnder, IsOver};
+ghost use Rattle.script_bounds.specs.Needs.{below_of, above_of};
 
 /// Nothing is done. The clause tells a caller that bounds in order have an interval, the least that holds each number
 /// between them.

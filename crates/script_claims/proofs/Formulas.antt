@@ -19,7 +19,8 @@ use Rattle.script_claims.specs.declared.claim.Claim.TheVariants.{Multiple}
 use Rattle.script_claims.specs.declared.proposition.Proposition.{Proposition}
 use Rattle.script_claims.specs.declared.part.Part.{Part}
 use Rattle.script_claims.specs.declared.part.Part.TheVariants.{Nothing, Against, In, RelativeIn, AtMost, AtLeast, Made}
-use Rattle.script_claims.specs.Claims.{bound_written, exponent_of, ranged, relative, Sides, Claims, no_claims, then_goal, then_arrow, then_claimed, formula_claims}
+use Rattle.script_claims.specs.Claims.{exponent_of, ranged, relative, Sides, Claims, no_claims, then_goal, then_arrow, then_claimed, formula_claims}
+use Rattle.script_nodes.specs.Written.{bound_written}
 use Rattle.script_claims.specs.Parts.{questioned, bounded, relation_behind, in_behind}
 use Rattle.script_claims.specs.Reads.{State, from_claims, taken, read_claim, read_claims, ReadsFormulas}
 

@@ -1,6 +1,5 @@
 pub mod Hypotheses
 pub mod Goals
 pub mod Formulas
-pub mod Digits
 pub mod NormalParts
 pub mod Grows

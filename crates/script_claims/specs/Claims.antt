@@ -1,23 +1,16 @@
 -- What a formula claims, by recursion on its tree.
-use Rattle.std.specs.Prelude.{ℕ, ℤ, pos, neg_ℤ, List, [], ◌∷◌, ◌++◌, Some, None, true, false, nat_lt, if◌then◌else◌}
+use Rattle.std.specs.Prelude.{ℕ, ℤ, pos, neg_ℤ, List, [], ◌∷◌, ◌++◌, Some, None, nat_lt, if◌then◌else◌}
 use Rattle.std.specs.Str.Parse.{digits_value}
 use Rattle.fx_model.specs.declared.ExprId.{ExprId}
-use Rattle.script_shape.specs.Tree.{Whole, natural, opposite, Bound, unsigned, positive, negative, Range, asked, between, Prop, lies_in, relative_in, at_most, at_least, multiple, Formula, single, and, implies}
-use Rattle.script_nodes.specs.Literals.{literal_of}
+use Rattle.script_shape.specs.Tree.{Whole, natural, opposite, Range, asked, between, Prop, lies_in, relative_in, at_most, at_least, multiple, Formula, single, and, implies}
+use Rattle.script_nodes.specs.Written.{bound_written}
 use Rattle.script_nodes.specs.Operators.{digits_text}
 use Rattle.script_nodes.specs.Known.{Known, Placed}
 use Rattle.script_nodes.specs.Values.{expr_value}
-use Rattle.literal_order.specs.declared.written.Written.{Written}
 use Rattle.script_claims.specs.declared.claim.Claim.{Claim}
 use Rattle.script_claims.specs.declared.claim.Claim.TheVariants.{Bounded, Asked, Relative, RelativeAsked, Multiple}
 
 -- ---- numbers
-
--- the literal of a bound, and whether a minus stands before it
-abbrev pub bound_written : Bound → Written
-bound_written (unsigned k text) = record { literal = literal_of text; negative = false }
-bound_written (positive k text) = record { literal = literal_of text; negative = false }
-bound_written (negative k text) = record { literal = literal_of text; negative = true }
 
 -- no more than 1025, which is past each exponent of a multiple, and its negative too
 abbrev pub at_most_1025 : ℕ → ℕ

@@ -147,7 +147,8 @@ impl<'a> ClaimReader<'a> {
     }
 
     /// Takes a word of a formula, or the brace behind it, by its role. `Full` only where the meaning has more than 1,024
-    /// nodes, and else an `Err` only where memory runs out; the reader is then not to be used on.
+    /// nodes, and else an `Err` only where memory runs out; the reader is then not to be used on: what it holds is sound
+    /// (`Reader::laws`), and the bounds of its claims are in normal form.
     #[tactic(auto, unfolding(script_nodes::specs::Waits::read, crate::specs::Reads::read_claim))]
     pub fn token(&mut self, role: Due, word: Word<'a>) -> Result<(), DagFault>
         ensures read { OnOk result (self.new ≡ spec.read_claim role (word_of word.entry) self.old) }

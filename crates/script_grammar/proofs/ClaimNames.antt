@@ -9,7 +9,8 @@ use Rattle.script_nodes.specs.Values.{expr_value}
 use Rattle.script_nodes.specs.Growth.{node_count}
 use Rattle.script_claims.specs.declared.claim.Claim.{Claim}
 use Rattle.script_claims.specs.declared.claim.Claim.TheVariants.{Bounded, Asked, Relative, RelativeAsked, Multiple}
-use Rattle.script_claims.specs.Claims.{Claims, bound_written, exponent_of, ranged, relative, of_value, prop_claim, then_goal, then_claimed, then_arrow, no_claims, formula_claims}
+use Rattle.script_claims.specs.Claims.{Claims, exponent_of, ranged, relative, of_value, prop_claim, then_goal, then_claimed, then_arrow, no_claims, formula_claims}
+use Rattle.script_nodes.specs.Written.{bound_written}
 use Rattle.script_grammar.specs.Names.{IsNode, AreNodes, ClaimIsOf}
 use Rattle.script_grammar.proofs.Lists.{all_as, all_both}
 use Rattle.script_grammar.proofs.ExpressionNames.{Fits, Grows, grows_both, Sits, expr_sits}

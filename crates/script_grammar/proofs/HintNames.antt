@@ -11,7 +11,9 @@ use Rattle.script_hints.specs.declared.hint.Constraint.{Constraint}
 use Rattle.script_hints.specs.declared.hint.Constraint.TheVariants as constraint
 use Rattle.script_hints.specs.declared.hint.Hint.{Hint as Rewriting}
 use Rattle.script_hints.specs.declared.hint.HintList.{HintList}
-use Rattle.script_hints.specs.Hints.{written_of, NeedsSoFar, one_more, with_need, with_need_list, needs_value, name_text, same_number, with_variable, HintsSoFar, ordered, halved, with_halved, with_names, rewrites_to, likens, cuts_along, with_halving, with_hint, with_hints, no_hints}
+use Rattle.script_hints.specs.Hints.{NeedsSoFar, one_more, with_need, with_need_list, needs_value, same_number, with_variable, HintsSoFar, ordered, halved, with_halved, with_names, rewrites_to, likens, cuts_along, with_halving, with_hint, with_hints, no_hints}
+use Rattle.script_nodes.specs.Definitions.{name_text}
+use Rattle.script_nodes.specs.Written.{bound_written}
 use Rattle.script_grammar.specs.Names.{IsNode, AreNodes, ConstraintIsOf, HintIsOf, HintsAreOf}
 use Rattle.script_grammar.proofs.Lists.{all_as, all_both}
 use Rattle.script_grammar.proofs.ExpressionNames.{Fits, Grows, grows_both, Sits, named_sits, expr_sits}
@@ -62,10 +64,10 @@ one_needed f k e s h a =
 
 need_needed : (n : Need) (k : Known) (s : NeedsSoFar) → AreNeeded k s → AreNeeded k (with_need n s)
 need_needed (nonzero e zero_text) k s a = one_needed constraint.NotZero k e s (λ n x h. h) a
-need_needed (below e b) k s a = one_needed (λ x. constraint.Below x (written_of b) true) k e s (λ n x h. h) a
-need_needed (not_above e b) k s a = one_needed (λ x. constraint.Below x (written_of b) false) k e s (λ n x h. h) a
-need_needed (above e b) k s a = one_needed (λ x. constraint.Above x (written_of b) true) k e s (λ n x h. h) a
-need_needed (not_below e b) k s a = one_needed (λ x. constraint.Above x (written_of b) false) k e s (λ n x h. h) a
+need_needed (below e b) k s a = one_needed (λ x. constraint.Below x (bound_written b) true) k e s (λ n x h. h) a
+need_needed (not_above e b) k s a = one_needed (λ x. constraint.Below x (bound_written b) false) k e s (λ n x h. h) a
+need_needed (above e b) k s a = one_needed (λ x. constraint.Above x (bound_written b) true) k e s (λ n x h. h) a
+need_needed (not_below e b) k s a = one_needed (λ x. constraint.Above x (bound_written b) false) k e s (λ n x h. h) a
 
 list_needed : (l : NeedList) (k : Known) (s : NeedsSoFar) → AreNeeded k s → AreNeeded k (with_need_list l s)
 list_needed (last_need n) k s a = need_needed n k s a

@@ -8,7 +8,8 @@ use Rattle.script_bounds.specs.Sides.{UnderIsEnough, OverIsEnough}
 use Rattle.script_hints.specs.declared.hint.Constraint.{Constraint}
 use Rattle.script_hints.specs.declared.hint.Constraint.TheVariants.{NotZero, Below, Above}
 use Rattle.script_hints.specs.Needs.{need_of}
-use Rattle.script_hints.specs.Meets.{HoldsAt, IsMet, NeedsAreEnough, MetSidesAreEqual}
+use Rattle.facts.specs.Rows.{IsMet}
+use Rattle.script_hints.specs.Meets.{HoldsAt, NeedsAreEnough, MetSidesAreEqual}
 
 some_and : {A : Type 0} (P Q : A → Type 0) (o : Option A) → ((x : A) → P x → Q x) → IsSomeAnd o P → IsSomeAnd o Q
 some_and P Q None f h = h

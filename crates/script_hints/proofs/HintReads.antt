@@ -11,6 +11,7 @@ use Rattle.script_shape.specs.declared.due.Due.TheVariants as d
 use Rattle.script_shape.specs.Tree.{plain, operator, zero_alone, digits, Bound, unsigned, positive, negative, Expr, Need, nonzero, below, not_above, above, not_below, NeedList, last_need, more_needs, Needs, always, provided, Points, last_point, more_points, Cut, in_four, pieces, at_points, Names, last_name, more_names, Halving, halved_by, with_goal, Hint, rewrite, like, split, halving, no_hint, hint}
 use Rattle.script_shape.specs.Roles.{Leaf, at, bound_leaves, expr_leaves, need_leaves, need_list_leaves, needs_leaves, points_leaves, cut_leaves, names_leaves, halving_leaves, hint_leaves, hints_leaves}
 use Rattle.script_nodes.specs.Known.{Known, named}
+use Rattle.script_nodes.specs.Written.{bound_written}
 use Rattle.script_nodes.specs.Values.{expr_value}
 use Rattle.script_nodes.specs.Waits.{read}
 use Rattle.script_nodes.specs.ReadingLaw.{ReadsTrees}
@@ -39,7 +40,7 @@ regroup a b rest r = ap (λ l. read_hints l r) (append_assoc a b rest)
 module _ (reads : ReadsTrees) where
   -- ---- bounds and needs
 
-  bound_reads : (b : Bound) (rest : List Leaf) (k : Known) (t : Stage) (on : Bounded) (ns : List Constraint) (ps : List Dyadic) (l : HintList) → read_hints (bound_leaves b ++ rest) (at_rest k (draft t on ns ps l)) ≡ read_hints rest (at_rest k (with_bound (tree.written_of b) (draft t on ns ps l)))
+  bound_reads : (b : Bound) (rest : List Leaf) (k : Known) (t : Stage) (on : Bounded) (ns : List Constraint) (ps : List Dyadic) (l : HintList) → read_hints (bound_leaves b ++ rest) (at_rest k (draft t on ns ps l)) ≡ read_hints rest (at_rest k (with_bound (bound_written b) (draft t on ns ps l)))
   unfolding read_hint read_hints
   bound_reads (unsigned c text) rest k t on ns ps l = refl
   bound_reads (positive c text) rest k t on ns ps l = refl
@@ -75,7 +76,7 @@ module _ (reads : ReadsTrees) where
   unfolding read_hint read_hints read
   points_read (last_point b) rest k t ns ps l = bound_reads b rest k t _ ns ps l
   points_read (more_points b p) rest k t ns ps l =
-      regroup (bound_leaves b) _ rest _ ∙ bound_reads b _ k t _ ns ps l ∙ points_read p rest k t ns (tree.with_point ps (tree.written_of b)) l
+      regroup (bound_leaves b) _ rest _ ∙ bound_reads b _ k t _ ns ps l ∙ points_read p rest k t ns (tree.with_point ps (bound_written b)) l
 
   -- ---- split variables
 

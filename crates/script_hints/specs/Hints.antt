@@ -8,8 +8,9 @@ use Rattle.dyadic.specs.declared.number.End.TheVariants as end
 use Rattle.interval.specs.Results.{point_of}
 use Rattle.script_hints.specs.declared.hint.Constraint.{Constraint}
 use Rattle.script_hints.specs.declared.hint.Constraint.TheVariants as constraint
-use Rattle.script_shape.specs.Tree.{AnyName, plain, operator, Bound, unsigned, positive, negative, Need, nonzero, below, not_above, above, not_below, NeedList, last_need, more_needs, Needs, always, provided, Points, last_point, more_points, Cut, in_four, pieces, at_points, Names, last_name, more_names, Halving, halved_by, with_goal, Hint, rewrite, like, split, halving, Hints, no_hint, hint}
-use Rattle.script_nodes.specs.Literals.{literal_of}
+use Rattle.script_shape.specs.Tree.{AnyName, Bound, Need, nonzero, below, not_above, above, not_below, NeedList, last_need, more_needs, Needs, always, provided, Points, last_point, more_points, Cut, in_four, pieces, at_points, Names, last_name, more_names, Halving, halved_by, with_goal, Hint, rewrite, like, split, halving, Hints, no_hint, hint}
+use Rattle.script_nodes.specs.Written.{bound_written}
+use Rattle.script_nodes.specs.Definitions.{name_text}
 use Rattle.script_nodes.specs.Operators.{digits_text, number_of}
 use Rattle.script_nodes.specs.Known.{Known, Placed, Name, named}
 use Rattle.script_nodes.specs.Values.{expr_value}
@@ -21,11 +22,6 @@ use Rattle.script_hints.specs.declared.hint.HintList.{HintList}
 
 -- ---- bounds and constraints
 
-abbrev pub written_of : Bound → Written
-written_of (unsigned k text) = record { literal = literal_of text; negative = false }
-written_of (positive k text) = record { literal = literal_of text; negative = false }
-written_of (negative k text) = record { literal = literal_of text; negative = true }
-
 -- what is known, with the constraints so far
 abbrev pub NeedsSoFar : Type 0
 NeedsSoFar = Known × List Constraint
@@ -35,10 +31,10 @@ one_more f p ns = (p.0, ns ++ (f p.1 ∷ []))
 
 abbrev pub with_need : Need → NeedsSoFar → NeedsSoFar
 with_need (nonzero e zero_text) s = one_more constraint.NotZero (expr_value None e s.0) s.1
-with_need (below e b) s = one_more (λ x. constraint.Below x (written_of b) true) (expr_value None e s.0) s.1
-with_need (not_above e b) s = one_more (λ x. constraint.Below x (written_of b) false) (expr_value None e s.0) s.1
-with_need (above e b) s = one_more (λ x. constraint.Above x (written_of b) true) (expr_value None e s.0) s.1
-with_need (not_below e b) s = one_more (λ x. constraint.Above x (written_of b) false) (expr_value None e s.0) s.1
+with_need (below e b) s = one_more (λ x. constraint.Below x (bound_written b) true) (expr_value None e s.0) s.1
+with_need (not_above e b) s = one_more (λ x. constraint.Below x (bound_written b) false) (expr_value None e s.0) s.1
+with_need (above e b) s = one_more (λ x. constraint.Above x (bound_written b) true) (expr_value None e s.0) s.1
+with_need (not_below e b) s = one_more (λ x. constraint.Above x (bound_written b) false) (expr_value None e s.0) s.1
 
 abbrev pub with_need_list : NeedList → NeedsSoFar → NeedsSoFar
 with_need_list (last_need n) s = with_need n s
@@ -60,8 +56,8 @@ abbrev pub with_point : List Dyadic → Written → List Dyadic
 with_point ps w = with_end ps (point_of (written_value w)).lo
 
 abbrev pub with_points : Points → List Dyadic → List Dyadic
-with_points (last_point b) ps = with_point ps (written_of b)
-with_points (more_points b l) ps = with_points l (with_point ps (written_of b))
+with_points (last_point b) ps = with_point ps (bound_written b)
+with_points (more_points b l) ps = with_points l (with_point ps (bound_written b))
 
 -- the pieces that digits ask for; a script has no more than 64
 abbrev pub piece_count : ℕ → ℕ
@@ -73,10 +69,6 @@ cutting_of (pieces n) = cutting.Pieces (piece_count (number_of (digits_text n)))
 cutting_of (at_points l) = cutting.Points (with_points l [])
 
 -- ---- split variables
-
-abbrev pub name_text : AnyName → Name
-name_text (plain k text) = text
-name_text (operator k text) = text
 
 abbrev pub same_number : ExprId → ExprId → Bool
 same_number x y = x.0 == y.0

@@ -5,10 +5,7 @@ use Rattle.std.specs.List.{AllByRecursion}
 use Rattle.fx_model.specs.Fraction.{Fraction, zero_ℚ}
 use Rattle.fx_model.specs.Expression.{Assignment, value}
 use Rattle.fx_model.specs.declared.Node.{Node}
-use Rattle.dyadic.specs.Ends.{bound_of}
-use Rattle.facts.specs.declared.hint.Need.{Need}
-use Rattle.facts.specs.declared.hint.Need.TheVariants as need
-use Rattle.script_bounds.specs.Needs.{IsUnder, IsOver}
+use Rattle.facts.specs.Rows.{IsMet}
 use Rattle.script_bounds.specs.Sides.{IsUnderWritten, IsOverWritten}
 use Rattle.script_hints.specs.declared.hint.Constraint.{Constraint}
 use Rattle.script_hints.specs.declared.hint.Constraint.TheVariants.{NotZero, Below, Above}
@@ -26,11 +23,6 @@ abbrev pub MeetsHint : List Node → Assignment → Hint → Type 0
 MeetsHint nodes a h = AllByRecursion (HoldsAt nodes a) h.constraints → (l r : Fraction) → value nodes a h.left ≡ Some l → value nodes a h.right ≡ Some r → l ≡ r
 
 -- ---- the same with rounded bounds
-
-abbrev pub IsMet : List Node → Assignment → Need → Type 0
-IsMet nodes a (need.NotZero x) = IsSomeAnd (value nodes a x) (λ v. v ≢ zero_ℚ)
-IsMet nodes a (need.Below x end apart) = IsSomeAnd (value nodes a x) (IsUnder (bound_of end) apart)
-IsMet nodes a (need.Above x end apart) = IsSomeAnd (value nodes a x) (IsOver (bound_of end) apart)
 
 -- What meets a rounded need meets the constraint as it is written.
 abbrev pub NeedsAreEnough : Type 0

@@ -180,7 +180,9 @@ impl<'a> HintReader<'a> {
         Ok(())
     }
 
-    /// Takes a word. `Full` only where its meaning has more than 1,024 nodes, and else an `Err` only where memory runs out.
+    /// Takes a word. `Full` only where its meaning has more than 1,024 nodes, and else an `Err` only where memory runs out;
+    /// the reader is then not to be used on: what it holds is sound (`Reader::laws`), and the bounds of its rewritings are in
+    /// normal form.
     #[tactic(auto, unfolding(crate::specs::Reading::read_hint))]
     pub fn token(&mut self, role: Due, word: Word<'a>) -> Result<(), DagFault>
         ensures reading { OnOk result (self.new ≡ spec.read_hint role (word_of word.entry) self.old) }

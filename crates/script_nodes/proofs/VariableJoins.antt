@@ -1,6 +1,5 @@
 -- A variable's number, and what a reading keeps when it joins.
-use Rattle.std.proofs.Common.{◌≡◌, ◌⊎◌, ℕ, suc, ◌+◌, ◌<◌, ◌≤◌, List, [], ◌∷◌, ◌++◌, length, take, slice_get, Option, Some, None, Bool, true, false, not, cond, ◌||◌, if◌then◌else◌, refl, sym, ap, subst, ◌∙◌, arith, inl, inr, ⊎_elim, length-append}
-use Rattle.std.proofs.Math.Seq.{take-append_seam, take-length}
+use Rattle.std.proofs.Common.{◌≡◌, ◌⊎◌, ℕ, suc, ◌+◌, ◌<◌, ◌≤◌, List, [], ◌∷◌, ◌++◌, length, slice_get, Option, Some, None, Bool, true, false, not, cond, ◌||◌, if◌then◌else◌, refl, sym, ap, subst, ◌∙◌, arith, inl, inr, ⊎_elim, length-append}
 use Rattle.std.specs.List.{list_any, position_or_len}
 use Rattle.std.specs.Str.{bytes_eq}
 use Rattle.fx_model.specs.declared.ExprId.{ExprId}
@@ -45,10 +44,6 @@ module _ (text : Name) where
 
   pub place_within : (names : List Name) → position_or_len (bytes_eq text) names ≤ length names
   place_within names = ⊎_elim (λ a. let h = a.0 in omega arith) (λ b. let h = b.0 in omega arith) (stands names)
-
-  -- taking back what was put in
-  pub taken_back : (names : List Name) → take (length names) (variables_with names text) ≡ names
-  taken_back names = ⊎_elim (λ a. ap (take (length names)) a.1 ∙ take-length names) (λ b. ap (take (length names)) b.1 ∙ take-append_seam names (text ∷ [])) (stands names)
 
 -- ---- a node joins, and its variable
 

@@ -1,4 +1,5 @@
 pub mod Literals
+pub mod Written
 pub mod Operators
 pub mod Known
 pub mod Values

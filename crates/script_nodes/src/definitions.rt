@@ -134,7 +134,7 @@ impl<'a> Definitions<'a> {
     }
 
     /// Takes a word by its role. `Full` only where the meaning has more than 1,024 nodes, and else an `Err` only where
-    /// memory runs out; it is then not to be used on.
+    /// memory runs out; it is then not to be used on: what its reader holds is sound (`Reader::laws`).
     #[tactic(auto, unfolding(crate::specs::Defining::define_word))]
     pub fn token(&mut self, role: Due, word: Word<'a>) -> Result<(), DagFault>
         ensures reading { OnOk result (self.new ≡ spec.define_word role (word_of word.entry) self.old) }

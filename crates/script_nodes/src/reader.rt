@@ -1,11 +1,11 @@
 //! The nodes of expressions, and what their words have left open.
 
-ghost use Rattle.std.specs.Prelude.{◌≡◌, ℕ, ◌<◌, ◌≤◌, List, [], ◌∷◌, length, Some, None, Err, IfOk, OnOk, IfErr, IfSome, MatchOption};
+ghost use Rattle.std.specs.Prelude.{◌≡◌, ℕ, ◌<◌, ◌≤◌, List, [], ◌∷◌, length, Some, None, Err, IfOk, OnOk, OnErr, IfErr, IfSome, MatchOption};
 ghost use Rattle.expr_dag.specs.Nodes.{IsLawful};
 ghost use Rattle.script_nodes.specs.Known as spec;
 ghost use Rattle.script_nodes.specs.Definitions as spec_definitions;
 ghost use Rattle.script_nodes.specs.Waits.{Reading, then_waits, with_waits, rest};
-ghost use Rattle.script_nodes.specs.Sound.{Fits, IsInRange, IsMade};
+ghost use Rattle.script_nodes.specs.Sound.{Fits, IsInRange, IsMade, IsSound};
 
 use crate::names::{Operators, Values, Variables};
 use crate::waits::Waits;
@@ -62,6 +62,13 @@ impl<'a> Reader<'a> {
         }
     }
 
+    /// What it holds is sound at all times, behind an `Err` too.
+    pub fn laws(&self)
+        ensures { IsSound self.now }
+    {
+        let _nodes = &self.dag;
+    }
+
     /// The number of a node that is no variable. It goes last where it isn't there.
     pub fn add(&mut self, node: Node) -> Result<ExprId, DagFault>
         requires lawful { IsLawful (length self.old.known.nodes) node }
@@ -71,6 +78,7 @@ impl<'a> Reader<'a> {
         ensures below { IfOk result (λ x. x.0 < length self.new.known.nodes) }
         ensures longer { length self.old.known.nodes ≤ length self.new.known.nodes }
         ensures full { result ≡ Err DagFault.Full → 1024 < length (spec.put self.old.known node).0.nodes }
+        ensures refused { OnErr result (self.new ≡ self.old) }
     {
         self.dag.laws();
         self.dag.add(node)
@@ -84,6 +92,7 @@ impl<'a> Reader<'a> {
         ensures longer { length self.old.known.nodes ≤ length self.new.known.nodes }
         ensures full { result ≡ Err DagFault.Full
             → 1024 < length (spec.variable_put self.old.known name.now).0.nodes }
+        ensures refused { OnErr result (self.new ≡ self.old) }
     {
         self.dag.laws();
         let len = self.variables.len();
@@ -140,6 +149,7 @@ impl<'a> Reader<'a> {
           waits = self.old.waits;
         }) }
         ensures memory { IfErr result (λ fault. fault ≡ DagFault.OutOfMemory) }
+        ensures refused { OnErr result (self.new ≡ self.old) }
     {
         match self.values.put(name, value) {
             Ok(()) => Ok(()),
@@ -155,6 +165,7 @@ impl<'a> Reader<'a> {
           waits = self.old.waits;
         }) }
         ensures memory { IfErr result (λ fault. fault ≡ DagFault.OutOfMemory) }
+        ensures refused { OnErr result (self.new ≡ self.old) }
     {
         match self.operators.put(name, rounding) {
             Ok(()) => Ok(()),
@@ -167,6 +178,7 @@ impl<'a> Reader<'a> {
         requires { Fits (length self.old.known.nodes) wait }
         ensures reading { OnOk result (self.new ≡ then_waits wait self.old) }
         ensures memory { IfErr result (λ fault. fault ≡ DagFault.OutOfMemory) }
+        ensures refused { OnErr result (self.new ≡ self.old) }
     {
         let Ok(()) = self.waits.push(wait) else {
             return Err(DagFault::OutOfMemory);

@@ -122,7 +122,8 @@ impl<'a> Reader<'a> {
     }
 
     /// Takes a word of an expression by its role. `Full` only where the meaning has more than 1,024 nodes, and else an
-    /// `Err` only where memory runs out; the reader is then not to be used on.
+    /// `Err` only where memory runs out; the reader is then not to be used on: what it holds is sound (`laws`), and which
+    /// part of the word it took isn't said.
     #[tactic(auto, unfolding(crate::specs::Waits::read))]
     pub fn read(
         &mut self,

@@ -31,7 +31,7 @@ loop-have-preserved g c =
           (rw c.from.ensures read);
       agrees = λ all h. c.in_ok-byte.ensures.agrees all (ap (g.F.Folder.told c.loop-have.folder) c.loop-have.invariant.name ∙ c.loop-have.invariant.told c.args.self.now.name ∙ h);
       name = c.in_ok-byte.ensures.kept ∙ c.loop-have.invariant.name;
-      grows = omega (arith, c.in_ok-byte.ensures.grows, c.loop-have.invariant.grows);
+      grows = omega (arith, c.in_ok-byte.ensures.moves, c.loop-have.invariant.grows);
       told = λ other. c.in_ok-byte.ensures.told other ∙ c.loop-have.invariant.told other;
       later = omega (arith, c.in_ok-byte.ensures.later, c.loop-have.invariant.later);
     }

@@ -1,9 +1,0 @@
-use Rattle.std.proofs.Common.{◌≡◌, ◌<◌, drop}
-use Rattle.std.specs.Str.Parse.{digits_value, digits_value_after}
-use Rattle.script_claims.proofs.numbers.exponent_size.Given as goal
-
-abbrev pub invariant-loop-b : goal.invariant-loop-b
-invariant-loop-b l = record {
-  below : l.number < 1025;
-  same : digits_value 10 l.digits ≡ digits_value_after 10 l.number (drop l.b-index l.digits);
-}
