@@ -1,2 +1,4 @@
 pub mod Numbers
+pub mod Simple
 pub mod Reading
+pub mod Made

@@ -1,23 +1,11 @@
 -- What the words after `prove` ask for, by what clap states of a simple command.
-use Rattle.std.specs.Prelude.{◌≤◌, ◌==◌, ℕ, List, [], ◌∷◌, length, true, false, Option, Some, None, codes, if◌then◌else◌}
-use Rattle.clap.specs.Words.{App, Row, Rule, Text, new_app, new_rule, with_rule, matches_of, first_of, Kinds, fault_of}
-use Rattle.clap.specs.declared.builder.ArgAction.TheVariants.{Set}
+use Rattle.std.specs.Prelude.{◌≤◌, ◌==◌, ℕ, List, length, Option, Some, None, codes, if◌then◌else◌}
+use Rattle.clap.specs.Words.{App, Text, with_rule}
 use Rattle.command_line.specs.Numbers.{number_or}
+use Rattle.command_line.specs.Simple.{option_rule, name_rule, bare_app, Texts, read_by, ◌>>=◌}
 use Rattle.command_line.specs.declared.prove.Request.{Request}
 
 -- ---- the command, as clap sees it
-
--- `--name value` or `--name=value`
-abbrev pub option_rule : Text → Rule
-option_rule name = record (new_rule name) { long = Some name; action = Some Set }
-
--- a name that has to be there
-abbrev pub name_rule : Text → Rule
-name_rule name = record (new_rule name) { required = true; action = Some Set }
-
--- a command without options: its words are all the words, and it has no help
-abbrev pub bare_app : Text → App
-bare_app name = record { top = record (new_app name).top { no_binary_name = true; disable_help_flag = true }; subs = [] }
 
 abbrev pub prove_app : App
 prove_app = with_rule (with_rule (with_rule (with_rule (with_rule (bare_app (codes "prove"))
@@ -41,7 +29,7 @@ pub record Given : Type 0 where
   pub boxes : Option Text
   pub workers : Option Text
 
-abbrev pub given_by : (Text → Option Text) → Given
+abbrev pub given_by : Texts → Given
 given_by f = record {
   script = f (codes "script");
   rounds = f (codes "rounds");
@@ -49,11 +37,6 @@ given_by f = record {
   boxes = f (codes "boxes");
   workers = f (codes "workers");
 }
-
-infixl 10 ◌>>=◌
-abbrev pub ◌>>=◌ : {A B : Type 0} → Option A → (A → Option B) → Option B
-None >>= f = None
-(Some x) >>= f = f x
 
 -- Nothing, where no name is given or an empty one, or a number isn't plain decimal in its range. An option that isn't given has its default.
 abbrev pub asked_from : Given → Option Asked
@@ -67,14 +50,9 @@ asked_from given = do
       then None
       else Some (record { script = script; rounds = rounds; depth = depth; boxes = boxes; workers = workers })
 
--- nothing where clap refuses the words
-abbrev pub reads : Kinds → List Row → Option Asked
-reads [] rows = asked_from (given_by (λ id. first_of id rows))
-reads (k ∷ ks) rows = None
-
 -- what the words after `prove` ask for; nothing is Usage
 unfoldable pub asked : List Text → Option Asked
-asked words = reads (fault_of prove_app words) (matches_of prove_app words)
+asked words = read_by prove_app (λ given. asked_from (given_by given)) words
 
 -- ---- the code's values
 

@@ -1,9 +1,13 @@
 //! The words of the command line.
 #![tactic(auto)]
 
+mod made;
 mod numbers;
 mod prove;
+mod simple;
 #[cfg(test)]
 mod tests;
 
-pub use prove::{Request, WordsError, read_prove};
+pub use made::read_gen;
+pub use prove::{Request, read_prove};
+pub use simple::WordsError;

@@ -1,13 +1,13 @@
 // The words after `prove`.
-ghost use Rattle.std.specs.Prelude.{◌≡◌, ◌≢◌, ◌≤◌, [], map, string_bytes, IfOk, IfErr, IfSome, Some, None, false};
+ghost use Rattle.std.specs.Prelude.{◌≡◌, ◌≤◌, map, string_bytes, IfOk, IfErr, IfSome, Some, None};
 ghost use Rattle.std.specs.Option.{option_map};
-ghost use Rattle.clap.specs.Words.{rule_of, app_of, rows_of, found_of, matches_of, fault_of, first_value};
+ghost use Rattle.clap.specs.Words.{app_of, found_of, first_value};
 ghost use Rattle.command_line.specs.Numbers.{number_or};
-ghost use Rattle.command_line.specs.Reading.{option_rule, name_rule, prove_app, asked, asked_of, asked_from, given_by, AreInRange};
+ghost use Rattle.command_line.specs.Reading.{prove_app, asked, asked_of, asked_from, given_by, AreInRange};
 
 use crate::numbers::number;
-use clap::error::ErrorKind;
-use clap::{Arg, ArgAction, ArgMatches, Command};
+use crate::simple::{WordsError, bare, matches_by, name, option};
+use clap::{ArgMatches, Command};
 use std::alloc::{AllocError, Global};
 
 /// What `prove` is asked for.
@@ -25,63 +25,15 @@ pub struct Request<'a> {
     pub workers: u8,
 }
 
-/// Why words weren't read.
-#[derive(Clone, Copy, Debug, PartialEq, Eq)]
-pub enum WordsError {
-    /// They are no words of the command.
-    Usage,
-    /// Memory ran out.
-    OutOfMemory,
-}
-
-// `--name value`
-fn option<'a>(alloc: Global, name: &'a str) -> Arg<'a>
-    ensures rule { rule_of result ≡ option_rule name.entry.now }
-    ensures local { result.global ≡ false }
-{
-    Arg::new(alloc, name).long(name).action(ArgAction::Set)
-}
-
-// A name that has to be there.
-fn name<'a>(alloc: Global, id: &'a str) -> Arg<'a>
-    ensures rule { rule_of result ≡ name_rule id.entry.now }
-    ensures local { result.global ≡ false }
-{
-    Arg::new(alloc, id).required(true).action(ArgAction::Set)
-}
-
 fn prove_command<'a>(alloc: Global) -> Result<Command<'a>, AllocError>
     ensures { IfOk result (λ c. app_of c ≡ prove_app) }
 {
-    Command::new(alloc, "prove")
-        .no_binary_name(true)
-        .disable_help_flag(true)
+    bare(alloc, "prove")
         .arg(name(alloc, "script"))?
         .arg(option(alloc, "rounds"))?
         .arg(option(alloc, "depth"))?
         .arg(option(alloc, "boxes"))?
         .arg(option(alloc, "workers"))
-}
-
-// What clap makes of the words.
-fn prove_matches<'a>(alloc: Global, words: &'a [String]) -> Result<ArgMatches<'a>, WordsError>
-    ensures fits { IfOk result (λ m. fault_of prove_app (map string_bytes words.entry.now) ≡ []) }
-    ensures rows { IfOk result (λ m. rows_of (found_of m) ≡ matches_of prove_app (map string_bytes words.entry.now)) }
-    ensures usage { IfErr result (λ e. e ≡ WordsError.Usage → fault_of prove_app (map string_bytes words.entry.now) ≢ []) }
-{
-    let Ok(command) = prove_command(alloc) else {
-        return Err(WordsError::OutOfMemory);
-    };
-    match command.try_get_matches_from(words) {
-        Ok(matches) => Ok(matches),
-        Err(error) => {
-            if error.kind() == ErrorKind::OutOfMemory {
-                Err(WordsError::OutOfMemory)
-            } else {
-                Err(WordsError::Usage)
-            }
-        }
-    }
 }
 
 // The number of an option, or its default.
@@ -135,7 +87,10 @@ pub fn read_prove<'a>(alloc: Global, words: &'a [String]) -> Result<Request<'a>,
     ensures usage { IfErr result (λ e. e ≡ WordsError.Usage → asked (map string_bytes words.entry.now) ≡ None) }
     ensures range { IfOk result AreInRange }
 {
-    match prove_matches(alloc, words) {
+    let Ok(command) = prove_command(alloc) else {
+        return Err(WordsError::OutOfMemory);
+    };
+    match matches_by(command, words) {
         Ok(matches) => match request_from(&matches) {
             Some(request) => Ok(request),
             None => Err(WordsError::Usage),

@@ -1,5 +1,7 @@
-// Words after `prove`, and what they ask for, worked out by hand.
-use crate::prove::{WordsError, read_prove};
+// Words after a command, and what they ask for, worked out by hand.
+use crate::made::read_gen;
+use crate::prove::read_prove;
+use crate::simple::WordsError;
 use std::alloc::{AllocError, Global};
 use std::process::Abort;
 use std::test::Fail;
@@ -76,6 +78,28 @@ const ROWS: [(&[&str], Option<Numbers>); 40] = [
     (&["a", "--rounds", "3", "--rounds=3"], None),
 ];
 
+// Words after `gen`, and the degree that they ask for, if they do.
+const DEGREES: [(&[&str], Option<u8>); 18] = [
+    (&["1"], Some(1)),
+    (&["12"], Some(12)),
+    (&["--", "3"], Some(3)),
+    (&["7", "--"], Some(7)),
+    (&[], None),
+    (&["1", "2"], None),
+    (&[""], None),
+    (&["0"], None),
+    (&["13"], None),
+    (&["01"], None),
+    (&["+1"], None),
+    (&["-1"], None),
+    (&["--", "-1"], None),
+    (&["1 "], None),
+    (&["4294967297"], None),
+    (&["1", "--rounds", "3"], None),
+    (&["1", "-h"], None),
+    (&["--help"], None),
+];
+
 // The words, as texts of their own.
 fn words_of(alloc: Global, words: &[&str]) -> Result<Vec<String>, AllocError> {
     let mut all = Vec::new(alloc);
@@ -116,6 +140,34 @@ fn asks(
 fn words_are_read(rt: HostRuntime) -> Result<(), Fail> {
     for (line, wanted) in ROWS {
         asks(&rt, rt.alloc(), line, wanted)?;
+    }
+    Ok(())
+}
+
+// The words ask for this degree.
+fn asks_degree(
+    rt: &impl Abort,
+    alloc: Global,
+    line: &[&str],
+    wanted: Option<u8>,
+) -> Result<(), Fail> {
+    let words = words_of(alloc, line)?;
+    match read_gen(alloc, &words) {
+        Ok(degree) => {
+            assert_eq!(rt; Some(degree), wanted, "{line:?}");
+        }
+        Err(error) => {
+            assert_eq!(rt; error, WordsError::Usage, "{line:?}");
+            assert!(rt; wanted.is_none(), "{line:?}");
+        }
+    }
+    Ok(())
+}
+
+#[test]
+fn degrees_are_read(rt: HostRuntime) -> Result<(), Fail> {
+    for (line, wanted) in DEGREES {
+        asks_degree(&rt, rt.alloc(), line, wanted)?;
     }
     Ok(())
 }

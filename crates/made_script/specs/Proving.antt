@@ -1,0 +1,5 @@
+-- How the made script is proved.
+use Rattle.made_script.specs.declared.options.Options.{Options}
+
+abbrev pub stated_options : Options
+stated_options = record { rounds = 64; depth = 0; boxes = 4096; workers = 4 }

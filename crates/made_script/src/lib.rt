@@ -1,0 +1,10 @@
+//! The made script: a polynomial in Horner's form whose operations are rounded, against the exact one.
+#![tactic(auto)]
+
+mod options;
+mod script;
+#[cfg(test)]
+mod tests;
+
+pub use options::{Options, made_options};
+pub use script::{made_script, polynomials_are_nested};
