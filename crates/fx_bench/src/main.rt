@@ -17,9 +17,15 @@ use anyhow::Result;
 use operations::Operation;
 use std::env;
 use std::rt::{Clock, Env};
+use std::sync::Wait;
+use std::thread::Threads;
 
 // Prints the figures of one measure, or the names of all where none is named so. Of `parse` a second word names one text.
-fn measure(rt: &(impl Clock + Print + AllocGlobal), name: &str, text: Option<&str>) -> Result<()> {
+fn measure<R: Clock + Print + AllocGlobal + Threads + Wait + Sync>(
+    rt: &R,
+    name: &str,
+    text: Option<&str>,
+) -> Result<()> {
     match name {
         "product" => operations::measure(rt, Operation::Product),
         "sum" => operations::measure(rt, Operation::Sum),
@@ -33,7 +39,7 @@ fn measure(rt: &(impl Clock + Print + AllocGlobal), name: &str, text: Option<&st
     }
 }
 
-fn run(rt: &(impl Env + Clock + Print + AllocGlobal)) -> Result<()> {
+fn run<R: Env + Clock + Print + AllocGlobal + Threads + Wait + Sync>(rt: &R) -> Result<()> {
     let mut words = env::args(rt)?;
     let Some(name) = words.nth(1) else {
         return Ok(());

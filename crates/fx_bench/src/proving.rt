@@ -5,6 +5,8 @@ use fx_edge::{OpenGate, SureFolder, SureSink};
 use fx_top::{Status, fx_run};
 use std::alloc::{AllocError, Global};
 use std::rt::Clock;
+use std::sync::Wait;
+use std::thread::Threads;
 use std::time::Instant;
 
 /// How often a script is proved. The least time counts.
@@ -37,7 +39,10 @@ fn folder_with(alloc: Global, text: &str) -> Result<SureFolder, AllocError> {
 }
 
 // The least time of a run in microseconds, and how it ended.
-fn least_time(rt: &(impl Clock + AllocGlobal), text: &str) -> Result<(u128, Status)> {
+fn least_time<R: Clock + AllocGlobal + Threads + Wait + Sync>(
+    rt: &R,
+    text: &str,
+) -> Result<(u128, Status)> {
     let words = words_of(rt.alloc(), &["prove", "a", "--rounds", "64"])?;
     let mut least = u128::MAX;
     let mut last = Status::OutOfMemory;
@@ -45,14 +50,14 @@ fn least_time(rt: &(impl Clock + AllocGlobal), text: &str) -> Result<(u128, Stat
         let mut folder = folder_with(rt.alloc(), text)?;
         let mut out = SureSink::new(rt.alloc(), 4096)?;
         let start = Instant::now(rt)?;
-        last = fx_run(rt.alloc(), &words, &mut folder, &mut out, &OpenGate);
+        last = fx_run(rt, rt.alloc(), &words, &mut folder, &mut out, &OpenGate);
         least = least.min(start.elapsed(rt)?.as_micros());
     }
     Ok((least, last))
 }
 
 /// Prints the time of a run of `prove` on a script of a few lines and on one of 65 boxes, with 64 rounds.
-pub fn measure(rt: &(impl Clock + Print + AllocGlobal)) -> Result<()> {
+pub fn measure<R: Clock + Print + AllocGlobal + Threads + Wait + Sync>(rt: &R) -> Result<()> {
     for (name, text) in [("small", SMALL), ("65 boxes", LARGE)] {
         let (least, last) = least_time(rt, text)?;
         println!(rt; "prove: {least} us for {name} ({last:?})")?;

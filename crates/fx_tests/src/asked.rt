@@ -6,7 +6,9 @@ use fx_edge::{Failed, Folder, OpenGate, SureSink};
 use fx_top::{Status, fx_run};
 use std::alloc::Global;
 use std::process::Abort;
+use std::sync::Wait;
 use std::test::Fail;
+use std::thread::Threads;
 
 // A folder whose files have no end: each byte is a blank. It keeps how far it was asked.
 #[derive(Drop)]
@@ -38,11 +40,15 @@ impl Folder for Endless {
     }
 }
 
-fn asks_for_one_byte_more(rt: &impl Abort, alloc: Global, most: usize) -> Result<(), Fail> {
+fn asks_for_one_byte_more(
+    rt: &(impl Abort + Threads + Wait + Sync),
+    alloc: Global,
+    most: usize,
+) -> Result<(), Fail> {
     let mut folder = Endless { most, asked: 0 };
     let mut out = SureSink::new(alloc, 4096)?;
     let words = words_of(alloc, &["prove", "a"])?;
-    let ended = fx_run(alloc, &words, &mut folder, &mut out, &OpenGate);
+    let ended = fx_run(rt, alloc, &words, &mut folder, &mut out, &OpenGate);
     assert_eq!(rt; ended, Status::Script);
     assert_eq!(rt; folder.asked, 1_048_577);
     assert_eq!(rt;

@@ -179,7 +179,7 @@ const INTERPOLATION: &str =
     { @FIX(a,-15) /\\ @FIX(b,-15) /\\ @FIX(t,-15) /\\ a in [0,1] /\\ b in [0,1] /\\ t in [0,1] -> r in ? /\\ r - Mr in ? }";
 
 // Words, the text of `a`, and how the run ends.
-const OPTIONS: [(&[&str], &str, Status, &str); 15] = [
+const OPTIONS: [(&[&str], &str, Status, &str); 18] = [
     (
         &["prove", "a", "--depth", "3"],
         HALVED,
@@ -248,6 +248,25 @@ const OPTIONS: [(&[&str], &str, Status, &str); 15] = [
         HALVED,
         Status::Answered,
         HALVED_LINE,
+    ),
+    // the made script needs no file; it has the same answer each time
+    (
+        &["gen", "1"],
+        "",
+        Status::Answered,
+        "gen 1: 65 boxes, [-1b-12, 0]\n",
+    ),
+    (
+        &["gen", "2"],
+        "",
+        Status::Answered,
+        "gen 2: 65 boxes, [-1b-11, 0]\n",
+    ),
+    (
+        &["gen", "2"],
+        "",
+        Status::Answered,
+        "gen 2: 65 boxes, [-1b-11, 0]\n",
     ),
     // seven rounds are needed for the second goal
     (

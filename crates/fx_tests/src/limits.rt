@@ -3,7 +3,9 @@ use crate::runs::{text_of, words_end};
 use fx_top::Status;
 use std::alloc::{AllocError, Global};
 use std::process::Abort;
+use std::sync::Wait;
 use std::test::Fail;
+use std::thread::Threads;
 
 // The pieces of a text, each with how often it stands there.
 type Pieces = &'static [(&'static str, usize)];
@@ -16,7 +18,11 @@ const REFUSED: Status = Status::Script;
 
 const FIRST: &str = "unproved: goal 1 at the whole box\n";
 
-fn rows_end(rt: &impl Abort, alloc: Global, rows: &[(Pieces, Status, &str)]) -> Result<(), Fail> {
+fn rows_end(
+    rt: &(impl Abort + Threads + Wait + Sync),
+    alloc: Global,
+    rows: &[(Pieces, Status, &str)],
+) -> Result<(), Fail> {
     for (pieces, status, line) in rows {
         let text = text_of(alloc, *pieces)?;
         words_end(rt, alloc, &["prove", "a"], &text, *status, line)?;

@@ -3,7 +3,9 @@ use fx_edge::{MemFolder, MemSink, OpenGate, SureFolder, SureSink};
 use fx_top::{Status, fx_run};
 use std::alloc::{AllocError, Global};
 use std::process::Abort;
+use std::sync::Wait;
 use std::test::Fail;
+use std::thread::Threads;
 
 /// A run of `prove a`, where the file `a` has this text.
 #[derive(Clone, Copy)]
@@ -34,7 +36,7 @@ fn files_with(alloc: Global, text: &[u8]) -> Result<Vec<(String, Vec<u8>)>, Allo
 
 /// The run ends with this status and line.
 pub fn ends(
-    rt: &impl Abort,
+    rt: &(impl Abort + Threads + Wait + Sync),
     alloc: Global,
     run: &Run<'_>,
     status: Status,
@@ -45,7 +47,7 @@ pub fn ends(
 
 /// The same for other words.
 pub fn ends_on(
-    rt: &impl Abort,
+    rt: &(impl Abort + Threads + Wait + Sync),
     alloc: Global,
     words: &[&str],
     run: &Run<'_>,
@@ -59,7 +61,7 @@ pub fn ends_on(
     let failing = run.failing_puts.to_vec(alloc)?;
     let mut out = MemSink::new(alloc, failing, 4096, run.most)?;
     let words = words_of(alloc, words)?;
-    let ended = fx_run(alloc, &words, &mut folder, &mut out, &OpenGate);
+    let ended = fx_run(rt, alloc, &words, &mut folder, &mut out, &OpenGate);
     assert_eq!(rt; ended, status, "{}", printed);
     assert_eq!(rt; out.bytes(), printed.as_bytes(), "{}", printed);
     Ok(())
@@ -67,7 +69,7 @@ pub fn ends_on(
 
 /// The words over a sure folder with the file `a` and a sure sink end with this status and line.
 pub fn words_end(
-    rt: &impl Abort,
+    rt: &(impl Abort + Threads + Wait + Sync),
     alloc: Global,
     words: &[&str],
     text: &[u8],
@@ -77,7 +79,7 @@ pub fn words_end(
     let mut folder = SureFolder::new(alloc, files_with(alloc, text)?, 4096)?;
     let mut out = SureSink::new(alloc, 4096)?;
     let words = words_of(alloc, words)?;
-    let ended = fx_run(alloc, &words, &mut folder, &mut out, &OpenGate);
+    let ended = fx_run(rt, alloc, &words, &mut folder, &mut out, &OpenGate);
     assert_eq!(rt; ended, status, "{}", printed);
     assert_eq!(rt; out.bytes(), printed.as_bytes(), "{}", printed);
     Ok(())
@@ -85,7 +87,7 @@ pub fn words_end(
 
 /// `prove` on each text ends with this status and the line beside it.
 pub fn texts_end(
-    rt: &impl Abort,
+    rt: &(impl Abort + Threads + Wait + Sync),
     alloc: Global,
     status: Status,
     rows: &[(&str, &str)],
@@ -109,7 +111,7 @@ pub fn text_of(alloc: Global, pieces: &[(&str, usize)]) -> Result<Vec<u8>, Alloc
 
 /// `prove a` over a sure folder and a sure sink with this room ends with this status and line.
 pub fn room_ends(
-    rt: &impl Abort,
+    rt: &(impl Abort + Threads + Wait + Sync),
     alloc: Global,
     text: &[u8],
     room: usize,
@@ -119,7 +121,7 @@ pub fn room_ends(
     let mut folder = SureFolder::new(alloc, files_with(alloc, text)?, 4096)?;
     let mut out = SureSink::new(alloc, room)?;
     let words = words_of(alloc, &["prove", "a"])?;
-    let ended = fx_run(alloc, &words, &mut folder, &mut out, &OpenGate);
+    let ended = fx_run(rt, alloc, &words, &mut folder, &mut out, &OpenGate);
     assert_eq!(rt; ended, status, "{}", printed);
     assert_eq!(rt; out.bytes(), printed.as_bytes(), "{}", printed);
     Ok(())

@@ -8,7 +8,7 @@ const PRODUCT: &[u8] = b"{ x in [1,2] /\\ y in [3,5] -> x * y in ? }\n";
 const USAGE: &str =
     "usage: fixprove prove SCRIPT [--rounds N] [--depth N] [--boxes N] [--workers N]\n";
 
-const WRONG: [&[&str]; 18] = [
+const WRONG: [&[&str]; 23] = [
     &[],
     &["prove"],
     &["a"],
@@ -27,6 +27,11 @@ const WRONG: [&[&str]; 18] = [
     &["prove", "a", "-h"],
     &["prove", "a", "--cert", "b"],
     &["prove", "a", "--rounds", "3", "--rounds", "3"],
+    &["gen"],
+    &["gen", "0"],
+    &["gen", "13"],
+    &["gen", "01"],
+    &["gen", "1", "--rounds", "3"],
 ];
 
 #[test]

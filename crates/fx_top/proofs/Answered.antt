@@ -24,7 +24,7 @@ use Rattle.settler.specs.Tight.{ProvedLinesAreTight}
 use Rattle.settler.specs.Held.{ProvedHolds}
 use Rattle.report.specs.Lines.{Bytes}
 use Rattle.report.specs.Proved.{answer_text}
-use Rattle.fx_top.specs.Answers.{IsAnswered}
+use Rattle.fx_top.specs.Answers.{IsProvedText, IsAnswered}
 
 -- What the tree of the boxes of such a plan comes to is what the script comes to.
 pub comes_to : (s : View) (o : Options) (u : World) (plan : PlanParts) (found : Outcome) → ¬ IsTooLarge s → IsUniverse s u → plan ≡ plan_of s o.depth
@@ -39,20 +39,20 @@ comes_to s o u plan found few is e (states, are, answer) = record {
 }
 
 -- all goals are settled
-pub answered : GoalsHaveSpans → ProvedLinesAreTight → (s : View) (o : Options) (u : World) (plan : PlanParts) (count : ℕ) (leaves : List Leaf) (shown : List Line) (marks : List HintMark) (line : Bytes)
+pub proved_text : GoalsHaveSpans → ProvedLinesAreTight → (s : View) (o : Options) (u : World) (plan : PlanParts) (count : ℕ) (leaves : List Leaf) (shown : List Line)
     → ProvedHolds plan → HasUniverse s u → plan ≡ plan_of s o.depth → Spells s.text s → ComesTo s o (outcome.Leaves count leaves) → shown ≡ lines_of leaves (length s.goals)
-    → AreMarks s.nodes s.hints.rewrites marks → line ≡ answer_text s.text s.tokens s.spans shown marks → IsAnswered o s.text line
-answered spans tight s o u plan count leaves shown marks line holds has e spelled comes are marked printed =
-    let proved : IsProved s o shown = (count, leaves, comes, are) in record {
-      script = s;
-      shown = shown;
-      marks = marks;
+    → IsProvedText o s.text s count shown
+proved_text spans tight s o u plan count leaves shown holds has e spelled comes are =
+    let proved : IsProved s o shown = (count, (leaves, comes, are)) in record {
       spelled = spelled;
-      proved = proved;
+      proved = (leaves, comes, are);
       tight = tight s o shown proved;
-      marked = marked;
       words = spans s.text s spelled;
       each = ap length are ∙ length-map-range_with_len (line_of leaves) 0 (length s.goals);
-      printed = printed;
       holds = λ a meets. holds s u o shown a has e proved meets;
     }
+
+-- the lines of what was found of a script whose text this is
+pub lines_are : (o : Options) (s : View) (boxes : ℕ) (shown : List Line) (marks : List HintMark) (lines : Bytes) → IsProvedText o s.text s boxes shown → AreMarks s.nodes s.hints.rewrites marks
+    → lines ≡ answer_text s.text s.tokens s.spans shown marks → IsAnswered o s.text lines
+lines_are o s boxes shown marks lines proved marked printed = record { script = s; boxes = boxes; shown = shown; marks = marks; proved = proved; marked = marked; printed = printed }

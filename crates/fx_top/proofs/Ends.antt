@@ -1,5 +1,5 @@
 -- How a run ends.
-use Rattle.std.proofs.Common.{◌≡◌, ◌<◌, ◌^◌, List, [], Option, Some, None, refl, sym, ap, ◌∙◌, subst, length, take, append-nil, arith, inl, inr}
+use Rattle.std.proofs.Common.{◌≡◌, ◌≢◌, ◌<◌, ◌^◌, ℕ, List, [], Option, Some, None, refl, sym, ap, ◌∙◌, subst, length, take, append-nil, arith, inl, inr}
 use Rattle.std.specs.Prelude.{◌⊎◌, min}
 use Rattle.std.proofs.lemmas.List.{length-take, take_all}
 use Rattle.std.proofs.Math.Nat.{eq-or-lt_of_le}
@@ -16,9 +16,10 @@ use Rattle.report.specs.Lines.{Bytes}
 use Rattle.command_line.specs.Reading.{Asked}
 use Rattle.settler.specs.Answers.{Options}
 use Rattle.fx_top.specs.Command.{reading}
-use Rattle.fx_top.specs.Command.Command.{Prove}
+use Rattle.fx_top.specs.Command.Command.{Prove, Gen}
 use Rattle.fx_top.specs.Outside.{AppendsFront, IsText}
-use Rattle.fx_top.specs.Answers.{ProvePrints, options_of}
+use Rattle.made_script.specs.Script.{script_text}
+use Rattle.fx_top.specs.Answers.{ProvePrints, MadePrints, made_options, options_of}
 use Rattle.fx_top.specs.Run.{Outside, IsTold, Prints, IsCutShort, EndsAs, IsLine, StopPrints}
 use Rattle.fx_top.specs.declared.outside.ReadStop.{ReadStop}
 use Rattle.fx_top.specs.declared.outside.ReadStop.TheVariants as stop
@@ -49,7 +50,7 @@ long_refusal t text r a b p =
     subst (IsRefused t) (sym e) (first.unread (too_long a))
 
 both_long : (o : Options) (t text : Bytes) → 2 ^ 20 < length t → 2 ^ 20 < length text → Alike o t text
-both_long o t text a b Answered line p = absurd (no_script text p.script b p.spelled)
+both_long o t text a b Answered line p = absurd (no_script text p.script b p.proved.spelled)
 both_long o t text a b Unproved line (s, path, goal, p, i, e) = absurd (no_script text s b p)
 both_long o t text a b Limit line (s, p, i) = absurd (no_script text s b p)
 both_long o t text a b status.Script line (r, p, e) = (r, long_refusal t text r a b p, e)
@@ -129,3 +130,25 @@ module _ (words : List Bytes) (outside : Outside) (a : Asked) (asked : reading w
   pub stop_prints : (why : ReadStop) → (why ≡ stop.Fault → Rose outside.faults_before outside.faults_after) → (s : Status) (line : Bytes) → StopPrints a.script why s line → Prints words outside s line
   stop_prints stop.Fault rose s line e = subst (λ (t : Status). Prints words outside t line) (sym e.0) (Prove a, a.script, asked, refl, rose refl, e.1)
   stop_prints stop.OutOfMemory rose s line none = absurd none
+
+-- ---- the made script
+-- another answer than that it is proved is the same of `prove` and `gen`
+pub made_other : (n : ℕ) (s : Status) (lines : Bytes) → s ≢ Answered → ProvePrints made_options (script_text n) s lines → MadePrints n s lines
+made_other n Answered lines differs p = absurd (differs refl)
+made_other n Unproved lines differs p = p
+made_other n Usage lines differs p = p
+made_other n status.Script lines differs p = p
+made_other n Limit lines differs p = p
+made_other n ReadFault lines differs p = p
+made_other n WriteFault lines differs p = p
+made_other n OutOfMemory lines differs p = p
+
+pub made_prints : (words : List Bytes) (outside : Outside) (n : ℕ) → reading words ≡ Some (Gen n) → (s : Status) (line : Bytes) → MadePrints n s line → Prints words outside s line
+made_prints words outside n asked Answered line p = (Gen n, asked, p)
+made_prints words outside n asked Unproved line p = (Gen n, asked, p)
+made_prints words outside n asked status.Script line p = (Gen n, asked, p)
+made_prints words outside n asked Limit line p = (Gen n, asked, p)
+made_prints words outside n asked Usage line p = absurd p
+made_prints words outside n asked ReadFault line p = absurd p
+made_prints words outside n asked WriteFault line p = absurd p
+made_prints words outside n asked OutOfMemory line p = absurd p

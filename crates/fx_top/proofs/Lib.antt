@@ -3,3 +3,4 @@ pub mod Once
 pub mod Exact
 pub mod Answered
 pub mod Ends
+pub mod Made

@@ -1,19 +1,23 @@
 -- One answer is defined for a text.
 use Rattle.std.specs.Prelude.{◌⊎◌}
-use Rattle.std.proofs.Common.{◌≡◌, ◌≢◌, inl, inr, ℕ, List, Option, Some, None, refl, sym, ap, ◌∙◌, subst}
+use Rattle.std.proofs.Common.{◌≡◌, ◌≢◌, inl, inr, ℕ, List, length, Option, Some, None, refl, sym, ap, ◌∙◌, subst}
 use Rattle.goals.specs.declared.line.Line.{Line}
 use Rattle.script_judge.specs.First.{FirstsAreUnique}
 use Rattle.script_grammar.specs.Spells.{View, Spells, SpellsOnce, NeverBoth}
 use Rattle.rewrite_hints.specs.Marks.{AreMarks}
 use Rattle.universe.specs.OneMark.{MarksAreOne}
-use Rattle.settler.specs.Answers.{Options, Answer, expr_limit, box_limit, unproved, proved, IsScriptAnswer, AnswersAreOne, HasTooManyExpressions, HasTooManyBoxes, plan_of}
+use Rattle.bisect.specs.declared.outcome.Leaf.{Leaf}
+use Rattle.bisect.specs.declared.outcome.Outcome.TheVariants as outcome
+use Rattle.bisect.specs.Gathered.{lines_of}
+use Rattle.settler.specs.Answers.{Options, Answer, expr_limit, box_limit, unproved, proved, ComesTo, IsScriptAnswer, AnswersAreOne, OutcomesAreOne, HasTooManyExpressions, HasTooManyBoxes, plan_of}
 use Rattle.command_line.specs.Reading.{Asked}
 use Rattle.report.specs.Lines.{Bytes, usage_line, refusal_line, expressions_text, boxes_text}
-use Rattle.report.specs.Proved.{answer_text}
+use Rattle.report.specs.Proved.{answer_text, made_text}
+use Rattle.made_script.specs.Script.{script_text}
 use Rattle.report.specs.Unproved.{unproved_text}
 use Rattle.fx_top.specs.Command.{Command, reading}
-use Rattle.fx_top.specs.Command.Command.{Prove}
-use Rattle.fx_top.specs.Answers.{ProvePrints, IsAnswered, options_of}
+use Rattle.fx_top.specs.Command.Command.{Prove, Gen}
+use Rattle.fx_top.specs.Answers.{ProvePrints, IsAnswered, IsProvedText, IsMadeAnswered, MadePrints, made_options, first_line, options_of}
 use Rattle.fx_top.specs.Run.{Told, Outside, IsTold, IsTelling, CommandPrints, Prints}
 use Rattle.fx_top.specs.declared.run.Status.{Status}
 use Rattle.fx_top.specs.declared.run.Status.TheVariants.{Answered, Unproved, Usage, Limit, ReadFault, WriteFault, OutOfMemory}
@@ -33,6 +37,12 @@ path-same p q k m e = cc
 goal-same : (p q : List ℕ) (k m : ℕ) → unproved p k ≡ unproved q m → k ≡ m
 goal-same p q k m e = cc
 
+count-same : (m n : ℕ) (ls ms : List Leaf) → outcome.Leaves m ls ≡ outcome.Leaves n ms → m ≡ n
+count-same m n ls ms e = cc
+
+leaves-same : (m n : ℕ) (ls ms : List Leaf) → outcome.Leaves m ls ≡ outcome.Leaves n ms → ls ≡ ms
+leaves-same m n ls ms e = cc
+
 module _ (spells_once : SpellsOnce) (both : NeverBoth) (refused_once : FirstsAreUnique) (answers_once : AnswersAreOne) (marks_once : MarksAreOne) (o : Options) where
   -- two answers to the script of one text are one
   same : (text : Bytes) (s t : View) (a b : Answer) → Spells text s → Spells text t → IsScriptAnswer s o a → IsScriptAnswer t o b → a ≡ b
@@ -40,8 +50,8 @@ module _ (spells_once : SpellsOnce) (both : NeverBoth) (refused_once : FirstsAre
 
   answered_once : (text line other : Bytes) → IsAnswered o text line → IsAnswered o text other → line ≡ other
   answered_once text line other p q =
-      let script : p.script ≡ q.script = spells_once text p.script q.script p.spelled q.spelled in
-      let shown : p.shown ≡ q.shown = proved-same p.shown q.shown (same text p.script q.script (proved p.shown) (proved q.shown) p.spelled q.spelled p.proved q.proved) in
+      let script : p.script ≡ q.script = spells_once text p.script q.script p.proved.spelled q.proved.spelled in
+      let shown : p.shown ≡ q.shown = proved-same p.shown q.shown (same text p.script q.script (proved p.shown) (proved q.shown) p.proved.spelled q.proved.spelled (p.boxes, p.proved.proved) (q.boxes, q.proved.proved)) in
       let marked : AreMarks p.script.nodes p.script.hints.rewrites q.marks = subst (λ (v : View). AreMarks v.nodes v.hints.rewrites q.marks) (sym script) q.marked in
       let marks : p.marks ≡ q.marks = marks_once p.script.nodes p.script.hints.rewrites p.marks q.marks p.marked marked in
       p.printed ∙ (λ i. answer_text (script i).text (script i).tokens (script i).spans (shown i) (marks i)) ∙ sym q.printed
@@ -66,10 +76,10 @@ module _ (spells_once : SpellsOnce) (both : NeverBoth) (refused_once : FirstsAre
   pub prove_once : (text : Bytes) (s t : Status) (line other : Bytes) → ProvePrints o text s line → ProvePrints o text t other → Twice s t line other
   unfolding Limited
   prove_once text Answered Answered line other p q = (refl, answered_once text line other p q)
-  prove_once text Answered Unproved line other p (t, path, goal, q, j, f) = let h : proved p.shown ≡ unproved path goal = same text p.script t (proved p.shown) (unproved path goal) p.spelled q p.proved j in cc h
-  prove_once text Answered Limit line other p (t, q, j) = absurd (not_limited text other t p.script (proved p.shown) (λ e. cc e) (λ e. cc e) q p.spelled p.proved j)
-  prove_once text Answered status.Script line other p (r, q, f) = absurd (both text p.script r p.spelled q)
-  prove_once text Unproved Answered line other (s, path, goal, p, i, e) q = let h : unproved path goal ≡ proved q.shown = same text s q.script (unproved path goal) (proved q.shown) p q.spelled i q.proved in cc h
+  prove_once text Answered Unproved line other p (t, path, goal, q, j, f) = let h : proved p.shown ≡ unproved path goal = same text p.script t (proved p.shown) (unproved path goal) p.proved.spelled q (p.boxes, p.proved.proved) j in cc h
+  prove_once text Answered Limit line other p (t, q, j) = absurd (not_limited text other t p.script (proved p.shown) (λ e. cc e) (λ e. cc e) q p.proved.spelled (p.boxes, p.proved.proved) j)
+  prove_once text Answered status.Script line other p (r, q, f) = absurd (both text p.script r p.proved.spelled q)
+  prove_once text Unproved Answered line other (s, path, goal, p, i, e) q = let h : unproved path goal ≡ proved q.shown = same text s q.script (unproved path goal) (proved q.shown) p q.proved.spelled i (q.boxes, q.proved.proved) in cc h
   prove_once text Unproved Unproved line other (s, path, goal, p, i, e) (t, way, least, q, j, f) =
       let h : unproved path goal ≡ unproved way least = same text s t (unproved path goal) (unproved way least) p q i j in
       let script : s ≡ t = spells_once text s t p q in
@@ -78,11 +88,11 @@ module _ (spells_once : SpellsOnce) (both : NeverBoth) (refused_once : FirstsAre
       (refl, e ∙ (λ i. unproved_text (script i) (plan_of (script i) o.depth) (paths i) (goals i)) ∙ sym f)
   prove_once text Unproved Limit line other (s, path, goal, p, i, e) (t, q, j) = absurd (not_limited text other t s (unproved path goal) (λ e. cc e) (λ e. cc e) q p i j)
   prove_once text Unproved status.Script line other (s, path, goal, p, i, e) (r, q, f) = absurd (both text s r p q)
-  prove_once text Limit Answered line other (s, p, i) q = absurd (not_limited text line s q.script (proved q.shown) (λ e. cc e) (λ e. cc e) p q.spelled q.proved i)
+  prove_once text Limit Answered line other (s, p, i) q = absurd (not_limited text line s q.script (proved q.shown) (λ e. cc e) (λ e. cc e) p q.proved.spelled (q.boxes, q.proved.proved) i)
   prove_once text Limit Unproved line other (s, p, i) (t, path, goal, q, j, f) = absurd (not_limited text line s t (unproved path goal) (λ e. cc e) (λ e. cc e) p q j i)
   prove_once text Limit Limit line other (s, p, i) (t, q, j) = (refl, limited_once text line other s t p q i j)
   prove_once text Limit status.Script line other (s, p, i) (r, q, f) = absurd (both text s r p q)
-  prove_once text status.Script Answered line other (r, p, e) q = absurd (both text q.script r q.spelled p)
+  prove_once text status.Script Answered line other (r, p, e) q = absurd (both text q.script r q.proved.spelled p)
   prove_once text status.Script Unproved line other (r, p, e) (t, path, goal, q, j, f) = absurd (both text t r q p)
   prove_once text status.Script Limit line other (r, p, e) (t, q, j) = absurd (both text t r q p)
   prove_once text status.Script status.Script line other (r, p, e) (u, q, f) = let h : r ≡ u = cc (refused_once text (Some r) (Some u) p q) in (refl, e ∙ ap refusal_line h ∙ sym f)
@@ -107,13 +117,66 @@ module _ (spells_once : SpellsOnce) (both : NeverBoth) (refused_once : FirstsAre
   prove_once text WriteFault t line other p q = absurd p
   prove_once text OutOfMemory t line other p q = absurd p
 
+  -- two that prove one text have the same number of boxes and the same lines
+  pub proved_once : OutcomesAreOne → (text : Bytes) (s t : View) (boxes count : ℕ) (shown others : List Line) → IsProvedText o text s boxes shown → IsProvedText o text t count others → (boxes ≡ count) × (shown ≡ others)
+  proved_once outcomes_once text s t boxes count shown others p q =
+      let script : s ≡ t = spells_once text s t p.spelled q.spelled in
+      let there : ComesTo s o (outcome.Leaves count q.proved.0) = subst (λ (v : View). ComesTo v o (outcome.Leaves count q.proved.0)) (sym script) q.proved.1 in
+      let e : outcome.Leaves boxes p.proved.0 ≡ outcome.Leaves count q.proved.0 = outcomes_once s o (outcome.Leaves boxes p.proved.0) (outcome.Leaves count q.proved.0) p.proved.1 there in
+      let leaves : p.proved.0 ≡ q.proved.0 = leaves-same boxes count p.proved.0 q.proved.0 e in
+      (count-same boxes count p.proved.0 q.proved.0 e, p.proved.2 ∙ (λ i. lines_of (leaves i) (length (script i).goals)) ∙ sym q.proved.2)
+
+  -- what proves a text leaves no other answer
+  pub proved_alone : (text : Bytes) (s : View) (boxes : ℕ) (shown : List Line) → IsProvedText o text s boxes shown → (t : Status) (other : Bytes) → t ≢ Answered → ¬ ProvePrints o text t other
+  unfolding Limited
+  proved_alone text s boxes shown p Answered other differs q = differs refl
+  proved_alone text s boxes shown p Unproved other differs (t, path, goal, q, j, f) =
+      let h : proved shown ≡ unproved path goal = same text s t (proved shown) (unproved path goal) p.spelled q (boxes, p.proved) j in cc h
+  proved_alone text s boxes shown p Limit other differs (t, q, j) = not_limited text other t s (proved shown) (λ e. cc e) (λ e. cc e) q p.spelled (boxes, p.proved) j
+  proved_alone text s boxes shown p status.Script other differs (r, q, f) = both text s r p.spelled q
+  proved_alone text s boxes shown p Usage other differs q = q
+  proved_alone text s boxes shown p ReadFault other differs q = q
+  proved_alone text s boxes shown p WriteFault other differs q = q
+  proved_alone text s boxes shown p OutOfMemory other differs q = q
+
+-- ---- of the made script
+-- it is proved, or answered as `prove` does
+abbrev Made : ℕ → Status → Bytes → Type 0
+Made n s line = ((s ≡ Answered) × IsMadeAnswered n line) ⊎ ((s ≢ Answered) × ProvePrints made_options (script_text n) s line)
+
+made_of : (n : ℕ) (s : Status) (line : Bytes) → MadePrints n s line → Made n s line
+made_of n Answered line p = inl (refl, p)
+made_of n Unproved line p = inr ((λ e. cc e), p)
+made_of n Usage line p = inr ((λ e. cc e), p)
+made_of n status.Script line p = inr ((λ e. cc e), p)
+made_of n Limit line p = inr ((λ e. cc e), p)
+made_of n ReadFault line p = inr ((λ e. cc e), p)
+made_of n WriteFault line p = inr ((λ e. cc e), p)
+made_of n OutOfMemory line p = inr ((λ e. cc e), p)
+
+-- a degree has one answer
+abbrev MadeOnce : Type 0
+MadeOnce = (n : ℕ) (s t : Status) (line other : Bytes) → MadePrints n s line → MadePrints n t other → Twice s t line other
+
+module _ (spells_once : SpellsOnce) (both : NeverBoth) (refused_once : FirstsAreUnique) (answers_once : AnswersAreOne) (outcomes_once : OutcomesAreOne) (marks_once : MarksAreOne) where
+  pub made_once : MadeOnce
+  made_once n s t line other p q = by (made_of n s line p) (made_of n t other q)
+    where
+      by : Made n s line → Made n t other → Twice s t line other
+      by (inl (e, a)) (inl (f, b)) =
+          let one = proved_once spells_once both refused_once answers_once marks_once made_options outcomes_once (script_text n) a.script b.script a.boxes b.boxes a.shown b.shown a.proved b.proved in
+          (e ∙ sym f, a.printed ∙ (λ i. made_text n (one.0 i) (first_line (one.1 i))) ∙ sym b.printed)
+      by (inl (e, a)) (inr (differs, j)) = absurd (proved_alone spells_once both refused_once answers_once marks_once made_options (script_text n) a.script a.boxes a.shown a.proved t other differs j)
+      by (inr (differs, i)) (inl (f, b)) = absurd (proved_alone spells_once both refused_once answers_once marks_once made_options (script_text n) b.script b.boxes b.shown b.proved s line differs i)
+      by (inr (d, i)) (inr (m, j)) = prove_once spells_once both refused_once answers_once marks_once made_options (script_text n) s t line other i j
+
 -- ---- of the run
 
 -- a text has one answer
 abbrev ProvesOnce : Type 0
 ProvesOnce = (o : Options) (text : Bytes) (s t : Status) (line other : Bytes) → ProvePrints o text s line → ProvePrints o text t other → Twice s t line other
 
-module _ (prove_once : ProvesOnce) where
+module _ (prove_once : ProvesOnce) (made_once : MadeOnce) where
   Opened : List Bytes → Told → Status → Bytes → Type 0
   Opened words told s line = ((s ≡ Usage) × (reading words ≡ None) × (line ≡ usage_line)) ⊎ ((c : Command) × (reading words ≡ Some c) × CommandPrints c told s line)
 
@@ -136,11 +199,16 @@ module _ (prove_once : ProvesOnce) where
       → reading words ≡ Some c → reading words ≡ Some d → CommandPrints c told s line → CommandPrints d told t other → Twice s t line other
   command_once words told s t line other (Prove a) (Prove b) tells e f (text, is, p) (text', is', q) =
       let one : a ≡ b = cc in
-      let all = tells b f in
+      let all = tells (Prove b) b.script f refl in
       let here : text ≡ all.0 = same_text (told a.script) all.0 text (ap (λ (x : Asked). told x.script) one ∙ all.1) is in
       let there : text' ≡ all.0 = same_text (told b.script) all.0 text' all.1 is' in
       let first = subst (λ (x : Asked). ProvePrints (options_of x) all.0 s line) one (subst (λ (w : Bytes). ProvePrints (options_of a) w s line) here p) in
       prove_once (options_of b) all.0 s t line other first (subst (λ (w : Bytes). ProvePrints (options_of b) w t other) there q)
+  command_once words told s t line other (Gen n) (Gen m) tells e f p q =
+      let one : n ≡ m = cc in
+      made_once m s t line other (subst (λ (k : ℕ). MadePrints k s line) one p) q
+  command_once words told s t line other (Prove a) (Gen m) tells e f p q = let h : Some (Prove a) ≡ Some (Gen m) = sym e ∙ f in cc h
+  command_once words told s t line other (Gen n) (Prove b) tells e f p q = let h : Some (Gen n) ≡ Some (Prove b) = sym e ∙ f in cc h
 
   pub prints_once : (words : List Bytes) (outside : Outside) (s t : Status) (line other : Bytes) → IsTelling words outside.told → s ≢ ReadFault → t ≢ ReadFault
       → Prints words outside s line → Prints words outside t other → Twice s t line other

@@ -3,10 +3,9 @@ use Rattle.std.specs.Prelude.{◌≡◌, ◌≢◌, ◌⊎◌, ℕ, List, ⊤, B
 use Rattle.std.specs.Io.KnownBytes.{Appends, Keeps}
 use Rattle.fx_edge.specs.Outside.{Rose}
 use Rattle.report.specs.Lines.{Bytes, read_fault_line, usage_line}
-use Rattle.command_line.specs.Reading.{Asked}
-use Rattle.fx_top.specs.Answers.{ProvePrints, options_of}
+use Rattle.fx_top.specs.Answers.{ProvePrints, MadePrints, options_of}
 use Rattle.fx_top.specs.Command.{Command, reading}
-use Rattle.fx_top.specs.Command.Command.{Prove}
+use Rattle.fx_top.specs.Command.Command.{Prove, Gen}
 use Rattle.fx_top.specs.Outside.{AppendsFront}
 use Rattle.fx_top.specs.declared.outside.ReadStop.{ReadStop}
 use Rattle.fx_top.specs.declared.outside.ReadStop.TheVariants as stop
@@ -47,10 +46,12 @@ exit_code status.OutOfMemory = 8
 -- a command answers with this status and these lines. Each further command is a case here.
 abbrev pub CommandPrints : Command → Told → Status → Bytes → Type 0
 CommandPrints (Prove a) told s lines = (text : Bytes) × IsTold (told a.script) text × ProvePrints (options_of a) text s lines
+CommandPrints (Gen n) told s lines = MadePrints n s lines
 
 -- the command reads a file of this name
 abbrev pub Reads : Command → Bytes → Type 0
 Reads (Prove a) name = name ≡ a.script
+Reads (Gen n) name = ⊥
 
 -- the words name a file of this name to be written
 abbrev pub is_written : List Bytes → Bytes → Bool
@@ -85,14 +86,14 @@ StopPrints name stop.OutOfMemory s lines = ⊥
 
 -- ---- which status comes
 
--- the folder tells the text that the words ask for
+-- the folder tells each file that the words ask for
 abbrev pub IsTelling : List Bytes → Told → Type 0
-IsTelling words told = (a : Asked) → reading words ≡ Some (Prove a) → (text : Bytes) × (told a.script ≡ Some text)
+IsTelling words told = (c : Command) (name : Bytes) → reading words ≡ Some c → Reads c name → (text : Bytes) × (told name ≡ Some text)
 
 -- this status came; or in its place a fault of the outside, or want of memory
 abbrev pub Comes : Status → Status → Type 0
 Comes s result = (result ≡ s) ⊎ (result ≡ status.ReadFault) ⊎ (result ≡ status.WriteFault) ⊎ (result ≡ status.OutOfMemory)
 
--- Where the folder tells the text, the status that words and text have comes.
+-- Where the folder tells the files that are read, the status that words and texts have comes.
 abbrev pub IsExact : List Bytes → Outside → Status → Type 0
 IsExact words outside result = (s : Status) (lines : Bytes) → IsTelling words outside.told → s ≢ status.ReadFault → Prints words outside s lines → Comes s result

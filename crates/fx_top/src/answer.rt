@@ -1,55 +1,44 @@
 // The status and the lines for a text.
-ghost use Rattle.std.specs.Prelude.{◌≤◌, IfOk};
-ghost use Rattle.universe.specs.Universes.{IsUniverse, IsTooLarge};
-ghost use Rattle.fx_top.specs.Answers.{ProvePrints, options_from};
+ghost use Rattle.std.specs.Prelude.{◌≡◌, IfOk};
+ghost use Rattle.made_script.specs.Script.{script_text};
+ghost use Rattle.script_grammar.specs.Spells.{IsRefused};
+ghost use Rattle.fx_top.specs.Answers.{AreAllowed, IsFound, MadePrints, ProvePrints, first_line, made_options, options_from};
 
-use crate::options::Options;
+use crate::found::{Found, prove_script};
+use crate::options::{Options, made_options};
 use crate::run::Status;
-use bisect::{Outcome, lines_of};
-use box_tree::Plan;
-use report::proved::answer_text;
+use fx_edge::Gate;
+use goals::Line;
+use made_script::made_script;
+use report::proved::{answer_text, made_text};
 use report::refusals::refusal_line;
-use report::runs::{boxes_text, expressions_text};
-use report::unproved::unproved_text;
-use script_grammar::{ParseStop, Script, parse, script_or_refusal};
-use settler::{answer_alone, plans_fit, proved_answers_hold, proved_lines_are_tight};
+use script_grammar::{ParseStop, Script, parse};
+use script_judge::refusal::Refusal;
 use std::alloc::{AllocError, Global};
-use universe::{Universe, UniverseFault, build, classify};
+use std::sync::Wait;
+use std::thread::Threads;
+use universe::classify;
 
-// What is answered to a script with this universe, by the tree of its boxes.
-fn tree_answer(
+// The status and the lines for what was found of the script.
+fn lines_for(
     alloc: Global,
     script: &Script<'_>,
-    universe: &Universe,
     options: Options,
+    found: Found,
 ) -> Result<(Status, Vec<u8>), AllocError>
-    requires universe { IsUniverse script.now universe.now }
-    requires few { ¬ IsTooLarge script.now }
-    requires depth { options.depth ≤ 32 }
+    requires { IsFound (options_from options) script.now found }
     ensures { IfOk result (λ r. ProvePrints (options_from options) script.now.text r.0 r.1.items) }
 {
-    script.laws();
-    script_or_refusal();
-    universe.laws();
-    plans_fit(universe);
-    let plan = Plan::new(alloc, script.hypotheses(), script.hints(), options.depth)?;
-    proved_answers_hold(&plan);
-    proved_lines_are_tight();
-    match answer_alone(alloc, universe, &plan, options.rounds, options.boxes)? {
-        Outcome::BoxLimit => Ok((Status::Limit, boxes_text(alloc, options.boxes)?)),
-        Outcome::Unproved { path, goal, .. } => {
-            let text = unproved_text(alloc, script, &plan, &path, goal)?;
-            Ok((Status::Unproved, text))
-        }
-        Outcome::Leaves { leaves, .. } => {
-            let lines = lines_of(alloc, leaves.as_slice(), script.goals().len())?;
+    match found {
+        Found::Stopped(status, lines) => Ok((status, lines)),
+        Found::Proved(_, shown) => {
             let marks = classify(alloc, script)?;
             let text = answer_text(
                 alloc,
                 script.text(),
                 script.tokens(),
                 script.goal_spans(),
-                lines.as_slice(),
+                shown.as_slice(),
                 marks.as_slice(),
             )?;
             Ok((Status::Answered, text))
@@ -57,31 +46,89 @@ fn tree_answer(
     }
 }
 
-// What is answered to a script.
-fn script_answer(
+/// What is answered to a text under the options: the status and all lines. `Err` only where memory runs out. It may wait.
+pub fn answer<G: Gate, R: Threads + Wait + Sync>(
+    rt: &R,
     alloc: Global,
-    script: &Script<'_>,
+    text: &[u8],
     options: Options,
+    gate: &G,
 ) -> Result<(Status, Vec<u8>), AllocError>
-    requires { options.depth ≤ 32 }
-    ensures { IfOk result (λ r. ProvePrints (options_from options) script.now.text r.0 r.1.items) }
-{
-    script.laws();
-    match build(alloc, script) {
-        Ok(universe) => tree_answer(alloc, script, &universe, options),
-        Err(UniverseFault::ExprLimit) => Ok((Status::Limit, expressions_text().to_vec(alloc)?)),
-        Err(UniverseFault::OutOfMemory) => Err(AllocError),
-    }
-}
-
-/// What is answered to a text under the options: the status and all lines. `Err` only where memory runs out.
-pub fn answer(alloc: Global, text: &[u8], options: Options) -> Result<(Status, Vec<u8>), AllocError>
-    requires { options.depth ≤ 32 }
+    requires { AreAllowed options }
     ensures { IfOk result (λ r. ProvePrints (options_from options) text.now r.0 r.1.items) }
 {
     match parse(alloc, text) {
-        Ok(script) => script_answer(alloc, &script, options),
+        Ok(script) => {
+            let found = prove_script(rt, alloc, &script, options, gate)?;
+            lines_for(alloc, &script, options, found)
+        }
         Err(ParseStop::Refused(refusal)) => Ok((Status::Script, refusal_line(alloc, refusal)?)),
+        Err(ParseStop::OutOfMemory) => Err(AllocError),
+    }
+}
+
+// The first line.
+fn first_line(lines: &[Line]) -> Line
+    ensures { result ≡ first_line lines.now }
+{
+    match lines {
+        [] => Line::None,
+        [line, ..] => *line,
+    }
+}
+
+// The status and the lines for what was found of the made script of degree n.
+#[tactic(auto, using(crate::proofs::Made::made_stopped, crate::proofs::Made::made_proved))]
+fn made_lines(
+    alloc: Global,
+    n: u8,
+    script: &Script<'_>,
+    found: Found,
+) -> Result<(Status, Vec<u8>), AllocError>
+    requires text { script.now.text ≡ script_text n }
+    requires found { IsFound made_options script.now found }
+    ensures { IfOk result (λ r. MadePrints n r.0 r.1.items) }
+{
+    match found {
+        Found::Stopped(status, lines) => Ok((status, lines)),
+        Found::Proved(boxes, shown) => {
+            let line = made_text(alloc, n, boxes, first_line(shown.as_slice()))?;
+            Ok((Status::Answered, line))
+        }
+    }
+}
+
+// The status and the lines for a made script that is refused.
+#[tactic(auto, using(crate::proofs::Made::made_refused))]
+fn made_refusal(
+    alloc: Global,
+    n: u8,
+    text: &[u8],
+    refusal: Refusal,
+) -> Result<(Status, Vec<u8>), AllocError>
+    requires text { text.now ≡ script_text n }
+    requires refused { IsRefused text.now refusal }
+    ensures { IfOk result (λ r. MadePrints n r.0 r.1.items) }
+{
+    Ok((Status::Script, refusal_line(alloc, refusal)?))
+}
+
+/// What is answered to the made script of degree n: the status and all lines. `Err` only where memory runs out. It may wait.
+pub fn made_answer<G: Gate, R: Threads + Wait + Sync>(
+    rt: &R,
+    alloc: Global,
+    n: u8,
+    gate: &G,
+) -> Result<(Status, Vec<u8>), AllocError>
+    ensures { IfOk result (λ r. MadePrints n r.0 r.1.items) }
+{
+    let text = made_script(alloc, n)?;
+    match parse(alloc, &text) {
+        Ok(script) => {
+            let found = prove_script(rt, alloc, &script, made_options(), gate)?;
+            made_lines(alloc, n, &script, found)
+        }
+        Err(ParseStop::Refused(refusal)) => made_refusal(alloc, n, &text, refusal),
         Err(ParseStop::OutOfMemory) => Err(AllocError),
     }
 }

@@ -2,6 +2,7 @@
 #![tactic(auto)]
 
 mod answer;
+mod found;
 mod options;
 mod outside;
 mod print;

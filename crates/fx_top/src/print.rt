@@ -1,16 +1,18 @@
 // What a run puts into its sink.
-ghost use Rattle.std.specs.Prelude.{◌≡◌, ◌≤◌, ◌⊎◌};
+ghost use Rattle.std.specs.Prelude.{◌≡◌, ◌⊎◌};
 ghost use Rattle.fx_edge.specs.Outside.{Rose};
-ghost use Rattle.fx_top.specs.Answers.{ProvePrints, options_from};
+ghost use Rattle.fx_top.specs.Answers.{AreAllowed, MadePrints, ProvePrints, options_from};
 ghost use Rattle.fx_top.specs.Run.{EndsAs, IsLine, StopPrints};
 
-use crate::answer::answer;
+use crate::answer::{answer, made_answer};
 use crate::options::Options;
 use crate::outside::{ReadStop, put_all};
 use crate::run::Status;
-use fx_edge::{Failed, Sink};
+use fx_edge::{Failed, Gate, Sink};
 use report::runs::read_fault_line;
 use std::alloc::Global;
+use std::sync::Wait;
+use std::thread::Threads;
 
 // Puts the lines, and answers the status where the sink took all of them.
 pub fn print<O: Sink>(out: &mut O, lines: &[u8], status: Status) -> Status
@@ -24,12 +26,36 @@ pub fn print<O: Sink>(out: &mut O, lines: &[u8], status: Status) -> Status
 }
 
 // Puts what is answered to the text under the options.
-pub fn print_answer<O: Sink>(alloc: Global, text: &[u8], options: Options, out: &mut O) -> Status
-    requires { options.depth ≤ 32 }
+pub fn print_answer<O: Sink, G: Gate, R: Threads + Wait + Sync>(
+    rt: &R,
+    alloc: Global,
+    text: &[u8],
+    options: Options,
+    out: &mut O,
+    gate: &G,
+) -> Status
+    requires { AreAllowed options }
     ensures ends { EndsAs (ProvePrints (options_from options) text.now) (O.taken out.old) (O.taken out.new) result }
     ensures cause { result ≡ Status.WriteFault → Rose (O.faults out.old) (O.faults out.new) }
 {
-    match answer(alloc, text, options) {
+    match answer(rt, alloc, text, options, gate) {
+        Ok((status, lines)) => print(out, &lines, status),
+        Err(_) => Status::OutOfMemory,
+    }
+}
+
+// Puts what is answered to the made script of degree n.
+pub fn print_made<O: Sink, G: Gate, R: Threads + Wait + Sync>(
+    rt: &R,
+    alloc: Global,
+    n: u8,
+    out: &mut O,
+    gate: &G,
+) -> Status
+    ensures ends { EndsAs (MadePrints n) (O.taken out.old) (O.taken out.new) result }
+    ensures cause { result ≡ Status.WriteFault → Rose (O.faults out.old) (O.faults out.new) }
+{
+    match made_answer(rt, alloc, n, gate) {
         Ok((status, lines)) => print(out, &lines, status),
         Err(_) => Status::OutOfMemory,
     }

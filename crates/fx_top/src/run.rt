@@ -2,20 +2,22 @@
 ghost use Rattle.std.specs.Prelude.{◌≡◌, ◌≢◌, ℕ, List, false, map, string_bytes, Option, Some, None, IfOk, IfErr};
 ghost use Rattle.command_line.specs.Reading.{asked_of, AreInRange};
 ghost use Rattle.fx_edge.specs.Outside.{Rose};
-ghost use Rattle.fx_top.specs.Command.{reading};
-ghost use Rattle.fx_top.specs.Command.Command.{Prove};
+ghost use Rattle.fx_top.specs.Command.{IsInRange, command_from, reading};
+ghost use Rattle.fx_top.specs.Command.Command.{Prove, Gen};
 ghost use Rattle.fx_top.specs.Run.{Outside, EndsAs, IsExact, IsTelling, Prints, exit_code, is_written, seen};
 
 use crate::options::options_of;
 use crate::outside::read_text;
-use crate::print::{print, print_answer, print_stop};
-use command_line::{Request, WordsError, read_prove};
+use crate::print::{print, print_answer, print_made, print_stop};
+use command_line::{Request, WordsError, read_gen, read_prove};
 use fx_edge::{Folder, Gate, Sink};
 use report::runs::usage;
 use script_grammar::script_or_refusal;
 use script_judge::first::firsts_are_unique;
 use settler::answers_are_one;
 use std::alloc::Global;
+use std::sync::Wait;
+use std::thread::Threads;
 use universe::marks_are_one;
 
 /// How a run of the program ends.
@@ -49,28 +51,41 @@ impl Status {
     }
 }
 
+/// What the words ask for.
+#[derive(Clone, Copy, Debug)]
+pub enum Wanted<'a> {
+    /// A script is to be proved.
+    Prove(Request<'a>),
+    /// The made script of this degree is to be proved.
+    Gen(u8),
+}
+
 // What the words ask for.
-fn command_of<'a>(alloc: Global, words: &'a [String]) -> Result<Request<'a>, WordsError>
-    ensures ok { IfOk result (λ r. reading (map string_bytes words.entry.now) ≡ Some (Prove (asked_of r))) }
+fn command_of<'a>(alloc: Global, words: &'a [String]) -> Result<Wanted<'a>, WordsError>
+    ensures ok { IfOk result (λ w. reading (map string_bytes words.entry.now) ≡ Some (command_from w)) }
     ensures usage { IfErr result (λ e. e ≡ WordsError.Usage → reading (map string_bytes words.entry.now) ≡ None) }
-    ensures range { IfOk result AreInRange }
+    ensures range { IfOk result IsInRange }
 {
     let [command, words @ ..] = words else {
         return Err(WordsError::Usage);
     };
     if command.as_str() == "prove" {
-        read_prove(alloc, words)
+        Ok(Wanted::Prove(read_prove(alloc, words)?))
+    } else if command.as_str() == "gen" {
+        Ok(Wanted::Gen(read_gen(alloc, words)?))
     } else {
         Err(WordsError::Usage)
     }
 }
 
 // What `prove` does.
-fn run_prove<F: Folder, O: Sink>(
+fn run_prove<F: Folder, O: Sink, G: Gate, R: Threads + Wait + Sync>(
+    rt: &R,
     alloc: Global,
     request: Request<'_>,
     folder: &mut F,
     out: &mut O,
+    gate: &G,
 ) -> Status
     requires { AreInRange request }
     ensures ends { (words : List (List ℕ)) → reading words ≡ Some (Prove (asked_of request.entry))
@@ -79,35 +94,55 @@ fn run_prove<F: Folder, O: Sink>(
     ensures files { (name : List ℕ) → F.told folder.new name ≡ F.told folder.old name }
 {
     match read_text(alloc, folder, request.script) {
-        Ok(text) => print_answer(alloc, &text, options_of(request), out),
+        Ok(text) => print_answer(rt, alloc, &text, options_of(request), out, gate),
         Err(stop) => print_stop(alloc, request.script, stop, out),
     }
 }
 
+// What `gen` does.
+fn run_gen<O: Sink, G: Gate, R: Threads + Wait + Sync>(
+    rt: &R,
+    alloc: Global,
+    n: u8,
+    out: &mut O,
+    gate: &G,
+) -> Status
+    ensures ends { (words : List (List ℕ)) (outside : Outside) → reading words ≡ Some (Gen n)
+        → EndsAs (Prints words outside) (O.taken out.old) (O.taken out.new) result }
+    ensures write_fault { result ≡ Status.WriteFault → Rose (O.faults out.old) (O.faults out.new) }
+{
+    print_made(rt, alloc, n, out, gate)
+}
+
 // A run, by its defined lines.
-fn run_words<F: Folder, O: Sink>(
+fn run_words<F: Folder, O: Sink, G: Gate, R: Threads + Wait + Sync>(
+    rt: &R,
     alloc: Global,
     words: &[String],
     folder: &mut F,
     out: &mut O,
+    gate: &G,
 ) -> Status
     ensures ends { EndsAs (Prints (map string_bytes words.now) (seen (F.told folder.old) (F.read_faults folder.old) (F.read_faults folder.new))) (O.taken out.old) (O.taken out.new) result }
     ensures write_fault { result ≡ Status.WriteFault → Rose (O.faults out.old) (O.faults out.new) }
     ensures files { (name : List ℕ) → F.told folder.new name ≡ F.told folder.old name }
 {
     match command_of(alloc, words) {
-        Ok(request) => run_prove(alloc, request, folder, out),
+        Ok(Wanted::Prove(request)) => run_prove(rt, alloc, request, folder, out, gate),
+        Ok(Wanted::Gen(n)) => run_gen(rt, alloc, n, out, gate),
         Err(WordsError::Usage) => print(out, usage(), Status::Usage),
         Err(WordsError::OutOfMemory) => Status::OutOfMemory,
     }
 }
 
 // A run, and the law that its status is exactly the defined one.
-fn run_exactly<F: Folder, O: Sink>(
+fn run_exactly<F: Folder, O: Sink, G: Gate, R: Threads + Wait + Sync>(
+    rt: &R,
     alloc: Global,
     words: &[String],
     folder: &mut F,
     out: &mut O,
+    gate: &G,
 ) -> Status
     ensures ends { EndsAs (Prints (map string_bytes words.now) (seen (F.told folder.old) (F.read_faults folder.old) (F.read_faults folder.new))) (O.taken out.old) (O.taken out.new) result }
     ensures exact { IsExact (map string_bytes words.now) (seen (F.told folder.old) (F.read_faults folder.old) (F.read_faults folder.new)) result }
@@ -115,26 +150,27 @@ fn run_exactly<F: Folder, O: Sink>(
     ensures files { (name : List ℕ) → is_written (map string_bytes words.now) name ≡ false → F.told folder.new name ≡ F.told folder.old name }
 {
     defined_status_comes();
-    run_words(alloc, words, folder, out)
+    run_words(rt, alloc, words, folder, out, gate)
 }
 
 /// Runs the program on the words of its command line, without the program's name: `prove SCRIPT` reads the script's text
-/// from the folder, proves its goals, and puts the answer's lines. The gate is for workers, of which there are none yet: this
-/// thread settles all boxes.
-pub fn fx_run<F: Folder, O: Sink, G: Gate>(
+/// from the folder, proves its goals, and puts the answer's lines; `gen N` does so with the made script of degree N. Workers, as many as the words say, settle the boxes; each calls
+/// the gate before and after a box. It may wait.
+pub fn fx_run<R: Threads + Wait + Sync, F: Folder, O: Sink, G: Gate>(
+    rt: &R,
     alloc: Global,
     words: &[String],
     folder: &mut F,
     out: &mut O,
-    _gate: &G,
+    gate: &G,
 ) -> Status
-    // Each status comes only with its defined lines, which the sink took whole; after a write fault and want of memory it took a front of
+    // Whatever the workers' schedule is, of which no clause speaks: each status comes only with its defined lines, which the sink took whole; after a write fault and want of memory it took a front of
     // defined lines. At `Answered` they have an interval for each goal of one script: the hull, over the boxes that aren't cut further, of the
     // strongest facts that derivations of the given height conclude there. Under each assignment of fractions that meets the script, each
     // goal's value lies in its interval, and each goal is true. A read fault comes only where reads failed in this call.
     ensures ends { EndsAs (Prints (map string_bytes words.now) (seen (F.told folder.old) (F.read_faults folder.old) (F.read_faults folder.new))) (O.taken out.old) (O.taken out.new) result }
 
-    // Where the folder tells the text, the defined status comes, or else a fault of the outside or want of memory.
+    // Where the folder tells what is read, the defined status comes, or else a fault of the outside or want of memory.
     ensures exact { IsExact (map string_bytes words.now) (seen (F.told folder.old) (F.read_faults folder.old) (F.read_faults folder.new)) result }
 
     // A write fault comes only where the sink failed in this call.
@@ -143,7 +179,7 @@ pub fn fx_run<F: Folder, O: Sink, G: Gate>(
     // No name's bytes change but those of a file that the words name to be written.
     ensures files { (name : List ℕ) → is_written (map string_bytes words.now) name ≡ false → F.told folder.new name ≡ F.told folder.old name }
 {
-    run_exactly(alloc, words, folder, out)
+    run_exactly(rt, alloc, words, folder, out, gate)
 }
 
 /// The law that one answer is defined, read faults aside: words with a told text have one status, of those that aren't `ReadFault`, and one

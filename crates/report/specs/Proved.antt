@@ -38,3 +38,7 @@ hint_lines k (m ∷ ms) = hint_line k m ++ hint_lines (k + 1) ms
 -- the goals, then the assumed hints, which are counted from 1
 abbrev pub answer_text : Bytes → List Token → List Span → List Line → List HintMark → Bytes
 answer_text text tokens spans lines marks = goal_lines text tokens spans lines ++ hint_lines 1 marks
+
+-- of the made script of degree n that is proved: how many boxes its tree has, and what is shown of its goal
+abbrev pub made_text : ℕ → ℕ → Line → Bytes
+made_text n boxes l = codes "gen " ++ decimal n ++ codes ": " ++ decimal boxes ++ codes " boxes, " ++ shown_text l ++ codes "\n"

@@ -135,3 +135,14 @@ pub fn answer_text(
     put_hint_lines(&mut out, 1, marks)?;
     Ok(out)
 }
+
+/// What is printed of the made script of degree n that is proved: how many boxes its tree has, and what is shown of its goal. `Err` only where
+/// memory runs out.
+pub fn made_text(alloc: Global, n: u8, boxes: u32, shown: Line) -> Result<Vec<u8>, AllocError>
+    ensures { IfOk result (λ line. line.items ≡ spec.made_text n boxes shown) }
+{
+    let mut line = format!(in alloc; "gen {n}: {boxes} boxes, ")?.into_bytes();
+    put_shown(&mut line, shown)?;
+    line.extend_from_slice("\n".as_bytes())?;
+    Ok(line)
+}

@@ -17,8 +17,8 @@ use Rattle.settler.proofs.Tight.{goal_there, line_there}
 
 module _ (one : UniversesAreOne) (hypotheses : WhereMet HypothesesHold) (hints : WhereMet HintsAreTrue) (whole : WhereMet LiesInWholeBox) (settled : OfUniverses SettledGoalsAreTrue) (kept : OfUniverses GoalLinesHold) where
   -- over the script's plan, and over the universe of its tree
-  held_by : (s : View) (o : Options) (lines : List Line) (a : Assignment) (p : IsProved s o lines) → SettledLinesHold (plan_of s o.depth) → HasUniverse s (p.2).universe → Meets a s → AreHeld s a lines
-  held_by s o lines a (count, leaves, came, are) holds has meets k c g =
+  held_by : (s : View) (o : Options) (lines : List Line) (a : Assignment) (p : IsProved s o lines) → SettledLinesHold (plan_of s o.depth) → HasUniverse s (p.1.1).universe → Meets a s → AreHeld s a lines
+  held_by s o lines a (count, (leaves, came, are)) holds has meets k c g =
       let u = came.universe in
       let t = tree_by s o came.states in
       let boxes = came.is_answer.0 in
@@ -32,4 +32,4 @@ module _ (one : UniversesAreOne) (hypotheses : WhereMet HypothesesHold) (hints :
 
   pub proved_holds : (plan : PlanParts) → SettledLinesHold plan → ProvedHolds plan
   proved_holds plan holds s u o lines a has same p meets =
-      held_by s o lines a p (subst SettledLinesHold same holds) (subst (HasUniverse s) (one s u (p.2).universe has.universe (p.2).is_universe) has) meets
+      held_by s o lines a p (subst SettledLinesHold same holds) (subst (HasUniverse s) (one s u (p.1.1).universe has.universe (p.1.1).is_universe) has) meets

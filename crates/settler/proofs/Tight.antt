@@ -153,7 +153,7 @@ same_line : (x y : Line) (o : Option Line) → o ≡ Some x → o ≡ Some y →
 same_line x y o e f = let g : Some x ≡ Some y = sym e ∙ f in cc
 
 pub proved_tight : (s : View) (o : Options) (lines : List Line) → IsProved s o lines → AreTight s o lines
-proved_tight s o lines (count, leaves, came, are) =
+proved_tight s o lines (count, (leaves, came, are)) =
     let t = tree_by s o came.states in
     let boxes = came.is_answer.0 in
     let answer = came.is_answer.2 in

@@ -55,19 +55,19 @@ module _ (universes : UniversesAreOne) (one : BoxesComeToOneState) (answers : Ha
   one_answer expr_limit expr_limit a b = refl
   one_answer expr_limit box_limit a b = absurd (b.few a)
   one_answer expr_limit (unproved p g) a b = absurd (b.1.few a)
-  one_answer expr_limit (proved l) a b = absurd (b.2.few a)
+  one_answer expr_limit (proved l) a b = absurd (b.1.1.few a)
   one_answer box_limit expr_limit a b = absurd (a.few b)
   one_answer box_limit box_limit a b = refl
   one_answer box_limit (unproved p g) a b = absurd (limit_or_unproved b.0 p g (one_outcome outcome.BoxLimit (outcome.Unproved b.0 p g) a b.1))
-  one_answer box_limit (proved l) a b = absurd (limit_or_leaves b.0 b.1 (one_outcome outcome.BoxLimit (outcome.Leaves b.0 b.1) a b.2))
+  one_answer box_limit (proved l) a b = absurd (limit_or_leaves b.0 b.1.0 (one_outcome outcome.BoxLimit (outcome.Leaves b.0 b.1.0) a b.1.1))
   one_answer (unproved p g) expr_limit a b = absurd (a.1.few b)
   one_answer (unproved p g) box_limit a b = absurd (limit_or_unproved a.0 p g (one_outcome outcome.BoxLimit (outcome.Unproved a.0 p g) b a.1))
   one_answer (unproved p g) (unproved q h) a b = same_unproved a.0 b.0 p q g h (one_outcome (outcome.Unproved a.0 p g) (outcome.Unproved b.0 q h) a.1 b.1)
-  one_answer (unproved p g) (proved l) a b = absurd (unproved_or_leaves a.0 b.0 p g b.1 (one_outcome (outcome.Unproved a.0 p g) (outcome.Leaves b.0 b.1) a.1 b.2))
-  one_answer (proved l) expr_limit a b = absurd (a.2.few b)
-  one_answer (proved l) box_limit a b = absurd (limit_or_leaves a.0 a.1 (one_outcome outcome.BoxLimit (outcome.Leaves a.0 a.1) b a.2))
-  one_answer (proved l) (unproved q h) a b = absurd (unproved_or_leaves b.0 a.0 q h a.1 (one_outcome (outcome.Unproved b.0 q h) (outcome.Leaves a.0 a.1) b.1 a.2))
+  one_answer (unproved p g) (proved l) a b = absurd (unproved_or_leaves a.0 b.0 p g b.1.0 (one_outcome (outcome.Unproved a.0 p g) (outcome.Leaves b.0 b.1.0) a.1 b.1.1))
+  one_answer (proved l) expr_limit a b = absurd (a.1.1.few b)
+  one_answer (proved l) box_limit a b = absurd (limit_or_leaves a.0 a.1.0 (one_outcome outcome.BoxLimit (outcome.Leaves a.0 a.1.0) b a.1.1))
+  one_answer (proved l) (unproved q h) a b = absurd (unproved_or_leaves b.0 a.0 q h a.1.0 (one_outcome (outcome.Unproved b.0 q h) (outcome.Leaves a.0 a.1.0) b.1 a.1.1))
   one_answer (proved l) (proved m) a b =
-      let e : a.1 ≡ b.1 = same_leaves a.0 b.0 a.1 b.1 (one_outcome (outcome.Leaves a.0 a.1) (outcome.Leaves b.0 b.1) a.2 b.2) in
-      let f : l ≡ m = a.3 ∙ ap (λ ls. lines_of ls (length s.goals)) e ∙ sym b.3 in
+      let e : a.1.0 ≡ b.1.0 = same_leaves a.0 b.0 a.1.0 b.1.0 (one_outcome (outcome.Leaves a.0 a.1.0) (outcome.Leaves b.0 b.1.0) a.1.1 b.1.1) in
+      let f : l ≡ m = a.1.2 ∙ ap (λ ls. lines_of ls (length s.goals)) e ∙ sym b.1.2 in
       ap proved f

@@ -52,9 +52,13 @@ HasTooManyBoxes s o = ComesTo s o outcome.BoxLimit
 abbrev pub IsUnproved : View → Options → List ℕ → ℕ → Type 0
 IsUnproved s o path goal = (count : ℕ) × ComesTo s o (outcome.Unproved count path goal)
 
--- no leaf is open: the line of each goal is the hull of its best known facts over the leaves
+-- no leaf is open of a tree of so many boxes: the line of each goal is the hull of its best known facts over the leaves
+abbrev pub IsProvedIn : View → Options → ℕ → List Line → Type 0
+IsProvedIn s o count lines = (leaves : List Leaf) × ComesTo s o (outcome.Leaves count leaves) × (lines ≡ lines_of leaves (length s.goals))
+
+-- the same, of any number of boxes
 abbrev pub IsProved : View → Options → List Line → Type 0
-IsProved s o lines = (count : ℕ) × (leaves : List Leaf) × ComesTo s o (outcome.Leaves count leaves) × (lines ≡ lines_of leaves (length s.goals))
+IsProved s o lines = (count : ℕ) × IsProvedIn s o count lines
 
 -- ---- the answer
 pub data Answer : Type 0 where

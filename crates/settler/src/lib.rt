@@ -13,4 +13,4 @@ pub use frame::Frame;
 pub use laws::{
     answers_are_one, plans_fit, proved_answers_hold, proved_lines_are_tight, settled_lines_hold,
 };
-pub use run::answer_alone;
+pub use run::answer;

@@ -3,10 +3,10 @@ use Rattle.saturate.specs.Universes.{setting_of}
 use Rattle.settler.specs.Decided.{state_at}
 use Rattle.settler.proofs.Along.{ok_gives}
 use Rattle.settler.proofs.Stands.{stands_at}
-use Rattle.settler.proofs.run.answer_alone.Goals as goal
+use Rattle.settler.proofs.run.answer.Goals as goal
 
 pub returns : goal.returns
-returns c =
+returns g c =
     let u = c.args.universe.now in
     let plan = c.args.plan.now in
     ok_gives c.answer_in.result c.answer_in.ensures
