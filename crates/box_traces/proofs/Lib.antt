@@ -1,0 +1,12 @@
+mod Cited
+mod Coming
+mod Come
+mod Written
+mod Treed
+mod Head
+mod Fitting
+mod FitArith
+mod FitFix
+mod FitRel
+mod FitRewrites
+mod FitList
