@@ -26,6 +26,7 @@ use std::sync::ledger::Ledger;
 use theorem_list::conclude;
 
 // What the instance concludes from these premises.
+#[inline(always)]
 fn conclude_by(dag: &Dag, hints: &[HintRow], instance: &Instance, premises: &[Fact]) -> Option<Fact>
     ensures { result ≡ concludes dag.now hints.now instance.now.rule instance.now.arg premises.now instance.now.target }
 {
@@ -40,6 +41,7 @@ fn conclude_by(dag: &Dag, hints: &[HintRow], instance: &Instance, premises: &[Fa
 }
 
 // What the instance concludes from the table. Its premises are given with their places; the list of facts is scratch.
+#[inline(always)]
 fn apply<L: Ledger>(
     dag: &Dag,
     hints: &[HintRow],
@@ -66,6 +68,7 @@ fn apply<L: Ledger>(
 }
 
 // The instance with this number.
+#[inline(always)]
 fn instance_at(uni: &Universe, k: usize) -> &Instance
     requires { k < length uni.now.instances }
     ensures { slice_get uni.now.instances k ≡ Some result.now }
@@ -74,6 +77,7 @@ fn instance_at(uni: &Universe, k: usize) -> &Instance
 }
 
 // The place of its target.
+#[inline(always)]
 fn target_place(uni: &Universe, k: usize) -> u16
     requires { k < length uni.now.instances }
     ensures { (i : Applied) → slice_get uni.now.instances k ≡ Some i → IsPlace (length uni.now.nodes) uni.now.pairs i.target result }
@@ -83,6 +87,7 @@ fn target_place(uni: &Universe, k: usize) -> u16
 
 // Applies the instance with this number to the one table, keeps in the other what comes of it, and lists the slot that changed,
 // if one did.
+#[inline(always)]
 fn visit<L: Ledger>(
     uni: &Universe,
     k: usize,
