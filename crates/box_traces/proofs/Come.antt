@@ -1,5 +1,5 @@
 -- For every box there are accepted steps that conclude its best facts.
-use Rattle.std.specs.Prelude.{⊤, ◌≡◌, ◌<◌, ◌≤◌, ◌+◌, ◌*◌, ◌^◌, ◌==◌, ℕ, zero, suc, false, List, [], ◌∷◌, ◌++◌, length, Option, Some, None, slice_get, map, refl}
+use Rattle.std.specs.Prelude.{◌≡◌, ◌<◌, ◌≤◌, ◌+◌, ◌*◌, ◌^◌, ◌==◌, ℕ, zero, suc, false, List, [], ◌∷◌, ◌++◌, length, Option, Some, None, slice_get, map, refl}
 use Rattle.std.proofs.Common.{sym, ◌∙◌, ap, subst, inl, inr, arith}
 use Rattle.std.proofs.lemmas.List.{length-append}
 use Rattle.std.proofs.lemmas.Option.{slice_get_within}
@@ -29,8 +29,8 @@ use Rattle.derivation.specs.Steps.{improved_proper}
 use Rattle.cert_bytes.specs.declared.item.StepRow.{StepRow}
 use Rattle.cert_bytes.specs.Certificates.{IsCounted, IsShort}
 use Rattle.cert_checker.specs.Open.{Numbered, with_step}
-use Rattle.cert_checker.specs.Steps.{step_facts, Givens, gives, met_with, IsEnough, target_of, whole_line, variable_fact}
-use Rattle.box_traces.specs.Sections.{behind, ArePlaces, IsTraced, AreBelow}
+use Rattle.cert_checker.specs.Steps.{step_facts, gives, met_with, IsEnough, target_of, whole_line, variable_fact}
+use Rattle.box_traces.specs.Sections.{behind, ArePlaces, AreBelow}
 use Rattle.box_traces.specs.Writing.{IsSlotKnown, IsWritable, givens_of}
 use Rattle.box_traces.specs.Traces.{HasFields, HaveFields, Trace, IsCutTo, most_steps}
 use Rattle.box_traces.proofs.Cited.{step_kept, behind_both, premises_found}

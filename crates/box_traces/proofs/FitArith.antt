@@ -1,8 +1,7 @@
 -- What rules give can be written as steps.
-use Rattle.std.specs.Prelude.{◌≤◌, length, ◌≡◌, ◌⊎◌, Bool, true, false, ◌&&◌, ◌||◌, [], ◌∷◌, Option, Some, None, slice_get, refl}
+use Rattle.std.specs.Prelude.{◌≡◌, Bool, true, false, ◌&&◌, ◌||◌, [], ◌∷◌, Option, Some, None, slice_get, refl}
 use Rattle.std.proofs.Common.{◌∙◌, ap, arith}
 use Rattle.fx_model.specs.Fraction.{zero_ℚ, one_ℚ}
-use Rattle.fx_model.specs.Expression.{literal_value}
 use Rattle.fx_model.specs.declared.ExprId.{ExprId}
 use Rattle.fx_model.specs.declared.Node.{Node}
 use Rattle.fx_model.specs.declared.Node.TheVariants as node
@@ -12,7 +11,7 @@ use Rattle.expr_dag.specs.Shapes.{is_at}
 use Rattle.facts.specs.declared.size.Size.{Size}
 use Rattle.facts.specs.declared.fact.Fact.TheVariants as fact
 use Rattle.facts.specs.declared.fact.Slot.TheVariants as slot
-use Rattle.facts.specs.Order.{slot_of, is_same}
+use Rattle.facts.specs.Order.{is_same}
 use Rattle.facts.specs.Parts.{size_within}
 use Rattle.facts.specs.Conclusions.{abs_of, bnd_of}
 use Rattle.theorem_arith.specs.Shapes.{is_one}
@@ -21,7 +20,7 @@ use Rattle.theorem_arith.specs.Sizes.{size_rule, around, value_rule, is_above, i
 use Rattle.expr_dag.specs.Shapes.{is_at_out}
 use Rattle.facts.specs.CommonParts.{and_both}
 use Rattle.facts.specs.Conclusions.{given}
-use Rattle.box_traces.proofs.Fitting.{FitsSteps, only_never, given_never, bnd_never, abs_never, fix_never, only_given, given_both, only_void, both_and, both_known, children_known, same_itself}
+use Rattle.box_traces.proofs.Fitting.{FitsSteps, only_never, given_never, bnd_never, abs_never, only_given, given_both, only_void, both_and}
 
 literal_never : (n : Option Node) (x : ExprId) → literal_at n x ≡ Some fact.Void → ⊥
 literal_never (Some (node.Lit l)) x q = cc

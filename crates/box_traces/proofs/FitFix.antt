@@ -1,11 +1,10 @@
 -- What rules give can be written as steps.
-use Rattle.std.specs.Prelude.{◌≤◌, length, ◌≡◌, ◌⊎◌, ◌&&◌, ◌||◌, not, [], ◌∷◌, Option, Some, None, slice_get, refl}
+use Rattle.std.specs.Prelude.{◌≡◌, ◌&&◌, ◌||◌, not, [], ◌∷◌, Option, Some, None, slice_get, refl}
 use Rattle.std.proofs.Common.{◌∙◌, ap, arith}
 use Rattle.fx_model.specs.Fraction.{zero_ℚ}
 use Rattle.fx_model.specs.declared.ExprId.{ExprId}
 use Rattle.fx_model.specs.declared.Node.{Node}
 use Rattle.fx_model.specs.declared.Node.TheVariants as node
-use Rattle.interval.specs.declared.interval.Interval.{Interval}
 use Rattle.interval.specs.Intervals.{range_of}
 use Rattle.interval.specs.Results.{has_zero}
 use Rattle.expr_dag.specs.Shapes.{is_at, are_known}
@@ -13,7 +12,7 @@ use Rattle.rounding.specs.declared.sign.Sign.TheVariants.{Unknown}
 use Rattle.facts.specs.declared.relative.RelativeError.{RelativeError}
 use Rattle.facts.specs.declared.fact.Fact.TheVariants as fact
 use Rattle.facts.specs.declared.fact.Slot.TheVariants as slot
-use Rattle.facts.specs.Order.{slot_of, is_same}
+use Rattle.facts.specs.Order.{is_same}
 use Rattle.facts.specs.Ranges.{is_below}
 use Rattle.facts.specs.Conclusions.{bnd_of, fix_of}
 use Rattle.facts.specs.RelativeConclusions.{void_only}
@@ -23,10 +22,10 @@ use Rattle.theorem_fix.specs.Shapes.{rounding_at, error_rounding_at}
 use Rattle.theorem_fix.specs.Multiples.{literal_place, literal_multiple_rule, multiple_of_negation_rule, multiple_of_sum_rule, multiple_of_product_rule, last_place, rounded_multiple_rule, untouched, untouched_multiple_rule, point_place, number_multiple_rule}
 use Rattle.theorem_fix.specs.Nonzero.{nonzero_bound_rule, nonzero_size_rule, nonzero_binary_rule, nonzero_product_rule, nonzero_quotient_rule, nonzero_negation_rule, are_sides, nonzero_or_void, nonzero_side_rule}
 use Rattle.theorem_fix.specs.Roundings.{rounded_interval, rounded_bound_rule, errors_of, error_rule, sign_of, signed_errors_of, signed_error_rule, multiple_error_rule}
-use Rattle.theorem_fix.specs.Shrunk.{shrunk_of, shrinking_rule, void_without, no_multiple_rule}
+use Rattle.theorem_fix.specs.Shrunk.{shrunk_of, shrinking_rule, no_multiple_rule}
 use Rattle.std.specs.Prelude.{Bool, true, false}
 use Rattle.facts.specs.CommonParts.{and_both}
-use Rattle.box_traces.proofs.Fitting.{FitsSteps, only_never, given_never, bnd_never, abs_never, fix_never, only_given, given_both, only_void, both_and, both_known, children_known, same_itself}
+use Rattle.box_traces.proofs.Fitting.{FitsSteps, only_never, given_never, bnd_never, fix_never, only_given, given_both, both_and}
 
 pub literal_multiple_rule-fits : FitsSteps literal_multiple_rule
 literal_multiple_rule-fits nodes [] (slot.Fix e) f o q = (omega arith, λ v. absurd (fix_never e (literal_place (slice_get nodes e.0)) (q ∙ ap Some v)))

@@ -1,5 +1,5 @@
 -- What rules give can be written as steps.
-use Rattle.std.specs.Prelude.{◌≤◌, length, ◌≡◌, ◌⊎◌, ◌&&◌, Bool, true, false, [], ◌∷◌, Option, Some, None, if◌then◌else◌, slice_get, refl}
+use Rattle.std.specs.Prelude.{◌≡◌, ◌&&◌, Bool, true, false, [], ◌∷◌, Option, Some, None, if◌then◌else◌, slice_get, refl}
 use Rattle.std.proofs.Common.{◌∙◌, ap, arith}
 use Rattle.fx_model.specs.Fraction.{zero_ℚ}
 use Rattle.fx_model.specs.declared.ExprId.{ExprId}
@@ -11,10 +11,9 @@ use Rattle.interval.specs.Members.{has_one}
 use Rattle.expr_dag.specs.Shapes.{is_at, is_known, are_known}
 use Rattle.facts.specs.declared.relative.RelativeError.{RelativeError}
 use Rattle.facts.specs.declared.fact.Fact.{Fact}
-use Rattle.facts.specs.declared.fact.Slot.{Slot}
 use Rattle.facts.specs.declared.fact.Fact.TheVariants as fact
 use Rattle.facts.specs.declared.fact.Slot.TheVariants as slot
-use Rattle.facts.specs.Order.{slot_of, is_same}
+use Rattle.facts.specs.Order.{is_same}
 use Rattle.facts.specs.Parts.{error_from, error_of_part}
 use Rattle.facts.specs.RelativeConclusions.{rel_of, void_only}
 use Rattle.theorem_rel.specs.Values.{unit, relative_to_itself_rule, relative_difference_rule, zero_or_void, difference_fact, difference_by_error_rule, value_fact, value_by_error_rule, quotient_fact, quotient_by_error_rule}
@@ -24,7 +23,7 @@ use Rattle.std.specs.Prelude.{List}
 use Rattle.expr_dag.specs.Shapes.{is_at_out}
 use Rattle.facts.specs.CommonParts.{and_both}
 use Rattle.facts.specs.Conclusions.{given}
-use Rattle.box_traces.proofs.Fitting.{FitsSteps, only_never, given_never, bnd_never, abs_never, fix_never, only_given, given_both, only_void, both_and, both_known, children_known, same_itself}
+use Rattle.box_traces.proofs.Fitting.{FitsSteps, only_never, given_never, only_given, given_both, both_and, both_known, children_known, same_itself}
 
 rel_never : (x y : ExprId) (o : Option RelativeError) → rel_of x y o ≡ Some fact.Void → ⊥
 rel_never x y None q = cc

@@ -1,25 +1,23 @@
 -- What rules give can be written as steps.
-use Rattle.std.specs.Prelude.{◌≤◌, length, ◌&&◌, nat_lt, length, [], ◌∷◌, Option, Some, None, refl}
+use Rattle.std.specs.Prelude.{length, ◌&&◌, nat_lt, length, [], ◌∷◌, Some}
 use Rattle.std.proofs.Common.{◌∙◌, ap, arith}
 use Rattle.fx_model.specs.declared.ExprId.{ExprId}
 use Rattle.fx_model.specs.declared.Node.{Node}
 use Rattle.fx_model.specs.declared.Node.TheVariants as node
 use Rattle.interval.specs.declared.interval.Interval.{Interval}
-use Rattle.interval.specs.Intervals.{range_of}
 use Rattle.interval.specs.Results.{negation_of, sum_of, difference_of, product_of}
-use Rattle.expr_dag.specs.Shapes.{is_at, is_known, are_known}
+use Rattle.expr_dag.specs.Shapes.{is_at, are_known}
 use Rattle.facts.specs.declared.hint.HintRow.{HintRow}
-use Rattle.facts.specs.declared.relative.RelativeError.{RelativeError}
 use Rattle.facts.specs.declared.fact.Fact.{Fact}
 use Rattle.facts.specs.declared.fact.Slot.{Slot}
 use Rattle.facts.specs.declared.fact.Fact.TheVariants as fact
 use Rattle.facts.specs.declared.fact.Slot.TheVariants as slot
 use Rattle.facts.specs.Order.{is_same}
 use Rattle.rewrite_rules.specs.Differences.{sides_at, are_made, by_sides_rule, difference_of_sums_rule, difference_of_differences_rule, are_products, difference_of_products_rule, are_negations, difference_of_negations_rule, is_through, difference_through_rule, is_against, difference_against_rule, first_by_difference_rule, second_by_difference_rule}
-use Rattle.rewrite_rules.specs.Nothing.{is_zero, zero_and_not_rule, void_of, both_zero_and_not_rule}
+use Rattle.rewrite_rules.specs.Nothing.{zero_and_not_rule, both_zero_and_not_rule}
 use Rattle.rewrite_rules.specs.Rewriting.{show_row, rewritten, rewriting_rule}
 use Rattle.std.specs.Prelude.{◌≡◌}
-use Rattle.box_traces.proofs.Fitting.{FitsSteps, only_never, given_never, bnd_never, abs_never, fix_never, few_by, only_given, given_both, only_void, both_and, both_known, children_known, same_itself}
+use Rattle.box_traces.proofs.Fitting.{FitsSteps, only_never, given_never, few_by}
 
 by_sides_rule-fits : (make : ExprId → ExprId → Node) (op : Interval → Interval → Interval) → FitsSteps (by_sides_rule make op)
 by_sides_rule-fits make op nodes (fact.Bnd p i ∷ fact.Bnd q j ∷ []) (slot.Bnd e) f o g = (omega arith, λ v. absurd (only_never (are_made make nodes (sides_at nodes e) (sides_at nodes p) (sides_at nodes q)) (fact.Bnd e (op i j)) (λ w. cc) (g ∙ ap Some v)))

@@ -1,5 +1,5 @@
 -- Every tree whose leaves are settled has a certificate that is accepted with the lines of its leaves.
-use Rattle.std.specs.Prelude.{◌≡◌, ◌≤◌, ◌<◌, ◌+◌, ◌^◌, ⊤, ℕ, zero, false, List, [], ◌∷◌, ◌++◌, length, map, Option, Some, None, slice_get, refl}
+use Rattle.std.specs.Prelude.{◌≡◌, ◌≤◌, ◌+◌, ◌^◌, ⊤, ℕ, zero, false, List, [], ◌∷◌, ◌++◌, length, map, Option, Some, slice_get, refl}
 use Rattle.std.proofs.Common.{sym, ◌∙◌, ap, subst, arith}
 use Rattle.fx_model.specs.declared.Node.{Node}
 use Rattle.facts.specs.declared.fact.Fact.{Fact}
@@ -16,13 +16,13 @@ use Rattle.cert_bytes.specs.Certificates.{AreDue}
 use Rattle.cert_bytes.specs.declared.order.Due.TheVariants.{Nodes, Marks, Sections}
 use Rattle.cert_checker.specs.declared.subject.Subject.{Subject}
 use Rattle.cert_checker.specs.Contexts.{Context, first, open_piece}
-use Rattle.cert_checker.specs.After.{after, around_of, cuts_behind, case_behind}
+use Rattle.cert_checker.specs.After.{after, around_of, cuts_behind}
 use Rattle.cert_checker.specs.Accepted.{LeadsTo, Accepts}
 use Rattle.box_traces.specs.Sections.{AllBelow}
 use Rattle.box_traces.specs.Writing.{IsWritable, givens_of}
 use Rattle.box_traces.specs.Traces.{Trace, most_steps}
 use Rattle.box_traces.specs.Trees.{Tree, IsProved, lines_of_tree, steps_in, AreTaken, IsSubjectOf}
-use Rattle.box_traces.specs.Walks.{numbered, IsOpen, LiesIn}
+use Rattle.box_traces.specs.Walks.{numbered, IsOpen}
 use Rattle.box_traces.proofs.Come.{root_trace}
 use Rattle.box_traces.proofs.Treed.{lead_both, walk_goes_on}
 

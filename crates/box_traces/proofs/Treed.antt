@@ -1,6 +1,5 @@
 -- The items of a tree of boxes, and that they are accepted with the lines of its leaves.
-use Rattle.std.specs.Prelude.{◌≡◌, ◌⊎◌, ◌≤◌, ◌<◌, ◌+◌, ◌-◌, ◌^◌, ⊤, ℕ, zero, suc, true, false, List, [], ◌∷◌, ◌++◌, length, take, map, nat_lt, Option, Some, None, refl}
-use Rattle.std.specs.List.{AllByRecursion}
+use Rattle.std.specs.Prelude.{◌≡◌, ◌≤◌, ◌<◌, ◌+◌, ◌-◌, ◌^◌, ℕ, zero, suc, true, false, List, [], ◌∷◌, ◌++◌, length, take, map, nat_lt, Option, Some, None, refl}
 use Rattle.std.proofs.Common.{sym, ◌∙◌, ap, subst, inl, inr, arith}
 use Rattle.std.proofs.lemmas.List.{length-append}
 use Rattle.std.proofs.lemmas.Option.{slice_get_within}
@@ -32,15 +31,15 @@ use Rattle.cert_checker.specs.declared.open.OpenCut.{OpenCut}
 use Rattle.cert_checker.specs.declared.subject.Subject.{Subject}
 use Rattle.cert_checker.specs.Open.{Numbered}
 use Rattle.cert_checker.specs.Contexts.{Context, piece_fact, open_piece}
-use Rattle.cert_checker.specs.Steps.{step_fact, case_facts, Givens, givens}
+use Rattle.cert_checker.specs.Steps.{step_fact, case_facts, givens}
 use Rattle.cert_checker.specs.Faults.{AreSettled, IsVariable, JudgesItem}
 use Rattle.cert_checker.specs.After.{after, behind as behind_section, case_behind, cuts_behind, around_of, lines_with}
 use Rattle.cert_checker.specs.Accepted.{LeadsTo}
 use Rattle.box_traces.specs.Sections.{behind, AreAccepted, ArePlaces, AreBelow, AllBelow}
 use Rattle.box_traces.specs.Writing.{IsWritable, givens_of}
 use Rattle.box_traces.specs.Traces.{HaveFields, Trace, IsCutTo, most_steps}
-use Rattle.box_traces.specs.Trees.{Tree, Trees, leaf, cut, last, next, lines_at, leaf_lines, lines_of_tree, lines_of_trees, steps_in, steps_in_each, AllSettled, cut_of, ArePoints, IsProved, AreProved, IsSubjectOf}
-use Rattle.box_traces.specs.Walks.{numbered, behind_steps, IsLater, IsOpen, IsBehind, IsEndOf, IsInCut, Frame, IsPieceOf, LiesIn, lines_behind, left_in, steps_behind, IsDue, Ending}
+use Rattle.box_traces.specs.Trees.{Tree, Trees, leaf, cut, last, next, lines_at, leaf_lines, lines_of_tree, lines_of_trees, steps_in, steps_in_each, AllSettled, cut_of, IsProved, AreProved, IsSubjectOf}
+use Rattle.box_traces.specs.Walks.{numbered, behind_steps, IsLater, IsOpen, IsBehind, IsEndOf, IsInCut, Frame, LiesIn, lines_behind, left_in, steps_behind, IsDue, Ending}
 use Rattle.box_traces.specs.Moves.{AreSteps, IsEntered, frame_of, turned}
 use Rattle.box_traces.proofs.Cited.{below_behind}
 use Rattle.box_traces.proofs.Come.{child_trace}

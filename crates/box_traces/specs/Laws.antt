@@ -1,5 +1,5 @@
 -- What is promised of steps and certificates.
-use Rattle.std.specs.Prelude.{◌≡◌, ◌≤◌, ◌^◌, ℕ, List, [], ◌∷◌, length, map, Some, None}
+use Rattle.std.specs.Prelude.{◌≤◌, ◌^◌, ℕ, List, [], ◌∷◌, map, Some, None}
 use Rattle.fx_model.specs.declared.Node.{Node}
 use Rattle.fx_model.specs.Expression.{IsOrdered}
 use Rattle.facts.specs.declared.fact.Fact.{Fact}

@@ -1,5 +1,5 @@
 -- How a walk over a tree of boxes moves, and that it can always go on.
-use Rattle.std.specs.Prelude.{◌≡◌, ◌≤◌, ◌+◌, ◌^◌, ℕ, suc, List, [], ◌∷◌, length, map, None, Some}
+use Rattle.std.specs.Prelude.{◌≡◌, ◌≤◌, ◌+◌, ◌^◌, ℕ, suc, List, ◌∷◌, length, map, None, Some}
 use Rattle.fx_model.specs.declared.ExprId.{ExprId}
 use Rattle.dyadic.specs.declared.number.Dyadic.{Dyadic}
 use Rattle.interval.specs.declared.interval.Interval.{Interval}
@@ -11,7 +11,6 @@ use Rattle.derivation.specs.Known.{Piece}
 use Rattle.derivation.specs.Exists.{table_at}
 use Rattle.goals.specs.declared.goal.Goal.{Goal}
 use Rattle.goals.specs.declared.line.Line.{Line}
-use Rattle.cert_bytes.specs.declared.item.Item.{Item}
 use Rattle.cert_bytes.specs.declared.item.Item.TheVariants as item
 use Rattle.cert_bytes.specs.declared.item.StepRow.{StepRow}
 use Rattle.cert_checker.specs.declared.subject.Subject.{Subject}
