@@ -1,0 +1,183 @@
+-- The cuts that a plan makes: of a variable with a range, at a few points that rise and lie in it.
+use Rattle.std.specs.Prelude.{◌≡◌, ◌≤◌, ◌<◌, ◌+◌, ◌-◌, ◌==◌, ◌&&◌, nat_lt, not, ⊤, ℕ, zero, suc, Bool, true, false, List, [], ◌∷◌, ◌++◌, length, drop, Option, Some, None, if◌then◌else◌, refl}
+use Rattle.std.specs.List.{AllByRecursion}
+use Rattle.std.proofs.Common.{sym, ◌∙◌, ap, subst, arith, ⊎_elim}
+use Rattle.std.proofs.Math.ListN.{get_or-append}
+use Rattle.std.proofs.Math.Seq.{get_or-append_seam}
+use Rattle.std.proofs.lemmas.List.{length-append}
+use Rattle.std.proofs.lemmas.Bool.{cases_lt, eqb-true}
+use Rattle.fx_model.specs.declared.ExprId.{ExprId}
+use Rattle.fx_model.specs.Fraction.{le_ℚ, ◌<ℚ◌, lt_le, le_lt_trans}
+use Rattle.dyadic.specs.declared.number.Dyadic.{Dyadic}
+use Rattle.dyadic.specs.Values.{value_of, zero_number}
+use Rattle.dyadic.specs.Rising.{point_of, IsRising, IsAboveLast}
+use Rattle.facts.specs.CommonParts.{and_both, or_out}
+use Rattle.script_hints.specs.declared.hint.Cutting.{Cutting}
+use Rattle.script_hints.specs.declared.hint.Cutting.TheVariants as cutting
+use Rattle.script_hints.specs.declared.hint.Split.{Split}
+use Rattle.script_hints.specs.Few.{HasFewPieces, HaveFewPieces}
+use Rattle.box_tree.specs.declared.next.Next.{Next}
+use Rattle.box_tree.specs.declared.next.Next.TheVariants as next
+use Rattle.box_tree.specs.declared.range.SplitRange.{SplitRange}
+use Rattle.box_tree.specs.Ranges.{IsWithin, is_less, is_inside, range_in}
+use Rattle.box_tree.specs.Points.{is_above_last, with_point, with_points, parts_from, asked_points, cut_points, middle, half_point}
+use Rattle.box_tree.specs.Regions.{PlanParts, Region, points_in, forced_or, next_forced, half_in, halved_or, next_half, turned, half_of, else_next, next_of}
+use Rattle.box_traces.specs.Trees.{ArePoints}
+
+-- The range of x, in which the points lie; and there are 1 to 63 that rise.
+pub record IsCutAlong (ranges : List SplitRange) (x : ExprId) (points : List Dyadic) : Type 0 where
+  pub range : SplitRange
+  pub there : range_in x ranges ≡ Some range
+  pub lawful : ArePoints points
+  pub within : AllByRecursion (IsWithin range) points
+
+abbrev pub IsCut : List SplitRange → Next → Type 0
+IsCut ranges (next.Force x points done) = IsCutAlong ranges x points
+IsCut ranges (next.Halve x m) = IsCutAlong ranges x (m ∷ [])
+IsCut ranges next.Rest = ⊤
+
+at_bool : (b : Bool) (P : Bool → Type 0) → (b ≡ true → P true) → (b ≡ false → P false) → P b
+at_bool true P t f = t refl
+at_bool false P t f = f refl
+
+-- ---- numbers
+less_in : (a b : Dyadic) → is_less a b ≡ true → value_of a <ℚ value_of b
+less_in a b e = record { lt = not_true (le_ℚ (value_of b) (value_of a)) e }
+  where
+    not_true : (b : Bool) → not b ≡ true → b ≡ false
+    not_true true e = cc
+    not_true false e = refl
+
+inside_within : (r : SplitRange) (p : Dyadic) → is_inside r p ≡ true → IsWithin r p
+inside_within r p e =
+    let q = and_both (is_less r.low p) (is_less p r.high) e in
+    (lt_le (value_of r.low) (value_of p) (less_in r.low p q.0), lt_le (value_of p) (value_of r.high) (less_in p r.high q.1))
+
+above_in : (points : List Dyadic) (p : Dyadic) → is_above_last points p ≡ true → IsAboveLast points p
+above_in points p e l = ⊎_elim
+    (λ z. let n : length points ≡ 0 = eqb-true (length points) 0 z in absurd (omega (arith, n, l)))
+    (λ h. less_in (point_of points (length points - 1)) p h)
+    (or_out (length points == 0) (is_less (point_of points (length points - 1)) p) e)
+
+-- ---- one point more
+point_kept : (points : List Dyadic) (p : Dyadic) (i : ℕ) → i < length points → point_of (points ++ p ∷ []) i ≡ point_of points i
+point_kept points p i h = get_or-append points (p ∷ []) zero_number i h
+
+point_last : (points : List Dyadic) (p : Dyadic) (j : ℕ) → j ≡ length points → point_of (points ++ p ∷ []) j ≡ p
+point_last points p j e = ap (point_of (points ++ p ∷ [])) e ∙ get_or-append_seam points p [] zero_number
+
+below_last : (points : List Dyadic) (p : Dyadic) → IsRising points → IsAboveLast points p → (i : ℕ) → i < length points → value_of (point_of points i) <ℚ value_of p
+below_last points p r a i h = ⊎_elim
+    (λ l. le_lt_trans (value_of (point_of points i)) (value_of (point_of points (length points - 1))) (value_of p)
+    (lt_le (value_of (point_of points i)) (value_of (point_of points (length points - 1))) (r i (length points - 1) l (omega arith))) (a (omega arith)))
+    (λ l. let e : length points - 1 ≡ i = omega arith in subst (λ n. value_of (point_of points n) <ℚ value_of p) e (a (omega arith)))
+    (cases_lt i (length points - 1))
+
+rising_more : (points : List Dyadic) (p : Dyadic) → IsRising points → IsAboveLast points p → IsRising (points ++ p ∷ [])
+rising_more points p r a i j h k = ⊎_elim
+    (λ l. let f : i < length points = omega arith in
+    subst (λ x. value_of x <ℚ value_of (point_of (points ++ p ∷ []) j)) (sym (point_kept points p i f)) (subst (λ x. value_of (point_of points i) <ℚ value_of x) (sym (point_kept points p j l)) (r i j h l)))
+    (λ l. let e : j ≡ length points = omega (arith, length-append points (p ∷ [])) in
+    let f : i < length points = omega arith in
+    subst (λ x. value_of x <ℚ value_of (point_of (points ++ p ∷ []) j)) (sym (point_kept points p i f)) (subst (λ x. value_of (point_of points i) <ℚ value_of x) (sym (point_last points p j e)) (below_last points p r a i f)))
+    (cases_lt j (length points))
+
+within_more : (r : SplitRange) (points : List Dyadic) (p : Dyadic) → AllByRecursion (IsWithin r) points → IsWithin r p → AllByRecursion (IsWithin r) (points ++ p ∷ [])
+within_more r [] p w i = (i, tt)
+within_more r (q ∷ qs) p w i = (w.0, within_more r qs p w.1 i)
+
+-- ---- points that stay
+-- rising points in the range, no more than so many
+record AreIn (r : SplitRange) (points : List Dyadic) (most : ℕ) : Type 0 where
+  rising : IsRising points
+  within : AllByRecursion (IsWithin r) points
+  few : length points ≤ most
+
+one_in : (r : SplitRange) (points : List Dyadic) (p : Dyadic) (most : ℕ) → AreIn r points most → AreIn r (with_point r points p) (most + 1)
+one_in r points p most a = at_bool (is_inside r p && is_above_last points p) (λ b. AreIn r (if b then points ++ p ∷ [] else points) (most + 1))
+    (λ t. let both = and_both (is_inside r p) (is_above_last points p) t in
+    record {
+      rising = rising_more points p a.rising (above_in points p both.1);
+      within = within_more r points p a.within (inside_within r p both.0);
+      few = let f = a.few in omega (arith, f, length-append points (p ∷ []));
+    })
+    (λ f. record { rising = a.rising; within = a.within; few = let f = a.few in omega (arith, f) })
+
+all_in : (r : SplitRange) (points more : List Dyadic) (most : ℕ) → AreIn r points most → AreIn r (with_points r points more) (most + length more)
+all_in r points [] most a = record { rising = a.rising; within = a.within; few = let f = a.few in omega (arith, f) }
+all_in r points (p ∷ ps) most a =
+    let b = all_in r (with_point r points p) ps (most + 1) (one_in r points p most a) in
+    record { rising = b.rising; within = b.within; few = let f = b.few in omega (arith, f) }
+
+parts_count : (r : SplitRange) (n i left : ℕ) → length (parts_from r n i left) ≡ left
+parts_count r n i zero = refl
+parts_count r n i (suc left) = let h = parts_count r n (i + 1) left in omega (arith, h)
+
+asked_few : (r : SplitRange) (c : Cutting) → HasFewPieces c → length (asked_points r c) ≤ 63
+asked_few r (cutting.Pieces n) h = let e = parts_count r n 1 (n - 1) in omega (arith, e, h)
+asked_few r (cutting.Points points) h = h
+
+none_in : (r : SplitRange) → AreIn r [] 0
+none_in r = record { rising = λ i j l m. absurd (omega (arith, m)); within = tt; few = omega arith }
+
+cut_in : (r : SplitRange) (c : Cutting) → HasFewPieces c → AreIn r (cut_points r c) 63
+cut_in r c h =
+    let a = all_in r [] (asked_points r c) 0 (none_in r) in
+    record { rising = a.rising; within = a.within; few = let f = a.few in let m = asked_few r c h in omega (arith, f, m) }
+
+-- ---- what is done next
+abbrev IsNext : List SplitRange → Option Next → Type 0
+IsNext ranges None = ⊤
+IsNext ranges (Some n) = IsCut ranges n
+
+forced_cut : (ranges : List SplitRange) (x : ExprId) (r : SplitRange) (points : List Dyadic) (done : ℕ) (later : Option Next) → range_in x ranges ≡ Some r → AreIn r points 63 →
+    IsNext ranges later → IsNext ranges (forced_or x points done later)
+forced_cut ranges x r [] done later e a l = l
+forced_cut ranges x r (p ∷ ps) done later e a l = record { range = r; there = e; lawful = record { some = omega arith; few = a.few; rising = a.rising }; within = a.within }
+
+forced_in : (ranges : List SplitRange) (x : ExprId) (c : Cutting) (done : ℕ) (later : Option Next) → HasFewPieces c → IsNext ranges later → (o : Option SplitRange) → range_in x ranges ≡ o →
+    IsNext ranges (forced_or x (points_in o c) done later)
+forced_in ranges x c done later h l None e = l
+forced_in ranges x c done later h l (Some r) e = forced_cut ranges x r (cut_points r c) done later e (cut_in r c h) l
+
+forced_next : (ranges : List SplitRange) (done : ℕ) (cuts : List Split) → HaveFewPieces cuts → IsNext ranges (next_forced ranges done cuts)
+forced_next ranges done [] h = tt
+forced_next ranges done (s ∷ ss) h = forced_in ranges s.var s.cut (done + 1) (next_forced ranges (done + 1) ss) h.0 (forced_next ranges (done + 1) ss h.1) (range_in s.var ranges) refl
+
+half_within : (r : SplitRange) (m : Dyadic) → half_point r ≡ Some m → IsWithin r m
+half_within r m e = at_bool (is_inside r (middle r)) (λ b. is_inside r (middle r) ≡ b → (if b then Some (middle r) else None) ≡ Some m → IsWithin r m)
+    (λ t i f. let q : middle r ≡ m = cc in subst (IsWithin r) q (inside_within r (middle r) i)) (λ g i f. cc) refl e
+
+halved_cut : (ranges : List SplitRange) (x : ExprId) (later : Next) (r : SplitRange) → range_in x ranges ≡ Some r → IsCut ranges later → (o : Option Dyadic) → half_point r ≡ o → IsCut ranges (halved_or x o later)
+halved_cut ranges x later r e l None h = l
+halved_cut ranges x later r e l (Some m) h = record {
+  range = r;
+  there = e;
+  lawful = record { some = omega arith; few = omega arith; rising = λ i j p q. absurd (omega (arith, p, q)) };
+  within = (half_within r m h, tt);
+}
+
+halved_in : (ranges : List SplitRange) (x : ExprId) (later : Next) → IsCut ranges later → (o : Option SplitRange) → range_in x ranges ≡ o → IsCut ranges (halved_or x (half_in o) later)
+halved_in ranges x later l None e = l
+halved_in ranges x later l (Some r) e = halved_cut ranges x later r e l (half_point r) refl
+
+halves_next : (ranges : List SplitRange) (xs : List ExprId) → IsCut ranges (next_half ranges xs)
+halves_next ranges [] = tt
+halves_next ranges (x ∷ xs) = halved_in ranges x (next_half ranges xs) (halves_next ranges xs) (range_in x ranges) refl
+
+half_cut : (plan : PlanParts) (g : Region) → IsCut g.ranges (half_of plan g)
+half_cut plan g = at_bool (nat_lt g.halvings plan.depth) (λ b. IsCut g.ranges (if b then next_half g.ranges (turned g.halvings plan.halves) else next.Rest))
+    (λ t. halves_next g.ranges (turned g.halvings plan.halves)) (λ f. tt)
+
+cuts_left : (n : ℕ) (cuts : List Split) → HaveFewPieces cuts → HaveFewPieces (drop n cuts)
+cuts_left zero cuts h = h
+cuts_left (suc n) [] h = tt
+cuts_left (suc n) (c ∷ cs) h = cuts_left n cs h.1
+
+else_cut : (ranges : List SplitRange) (o : Option Next) (other : Next) → IsNext ranges o → IsCut ranges other → IsCut ranges (else_next o other)
+else_cut ranges None other n c = c
+else_cut ranges (Some m) other n c = n
+
+-- What is done next to a box cuts it so, or leaves it.
+pub next_cut : (plan : PlanParts) (g : Region) → HaveFewPieces plan.cuts → IsCut g.ranges (next_of plan g)
+next_cut plan g h = else_cut g.ranges (next_forced g.ranges g.done (drop g.done plan.cuts)) (half_of plan g) (forced_next g.ranges g.done (drop g.done plan.cuts) (cuts_left g.done plan.cuts h)) (half_cut plan g)

@@ -1,0 +1,161 @@
+-- A script's subject is what derivations over its universe use.
+use Rattle.std.specs.Prelude.{◌≡◌, ◌<◌, ◌≤◌, ◌^◌, ℕ, suc, List, [], ◌∷◌, ◌++◌, length, map, Option, Some, None, slice_get, refl}
+use Rattle.std.proofs.Common.{sym, ◌∙◌, ap, subst, inl, inr, arith}
+use Rattle.std.proofs.lemmas.List.{append_assoc}
+use Rattle.std.proofs.lemmas.Bool.{cases_lt}
+use Rattle.std.proofs.lemmas.Option.{slice_get_within}
+use Rattle.fx_model.specs.declared.ExprId.{ExprId}
+use Rattle.fx_model.specs.declared.Node.{Node}
+use Rattle.fx_model.specs.declared.Node.TheVariants.{Var, Lit, Neg, Add, Sub, Mul, Div, Abs, Round}
+use Rattle.fx_model.specs.Expression.{ChildrenBelow}
+use Rattle.expr_dag.specs.Nodes.{IsAbsent}
+use Rattle.facts.specs.declared.fact.Fact.{Fact}
+use Rattle.facts.specs.declared.hint.HintRow.{HintRow}
+use Rattle.script_claims.specs.declared.claim.Claim.{Claim}
+use Rattle.script_claims.specs.Facts.{hypothesis_fact}
+use Rattle.script_hints.specs.declared.hint.Hint.{Hint}
+use Rattle.script_grammar.specs.Spells.{View}
+use Rattle.script_truths.specs.Truths.{HasUniverse}
+use Rattle.rewrite_hints.specs.Rows.{IsRowOf}
+use Rattle.rewrite_hints.specs.Marks.{AreRows}
+use Rattle.pair_closure.specs.Closure.{difference_of, IsFollowed}
+use Rattle.pair_closure.specs.Rising.{one_list}
+use Rattle.rule_universe.specs.Worlds.{World}
+use Rattle.universe.specs.Universes as universe
+use Rattle.cert_bytes.specs.Certificates.{HasShortParts}
+use Rattle.cert_checker.specs.declared.subject.Subject.{Subject}
+use Rattle.cert_checker.specs.Faults.{IsVariableBelow, IsFurther, JudgesNode}
+use Rattle.script_checker.specs.Subjects as checker
+use Rattle.box_traces.specs.Trees.{AreTaken}
+use Rattle.answer_certificates.specs.Scripts.{HasRoom}
+use Rattle.answer_certificates.specs.Laws.{SubjectsAreOfUniverses}
+use Rattle.answer_certificates.proofs.Fronts.{front_get, seam_get, difference_behind}
+
+-- ---- nodes
+children_short : (k : ℕ) (n : Node) → k < 2 ^ 16 → ChildrenBelow k n → ((v : ℕ) → n ≡ Var v → v < 2 ^ 16) → HasShortParts n
+children_short k (Var v) l c h = h v refl
+children_short k (Lit v) l c h = tt
+children_short k (Neg a) l c h = omega (arith, l, c)
+children_short k (Add a b) l c h = (let p : a.0 < k = c.0 in omega (arith, l, p), let p : b.0 < k = c.1 in omega (arith, l, p))
+children_short k (Sub a b) l c h = (let p : a.0 < k = c.0 in omega (arith, l, p), let p : b.0 < k = c.1 in omega (arith, l, p))
+children_short k (Mul a b) l c h = (let p : a.0 < k = c.0 in omega (arith, l, p), let p : b.0 < k = c.1 in omega (arith, l, p))
+children_short k (Div a b) l c h = (let p : a.0 < k = c.0 in omega (arith, l, p), let p : b.0 < k = c.1 in omega (arith, l, p))
+children_short k (Abs a) l c h = omega (arith, l, c)
+children_short k (Round r a) l c h = omega (arith, l, c)
+
+not_variable : (a b : ExprId) (v : ℕ) → Sub a b ≡ Var v → ⊥
+not_variable a b v e = cc
+
+module _ (s : View) (u : World) (has : HasUniverse s u) (room : HasRoom s u) where
+  followed : IsFollowed s.nodes u.nodes
+  followed = has.universe.closure.order
+
+  abbrev further_nodes : List Node
+  further_nodes = map difference_of followed.differences
+
+  nodes_are : u.nodes ≡ s.nodes ++ further_nodes
+  nodes_are = followed.list
+
+  -- the node behind these
+  module _ (before : List Node) (n : Node) (rest : List Node) (e : before ++ n ∷ rest ≡ u.nodes) where
+    here : slice_get u.nodes (length before) ≡ Some n
+    here = subst (λ l. slice_get l (length before) ≡ Some n) e (seam_get before n rest)
+
+    here_split : slice_get (s.nodes ++ further_nodes) (length before) ≡ Some n
+    here_split = subst (λ l. slice_get l (length before) ≡ Some n) nodes_are here
+
+    within : length before < length u.nodes
+    within = slice_get_within u.nodes (length before) n here
+
+    own : length before < length s.nodes → slice_get s.nodes (length before) ≡ Some n
+    own l = sym (front_get s.nodes further_nodes (length before) l) ∙ here_split
+
+    later : length s.nodes ≤ length before → (a : ExprId) × (b : ExprId) × (n ≡ Sub a b)
+    later l = difference_behind s.nodes followed.differences (length before) n l here_split
+
+    children : ChildrenBelow (length before) n
+    children = (room.lawful (record { 0 = length before }) n here).children
+
+    absent : IsAbsent before n
+    absent x h =
+        let w = slice_get_within before x.0 n h in
+        let a : slice_get u.nodes x.0 ≡ Some n = subst (λ l. slice_get l x.0 ≡ Some n) e (front_get before (n ∷ rest) x.0 w ∙ h) in
+        let same : x.0 ≡ length before = has.universe.closure.expressions.once x.0 (length before) n a here in
+        omega (arith, w, same)
+
+    further : (variables : ℕ) → length s.nodes ≤ length before → IsFurther variables before n
+    further variables l =
+        let d = later l in
+        record {
+          room = let w = within in let m = room.short in omega (arith, w, m);
+          children = children;
+          variable = subst (IsVariableBelow variables) (sym d.2) tt;
+          absent = absent;
+        }
+
+    short_variable : (v : ℕ) → n ≡ Var v → v < 2 ^ 16
+    short_variable v q = elim (cases_lt (length before) (length s.nodes)) [
+      | inl l ↦ room.numbers (record { 0 = length before }) v (own l ∙ ap Some q)
+      | inr l ↦ (let d = later l in absurd (not_variable d.0 d.1 v (sym d.2 ∙ q)))
+    ]
+
+    short_parts : HasShortParts n
+    short_parts = children_short (length before) n (let w = within in let m = room.short in omega (arith, w, m)) children short_variable
+
+  nodes_taken : (t : Subject) → t.nodes ≡ s.nodes → (before rest : List Node) → before ++ rest ≡ u.nodes → AreTaken t before rest
+  nodes_taken t same before [] e = tt
+  nodes_taken t same before (n ∷ rest) e = (
+    subst (λ o. JudgesNode o t.variables before n None) (sym same) (own before n rest e, further before n rest e t.variables),
+    (room.lawful (record { 0 = length before }) n (here before n rest e)).limits,
+    short_parts before n rest e,
+    nodes_taken t same (before ++ n ∷ []) rest (append_assoc before (n ∷ []) rest ∙ e),
+  )
+
+-- ---- hypotheses and rows
+with_same : (o : Option Fact) (xs ys : List Fact) → xs ≡ ys → checker.with_fact o xs ≡ universe.with_fact o ys
+with_same None xs ys e = e
+with_same (Some f) xs ys e = ap (λ l. f ∷ l) e
+
+facts_same : (cs : List Claim) → checker.facts_of cs ≡ universe.facts_of cs
+facts_same [] = refl
+facts_same (c ∷ cs) = with_same (hypothesis_fact c) (checker.facts_of cs) (universe.facts_of cs) (facts_same cs)
+
+one_row : (nodes : List Node) (h : Hint) (row other : HintRow) → IsRowOf nodes h row → IsRowOf nodes h other → row ≡ other
+one_row nodes h row other a b =
+    let left : row.left ≡ other.left = a.left ∙ sym b.left in
+    let right : row.right ≡ other.right = a.right ∙ sym b.right in
+    let divisors : row.divisors ≡ other.divisors = one_list (λ (d : ExprId). d.0) row.divisors other.divisors a.divisors.rising b.divisors.rising (λ d m. (b.divisors.exactly d).1 ((a.divisors.exactly d).0 m)) (λ d m. (a.divisors.exactly d).1 ((b.divisors.exactly d).0 m)) in
+    let needs : row.needs ≡ other.needs = a.needs ∙ sym b.needs in
+    (λ i. record { left = left i; right = right i; divisors = divisors i; needs = needs i })
+
+-- one row for each hint
+same_rows : (nodes : List Node) (hints : List Hint) (rows others : List HintRow) → length rows ≡ length hints → length others ≡ length hints →
+    ((k : ℕ) (h : Hint) (row : HintRow) → slice_get hints k ≡ Some h → slice_get rows k ≡ Some row → IsRowOf nodes h row) →
+    ((k : ℕ) (h : Hint) (row : HintRow) → slice_get hints k ≡ Some h → slice_get others k ≡ Some row → IsRowOf nodes h row) → rows ≡ others
+same_rows nodes [] [] [] p q a b = refl
+same_rows nodes [] (r ∷ rows) others p q a b = absurd (omega (arith, p))
+same_rows nodes [] [] (o ∷ others) p q a b = absurd (omega (arith, q))
+same_rows nodes (h ∷ hints) [] others p q a b = absurd (omega (arith, p))
+same_rows nodes (h ∷ hints) (r ∷ rows) [] p q a b = absurd (omega (arith, q))
+same_rows nodes (h ∷ hints) (r ∷ rows) (o ∷ others) p q a b =
+    let head : r ≡ o = one_row nodes h r o (a 0 h r refl refl) (b 0 h o refl refl) in
+    let tail : rows ≡ others = same_rows nodes hints rows others (omega (arith, p)) (omega (arith, q)) (λ k g row e f. a (suc k) g row e f) (λ k g row e f. b (suc k) g row e f) in
+    (λ i. head i ∷ tail i)
+
+rows_same : (nodes : List Node) (hints : List Hint) (rows others : List HintRow) → AreRows nodes hints rows → AreRows nodes hints others → rows ≡ others
+rows_same nodes hints rows others a b = same_rows nodes hints rows others a.count b.count a.each b.each
+
+pub subjects_are_of_universes : SubjectsAreOfUniverses
+subjects_are_of_universes s u has room t is = record {
+  cases = is.cases ∙ ap (λ (fs : List Fact). fs ∷ []) (facts_same s.hypotheses ∙ sym has.universe.hypotheses);
+  rows = rows_same s.nodes s.hints.rewrites t.hints u.hints is.hints has.universe.hints;
+  wanted = is.goals ∙ sym has.universe.goals;
+  few_goals = room.goals;
+  few_marks = let few = room.hints.rewrites in let count = is.marks.count in omega (arith, few, count);
+  own = let same = ap length is.nodes in let list = ap length (nodes_are s u has room) in let l = longer s.nodes (further_nodes s u has room) in omega (arith, same, list, l);
+  taken = nodes_taken s u has room t is.nodes [] u.nodes refl;
+}
+  where
+    longer : (xs ys : List Node) → length xs ≤ length (xs ++ ys)
+    longer [] ys = omega arith
+    longer (x ∷ xs) ys = let h = longer xs ys in omega (arith, h)

@@ -1,0 +1,12 @@
+mod Fronts
+mod Counted
+mod Arguments
+mod Written
+mod Judged
+mod Cuts
+mod Known
+mod CutTo
+mod Leaves
+mod Shown
+mod Proved
+mod Whole

@@ -1,0 +1,6 @@
+//! The certificates of scripts' answers: each script that is proved has one that is accepted, with its lines.
+#![tactic(auto)]
+
+mod laws;
+
+pub use laws::{answers_have_certificates, subjects_are_written};
