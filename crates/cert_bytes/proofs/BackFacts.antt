@@ -19,10 +19,10 @@ use Rattle.cert_bytes.specs.Certificates.{IsOnShort}
 use Rattle.cert_bytes.specs.declared.fault.CertKind.TheVariants.{BadTag}
 use Rattle.facts.specs.Places.{place_from, place_from_self}
 use Rattle.cert_bytes.specs.Numbers.{number_from, number_from_self}
-use Rattle.cert_bytes.specs.Reading.{Cursor, Read, fault, numbered, byte_at, signed_short_at, signed_long_at, expr_at, pair_at, point_at, end_at, interval_at, size_at, relative_at, error_at, place_at, bnd_at, abs_at, rel_at, fix_at, nzr_at, fact_at, ◌>>=◌}
+use Rattle.cert_bytes.specs.Reading.{Cursor, Read, fault, numbered, byte_at, signed_short_at, signed_long_at, expr_at, both_at, pair_at, point_at, end_at, interval_at, size_at, relative_at, error_at, place_at, bnd_at, abs_at, rel_at, fix_at, nzr_at, fact_at, ◌>>=◌}
 use Rattle.cert_bytes.specs.Spelling.{short, signed_short, signed_long, point, end, interval, error, fact_bytes}
 use Rattle.cert_bytes.specs.ReadBack.{ReadsBack}
-use Rattle.cert_bytes.proofs.Back.{then_back, last_back, byte_back, signed_short_back, signed_long_back, small_exponent, expr_back, pair_back}
+use Rattle.cert_bytes.proofs.Back.{then_back, last_back, byte_back, signed_short_back, signed_long_back, small_exponent, expr_back, both_back, pair_back}
 
 -- ---- numbers of the grid
 
@@ -88,23 +88,19 @@ place_back p = last_back signed_short_at (λ at k c. numbered at (place_from k) 
 
 bnd_back : (x : ExprId) (i : Interval) → x.0 < 2 ^ 16 → ReadsBack bnd_at (short x.0 ++ interval i) (fact.Bnd x i)
 unfolding bnd_at
-bnd_back x i s = then_back expr_at (λ at x c. interval_at c >>= λ i. Ok (fact.Bnd x i.0, i.1)) (short x.0) (interval i) x (fact.Bnd x i) (expr_back x s)
-    (λ at. last_back interval_at (λ own v c. Ok (fact.Bnd x v, c)) (interval i) i (fact.Bnd x i) (interval_back i) (λ own c. refl))
+bnd_back x i s = last_back (both_at expr_at interval_at) (λ at v c. Ok (fact.Bnd v.0 v.1, c)) (short x.0 ++ interval i) (x, i) (fact.Bnd x i) (both_back expr_at interval_at (short x.0) (interval i) x i (expr_back x s) (interval_back i)) (λ at c. refl)
 
 abs_back : (x : ExprId) (z : Size) → x.0 < 2 ^ 16 → ReadsBack abs_at (short x.0 ++ interval z.interval) (fact.Abs x z)
 unfolding abs_at
-abs_back x z s = then_back expr_at (λ at x c. size_at c >>= λ i. Ok (fact.Abs x i.0, i.1)) (short x.0) (interval z.interval) x (fact.Abs x z) (expr_back x s)
-    (λ at. last_back size_at (λ own v c. Ok (fact.Abs x v, c)) (interval z.interval) z (fact.Abs x z) (size_back z) (λ own c. refl))
+abs_back x z s = last_back (both_at expr_at size_at) (λ at v c. Ok (fact.Abs v.0 v.1, c)) (short x.0 ++ interval z.interval) (x, z) (fact.Abs x z) (both_back expr_at size_at (short x.0) (interval z.interval) x z (expr_back x s) (size_back z)) (λ at c. refl)
 
 rel_back : (x y : ExprId) (e : Option RelativeError) → x.0 < 2 ^ 16 → y.0 < 2 ^ 16 → ReadsBack rel_at (short x.0 ++ short y.0 ++ error e) (fact.Rel x y e)
 unfolding rel_at
-rel_back x y e s t = then_back pair_at (λ at x c. error_at c >>= λ e. Ok (fact.Rel x.0 x.1 e.0, e.1)) (short x.0 ++ short y.0) (error e) (x, y) (fact.Rel x y e) (pair_back x y s t)
-    (λ at. last_back error_at (λ own v c. Ok (fact.Rel x y v, c)) (error e) e (fact.Rel x y e) (error_back e) (λ own c. refl))
+rel_back x y e s t = last_back (both_at pair_at error_at) (λ at v c. Ok (fact.Rel v.0.0 v.0.1 v.1, c)) (short x.0 ++ short y.0 ++ error e) ((x, y), e) (fact.Rel x y e) (both_back pair_at error_at (short x.0 ++ short y.0) (error e) (x, y) e (pair_back x y s t) (error_back e)) (λ at c. refl)
 
 fix_back : (x : ExprId) (k : Place) → x.0 < 2 ^ 16 → ReadsBack fix_at (short x.0 ++ signed_short k.exponent) (fact.Fix x k)
 unfolding fix_at
-fix_back x k s = then_back expr_at (λ at x c. place_at c >>= λ k. Ok (fact.Fix x k.0, k.1)) (short x.0) (signed_short k.exponent) x (fact.Fix x k) (expr_back x s)
-    (λ at. last_back place_at (λ own v c. Ok (fact.Fix x v, c)) (signed_short k.exponent) k (fact.Fix x k) (place_back k) (λ own c. refl))
+fix_back x k s = last_back (both_at expr_at place_at) (λ at v c. Ok (fact.Fix v.0 v.1, c)) (short x.0 ++ signed_short k.exponent) (x, k) (fact.Fix x k) (both_back expr_at place_at (short x.0) (signed_short k.exponent) x k (expr_back x s) (place_back k)) (λ at c. refl)
 
 nzr_back : (x : ExprId) → x.0 < 2 ^ 16 → ReadsBack nzr_at (short x.0) (fact.Nzr x)
 unfolding nzr_at

@@ -17,18 +17,16 @@ use Rattle.expr_dag.specs.Nodes.{IsInLimits}
 use Rattle.cert_bytes.specs.Certificates.{HasShortParts}
 use Rattle.cert_bytes.specs.declared.fault.CertKind.TheVariants.{BadNumber}
 use Rattle.cert_bytes.specs.Numbers.{is_normal}
-use Rattle.cert_bytes.specs.Reading.{Cursor, Read, fault, tagged, direction_from, byte_at, wide_at, short_at, signed_short_at, expr_at, pair_at, direction_at, lsb_at, exponents_at, literal_at, rounding_at, round_at, one_at, two_at, var_at, lit_at, late_node_at, node_by, node_at, ◌>>=◌}
+use Rattle.cert_bytes.specs.Reading.{Cursor, Read, fault, tagged, direction_from, byte_at, wide_at, short_at, signed_short_at, expr_at, both_at, pair_at, direction_at, lsb_at, exponents_at, literal_at, rounding_at, round_at, one_at, two_at, var_at, lit_at, late_node_at, node_by, node_at, ◌>>=◌}
 use Rattle.cert_bytes.specs.Spelling.{short, signed_short, wide, direction_byte, node_bytes}
 use Rattle.cert_bytes.specs.ReadBack.{ReadsBack}
 use Rattle.cert_bytes.proofs.NormalOut.{normal_out}
-use Rattle.cert_bytes.proofs.Back.{then_back, last_back, byte_back, short_back, wide_back, signed_short_back, small_exponent, expr_back, pair_back}
+use Rattle.cert_bytes.proofs.Back.{both_back, then_back, last_back, byte_back, short_back, wide_back, signed_short_back, small_exponent, expr_back, pair_back}
 
 -- ---- literals
 
 exponents_back : (two ten : ℤ) → FitsSigned w16 two → FitsSigned w16 ten → ReadsBack exponents_at (signed_short two ++ signed_short ten) (two, ten)
-unfolding exponents_at
-exponents_back two ten f g = then_back signed_short_at (λ at two c. signed_short_at c >>= λ ten. Ok ((two, ten.0), ten.1)) (signed_short two) (signed_short ten) two (two, ten) (signed_short_back two f)
-    (λ at. last_back signed_short_at (λ own v c. Ok ((two, v), c)) (signed_short ten) ten (two, ten) (signed_short_back ten g) (λ own c. refl))
+exponents_back two ten f g = both_back signed_short_at signed_short_at (signed_short two) (signed_short ten) two ten (signed_short_back two f) (signed_short_back ten g)
 
 abbrev pub checked : ℕ → ℕ → ℤ × ℤ → Cursor → Read Literal
 checked at num e c = if is_normal (record { num = num; two = e.0; ten = e.1 }) then Ok (record { num = num; two = e.0; ten = e.1 }, c) else fault BadNumber at
@@ -83,8 +81,7 @@ rounding_back r b = then_back direction_at (λ at d c. lsb_at c >>= λ k. Ok (ro
 
 round_back : (r : Rounding) (x : ExprId) → IsBetween (negsuc 511) (pos 512) r.lsb → x.0 < 2 ^ 16 → ReadsBack round_at (direction_byte r.dir ∷ (signed_short r.lsb ++ short x.0)) (node.Round r x)
 unfolding round_at
-round_back r x b s = then_back rounding_at (λ at r c. expr_at c >>= λ x. Ok (node.Round r x.0, x.1)) (direction_byte r.dir ∷ signed_short r.lsb) (short x.0) r (node.Round r x) (rounding_back r b)
-    (λ at. last_back expr_at (λ own v c. Ok (node.Round r v, c)) (short x.0) x (node.Round r x) (expr_back x s) (λ own c. refl))
+round_back r x b s = last_back (both_at rounding_at expr_at) (λ at v c. Ok (node.Round v.0 v.1, c)) (direction_byte r.dir ∷ signed_short r.lsb ++ short x.0) (r, x) (node.Round r x) (both_back rounding_at expr_at (direction_byte r.dir ∷ signed_short r.lsb) (short x.0) r x (rounding_back r b) (expr_back x s)) (λ at c. refl)
 
 -- ---- nodes
 

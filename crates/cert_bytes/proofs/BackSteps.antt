@@ -8,7 +8,7 @@ use Rattle.cert_bytes.specs.declared.fault.CertKind.TheVariants.{BadTag}
 use Rattle.cert_bytes.specs.declared.item.StepRow.{StepRow}
 use Rattle.cert_bytes.specs.declared.item.Item.TheVariants as item
 use Rattle.cert_bytes.specs.Certificates.{IsCounted, IsLong, HasRoomFor}
-use Rattle.cert_bytes.specs.Reading.{Cursor, Read, fault, byte_at, short_at, reference_at, references_at, counted_at, optional_at, fact_at, rule_at, claim_at, cited_at, step_at, step_item_at, leaf_at, dead_at, section_by, section_item_at, ◌>>=◌}
+use Rattle.cert_bytes.specs.Reading.{both_at, Cursor, Read, fault, byte_at, short_at, reference_at, references_at, counted_at, optional_at, fact_at, rule_at, claim_at, cited_at, step_at, step_item_at, leaf_at, dead_at, section_by, section_item_at, ◌>>=◌}
 use Rattle.cert_bytes.specs.Spelling.{short, reference, references, counted, optional, fact_bytes, cited_bytes, spelling_of}
 use Rattle.cert_bytes.specs.ReadBack.{place, ReadsBack}
 use Rattle.cert_bytes.proofs.Back.{then_back, last_back, byte_back, short_back, reference_back}
@@ -18,7 +18,7 @@ use Rattle.cert_bytes.proofs.BackFacts.{facts_read_back}
 
 no_more : (acc : List ℕ) → ReadsBack (references_at 0 acc) [] (acc ++ [])
 unfolding references_at
-no_more acc at rest l = let z : at ≡ at + 0 = omega arith in ap₂ (λ ns n. Ok (ns, place n rest)) (sym (append-nil acc)) z
+no_more acc style at rest l = let z : at ≡ at + 0 = omega arith in ap₂ (λ ns n. Ok (ns, place style n rest)) (sym (append-nil acc)) z
 
 pub references_back : (ns acc : List ℕ) → AllByRecursion IsLong ns → ReadsBack (references_at (length ns) acc) (references ns) (acc ++ ns)
 unfolding references_at
@@ -43,17 +43,17 @@ optional_back None s = last_back byte_at optional_by (0 ∷ []) 0 None (byte_bac
 -- ---- steps
 
 rule_back : (rule arg : ℕ) → arg < 2 ^ 16 → ReadsBack rule_at (rule ∷ short arg) (rule, arg)
-unfolding rule_at
+unfolding both_at
 rule_back rule arg s = then_back byte_at (λ at rule c. short_at c >>= λ arg. Ok ((rule, arg.0), arg.1)) (rule ∷ []) (short arg) rule (rule, arg) (byte_back rule)
     (λ at. last_back short_at (λ own v c. Ok ((rule, v), c)) (short arg) arg (rule, arg) (short_back arg s) (λ own c. refl))
 
 claim_back : (s : StepRow) → HasRoomFor s → ReadsBack claim_at (s.rule ∷ (short s.arg ++ fact_bytes s.fact)) ((s.rule, s.arg), s.fact)
-unfolding claim_at
+unfolding both_at
 claim_back s h = then_back rule_at (λ at rule c. fact_at c >>= λ fact. Ok ((rule, fact.0), fact.1)) (s.rule ∷ short s.arg) (fact_bytes s.fact) (s.rule, s.arg) ((s.rule, s.arg), s.fact) (rule_back s.rule s.arg h.arg)
     (λ at. last_back fact_at (λ own v c. Ok (((s.rule, s.arg), v), c)) (fact_bytes s.fact) s.fact ((s.rule, s.arg), s.fact) (facts_read_back s.fact h.fact) (λ own c. refl))
 
 cited_back : (s : StepRow) → IsCounted s.premises → HasRoomFor s → ReadsBack cited_at (cited_bytes s) (s.with, s.premises)
-unfolding cited_at
+unfolding both_at
 cited_back s k h = then_back optional_at (λ at with c. counted_at c >>= λ premises. Ok ((with, premises.0), premises.1)) (optional s.with) (counted s.premises) s.with (s.with, s.premises) (optional_back s.with h.with)
     (λ at. last_back counted_at (λ own v c. Ok ((s.with, v), c)) (counted s.premises) s.premises (s.with, s.premises) (counted_back s.premises k h.premises) (λ own c. refl))
 

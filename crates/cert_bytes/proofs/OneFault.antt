@@ -4,6 +4,7 @@ use Rattle.std.proofs.lemmas.List.{length-append}
 use Rattle.cert_bytes.specs.declared.fault.CertFault.{CertFault}
 use Rattle.cert_bytes.specs.declared.item.Item.{Item}
 use Rattle.cert_bytes.specs.declared.item.Item.TheVariants as item
+use Rattle.cert_bytes.specs.declared.style.Style.TheVariants.{First}
 use Rattle.cert_bytes.specs.declared.order.Due.{Due}
 use Rattle.cert_bytes.specs.declared.order.Due.TheVariants.{Head, Nodes, Marks, Sections, Done}
 use Rattle.cert_bytes.specs.Due.{due_after, due_behind}
@@ -63,23 +64,23 @@ spelled_from d c (i ∷ items) b z a =
     (((r.spelling, r.fits), subst (λ o. AreDue o items) (sym r.due) rest.0), r.bytes ∙ ap (λ (s : List ℕ). spelling_of i ++ s) rest.1)
 
 pub reads_are_spelled : ReadsAreSpelled
-reads_are_spelled bytes items b a = let r = spelled_from Head (cursor bytes 0) items b (λ e. cc) a in record { certificate = r.0; spelled = r.1 }
+reads_are_spelled bytes items b a = let r = spelled_from Head (cursor First bytes 0) items b (λ e. cc) a in record { certificate = r.0; spelled = r.1 }
 
 -- ---- what is spelled is read
 
-closed : (at : ℕ) → closed_at (place at []) ≡ Ok (item.End, place at [])
+closed : (at : ℕ) → closed_at (place First at []) ≡ Ok (item.End, place First at [])
 unfolding closed_at more_at
 closed at = refl
 
-closed_here : (at : ℕ) → item_at (Sections 0) (place at []) ≡ Ok (item.End, place at [])
-closed_here at = last_way (place at []) ∙ closed at
+closed_here : (at : ℕ) → item_at (Sections 0) (place First at []) ≡ Ok (item.End, place First at [])
+closed_here at = last_way (place First at []) ∙ closed at
 
 no_more : (e : Due) (items : List Item) → e ≡ Done → AreDue (Some e) items → items ≡ []
 no_more e [] z a = refl
 no_more e (i ∷ items) z a = absurd (none_behind e i items z a.1)
 
 -- the end, behind which nothing is
-reads_end : (d e : Due) (i : Item) (items : List Item) (at : ℕ) → i ≡ item.End → due_after d i ≡ Some e → AreDue (Some e) items → item_at d (place at (spelling_of i ++ certificate_of items)) ≡ Ok (i, place at (certificate_of items))
+reads_end : (d e : Due) (i : Item) (items : List Item) (at : ℕ) → i ≡ item.End → due_after d i ≡ Some e → AreDue (Some e) items → item_at d (place First at (spelling_of i ++ certificate_of items)) ≡ Ok (i, place First at (certificate_of items))
 reads_end d e i items at z q a =
     let first : due_after d item.End ≡ Some e = subst (λ (i : Item). due_after d i ≡ Some e) z q in
     let s : d ≡ Sections 0 = end_alone d e first in
@@ -87,18 +88,18 @@ reads_end d e i items at z q a =
     let none : items ≡ [] = no_more e items (sym (some_same Done e done)) a in
     rw (s, z, none) (closed_here at)
 
-read_from : (d : Due) (at : ℕ) (items : List Item) → at + length (certificate_of items) ≤ 17592186044416 → AreDue (Some d) items → AreRead d (place at (certificate_of items)) items
+read_from : (d : Due) (at : ℕ) (items : List Item) → at + length (certificate_of items) ≤ 17592186044416 → AreDue (Some d) items → AreRead d (place First at (certificate_of items)) items
 read_from d at [] l a = a
 read_from d at (i ∷ items) l a =
     let o = due_some (due_after d i) items a.1 in
     let size = length-append (spelling_of i) (certificate_of items) in
     let due : o.0 ≡ due_behind d i = some_same o.0 (due_behind d i) (sym o.1 ∙ behind_after d i o.0 o.1) in
     let left : ¬ (d ≡ Done) = λ z. none_behind d i items z a.1 in
-    let here : item_at d (place at (spelling_of i ++ certificate_of items)) ≡ Ok (i, place (at + length (spelling_of i)) (certificate_of items)) = ⊎_elim
-    (λ z. reads_end d o.0 i items at z o.1 o.2 ∙ ap (λ (n : ℕ). Ok (i, place n (certificate_of items))) (let w : length (spelling_of i) ≡ 0 = ap (λ (i : Item). length (spelling_of i)) z in omega (arith, w)))
-    (λ n. items_read_back d i o.0 o.1 n a.0.0 a.0.1 at (certificate_of items) (omega (arith, l, size)))
+    let here : item_at d (place First at (spelling_of i ++ certificate_of items)) ≡ Ok (i, place First (at + length (spelling_of i)) (certificate_of items)) = ⊎_elim
+    (λ z. reads_end d o.0 i items at z o.1 o.2 ∙ ap (λ (n : ℕ). Ok (i, place First n (certificate_of items))) (let w : length (spelling_of i) ≡ 0 = ap (λ (i : Item). length (spelling_of i)) z in omega (arith, w)))
+    (λ n. items_read_back d i o.0 o.1 n a.0.0 a.0.1 First at (certificate_of items) (omega (arith, l, size)))
     (is_end i) in (
-      place (at + length (spelling_of i)) (certificate_of items),
+      place First (at + length (spelling_of i)) (certificate_of items),
       here,
       left,
       read_from (due_behind d i) (at + length (spelling_of i)) items (omega (arith, l, size)) (subst (λ (e : Due). AreDue (Some e) items) due o.2),
@@ -106,7 +107,7 @@ read_from d at (i ∷ items) l a =
 
 pub spelled_are_read : SpelledAreRead
 spelled_are_read bytes items l s =
-    subst (λ (b : List ℕ). AreRead Head (cursor b 0) items) (sym s.spelled)
+    subst (λ (b : List ℕ). AreRead Head (cursor First b 0) items) (sym s.spelled)
     (read_from Head 0 items (let e : length bytes ≡ length (certificate_of items) = ap length s.spelled in omega (arith, l, e)) s.certificate)
 
 -- ---- one fault, or none
@@ -136,7 +137,7 @@ one_fault_from d c (i ∷ is) [] f g p q = absurd (not_both (item_at d c) g (i, 
 one_fault_from d c (i ∷ is) (j ∷ js) f g p q = one_fault_from (due_behind d i) p.0 is js f g p.3 (moved d c i j p.0 q.0 js g p.1 q.1 q.3)
 
 pub one_fault : OneFault
-one_fault bytes f g p q = one_fault_from Head (cursor bytes 0) p.0 q.0 f g p.1 q.1
+one_fault bytes f g p q = one_fault_from Head (cursor First bytes 0) p.0 q.0 f g p.1 q.1
 
 done_reads : (c : Cursor) (f : CertFault) → item_at Done c ≡ Err f → ⊥
 unfolding item_at
@@ -149,7 +150,7 @@ read_or_fault d c (i ∷ is) [] f a q = not_both (item_at d c) f (i, a.0) q a.1
 read_or_fault d c (i ∷ is) (j ∷ js) f a q = read_or_fault (due_behind d i) a.0 is js f a.3 (moved d c i j a.0 q.0 js f a.1 q.1 q.3)
 
 pub never_both : NeverBoth
-never_both bytes items f l s q = read_or_fault Head (cursor bytes 0) items q.0 f (spelled_are_read bytes items l s) q.1
+never_both bytes items f l s q = read_or_fault Head (cursor First bytes 0) items q.0 f (spelled_are_read bytes items l s) q.1
 
 -- ---- reading ends
 
@@ -188,4 +189,4 @@ pub spell_or_fail : SpellOrFail
 spell_or_fail bytes b = ⊎_elim
     (λ r. inl (r.0, reads_are_spelled bytes r.0 b r.1))
     (λ r. inr (r.1, (r.0, r.2)))
-    (reading_ends (length bytes + 1) Head (cursor bytes 0) (omega arith) b)
+    (reading_ends (length bytes + 1) Head (cursor First bytes 0) (omega arith) b)

@@ -13,7 +13,7 @@ use Rattle.cert_bytes.specs.declared.fault.CertFault.{CertFault}
 use Rattle.cert_bytes.specs.declared.fault.CertKind.{CertKind}
 use Rattle.cert_bytes.specs.declared.fault.CertKind.TheVariants.{TooLong}
 use Rattle.cert_bytes.specs.Certificates.{IsShort, IsLong}
-use Rattle.cert_bytes.specs.Reading.{Cursor, Read, fault, numbered, next_byte, byte_at, bytes_at, number_at, short_at, reference_at, wide_at, signed_short_at, signed_long_at, expr_at, pair_at, ◌>>=◌}
+use Rattle.cert_bytes.specs.Reading.{Cursor, Read, fault, numbered, next_byte, byte_at, bytes_at, number_at, short_at, reference_at, wide_at, signed_short_at, signed_long_at, expr_at, both_at, pair_at, ◌>>=◌}
 use Rattle.cert_bytes.specs.ReadBack.{place}
 use Rattle.cert_bytes.specs.ReadOut.{AreBytes}
 use Rattle.cert_bytes.specs.Spelling.{short, reference, wide, signed_short, signed_long}
@@ -99,14 +99,14 @@ weaker r Q R f p c next x b e = let q = p c next x b e in record { bytes = q.byt
 abbrev pub IsOneByte : ℕ → List ℕ → Type 0
 IsOneByte b s = (s ≡ b ∷ []) × (b < 256)
 
-one_byte : (t : Bool) (c next : Cursor) (x b : ℕ) (l : List ℕ) → c.rest ≡ x ∷ l → AreBytes (x ∷ l) → (if t then fault {A = ℕ × Cursor} TooLong 17592186044416 else Ok (x, place (c.at + 1) l)) ≡ Ok (b, next) → Stands IsOneByte b c next
+one_byte : (t : Bool) (c next : Cursor) (x b : ℕ) (l : List ℕ) → c.rest ≡ x ∷ l → AreBytes (x ∷ l) → (if t then fault {A = ℕ × Cursor} TooLong 17592186044416 else Ok (x, place c.style (c.at + 1) l)) ≡ Ok (b, next) → Stands IsOneByte b c next
 one_byte true c next x b l q h e = cc
 one_byte false c next x b l q h e =
-    let z = ok_parts x b (place (c.at + 1) l) next e in
+    let z = ok_parts x b (place c.style (c.at + 1) l) next e in
     let r : l ≡ next.rest = ap (λ (c : Cursor). c.rest) z.1 in
     record { bytes = x ∷ []; is = (ap (λ (n : ℕ). n ∷ []) z.0, subst (λ (n : ℕ). n < 256) z.0 h.0); stands = q ∙ ap (λ (l : List ℕ). x ∷ l) r; behind = subst AreBytes r h.1 }
 
-first_byte : (l : List ℕ) (c next : Cursor) (b : ℕ) → c.rest ≡ l → AreBytes l → next_byte c.at l ≡ Ok (b, next) → Stands IsOneByte b c next
+first_byte : (l : List ℕ) (c next : Cursor) (b : ℕ) → c.rest ≡ l → AreBytes l → next_byte c.style c.at l ≡ Ok (b, next) → Stands IsOneByte b c next
 first_byte [] c next b q h e = cc
 first_byte (x ∷ l) c next b q h e = one_byte (nat_le 17592186044416 c.at) c next x b l q h e
 
@@ -221,10 +221,21 @@ pub expr_out : ReadsOut expr_at IsExpr
 unfolding expr_at
 expr_out = last_out short_at expr_of IsShortOf IsExpr short_out (λ n s q. q)
 
+-- one field behind another
+abbrev pub AreBoth : {A B : Type 0} → (A → List ℕ → Type 0) → (B → List ℕ → Type 0) → A × B → List ℕ → Type 0
+AreBoth P Q p s = (a : List ℕ) × (b : List ℕ) × (s ≡ a ++ b) × P p.0 a × Q p.1 b
+
+pub both_out : {A B : Type 0} (f : Cursor → Read A) (g : Cursor → Read B) (P : A → List ℕ → Type 0) (Q : B → List ℕ → Type 0) → ReadsOut f P → ReadsOut g Q → ReadsOut (both_at f g) (AreBoth P Q)
+unfolding both_at
+both_out f g P Q p q = then_out f (λ at x c. g c >>= λ y. Ok ((x, y.0), y.1)) P (AreBoth P Q) p
+    (λ at x s r. last_out g (λ y. (x, y)) Q (λ v t. AreBoth P Q v (s ++ t)) q (λ y t w. (s, t, refl, r, w)))
+
 abbrev pub ArePair : ExprId × ExprId → List ℕ → Type 0
-ArePair p s = (s ≡ short p.0.0 ++ short p.1.0) × (IsShort p.0.0 × IsShort p.1.0)
+ArePair = AreBoth IsExpr IsExpr
 
 pub pair_out : ReadsOut pair_at ArePair
-unfolding pair_at
-pair_out = then_out expr_at (λ at x c. expr_at c >>= λ y. Ok ((x, y.0), y.1)) IsExpr ArePair expr_out
-    (λ at x s q. last_out expr_at (λ y. (x, y)) IsExpr (λ p t. ArePair p (s ++ t)) expr_out (λ y t r. (ap₂ (λ a b. a ++ b) q.0 r.0, (q.1, r.1))))
+pair_out = both_out expr_at expr_at IsExpr IsExpr expr_out expr_out
+
+-- what two parts spell
+pub joined : {s a b x y : List ℕ} → s ≡ a ++ b → a ≡ x → b ≡ y → s ≡ x ++ y
+joined e p q = e ∙ ap₂ (λ a b. a ++ b) p q

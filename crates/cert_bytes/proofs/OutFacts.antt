@@ -15,10 +15,10 @@ use Rattle.facts.specs.Places.{place_from, place_from_out}
 use Rattle.cert_bytes.specs.declared.fault.CertKind.TheVariants.{BadTag}
 use Rattle.cert_bytes.specs.Certificates.{IsOnShort}
 use Rattle.cert_bytes.specs.Numbers.{number_from, number_from_out}
-use Rattle.cert_bytes.specs.Reading.{numbered, byte_at, signed_short_at, signed_long_at, expr_at, pair_at, point_at, end_at, interval_at, size_at, relative_at, error_at, place_at, bnd_at, abs_at, rel_at, fix_at, nzr_at, fact_at, ◌>>=◌}
+use Rattle.cert_bytes.specs.Reading.{numbered, byte_at, signed_short_at, signed_long_at, expr_at, both_at, pair_at, point_at, end_at, interval_at, size_at, relative_at, error_at, place_at, bnd_at, abs_at, rel_at, fix_at, nzr_at, fact_at, ◌>>=◌}
 use Rattle.cert_bytes.specs.Spelling.{signed_short, signed_long, point, end, interval, error, fact_bytes}
 use Rattle.cert_bytes.proofs.BackFacts.{end_by, error_by, fact_by}
-use Rattle.cert_bytes.proofs.Out.{ReadsOut, then_out, last_out, kept_out, tag_out, pure_out, fault_out, weaker, byte_out, signed_short_out, signed_long_out, expr_out, pair_out, IsOneByte, IsSignedShort, IsSignedLong, IsExpr, ArePair}
+use Rattle.cert_bytes.proofs.Out.{ReadsOut, then_out, last_out, kept_out, tag_out, pure_out, fault_out, weaker, byte_out, signed_short_out, signed_long_out, expr_out, both_out, pair_out, joined, AreBoth, IsOneByte, IsSignedShort, IsSignedLong, IsExpr, ArePair}
 
 -- ---- numbers of the grid
 
@@ -101,23 +101,23 @@ IsFactBehind tag f s = (tag ∷ s ≡ fact_bytes f) × IsOnShort f
 
 bnd_out : ReadsOut bnd_at (IsFactBehind 1)
 unfolding bnd_at
-bnd_out = then_out expr_at (λ at x c. interval_at c >>= λ i. Ok (fact.Bnd x i.0, i.1)) IsExpr (IsFactBehind 1) expr_out
-    (λ at x s q. last_out interval_at (λ i. fact.Bnd x i) IsInterval (λ f t. IsFactBehind 1 f (s ++ t)) interval_out (λ i t r. (ap₂ (λ a b. 1 ∷ (a ++ b)) q.0 r, q.1)))
+bnd_out = last_out (both_at expr_at interval_at) (λ v. fact.Bnd v.0 v.1) (AreBoth IsExpr IsInterval) (IsFactBehind 1) (both_out expr_at interval_at IsExpr IsInterval expr_out interval_out)
+    (λ v s q. (ap (λ a. 1 ∷ a) (joined q.2 q.3.0 q.4), q.3.1))
 
 abs_out : ReadsOut abs_at (IsFactBehind 2)
 unfolding abs_at
-abs_out = then_out expr_at (λ at x c. size_at c >>= λ i. Ok (fact.Abs x i.0, i.1)) IsExpr (IsFactBehind 2) expr_out
-    (λ at x s q. last_out size_at (λ i. fact.Abs x i) IsSize (λ f t. IsFactBehind 2 f (s ++ t)) size_out (λ i t r. (ap₂ (λ a b. 2 ∷ (a ++ b)) q.0 r, q.1)))
+abs_out = last_out (both_at expr_at size_at) (λ v. fact.Abs v.0 v.1) (AreBoth IsExpr IsSize) (IsFactBehind 2) (both_out expr_at size_at IsExpr IsSize expr_out size_out)
+    (λ v s q. (ap (λ a. 2 ∷ a) (joined q.2 q.3.0 q.4), q.3.1))
 
 rel_out : ReadsOut rel_at (IsFactBehind 3)
 unfolding rel_at
-rel_out = then_out pair_at (λ at x c. error_at c >>= λ e. Ok (fact.Rel x.0 x.1 e.0, e.1)) ArePair (IsFactBehind 3) pair_out
-    (λ at x s q. last_out error_at (λ e. fact.Rel x.0 x.1 e) IsError (λ f t. IsFactBehind 3 f (s ++ t)) error_out (λ e t r. (ap₂ (λ a b. 3 ∷ (a ++ b)) q.0 r, q.1)))
+rel_out = last_out (both_at pair_at error_at) (λ v. fact.Rel v.0.0 v.0.1 v.1) (AreBoth ArePair IsError) (IsFactBehind 3) (both_out pair_at error_at ArePair IsError pair_out error_out)
+    (λ v s q. (ap (λ a. 3 ∷ a) (joined q.2 (joined q.3.2 q.3.3.0 q.3.4.0) q.4), (q.3.3.1, q.3.4.1)))
 
 fix_out : ReadsOut fix_at (IsFactBehind 4)
 unfolding fix_at
-fix_out = then_out expr_at (λ at x c. place_at c >>= λ k. Ok (fact.Fix x k.0, k.1)) IsExpr (IsFactBehind 4) expr_out
-    (λ at x s q. last_out place_at (λ k. fact.Fix x k) IsPlaceOf (λ f t. IsFactBehind 4 f (s ++ t)) place_out (λ k t r. (ap₂ (λ a b. 4 ∷ (a ++ b)) q.0 r, q.1)))
+fix_out = last_out (both_at expr_at place_at) (λ v. fact.Fix v.0 v.1) (AreBoth IsExpr IsPlaceOf) (IsFactBehind 4) (both_out expr_at place_at IsExpr IsPlaceOf expr_out place_out)
+    (λ v s q. (ap (λ a. 4 ∷ a) (joined q.2 q.3.0 q.4), q.3.1))
 
 nzr_out : ReadsOut nzr_at (IsFactBehind 5)
 unfolding nzr_at

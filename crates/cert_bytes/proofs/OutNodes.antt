@@ -16,11 +16,11 @@ use Rattle.expr_dag.specs.Nodes.{IsInLimits}
 use Rattle.cert_bytes.specs.declared.fault.CertKind.TheVariants.{BadNumber, BadTag}
 use Rattle.cert_bytes.specs.Certificates.{HasShortParts}
 use Rattle.cert_bytes.specs.Numbers.{is_normal, at_least}
-use Rattle.cert_bytes.specs.Reading.{Cursor, Read, fault, tagged, direction_from, byte_at, wide_at, short_at, signed_short_at, expr_at, pair_at, direction_at, lsb_at, exponents_at, literal_at, rounding_at, round_at, one_at, two_at, var_at, lit_at, late_node_at, node_by, node_at, ◌>>=◌}
+use Rattle.cert_bytes.specs.Reading.{both_at, Cursor, Read, fault, tagged, direction_from, byte_at, wide_at, short_at, signed_short_at, expr_at, pair_at, direction_at, lsb_at, exponents_at, literal_at, rounding_at, round_at, one_at, two_at, var_at, lit_at, late_node_at, node_by, node_at, ◌>>=◌}
 use Rattle.cert_bytes.specs.Spelling.{signed_short, wide, direction_byte, node_bytes}
 use Rattle.cert_bytes.proofs.Normal.{normal_in}
 use Rattle.cert_bytes.proofs.BackNodes.{checked}
-use Rattle.cert_bytes.proofs.Out.{ReadsOut, then_out, last_out, weaker, if_out, tag_out, pure_out, fault_out, byte_out, wide_out, short_out, signed_short_out, expr_out, pair_out, IsOneByte, IsWideOf, IsShortOf, IsSignedShort, IsExpr, ArePair}
+use Rattle.cert_bytes.proofs.Out.{both_out, joined, AreBoth, ReadsOut, then_out, last_out, weaker, if_out, tag_out, pure_out, fault_out, byte_out, wide_out, short_out, signed_short_out, expr_out, pair_out, IsOneByte, IsWideOf, IsShortOf, IsSignedShort, IsExpr, ArePair}
 use Rattle.cert_bytes.proofs.OutFacts.{tagged_as}
 
 -- ---- literals
@@ -29,7 +29,7 @@ abbrev AreExponents : ℤ × ℤ → List ℕ → Type 0
 AreExponents e s = s ≡ signed_short e.0 ++ signed_short e.1
 
 exponents_out : ReadsOut exponents_at AreExponents
-unfolding exponents_at
+unfolding both_at
 exponents_out = then_out signed_short_at (λ at two c. signed_short_at c >>= λ ten. Ok ((two, ten.0), ten.1)) IsSignedShort AreExponents signed_short_out
     (λ at two s q. last_out signed_short_at (λ ten. (two, ten)) IsSignedShort (λ e t. AreExponents e (s ++ t)) signed_short_out (λ ten t r. ap₂ (λ a b. a ++ b) q r))
 
@@ -111,8 +111,8 @@ record IsNodeBehind (tag : ℕ) (n : Node) (s : List ℕ) : Type 0 where
 
 round_out : ReadsOut round_at (IsNodeBehind 8)
 unfolding round_at
-round_out = then_out rounding_at (λ at r c. expr_at c >>= λ x. Ok (node.Round r x.0, x.1)) IsRounding (IsNodeBehind 8) rounding_out
-    (λ at r s q. last_out expr_at (λ x. node.Round r x) IsExpr (λ n t. IsNodeBehind 8 n (s ++ t)) expr_out (λ x t p. record { bytes = ap₂ (λ a b. 8 ∷ (a ++ b)) q.0 p.0; limits = q.1; parts = p.1 }))
+round_out = last_out (both_at rounding_at expr_at) (λ v. node.Round v.0 v.1) (AreBoth IsRounding IsExpr) (IsNodeBehind 8) (both_out rounding_at expr_at IsRounding IsExpr rounding_out expr_out)
+    (λ v s q. record { bytes = ap (λ a. 8 ∷ a) (joined q.2 q.3.0 q.4.0); limits = q.3.1; parts = q.4.1 })
 
 var_out : ReadsOut var_at (IsNodeBehind 0)
 unfolding var_at
@@ -132,19 +132,19 @@ abs_out = last_out expr_at (λ x. node.Abs x) IsExpr (IsNodeBehind 7) expr_out (
 
 add_out : ReadsOut (two_at node.Add) (IsNodeBehind 3)
 unfolding two_at
-add_out = last_out pair_at (λ p. node.Add p.0 p.1) ArePair (IsNodeBehind 3) pair_out (λ p s q. record { bytes = ap (λ a. 3 ∷ a) q.0; limits = tt; parts = q.1 })
+add_out = last_out pair_at (λ p. node.Add p.0 p.1) ArePair (IsNodeBehind 3) pair_out (λ p s q. record { bytes = ap (λ a. 3 ∷ a) (joined q.2 q.3.0 q.4.0); limits = tt; parts = (q.3.1, q.4.1) })
 
 sub_out : ReadsOut (two_at node.Sub) (IsNodeBehind 4)
 unfolding two_at
-sub_out = last_out pair_at (λ p. node.Sub p.0 p.1) ArePair (IsNodeBehind 4) pair_out (λ p s q. record { bytes = ap (λ a. 4 ∷ a) q.0; limits = tt; parts = q.1 })
+sub_out = last_out pair_at (λ p. node.Sub p.0 p.1) ArePair (IsNodeBehind 4) pair_out (λ p s q. record { bytes = ap (λ a. 4 ∷ a) (joined q.2 q.3.0 q.4.0); limits = tt; parts = (q.3.1, q.4.1) })
 
 mul_out : ReadsOut (two_at node.Mul) (IsNodeBehind 5)
 unfolding two_at
-mul_out = last_out pair_at (λ p. node.Mul p.0 p.1) ArePair (IsNodeBehind 5) pair_out (λ p s q. record { bytes = ap (λ a. 5 ∷ a) q.0; limits = tt; parts = q.1 })
+mul_out = last_out pair_at (λ p. node.Mul p.0 p.1) ArePair (IsNodeBehind 5) pair_out (λ p s q. record { bytes = ap (λ a. 5 ∷ a) (joined q.2 q.3.0 q.4.0); limits = tt; parts = (q.3.1, q.4.1) })
 
 div_out : ReadsOut (two_at node.Div) (IsNodeBehind 6)
 unfolding two_at
-div_out = last_out pair_at (λ p. node.Div p.0 p.1) ArePair (IsNodeBehind 6) pair_out (λ p s q. record { bytes = ap (λ a. 6 ∷ a) q.0; limits = tt; parts = q.1 })
+div_out = last_out pair_at (λ p. node.Div p.0 p.1) ArePair (IsNodeBehind 6) pair_out (λ p s q. record { bytes = ap (λ a. 6 ∷ a) (joined q.2 q.3.0 q.4.0); limits = tt; parts = (q.3.1, q.4.1) })
 
 pub record IsNode (n : Node) (s : List ℕ) : Type 0 where
   pub bytes : s ≡ node_bytes n

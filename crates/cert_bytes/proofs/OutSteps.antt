@@ -7,7 +7,7 @@ use Rattle.facts.specs.declared.fact.Fact.{Fact}
 use Rattle.cert_bytes.specs.declared.fault.CertKind.TheVariants.{BadTag}
 use Rattle.cert_bytes.specs.declared.item.StepRow.{StepRow}
 use Rattle.cert_bytes.specs.Certificates.{IsCounted, IsShort, IsLong, IsOnShort, HasRoomFor}
-use Rattle.cert_bytes.specs.Reading.{byte_at, short_at, reference_at, references_at, counted_at, optional_at, fact_at, rule_at, claim_at, cited_at, step_at, ◌>>=◌}
+use Rattle.cert_bytes.specs.Reading.{both_at, byte_at, short_at, reference_at, references_at, counted_at, optional_at, fact_at, rule_at, claim_at, cited_at, step_at, ◌>>=◌}
 use Rattle.cert_bytes.specs.Spelling.{short, reference, references, counted, optional, fact_bytes, step_bytes}
 use Rattle.cert_bytes.proofs.BackSteps.{optional_by}
 use Rattle.cert_bytes.proofs.Out.{ReadsOut, then_out, last_out, weaker, tag_out, pure_out, fault_out, byte_out, short_out, reference_out, IsOneByte, IsShortOf, IsReferenceOf}
@@ -74,7 +74,7 @@ record IsRule (p : ℕ × ℕ) (s : List ℕ) : Type 0 where
   arg : IsShort p.1
 
 rule_out : ReadsOut rule_at IsRule
-unfolding rule_at
+unfolding both_at
 rule_out = then_out byte_at (λ at rule c. short_at c >>= λ arg. Ok ((rule, arg.0), arg.1)) IsOneByte IsRule byte_out
     (λ at rule s q. last_out short_at (λ arg. (rule, arg)) IsShortOf (λ p t. IsRule p (s ++ t)) short_out
     (λ arg t r. record { bytes = ap₂ (λ a b. a ++ b) q.0 r.0; rule = q.1; arg = r.1 }))
@@ -86,7 +86,7 @@ record IsClaim (p : (ℕ × ℕ) × Fact) (s : List ℕ) : Type 0 where
   fact : IsOnShort p.1
 
 claim_out : ReadsOut claim_at IsClaim
-unfolding claim_at
+unfolding both_at
 claim_out = then_out rule_at (λ at rule c. fact_at c >>= λ fact. Ok ((rule, fact.0), fact.1)) IsRule IsClaim rule_out
     (λ at rule s q. last_out fact_at (λ fact. (rule, fact)) IsFact (λ p t. IsClaim p (s ++ t)) fact_out
     (λ fact t r. record { bytes = ap₂ (λ a b. a ++ b) q.bytes r.0; rule = q.rule; arg = q.arg; fact = r.1 }))
@@ -98,7 +98,7 @@ record AreCited (p : Option ℕ × List ℕ) (s : List ℕ) : Type 0 where
   long : AllByRecursion IsLong p.1
 
 cited_out : ReadsOut cited_at AreCited
-unfolding cited_at
+unfolding both_at
 cited_out = then_out optional_at (λ at with c. counted_at c >>= λ premises. Ok ((with, premises.0), premises.1)) IsOptional AreCited optional_out
     (λ at with s q. last_out counted_at (λ premises. (with, premises)) AreCounted (λ p t. AreCited p (s ++ t)) counted_out
     (λ premises t r. record { bytes = ap₂ (λ a b. a ++ b) q.0 r.bytes; with = q.1; few = r.few; long = r.long }))

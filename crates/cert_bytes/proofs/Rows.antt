@@ -9,29 +9,31 @@ use Rattle.cert_bytes.specs.declared.fault.CertFault.{CertFault}
 use Rattle.cert_bytes.specs.declared.fault.CertKind.TheVariants.{BadNumber}
 use Rattle.facts.specs.declared.fact.Fact.{Fact}
 use Rattle.cert_bytes.specs.Reading.{Cursor, cursor, claim_at, cited_at, step_at, point_at, reference_at, references_at, rising_at, points_at, rises, more_at, is_some, ◌>>=◌}
-use Rattle.cert_bytes.specs.Pieces.{Ahead, Agrees, IsReady, IsEnd}
+use Rattle.cert_bytes.specs.declared.style.Style.{Style}
+use Rattle.cert_bytes.specs.Pieces.{Ahead, Agrees, IsReady, IsEnd, cursor_of, kept_of}
 use Rattle.cert_bytes.proofs.Filled.{nothing, some_front}
+use Rattle.cert_bytes.proofs.Told.{style_in}
 
-pub one_reference : (all : List ℕ) (left at next x : ℕ) (ns : List ℕ) (total : Result (List ℕ × Cursor) CertFault) → references_at (suc left) ns (cursor all at) ≡ total → reference_at (cursor all at) ≡ Ok (x, cursor all next) → references_at left (ns ++ x ∷ []) (cursor all next) ≡ total
+pub one_reference : (c next : Cursor) (left x : ℕ) (ns : List ℕ) (total : Result (List ℕ × Cursor) CertFault) → references_at (suc left) ns c ≡ total → reference_at c ≡ Ok (x, next) → references_at left (ns ++ x ∷ []) next ≡ total
 unfolding references_at
-one_reference all left at next x ns total e f = sym (ap (λ (r : Result (ℕ × Cursor) CertFault). r >>= λ x. references_at left (ns ++ x.0 ∷ []) x.1) f) ∙ e
+one_reference c next left x ns total e f = sym (ap (λ (r : Result (ℕ × Cursor) CertFault). r >>= λ x. references_at left (ns ++ x.0 ∷ []) x.1) f) ∙ e
 
-pub references_stop : (all : List ℕ) (left at : ℕ) (ns : List ℕ) (f : CertFault) (total : Result (List ℕ × Cursor) CertFault) → references_at (suc left) ns (cursor all at) ≡ total → reference_at (cursor all at) ≡ Err f → total ≡ Err f
+pub references_stop : (c : Cursor) (left : ℕ) (ns : List ℕ) (f : CertFault) (total : Result (List ℕ × Cursor) CertFault) → references_at (suc left) ns c ≡ total → reference_at c ≡ Err f → total ≡ Err f
 unfolding references_at
-references_stop all left at ns f total e g = sym e ∙ ap (λ (r : Result (ℕ × Cursor) CertFault). r >>= λ x. references_at left (ns ++ x.0 ∷ []) x.1) g
+references_stop c left ns f total e g = sym e ∙ ap (λ (r : Result (ℕ × Cursor) CertFault). r >>= λ x. references_at left (ns ++ x.0 ∷ []) x.1) g
 
 pub references_end : (c : Cursor) (left : ℕ) (ns : List ℕ) (total : Result (List ℕ × Cursor) CertFault) → left ≡ 0 → references_at left ns c ≡ total → total ≡ Ok (ns, c)
 unfolding references_at
 references_end c zero ns total z e = sym e
 references_end c (suc left) ns total z e = cc
 
-pub one_point : (all : List ℕ) (left at next : ℕ) (ds more : List Dyadic) (total : Result (List Dyadic × Cursor) CertFault) → points_at (suc left) ds (cursor all at) ≡ total → rising_at ds (cursor all at) ≡ Ok (more, cursor all next) → points_at left more (cursor all next) ≡ total
+pub one_point : (c next : Cursor) (left : ℕ) (ds more : List Dyadic) (total : Result (List Dyadic × Cursor) CertFault) → points_at (suc left) ds c ≡ total → rising_at ds c ≡ Ok (more, next) → points_at left more next ≡ total
 unfolding points_at
-one_point all left at next ds more total e f = sym (ap (λ (r : Result (List Dyadic × Cursor) CertFault). r >>= λ more. points_at left more.0 more.1) f) ∙ e
+one_point c next left ds more total e f = sym (ap (λ (r : Result (List Dyadic × Cursor) CertFault). r >>= λ more. points_at left more.0 more.1) f) ∙ e
 
-pub points_stop : (all : List ℕ) (left at : ℕ) (ds : List Dyadic) (f : CertFault) (total : Result (List Dyadic × Cursor) CertFault) → points_at (suc left) ds (cursor all at) ≡ total → rising_at ds (cursor all at) ≡ Err f → total ≡ Err f
+pub points_stop : (c : Cursor) (left : ℕ) (ds : List Dyadic) (f : CertFault) (total : Result (List Dyadic × Cursor) CertFault) → points_at (suc left) ds c ≡ total → rising_at ds c ≡ Err f → total ≡ Err f
 unfolding points_at
-points_stop all left at ds f total e g = sym e ∙ ap (λ (r : Result (List Dyadic × Cursor) CertFault). r >>= λ more. points_at left more.0 more.1) g
+points_stop c left ds f total e g = sym e ∙ ap (λ (r : Result (List Dyadic × Cursor) CertFault). r >>= λ more. points_at left more.0 more.1) g
 
 pub points_end : (c : Cursor) (left : ℕ) (ds : List Dyadic) (total : Result (List Dyadic × Cursor) CertFault) → left ≡ 0 → points_at left ds c ≡ total → total ≡ Ok (ds, c)
 unfolding points_at
@@ -80,30 +82,33 @@ past (suc at) (b ∷ all) l = past at all (omega (arith, l))
 some_there : (at : ℕ) (all s rest : List ℕ) → drop at all ≡ s ++ rest → ¬ (s ≡ nothing) → is_some (drop at all) ≡ true
 some_there at all s rest e n = let r = some_front s rest (drop at all) n e in rw r.2 refl
 
-abbrev more_here : List ℕ → ℕ → Result (Bool × Cursor) CertFault
-more_here all k = Ok (is_some (drop k all), cursor all k)
+abbrev more_here : Style → List ℕ → ℕ → Result (Bool × Cursor) CertFault
+more_here style all k = Ok (is_some (drop k all), cursor style all k)
 
-pub more_is : (all : List ℕ) (s : Ahead) (at : ℕ) (more : Bool) → s.at ≡ at → Agrees all s → IsReady s more → IsEnd all s more → more_at (cursor all at) ≡ Ok (more, cursor all s.at)
+more_from : (all : List ℕ) (old s : Ahead) (more : Bool) → s.at ≡ old.at → kept_of s ≡ kept_of old → is_some (drop s.at all) ≡ more → more_at (cursor_of all old) ≡ Ok (more, cursor_of all s)
 unfolding more_at
-more_is all s at true q g r e = let P : ℕ → Type 0 = λ k. more_here all k ≡ Ok (true, cursor all s.at) in
-    subst P q (ap (λ (b : Bool). Ok (b, cursor all s.at)) (some_there s.at all s.ahead g.rest g.ahead r))
-more_is all s at false q g r e = let P : ℕ → Type 0 = λ k. more_here all k ≡ Ok (false, cursor all s.at) in
-    subst P q (ap (λ (l : List ℕ). Ok (is_some l, cursor all s.at)) (past s.at all e))
+more_from all old s more q kept e =
+    let P : ℕ → Style → Type 0 = λ k style. more_here style all k ≡ Ok (more, cursor_of all s) in
+    subst (λ (k : ℕ). P k old.style) q (subst (P s.at) (ap style_in kept) (ap (λ (b : Bool). Ok (b, cursor_of all s)) e))
 
-pub rising_ok : (all : List ℕ) (at next : ℕ) (ds more : List Dyadic) (p : Dyadic) → point_at (cursor all at) ≡ Ok (p, cursor all next) → IsAboveLast ds p → more ≡ ds ++ p ∷ [] → rising_at ds (cursor all at) ≡ Ok (more, cursor all next)
-unfolding rising_at
-rising_ok all at next ds more p e a m = rw (e, rises_above ds p a, m) refl
+pub more_is : (all : List ℕ) (old s : Ahead) (more : Bool) → s.at ≡ old.at → kept_of s ≡ kept_of old → Agrees all s → IsReady s more → IsEnd all s more → more_at (cursor_of all old) ≡ Ok (more, cursor_of all s)
+more_is all old s true q kept g r e = more_from all old s true q kept (some_there s.at all s.ahead g.rest g.ahead r)
+more_is all old s false q kept g r e = more_from all old s false q kept (ap is_some (past s.at all e))
 
-pub rising_no : (all : List ℕ) (at next : ℕ) (ds : List Dyadic) (p : Dyadic) → point_at (cursor all at) ≡ Ok (p, cursor all next) → ¬ IsAboveLast ds p → rising_at ds (cursor all at) ≡ Err (record { kind = BadNumber; at = at })
+pub rising_ok : (c next : Cursor) (ds more : List Dyadic) (p : Dyadic) → point_at c ≡ Ok (p, next) → IsAboveLast ds p → more ≡ ds ++ p ∷ [] → rising_at ds c ≡ Ok (more, next)
 unfolding rising_at
-rising_no all at next ds p e n = rw (e, rises_not ds p n) refl
+rising_ok c next ds more p e a m = rw (e, rises_above ds p a, m) refl
 
-pub rising_err : (all : List ℕ) (at : ℕ) (ds : List Dyadic) (f : CertFault) → point_at (cursor all at) ≡ Err f → rising_at ds (cursor all at) ≡ Err f
+pub rising_no : (c next : Cursor) (ds : List Dyadic) (p : Dyadic) → point_at c ≡ Ok (p, next) → ¬ IsAboveLast ds p → rising_at ds c ≡ Err (record { kind = BadNumber; at = c.at })
 unfolding rising_at
-rising_err all at ds f e = rw e refl
+rising_no c next ds p e n = rw (e, rises_not ds p n) refl
+
+pub rising_err : (c : Cursor) (ds : List Dyadic) (f : CertFault) → point_at c ≡ Err f → rising_at ds c ≡ Err f
+unfolding rising_at
+rising_err c ds f e = rw e refl
 
 -- ---- steps
 
-pub step_err : (all : List ℕ) (at next : ℕ) (claim : (ℕ × ℕ) × Fact) (f : CertFault) → claim_at (cursor all at) ≡ Ok (claim, cursor all next) → cited_at (cursor all next) ≡ Err f → step_at (cursor all at) ≡ Err f
+pub step_err : (c next : Cursor) (claim : (ℕ × ℕ) × Fact) (f : CertFault) → claim_at c ≡ Ok (claim, next) → cited_at next ≡ Err f → step_at c ≡ Err f
 unfolding step_at
-step_err all at next claim f e g = rw (e, g) refl
+step_err c next claim f e g = rw (e, g) refl

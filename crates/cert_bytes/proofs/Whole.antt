@@ -3,6 +3,7 @@ use Rattle.std.proofs.Common.{◌≡◌, ◌+◌, ◌++◌, ◌∷◌, [], ◌�
 use Rattle.std.proofs.lemmas.List.{append-nil}
 use Rattle.cert_bytes.specs.declared.item.Item.{Item}
 use Rattle.cert_bytes.specs.declared.item.Item.TheVariants as item
+use Rattle.cert_bytes.specs.declared.style.Style.TheVariants.{First}
 use Rattle.cert_bytes.specs.declared.order.Due.{Due}
 use Rattle.cert_bytes.specs.declared.order.Due.TheVariants.{Head, Nodes, Marks, Sections, Done}
 use Rattle.cert_bytes.specs.Due.{due_after}
@@ -63,20 +64,20 @@ abbrev given : Item × Cursor → Read Item
 given p = Ok p
 
 abbrev read_as : Item → ℕ → List ℕ → Read Item
-read_as i at rest = Ok (i, place at rest)
+read_as i at rest = Ok (i, place First at rest)
 
 inside : (p q : Item × Cursor) → given p ≡ given q → p ≡ q
 inside p q e = cc
 
 taken : (i j : Item) (m n : ℕ) (s t : List ℕ) → read_as i m s ≡ read_as j n t → (i ≡ j) × (s ≡ t)
-taken i j m n s t e = let q = inside (i, place m s) (j, place n t) e in (ap (λ (p : Item × Cursor). p.0) q, ap (λ (p : Item × Cursor). p.1.rest) q)
+taken i j m n s t e = let q = inside (i, place First m s) (j, place First n t) e in (ap (λ (p : Item × Cursor). p.0) q, ap (λ (p : Item × Cursor). p.1.rest) q)
 
 both_read : (d : Due) (i j : Item) (e f : Due) → due_after d i ≡ Some e → due_after d j ≡ Some f → ¬ (i ≡ item.End) → ¬ (j ≡ item.End) → HasSpelling i → Fits i → HasSpelling j → Fits j
     → (s t : List ℕ) → spelling_of i ++ s ≡ spelling_of j ++ t → (i ≡ j) × (s ≡ t)
 both_read d i j e f p q m n h k h' k' s t bytes =
-    let first = items_read_back d i e p m h k 0 s (let l = items_are_short i h k in omega (arith, l)) in
-    let second = items_read_back d j f q n h' k' 0 t (let l = items_are_short j h' k' in omega (arith, l)) in
-    taken i j (0 + length (spelling_of i)) (0 + length (spelling_of j)) s t (sym first ∙ ap (λ (l : List ℕ). item_at d (place 0 l)) bytes ∙ second)
+    let first = items_read_back d i e p m h k First 0 s (let l = items_are_short i h k in omega (arith, l)) in
+    let second = items_read_back d j f q n h' k' First 0 t (let l = items_are_short j h' k' in omega (arith, l)) in
+    taken i j (0 + length (spelling_of i)) (0 + length (spelling_of j)) s t (sym first ∙ ap (λ (l : List ℕ). item_at d (place First 0 l)) bytes ∙ second)
 
 ends_both : (d : Due) (i j : Item) (f : Due) → d ≡ Sections 0 → i ≡ item.End → due_after d j ≡ Some f → (s t : List ℕ) → spelling_of i ++ s ≡ spelling_of j ++ t → (i ≡ j) × (s ≡ t)
 ends_both d i j f z m q s t bytes =

@@ -3,21 +3,23 @@ use Rattle.std.specs.Prelude.{◌≡◌, ◌≤◌, ◌++◌, ℕ, Bool, true, f
 use Rattle.cert_bytes.specs.declared.fault.CertFault.{CertFault}
 use Rattle.cert_bytes.specs.declared.fault.Stop.{Stop}
 use Rattle.cert_bytes.specs.declared.fault.Stop.TheVariants.{Fault}
+use Rattle.cert_bytes.specs.declared.style.Style.{Style}
 use Rattle.cert_bytes.specs.Reading.{Cursor, cursor}
 
 -- a place in the bytes of a name, and the bytes from there on that were read ahead
 pub record Ahead : Type 0 where
   pub name : List ℕ
+  pub style : Style
   pub at : ℕ
   pub ahead : List ℕ
 
 -- what reading leaves as it is
-abbrev pub kept_of : Ahead → List ℕ
-kept_of s = s.name
+abbrev pub kept_of : Ahead → List ℕ × Style
+kept_of s = (s.name, s.style)
 
 -- the place in the bytes that are told
 abbrev pub cursor_of : List ℕ → Ahead → Cursor
-cursor_of all s = cursor all s.at
+cursor_of all s = cursor s.style all s.at
 
 -- What was read ahead is what stands there.
 pub record Agrees (all : List ℕ) (s : Ahead) : Type 0 where

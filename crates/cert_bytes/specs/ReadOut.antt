@@ -3,6 +3,7 @@ use Rattle.std.specs.Prelude.{◌≡◌, ◌≤◌, ◌<◌, ◌⊎◌, ◌++◌
 use Rattle.std.specs.List.{AllByRecursion}
 use Rattle.cert_bytes.specs.declared.fault.CertFault.{CertFault}
 use Rattle.cert_bytes.specs.declared.item.Item.{Item}
+use Rattle.cert_bytes.specs.declared.style.Style.TheVariants.{First}
 use Rattle.cert_bytes.specs.declared.order.Due.{Due}
 use Rattle.cert_bytes.specs.declared.order.Due.TheVariants.{Head, Done}
 use Rattle.cert_bytes.specs.Due.{due_after, due_behind}
@@ -43,15 +44,15 @@ FailsBehind d c (i ∷ items) f = (next : Cursor) × (item_at d c ≡ Ok (i, nex
 
 -- the first fault of the bytes
 abbrev pub HasFault : List ℕ → CertFault → Type 0
-HasFault bytes f = (items : List Item) × FailsBehind Head (cursor bytes 0) items f
+HasFault bytes f = (items : List Item) × FailsBehind Head (cursor First bytes 0) items f
 
 -- Items that are read to the end are those that the bytes spell.
 abbrev pub ReadsAreSpelled : Type 0
-ReadsAreSpelled = (bytes : List ℕ) (items : List Item) → AreBytes bytes → AreRead Head (cursor bytes 0) items → SpellsCertificate bytes items
+ReadsAreSpelled = (bytes : List ℕ) (items : List Item) → AreBytes bytes → AreRead Head (cursor First bytes 0) items → SpellsCertificate bytes items
 
 -- What is spelled is read to the end, as far as byte 2^44 isn't asked for.
 abbrev pub SpelledAreRead : Type 0
-SpelledAreRead = (bytes : List ℕ) (items : List Item) → length bytes ≤ 17592186044416 → SpellsCertificate bytes items → AreRead Head (cursor bytes 0) items
+SpelledAreRead = (bytes : List ℕ) (items : List Item) → length bytes ≤ 17592186044416 → SpellsCertificate bytes items → AreRead Head (cursor First bytes 0) items
 
 -- Bytes spell items or have a fault,
 abbrev pub SpellOrFail : Type 0

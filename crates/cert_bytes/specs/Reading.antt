@@ -32,17 +32,19 @@ use Rattle.cert_bytes.specs.declared.item.StepRow.{StepRow}
 use Rattle.cert_bytes.specs.declared.item.Item.{Item}
 use Rattle.cert_bytes.specs.declared.item.Item.TheVariants as item
 use Rattle.cert_bytes.specs.Numbers.{number_from, is_normal}
+use Rattle.cert_bytes.specs.declared.style.Style.{Style}
 use Rattle.cert_bytes.specs.declared.order.Due.{Due}
 use Rattle.cert_bytes.specs.declared.order.Due.TheVariants.{Head, Nodes, Marks, Sections, Done}
 
--- an offset, and the bytes from there
+-- how numbers are spelled, an offset, and the bytes from there
 pub record Cursor : Type 0 where
+  pub style : Style
   pub at : ℕ
   pub rest : List ℕ
 
 -- the place in these bytes
-abbrev pub cursor : List ℕ → ℕ → Cursor
-cursor all at = record { at = at; rest = drop at all }
+abbrev pub cursor : Style → List ℕ → ℕ → Cursor
+cursor style all at = record { style = style; at = at; rest = drop at all }
 
 -- what is read, and where reading stands behind it; or the fault
 abbrev pub Read : Type 0 → Type 0
@@ -64,12 +66,12 @@ numbered at (Some x) c = Ok (x, c)
 -- ---- fields
 
 -- One byte. It is Truncated at the end of the bytes, and TooLong where it is byte 2^44.
-abbrev pub next_byte : ℕ → List ℕ → Read ℕ
-next_byte at [] = fault Truncated at
-next_byte at (b ∷ rest) = if nat_le 17592186044416 at then fault TooLong 17592186044416 else Ok (b, record { at = at + 1; rest = rest })
+abbrev pub next_byte : Style → ℕ → List ℕ → Read ℕ
+next_byte style at [] = fault Truncated at
+next_byte style at (b ∷ rest) = if nat_le 17592186044416 at then fault TooLong 17592186044416 else Ok (b, record { style = style; at = at + 1; rest = rest })
 
 unfoldable pub byte_at : Cursor → Read ℕ
-byte_at c = next_byte c.at c.rest
+byte_at c = next_byte c.style c.at c.rest
 
 -- n bytes more of a number, the high ones first
 unfoldable pub bytes_at : ℕ → ℕ → Cursor → Read ℕ
@@ -99,11 +101,15 @@ signed_long_at c = number_at 8 c >>= λ n. Ok (cast_signed w64 n.0, n.1)
 unfoldable pub expr_at : Cursor → Read ExprId
 expr_at c = short_at c >>= λ n. Ok (record { 0 = n.0 }, n.1)
 
-unfoldable pub pair_at : Cursor → Read (ExprId × ExprId)
-pair_at c = do
-  x ← expr_at c
-  y ← expr_at x.1
+-- one field behind another
+unfoldable pub both_at : {A B : Type 0} → (Cursor → Read A) → (Cursor → Read B) → Cursor → Read (A × B)
+both_at f g c = do
+  x ← f c
+  y ← g x.1
   Ok ((x.0, y.0), y.1)
+
+abbrev pub pair_at : Cursor → Read (ExprId × ExprId)
+pair_at = both_at expr_at expr_at
 
 -- a mantissa and an exponent, as a number of the grid has them
 unfoldable pub point_at : Cursor → Read Dyadic
@@ -145,28 +151,16 @@ unfoldable pub place_at : Cursor → Read Place
 place_at c = signed_short_at c >>= λ k. numbered c.at (place_from k.0) k.1
 
 unfoldable pub bnd_at : Cursor → Read Fact
-bnd_at c = do
-  x ← expr_at c
-  i ← interval_at x.1
-  Ok (fact.Bnd x.0 i.0, i.1)
+bnd_at c = both_at expr_at interval_at c >>= λ v. Ok (fact.Bnd v.0.0 v.0.1, v.1)
 
 unfoldable pub abs_at : Cursor → Read Fact
-abs_at c = do
-  x ← expr_at c
-  s ← size_at x.1
-  Ok (fact.Abs x.0 s.0, s.1)
+abs_at c = both_at expr_at size_at c >>= λ v. Ok (fact.Abs v.0.0 v.0.1, v.1)
 
 unfoldable pub rel_at : Cursor → Read Fact
-rel_at c = do
-  x ← pair_at c
-  e ← error_at x.1
-  Ok (fact.Rel x.0.0 x.0.1 e.0, e.1)
+rel_at c = both_at pair_at error_at c >>= λ v. Ok (fact.Rel v.0.0.0 v.0.0.1 v.0.1, v.1)
 
 unfoldable pub fix_at : Cursor → Read Fact
-fix_at c = do
-  x ← expr_at c
-  k ← place_at x.1
-  Ok (fact.Fix x.0 k.0, k.1)
+fix_at c = both_at expr_at place_at c >>= λ v. Ok (fact.Fix v.0.0 v.0.1, v.1)
 
 unfoldable pub nzr_at : Cursor → Read Fact
 nzr_at c = expr_at c >>= λ x. Ok (fact.Nzr x.0, x.1)
@@ -201,11 +195,8 @@ direction_at c = byte_at c >>= λ b. tagged c.at (direction_from b.0) b.1
 unfoldable pub lsb_at : Cursor → Read ℤ
 lsb_at c = signed_short_at c >>= λ k. if int_lt k.0 (negsuc 511) then fault BadNumber c.at else (if int_lt (pos 512) k.0 then fault BadNumber c.at else Ok k)
 
-unfoldable pub exponents_at : Cursor → Read (ℤ × ℤ)
-exponents_at c = do
-  two ← signed_short_at c
-  ten ← signed_short_at two.1
-  Ok ((two.0, ten.0), ten.1)
+abbrev pub exponents_at : Cursor → Read (ℤ × ℤ)
+exponents_at = both_at signed_short_at signed_short_at
 
 unfoldable pub literal_at : Cursor → Read Literal
 literal_at c = do
@@ -226,10 +217,7 @@ rounding_at c = do
   Ok (record { lsb = lsb.0; dir = dir.0 }, lsb.1)
 
 unfoldable pub round_at : Cursor → Read Node
-round_at c = do
-  r ← rounding_at c
-  x ← expr_at r.1
-  Ok (node.Round r.0 x.0, x.1)
+round_at c = both_at rounding_at expr_at c >>= λ v. Ok (node.Round v.0.0 v.0.1, v.1)
 
 unfoldable pub var_at : Cursor → Read Node
 var_at c = short_at c >>= λ n. Ok (node.Var n.0, n.1)
@@ -277,23 +265,14 @@ optional_at c = do
       else fault BadTag c.at
 
 -- the rule, and which hypothesis or hint it is
-unfoldable pub rule_at : Cursor → Read (ℕ × ℕ)
-rule_at c = do
-  rule ← byte_at c
-  arg ← short_at rule.1
-  Ok ((rule.0, arg.0), arg.1)
+abbrev pub rule_at : Cursor → Read (ℕ × ℕ)
+rule_at = both_at byte_at short_at
 
-unfoldable pub claim_at : Cursor → Read ((ℕ × ℕ) × Fact)
-claim_at c = do
-  rule ← rule_at c
-  fact ← fact_at rule.1
-  Ok ((rule.0, fact.0), fact.1)
+abbrev pub claim_at : Cursor → Read ((ℕ × ℕ) × Fact)
+claim_at = both_at rule_at fact_at
 
-unfoldable pub cited_at : Cursor → Read (Option ℕ × List ℕ)
-cited_at c = do
-  with ← optional_at c
-  premises ← counted_at with.1
-  Ok ((with.0, premises.0), premises.1)
+abbrev pub cited_at : Cursor → Read (Option ℕ × List ℕ)
+cited_at = both_at optional_at counted_at
 
 unfoldable pub step_at : Cursor → Read StepRow
 step_at c = do

@@ -1,12 +1,13 @@
 //! What stands before the first section and behind the last, read through a folder.
 ghost use Rattle.std.specs.Prelude.{◌<◌, ◌≡◌, ◌≤◌, ℕ, List, Some, length, IsErrOf, IfOk, true};
 ghost use Rattle.fx_edge.specs.Outside.{Rose};
-ghost use Rattle.cert_bytes.specs.Reading.{magic_at, version_at, preamble_at, head_at, node_item_at, marks_at, mark_at};
+ghost use Rattle.cert_bytes.specs.Reading.{magic_at, version_at, preamble_at, head_at, mark_at};
 ghost use Rattle.cert_bytes.specs.Certificates.{HasSpelling};
-ghost use Rattle.cert_bytes.specs.Due.{is_nodes, is_node, is_marks, is_mark};
+ghost use Rattle.cert_bytes.specs.Due.{is_nodes, is_mark};
 ghost use Rattle.cert_bytes.specs.Pieces.{Gives, AgreesTold, kept_of};
 
 use crate::fault::{CertKind, Stop, fault};
+use crate::field::Field;
 use crate::item::Item;
 use crate::source::Source;
 use facts::HintMark;
@@ -45,7 +46,7 @@ impl Source {
         ensures cause { IsErrOf result Stop.Failed → Rose (F.read_faults folder.old) (F.read_faults folder.new) }
     {
         let start = self.at();
-        let version = self.tag(folder)?;
+        let version = u8::read(self, folder)?;
         if version != 1 {
             return Err(fault(CertKind::BadVersion, start));
         }
@@ -85,44 +86,8 @@ impl Source {
         ensures cause { IsErrOf result Stop.Failed → Rose (F.read_faults folder.old) (F.read_faults folder.new) }
     {
         self.preamble(folder)?;
-        let count = self.short(folder)?;
+        let count = u16::read(self, folder)?;
         Ok(Item::Nodes(count))
-    }
-
-    /// The next node, as an item.
-    #[tactic(auto, unfolding(crate::specs::Reading::node_item_at))]
-    pub fn node_item<F: Folder>(&mut self, folder: &mut F) -> Result<Item, Stop>
-        requires agrees { AgreesTold (F.told folder.old self.old.name) self.old }
-        ensures gives { (all : List ℕ) → F.told folder.old self.old.name ≡ Some all → Gives (λ x. x) all self.old self.new result node_item_at }
-        ensures agrees { AgreesTold (F.told folder.new self.new.name) self.new }
-        ensures kept { kept_of self.new ≡ kept_of self.old }
-        ensures grows { self.old.at ≤ self.new.at }
-        ensures moves { IfOk result (λ _. self.old.at < self.new.at) }
-        ensures kind { IfOk result (λ i. is_node i ≡ true) }
-        ensures spelled { IfOk result HasSpelling }
-        ensures told { (other : List ℕ) → F.told folder.new other ≡ F.told folder.old other }
-        ensures later { F.read_faults folder.old ≤ F.read_faults folder.new }
-        ensures cause { IsErrOf result Stop.Failed → Rose (F.read_faults folder.old) (F.read_faults folder.new) }
-    {
-        Ok(Item::Node(self.node(folder)?))
-    }
-
-    /// The number of marks.
-    #[tactic(auto, unfolding(crate::specs::Reading::marks_at))]
-    pub fn marks<F: Folder>(&mut self, folder: &mut F) -> Result<Item, Stop>
-        requires agrees { AgreesTold (F.told folder.old self.old.name) self.old }
-        ensures gives { (all : List ℕ) → F.told folder.old self.old.name ≡ Some all → Gives (λ x. x) all self.old self.new result marks_at }
-        ensures agrees { AgreesTold (F.told folder.new self.new.name) self.new }
-        ensures kept { kept_of self.new ≡ kept_of self.old }
-        ensures grows { self.old.at ≤ self.new.at }
-        ensures moves { IfOk result (λ _. self.old.at < self.new.at) }
-        ensures kind { IfOk result (λ i. is_marks i ≡ true) }
-        ensures spelled { IfOk result HasSpelling }
-        ensures told { (other : List ℕ) → F.told folder.new other ≡ F.told folder.old other }
-        ensures later { F.read_faults folder.old ≤ F.read_faults folder.new }
-        ensures cause { IsErrOf result Stop.Failed → Rose (F.read_faults folder.old) (F.read_faults folder.new) }
-    {
-        Ok(Item::Marks(self.short(folder)?))
     }
 
     /// The next mark.
@@ -141,7 +106,7 @@ impl Source {
         ensures cause { IsErrOf result Stop.Failed → Rose (F.read_faults folder.old) (F.read_faults folder.new) }
     {
         let start = self.at();
-        let tag = self.tag(folder)?;
+        let tag = u8::read(self, folder)?;
         if tag == 0 {
             return Ok(Item::Mark(HintMark::Checked));
         }

@@ -3,6 +3,7 @@
 
 mod claims;
 mod fault;
+mod field;
 mod front;
 mod item;
 mod kept;
@@ -15,6 +16,7 @@ mod pieces;
 mod reader;
 mod section;
 mod source;
+mod style;
 mod writing;
 
 pub use fault::{CertFault, CertKind, Stop};
@@ -22,4 +24,5 @@ pub use item::{Item, StepRow};
 pub use laws::{certificates_are_spelled_once, spellings_read_back};
 pub use order::Due;
 pub use reader::Reader;
+pub use style::Style;
 pub use writing::write_item;

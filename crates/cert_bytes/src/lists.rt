@@ -6,8 +6,9 @@ ghost use Rattle.cert_bytes.specs.Certificates.{IsCounted};
 ghost use Rattle.cert_bytes.specs.Pieces.{Gives, AgreesTold, kept_of};
 
 use crate::fault::{CertKind, Stop, fault};
+use crate::field::Field;
 use crate::source::Source;
-use dyadic::Points;
+use dyadic::{Dyadic, Points};
 use fx_edge::{Folder, Items};
 
 impl Source {
@@ -26,50 +27,10 @@ impl Source {
         let mut numbers = Vec::new(self.alloc());
         let mut have = 0;
         while have < count {
-            numbers.push(self.reference(folder)?)?;
+            numbers.push(u64::read(self, folder)?)?;
             have += 1;
         }
         Ok(Items::from_vec(numbers))
-    }
-
-    /// The next list of numbers, behind its length.
-    #[tactic(auto, unfolding(crate::specs::Reading::counted_at))]
-    pub fn counted<F: Folder>(&mut self, folder: &mut F) -> Result<Items<u64>, Stop>
-        requires agrees { AgreesTold (F.told folder.old self.old.name) self.old }
-        ensures gives { (all : List ℕ) → F.told folder.old self.old.name ≡ Some all → Gives (λ x. x) all self.old self.new result counted_at }
-        ensures agrees { AgreesTold (F.told folder.new self.new.name) self.new }
-        ensures kept { kept_of self.new ≡ kept_of self.old }
-        ensures grows { self.old.at ≤ self.new.at }
-        ensures counted { IfOk result IsCounted }
-        ensures told { (other : List ℕ) → F.told folder.new other ≡ F.told folder.old other }
-        ensures later { F.read_faults folder.old ≤ F.read_faults folder.new }
-        ensures cause { IsErrOf result Stop.Failed → Rose (F.read_faults folder.old) (F.read_faults folder.new) }
-    {
-        let count = self.short(folder)?;
-        Ok(self.references(folder, count)?)
-    }
-
-    /// The next number, where its flag says that there is one.
-    #[tactic(auto, unfolding(crate::specs::Reading::optional_at))]
-    pub fn optional<F: Folder>(&mut self, folder: &mut F) -> Result<Option<u64>, Stop>
-        requires agrees { AgreesTold (F.told folder.old self.old.name) self.old }
-        ensures gives { (all : List ℕ) → F.told folder.old self.old.name ≡ Some all → Gives (λ x. x) all self.old self.new result optional_at }
-        ensures agrees { AgreesTold (F.told folder.new self.new.name) self.new }
-        ensures kept { kept_of self.new ≡ kept_of self.old }
-        ensures grows { self.old.at ≤ self.new.at }
-        ensures told { (other : List ℕ) → F.told folder.new other ≡ F.told folder.old other }
-        ensures later { F.read_faults folder.old ≤ F.read_faults folder.new }
-        ensures cause { IsErrOf result Stop.Failed → Rose (F.read_faults folder.old) (F.read_faults folder.new) }
-    {
-        let start = self.at();
-        let flag = self.tag(folder)?;
-        if flag == 0 {
-            return Ok(None);
-        }
-        if flag == 1 {
-            return Ok(Some(self.reference(folder)?));
-        }
-        Err(fault(CertKind::BadTag, start))
     }
 
     /// The next count of points.
@@ -86,7 +47,7 @@ impl Source {
         ensures cause { IsErrOf result Stop.Failed → Rose (F.read_faults folder.old) (F.read_faults folder.new) }
     {
         let start = self.at();
-        let count = self.tag(folder)?;
+        let count = u8::read(self, folder)?;
         if count == 0 {
             return Err(fault(CertKind::BadNumber, start));
         }
@@ -111,7 +72,7 @@ impl Source {
         ensures cause { IsErrOf result Stop.Failed → Rose (F.read_faults folder.old) (F.read_faults folder.new) }
     {
         let start = self.at();
-        let point = self.point(folder)?;
+        let point = Dyadic::read(self, folder)?;
         match points.with_last(point) {
             Some(more) => Ok(more),
             None => Err(fault(CertKind::BadNumber, start)),
@@ -138,5 +99,31 @@ impl Source {
             have += 1;
         }
         Ok(points)
+    }
+}
+
+impl Field for Items<u64> {
+    ghost read_at = { counted_at };
+
+    ghost Keeps = { IsCounted };
+
+    #[tactic(auto, unfolding(crate::specs::Reading::counted_at))]
+    fn read<F: Folder>(source: &mut Source, folder: &mut F) -> Result<Items<u64>, Stop> {
+        let count = u16::read(source, folder)?;
+        Ok(source.references(folder, count)?)
+    }
+}
+
+impl Field for Option<u64> {
+    ghost read_at = { optional_at };
+
+    #[tactic(auto, unfolding(crate::specs::Reading::optional_at))]
+    fn read<F: Folder>(source: &mut Source, folder: &mut F) -> Result<Option<u64>, Stop> {
+        let start = source.at();
+        match u8::read(source, folder)? {
+            0 => Ok(None),
+            1 => Ok(Some(u64::read(source, folder)?)),
+            _ => Err(fault(CertKind::BadTag, start)),
+        }
     }
 }

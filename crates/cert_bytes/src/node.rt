@@ -3,16 +3,16 @@ ghost use Rattle.std.specs.Prelude.{◌<◌, ◌≡◌, ◌≤◌, pos, negsuc, 
 ghost use Rattle.literal.specs.Spelling.{IsBetween};
 ghost use Rattle.literal.specs.Normal.{IsNormal};
 ghost use Rattle.expr_dag.specs.Nodes.{IsInLimits};
-ghost use Rattle.fx_model.specs.declared.Node.TheVariants as node;
 ghost use Rattle.fx_edge.specs.Outside.{Rose};
-ghost use Rattle.cert_bytes.specs.Reading.{direction_from, direction_at, lsb_at, exponents_at, literal_at, rounding_at, one_at, two_at, round_at, var_at, lit_at, late_node_at, node_by, node_at};
+ghost use Rattle.cert_bytes.specs.Reading.{direction_from, direction_at, lsb_at, literal_at, rounding_at, late_node_at, node_by, node_at};
 ghost use Rattle.cert_bytes.specs.Pieces.{Gives, AgreesTold, kept_of};
 
 use crate::fault::{CertKind, Stop, fault};
+use crate::field::Field;
 use crate::kept::is_normal;
 use crate::source::Source;
 use fx_edge::Folder;
-use fx_model::{Direction, Literal, Node, Rounding};
+use fx_model::{Direction, ExprId, Literal, Node, Rounding};
 
 fn direction_from(byte: u8) -> Option<Direction>
     ensures { result ≡ direction_from byte }
@@ -34,25 +34,6 @@ fn direction_from(byte: u8) -> Option<Direction>
 }
 
 impl Source {
-    #[tactic(auto, unfolding(crate::specs::Reading::direction_at))]
-    fn direction<F: Folder>(&mut self, folder: &mut F) -> Result<Direction, Stop>
-        requires agrees { AgreesTold (F.told folder.old self.old.name) self.old }
-        ensures gives { (all : List ℕ) → F.told folder.old self.old.name ≡ Some all → Gives (λ x. x) all self.old self.new result direction_at }
-        ensures agrees { AgreesTold (F.told folder.new self.new.name) self.new }
-        ensures kept { kept_of self.new ≡ kept_of self.old }
-        ensures grows { self.old.at ≤ self.new.at }
-        ensures told { (other : List ℕ) → F.told folder.new other ≡ F.told folder.old other }
-        ensures later { F.read_faults folder.old ≤ F.read_faults folder.new }
-        ensures cause { IsErrOf result Stop.Failed → Rose (F.read_faults folder.old) (F.read_faults folder.new) }
-    {
-        let start = self.at();
-        let byte = self.tag(folder)?;
-        match direction_from(byte) {
-            Some(direction) => Ok(direction),
-            None => Err(fault(CertKind::BadTag, start)),
-        }
-    }
-
     #[tactic(auto, unfolding(crate::specs::Reading::lsb_at))]
     fn lsb<F: Folder>(&mut self, folder: &mut F) -> Result<i16, Stop>
         requires agrees { AgreesTold (F.told folder.old self.old.name) self.old }
@@ -66,7 +47,7 @@ impl Source {
         ensures cause { IsErrOf result Stop.Failed → Rose (F.read_faults folder.old) (F.read_faults folder.new) }
     {
         let start = self.at();
-        let lsb = self.signed_short(folder)?;
+        let lsb = i16::read(self, folder)?;
         if lsb < -512 {
             return Err(fault(CertKind::BadNumber, start));
         }
@@ -76,207 +57,7 @@ impl Source {
         Ok(lsb)
     }
 
-    #[tactic(auto, unfolding(crate::specs::Reading::exponents_at))]
-    fn exponents<F: Folder>(&mut self, folder: &mut F) -> Result<(i16, i16), Stop>
-        requires agrees { AgreesTold (F.told folder.old self.old.name) self.old }
-        ensures gives { (all : List ℕ) → F.told folder.old self.old.name ≡ Some all → Gives (λ x. x) all self.old self.new result exponents_at }
-        ensures agrees { AgreesTold (F.told folder.new self.new.name) self.new }
-        ensures kept { kept_of self.new ≡ kept_of self.old }
-        ensures grows { self.old.at ≤ self.new.at }
-        ensures told { (other : List ℕ) → F.told folder.new other ≡ F.told folder.old other }
-        ensures later { F.read_faults folder.old ≤ F.read_faults folder.new }
-        ensures cause { IsErrOf result Stop.Failed → Rose (F.read_faults folder.old) (F.read_faults folder.new) }
-    {
-        let two = self.signed_short(folder)?;
-        let ten = self.signed_short(folder)?;
-        Ok((two, ten))
-    }
-
-    #[tactic(auto, unfolding(crate::specs::Reading::literal_at), using(crate::proofs::Normal::normal_in))]
-    fn literal<F: Folder>(&mut self, folder: &mut F) -> Result<Literal, Stop>
-        requires agrees { AgreesTold (F.told folder.old self.old.name) self.old }
-        ensures gives { (all : List ℕ) → F.told folder.old self.old.name ≡ Some all → Gives (λ x. x) all self.old self.new result literal_at }
-        ensures agrees { AgreesTold (F.told folder.new self.new.name) self.new }
-        ensures normal { IfOk result IsNormal }
-        ensures kept { kept_of self.new ≡ kept_of self.old }
-        ensures grows { self.old.at ≤ self.new.at }
-        ensures told { (other : List ℕ) → F.told folder.new other ≡ F.told folder.old other }
-        ensures later { F.read_faults folder.old ≤ F.read_faults folder.new }
-        ensures cause { IsErrOf result Stop.Failed → Rose (F.read_faults folder.old) (F.read_faults folder.new) }
-    {
-        let start = self.at();
-        let num = self.wide(folder)?;
-        let (two, ten) = self.exponents(folder)?;
-        let literal = Literal {
-            num,
-            two: i32::from(two),
-            ten: i32::from(ten),
-        };
-        if !is_normal(literal) {
-            return Err(fault(CertKind::BadNumber, start));
-        }
-        Ok(literal)
-    }
-
-    #[tactic(auto, unfolding(crate::specs::Reading::rounding_at))]
-    fn rounding<F: Folder>(&mut self, folder: &mut F) -> Result<Rounding, Stop>
-        requires agrees { AgreesTold (F.told folder.old self.old.name) self.old }
-        ensures gives { (all : List ℕ) → F.told folder.old self.old.name ≡ Some all → Gives (λ x. x) all self.old self.new result rounding_at }
-        ensures agrees { AgreesTold (F.told folder.new self.new.name) self.new }
-        ensures within { IfOk result (λ rounding. IsBetween (negsuc 511) (pos 512) rounding.lsb) }
-        ensures kept { kept_of self.new ≡ kept_of self.old }
-        ensures grows { self.old.at ≤ self.new.at }
-        ensures told { (other : List ℕ) → F.told folder.new other ≡ F.told folder.old other }
-        ensures later { F.read_faults folder.old ≤ F.read_faults folder.new }
-        ensures cause { IsErrOf result Stop.Failed → Rose (F.read_faults folder.old) (F.read_faults folder.new) }
-    {
-        let dir = self.direction(folder)?;
-        let lsb = self.lsb(folder)?;
-        Ok(Rounding { lsb, dir })
-    }
-
-    #[tactic(auto, unfolding(crate::specs::Reading::round_at))]
-    fn round<F: Folder>(&mut self, folder: &mut F) -> Result<Node, Stop>
-        requires agrees { AgreesTold (F.told folder.old self.old.name) self.old }
-        ensures gives { (all : List ℕ) → F.told folder.old self.old.name ≡ Some all → Gives (λ x. x) all self.old self.new result round_at }
-        ensures agrees { AgreesTold (F.told folder.new self.new.name) self.new }
-        ensures limits { IfOk result IsInLimits }
-        ensures kept { kept_of self.new ≡ kept_of self.old }
-        ensures grows { self.old.at ≤ self.new.at }
-        ensures told { (other : List ℕ) → F.told folder.new other ≡ F.told folder.old other }
-        ensures later { F.read_faults folder.old ≤ F.read_faults folder.new }
-        ensures cause { IsErrOf result Stop.Failed → Rose (F.read_faults folder.old) (F.read_faults folder.new) }
-    {
-        let rounding = self.rounding(folder)?;
-        let x = self.expr(folder)?;
-        Ok(Node::Round(rounding, x))
-    }
-
-    #[tactic(auto, unfolding(crate::specs::Reading::two_at))]
-    fn add<F: Folder>(&mut self, folder: &mut F) -> Result<Node, Stop>
-        requires agrees { AgreesTold (F.told folder.old self.old.name) self.old }
-        ensures gives { (all : List ℕ) → F.told folder.old self.old.name ≡ Some all → Gives (λ x. x) all self.old self.new result (two_at node.Add) }
-        ensures agrees { AgreesTold (F.told folder.new self.new.name) self.new }
-        ensures limits { IfOk result IsInLimits }
-        ensures kept { kept_of self.new ≡ kept_of self.old }
-        ensures grows { self.old.at ≤ self.new.at }
-        ensures told { (other : List ℕ) → F.told folder.new other ≡ F.told folder.old other }
-        ensures later { F.read_faults folder.old ≤ F.read_faults folder.new }
-        ensures cause { IsErrOf result Stop.Failed → Rose (F.read_faults folder.old) (F.read_faults folder.new) }
-    {
-        let (x, y) = self.pair(folder)?;
-        Ok(Node::Add(x, y))
-    }
-
-    #[tactic(auto, unfolding(crate::specs::Reading::two_at))]
-    fn sub<F: Folder>(&mut self, folder: &mut F) -> Result<Node, Stop>
-        requires agrees { AgreesTold (F.told folder.old self.old.name) self.old }
-        ensures gives { (all : List ℕ) → F.told folder.old self.old.name ≡ Some all → Gives (λ x. x) all self.old self.new result (two_at node.Sub) }
-        ensures agrees { AgreesTold (F.told folder.new self.new.name) self.new }
-        ensures limits { IfOk result IsInLimits }
-        ensures kept { kept_of self.new ≡ kept_of self.old }
-        ensures grows { self.old.at ≤ self.new.at }
-        ensures told { (other : List ℕ) → F.told folder.new other ≡ F.told folder.old other }
-        ensures later { F.read_faults folder.old ≤ F.read_faults folder.new }
-        ensures cause { IsErrOf result Stop.Failed → Rose (F.read_faults folder.old) (F.read_faults folder.new) }
-    {
-        let (x, y) = self.pair(folder)?;
-        Ok(Node::Sub(x, y))
-    }
-
-    #[tactic(auto, unfolding(crate::specs::Reading::two_at))]
-    fn mul<F: Folder>(&mut self, folder: &mut F) -> Result<Node, Stop>
-        requires agrees { AgreesTold (F.told folder.old self.old.name) self.old }
-        ensures gives { (all : List ℕ) → F.told folder.old self.old.name ≡ Some all → Gives (λ x. x) all self.old self.new result (two_at node.Mul) }
-        ensures agrees { AgreesTold (F.told folder.new self.new.name) self.new }
-        ensures limits { IfOk result IsInLimits }
-        ensures kept { kept_of self.new ≡ kept_of self.old }
-        ensures grows { self.old.at ≤ self.new.at }
-        ensures told { (other : List ℕ) → F.told folder.new other ≡ F.told folder.old other }
-        ensures later { F.read_faults folder.old ≤ F.read_faults folder.new }
-        ensures cause { IsErrOf result Stop.Failed → Rose (F.read_faults folder.old) (F.read_faults folder.new) }
-    {
-        let (x, y) = self.pair(folder)?;
-        Ok(Node::Mul(x, y))
-    }
-
-    #[tactic(auto, unfolding(crate::specs::Reading::two_at))]
-    fn div<F: Folder>(&mut self, folder: &mut F) -> Result<Node, Stop>
-        requires agrees { AgreesTold (F.told folder.old self.old.name) self.old }
-        ensures gives { (all : List ℕ) → F.told folder.old self.old.name ≡ Some all → Gives (λ x. x) all self.old self.new result (two_at node.Div) }
-        ensures agrees { AgreesTold (F.told folder.new self.new.name) self.new }
-        ensures limits { IfOk result IsInLimits }
-        ensures kept { kept_of self.new ≡ kept_of self.old }
-        ensures grows { self.old.at ≤ self.new.at }
-        ensures told { (other : List ℕ) → F.told folder.new other ≡ F.told folder.old other }
-        ensures later { F.read_faults folder.old ≤ F.read_faults folder.new }
-        ensures cause { IsErrOf result Stop.Failed → Rose (F.read_faults folder.old) (F.read_faults folder.new) }
-    {
-        let (x, y) = self.pair(folder)?;
-        Ok(Node::Div(x, y))
-    }
-
-    #[tactic(auto, unfolding(crate::specs::Reading::var_at))]
-    fn var<F: Folder>(&mut self, folder: &mut F) -> Result<Node, Stop>
-        requires agrees { AgreesTold (F.told folder.old self.old.name) self.old }
-        ensures gives { (all : List ℕ) → F.told folder.old self.old.name ≡ Some all → Gives (λ x. x) all self.old self.new result var_at }
-        ensures agrees { AgreesTold (F.told folder.new self.new.name) self.new }
-        ensures limits { IfOk result IsInLimits }
-        ensures kept { kept_of self.new ≡ kept_of self.old }
-        ensures grows { self.old.at ≤ self.new.at }
-        ensures told { (other : List ℕ) → F.told folder.new other ≡ F.told folder.old other }
-        ensures later { F.read_faults folder.old ≤ F.read_faults folder.new }
-        ensures cause { IsErrOf result Stop.Failed → Rose (F.read_faults folder.old) (F.read_faults folder.new) }
-    {
-        Ok(Node::Var(self.short(folder)?))
-    }
-
-    #[tactic(auto, unfolding(crate::specs::Reading::lit_at))]
-    fn lit<F: Folder>(&mut self, folder: &mut F) -> Result<Node, Stop>
-        requires agrees { AgreesTold (F.told folder.old self.old.name) self.old }
-        ensures gives { (all : List ℕ) → F.told folder.old self.old.name ≡ Some all → Gives (λ x. x) all self.old self.new result lit_at }
-        ensures agrees { AgreesTold (F.told folder.new self.new.name) self.new }
-        ensures limits { IfOk result IsInLimits }
-        ensures kept { kept_of self.new ≡ kept_of self.old }
-        ensures grows { self.old.at ≤ self.new.at }
-        ensures told { (other : List ℕ) → F.told folder.new other ≡ F.told folder.old other }
-        ensures later { F.read_faults folder.old ≤ F.read_faults folder.new }
-        ensures cause { IsErrOf result Stop.Failed → Rose (F.read_faults folder.old) (F.read_faults folder.new) }
-    {
-        Ok(Node::Lit(self.literal(folder)?))
-    }
-
-    #[tactic(auto, unfolding(crate::specs::Reading::one_at))]
-    fn neg<F: Folder>(&mut self, folder: &mut F) -> Result<Node, Stop>
-        requires agrees { AgreesTold (F.told folder.old self.old.name) self.old }
-        ensures gives { (all : List ℕ) → F.told folder.old self.old.name ≡ Some all → Gives (λ x. x) all self.old self.new result (one_at node.Neg) }
-        ensures agrees { AgreesTold (F.told folder.new self.new.name) self.new }
-        ensures limits { IfOk result IsInLimits }
-        ensures kept { kept_of self.new ≡ kept_of self.old }
-        ensures grows { self.old.at ≤ self.new.at }
-        ensures told { (other : List ℕ) → F.told folder.new other ≡ F.told folder.old other }
-        ensures later { F.read_faults folder.old ≤ F.read_faults folder.new }
-        ensures cause { IsErrOf result Stop.Failed → Rose (F.read_faults folder.old) (F.read_faults folder.new) }
-    {
-        Ok(Node::Neg(self.expr(folder)?))
-    }
-
-    #[tactic(auto, unfolding(crate::specs::Reading::one_at))]
-    fn size_node<F: Folder>(&mut self, folder: &mut F) -> Result<Node, Stop>
-        requires agrees { AgreesTold (F.told folder.old self.old.name) self.old }
-        ensures gives { (all : List ℕ) → F.told folder.old self.old.name ≡ Some all → Gives (λ x. x) all self.old self.new result (one_at node.Abs) }
-        ensures agrees { AgreesTold (F.told folder.new self.new.name) self.new }
-        ensures limits { IfOk result IsInLimits }
-        ensures kept { kept_of self.new ≡ kept_of self.old }
-        ensures grows { self.old.at ≤ self.new.at }
-        ensures told { (other : List ℕ) → F.told folder.new other ≡ F.told folder.old other }
-        ensures later { F.read_faults folder.old ≤ F.read_faults folder.new }
-        ensures cause { IsErrOf result Stop.Failed → Rose (F.read_faults folder.old) (F.read_faults folder.new) }
-    {
-        Ok(Node::Abs(self.expr(folder)?))
-    }
-
-    #[tactic(auto, unfolding(crate::specs::Reading::late_node_at))]
+    #[tactic(auto, unfolding(crate::specs::Reading::late_node_at, crate::specs::Reading::two_at, crate::specs::Reading::one_at, crate::specs::Reading::round_at))]
     fn late_node<F: Folder>(&mut self, folder: &mut F, start: u64, tag: u8) -> Result<Node, Stop>
         requires agrees { AgreesTold (F.told folder.old self.old.name) self.old }
         ensures gives { (all : List ℕ) → F.told folder.old self.old.name ≡ Some all → Gives (λ x. x) all self.old self.new result (late_node_at start tag) }
@@ -289,15 +70,24 @@ impl Source {
         ensures cause { IsErrOf result Stop.Failed → Rose (F.read_faults folder.old) (F.read_faults folder.new) }
     {
         match tag {
-            5 => Ok(self.mul(folder)?),
-            6 => Ok(self.div(folder)?),
-            7 => Ok(self.size_node(folder)?),
-            8 => Ok(self.round(folder)?),
+            5 => {
+                let parts = <(ExprId, ExprId)>::read(self, folder)?;
+                Ok(Node::Mul(parts.0, parts.1))
+            }
+            6 => {
+                let parts = <(ExprId, ExprId)>::read(self, folder)?;
+                Ok(Node::Div(parts.0, parts.1))
+            }
+            7 => Ok(Node::Abs(ExprId::read(self, folder)?)),
+            8 => {
+                let parts = <(Rounding, ExprId)>::read(self, folder)?;
+                Ok(Node::Round(parts.0, parts.1))
+            }
             _ => Err(fault(CertKind::BadTag, start)),
         }
     }
 
-    #[tactic(auto, unfolding(crate::specs::Reading::node_by))]
+    #[tactic(auto, unfolding(crate::specs::Reading::node_by, crate::specs::Reading::var_at, crate::specs::Reading::lit_at, crate::specs::Reading::one_at, crate::specs::Reading::two_at))]
     fn node_by<F: Folder>(&mut self, folder: &mut F, start: u64, tag: u8) -> Result<Node, Stop>
         requires agrees { AgreesTold (F.told folder.old self.old.name) self.old }
         ensures gives { (all : List ℕ) → F.told folder.old self.old.name ≡ Some all → Gives (λ x. x) all self.old self.new result (node_by start tag) }
@@ -310,31 +100,80 @@ impl Source {
         ensures cause { IsErrOf result Stop.Failed → Rose (F.read_faults folder.old) (F.read_faults folder.new) }
     {
         match tag {
-            0 => Ok(self.var(folder)?),
-            1 => Ok(self.lit(folder)?),
-            2 => Ok(self.neg(folder)?),
-            3 => Ok(self.add(folder)?),
-            4 => Ok(self.sub(folder)?),
+            0 => Ok(Node::Var(u16::read(self, folder)?)),
+            1 => Ok(Node::Lit(Literal::read(self, folder)?)),
+            2 => Ok(Node::Neg(ExprId::read(self, folder)?)),
+            3 => {
+                let parts = <(ExprId, ExprId)>::read(self, folder)?;
+                Ok(Node::Add(parts.0, parts.1))
+            }
+            4 => {
+                let parts = <(ExprId, ExprId)>::read(self, folder)?;
+                Ok(Node::Sub(parts.0, parts.1))
+            }
             _ => Ok(self.late_node(folder, start, tag)?),
         }
     }
+}
 
-    /// The next node.
+impl Field for Direction {
+    ghost read_at = { direction_at };
+
+    #[tactic(auto, unfolding(crate::specs::Reading::direction_at))]
+    fn read<F: Folder>(source: &mut Source, folder: &mut F) -> Result<Direction, Stop> {
+        let start = source.at();
+        let byte = u8::read(source, folder)?;
+        match direction_from(byte) {
+            Some(direction) => Ok(direction),
+            None => Err(fault(CertKind::BadTag, start)),
+        }
+    }
+}
+
+impl Field for Rounding {
+    ghost read_at = { rounding_at };
+
+    ghost Keeps = { λ rounding. IsBetween (negsuc 511) (pos 512) rounding.lsb };
+
+    #[tactic(auto, unfolding(crate::specs::Reading::rounding_at))]
+    fn read<F: Folder>(source: &mut Source, folder: &mut F) -> Result<Rounding, Stop> {
+        let dir = Direction::read(source, folder)?;
+        let lsb = source.lsb(folder)?;
+        Ok(Rounding { lsb, dir })
+    }
+}
+
+impl Field for Literal {
+    ghost read_at = { literal_at };
+
+    ghost Keeps = { IsNormal };
+
+    #[tactic(auto, unfolding(crate::specs::Reading::literal_at), using(crate::proofs::Normal::normal_in))]
+    fn read<F: Folder>(source: &mut Source, folder: &mut F) -> Result<Literal, Stop> {
+        let start = source.at();
+        let num = u128::read(source, folder)?;
+        let exponents = <(i16, i16)>::read(source, folder)?;
+        let literal = Literal {
+            num,
+            two: i32::from(exponents.0),
+            ten: i32::from(exponents.1),
+        };
+        if !is_normal(literal) {
+            return Err(fault(CertKind::BadNumber, start));
+        }
+        Ok(literal)
+    }
+}
+
+impl Field for Node {
+    ghost read_at = { node_at };
+
+    ghost Keeps = { IsInLimits };
+
     #[tactic(auto, unfolding(crate::specs::Reading::node_at))]
-    pub fn node<F: Folder>(&mut self, folder: &mut F) -> Result<Node, Stop>
-        requires agrees { AgreesTold (F.told folder.old self.old.name) self.old }
-        ensures gives { (all : List ℕ) → F.told folder.old self.old.name ≡ Some all → Gives (λ x. x) all self.old self.new result node_at }
-        ensures agrees { AgreesTold (F.told folder.new self.new.name) self.new }
-        ensures limits { IfOk result IsInLimits }
-        ensures kept { kept_of self.new ≡ kept_of self.old }
-        ensures grows { self.old.at ≤ self.new.at }
-        ensures moves { IfOk result (λ _. self.old.at < self.new.at) }
-        ensures told { (other : List ℕ) → F.told folder.new other ≡ F.told folder.old other }
-        ensures later { F.read_faults folder.old ≤ F.read_faults folder.new }
-        ensures cause { IsErrOf result Stop.Failed → Rose (F.read_faults folder.old) (F.read_faults folder.new) }
-    {
-        let start = self.at();
-        let tag = self.tag(folder)?;
-        Ok(self.node_by(folder, start, tag)?)
+    fn read<F: Folder>(source: &mut Source, folder: &mut F) -> Result<Node, Stop> {
+        let start = source.at();
+        let tag = u8::read(source, folder)?;
+        Ok(source.node_by(folder, start, tag)?)
     }
 }

@@ -8,10 +8,12 @@ ghost use Rattle.cert_bytes.specs.Certificates.{HasSpelling};
 ghost use Rattle.cert_bytes.specs.Pieces.{Gives, AgreesTold, kept_of};
 
 use crate::fault::{CertKind, Stop, fault};
+use crate::field::Field;
 use crate::item::Item;
 use crate::order::Due;
 use crate::source::Source;
 use fx_edge::Folder;
+use fx_model::Node;
 
 impl Source {
     /// Whether bytes follow.
@@ -49,7 +51,7 @@ impl Source {
         Ok(Item::End)
     }
 
-    #[tactic(auto, unfolding(crate::specs::Reading::node_or_marks_at))]
+    #[tactic(auto, unfolding(crate::specs::Reading::node_or_marks_at, crate::specs::Reading::marks_at, crate::specs::Reading::node_item_at))]
     fn node_or_marks<F: Folder>(&mut self, folder: &mut F, nodes: u16) -> Result<Item, Stop>
         requires agrees { AgreesTold (F.told folder.old self.old.name) self.old }
         ensures gives { (all : List ℕ) → F.told folder.old self.old.name ≡ Some all → Gives (λ x. x) all self.old self.new result (node_or_marks_at nodes) }
@@ -64,9 +66,9 @@ impl Source {
         ensures cause { IsErrOf result Stop.Failed → Rose (F.read_faults folder.old) (F.read_faults folder.new) }
     {
         if nodes == 0 {
-            return Ok(self.marks(folder)?);
+            return Ok(Item::Marks(u16::read(self, folder)?));
         }
-        Ok(self.node_item(folder)?)
+        Ok(Item::Node(Node::read(self, folder)?))
     }
 
     #[tactic(auto, unfolding(crate::specs::Reading::mark_or_section_at))]

@@ -12,6 +12,7 @@ use crate::fault::{CertFault, Stop};
 use crate::item::Item;
 use crate::order::{Due, due_behind};
 use crate::source::Source;
+use crate::style::Style;
 use fx_edge::Folder;
 use std::alloc::{AllocError, Global};
 use std::marker::Model;
@@ -38,10 +39,10 @@ impl Reader {
     /// A reader that has read nothing.
     #[tactic(auto, using(crate::proofs::Paced::fresh_agrees))]
     pub fn new(alloc: Global, name: &str) -> Result<Reader, AllocError>
-        ensures begins { IfOk result (λ reader. reader ≡ record { ahead = record { name = name.now; at = 0; ahead = [] }; due = Due.Head; fault = None }) }
+        ensures begins { IfOk result (λ reader. reader ≡ record { ahead = record { name = name.now; style = Style.First; at = 0; ahead = [] }; due = Due.Head; fault = None }) }
         ensures agrees { IfOk result (λ reader. (told : Option (List ℕ)) → AgreesTold told reader.ahead) }
     {
-        let source = Source::new(alloc, name)?;
+        let source = Source::new(alloc, name, Style::First)?;
         Ok(Reader {
             source,
             due: Due::Head,
@@ -64,6 +65,7 @@ impl Reader {
         ensures few { length self.new.ahead.ahead ≤ 4096 }
         ensures agrees { AgreesTold (F.told folder.new self.new.ahead.name) self.new.ahead }
         ensures name { self.new.ahead.name ≡ self.old.ahead.name }
+        ensures style { self.new.ahead.style ≡ self.old.ahead.style }
         ensures told { (other : List ℕ) → F.told folder.new other ≡ F.told folder.old other }
         ensures later { F.read_faults folder.old ≤ F.read_faults folder.new }
         ensures cause { IsErrOf result Stop.Failed → Rose (F.read_faults folder.old) (F.read_faults folder.new) }
@@ -105,6 +107,7 @@ impl Reader {
         ensures few { length self.new.ahead.ahead ≤ 4096 }
         ensures agrees { AgreesTold (F.told folder.new self.new.ahead.name) self.new.ahead }
         ensures name { self.new.ahead.name ≡ self.old.ahead.name }
+        ensures style { self.new.ahead.style ≡ self.old.ahead.style }
         ensures told { (other : List ℕ) → F.told folder.new other ≡ F.told folder.old other }
         ensures later { F.read_faults folder.old ≤ F.read_faults folder.new }
         ensures cause { IsErrOf result Stop.Failed → Rose (F.read_faults folder.old) (F.read_faults folder.new) }

@@ -5,6 +5,7 @@ ghost use Rattle.cert_bytes.specs.Reading.{byte_at};
 ghost use Rattle.cert_bytes.specs.Pieces.{Gives, Agrees, IsFilled, IsReady, IsEnd, kept_of};
 
 use crate::fault::{CertFault, CertKind, Stop};
+use crate::style::Style;
 use fx_edge::{Failed, Folder};
 use std::alloc::{AllocError, Global};
 use std::marker::Model;
@@ -20,6 +21,7 @@ const AHEAD: usize = 4096;
 pub struct Source {
     alloc: Global,
     name: String,
+    style: Style,
     at: u64,
     buffer: [u8; AHEAD],
     // the bytes from `begin` to `end` of the buffer are those from `at` on
@@ -34,7 +36,7 @@ impl Model for Source {
 
     ghost Value = { Ahead };
 
-    ghost view = { λ s. record { name = string_bytes s.name; at = s.at; ahead = slice_range s.buffer s.begin s.end } };
+    ghost view = { λ s. record { name = string_bytes s.name; style = s.style; at = s.at; ahead = slice_range s.buffer s.begin s.end } };
 
     ghost invariant = { λ s. (s.begin ≤ s.end) × (s.end ≤ length s.buffer) × (s.at ≤ 2 ^ 44) };
 }
@@ -59,13 +61,14 @@ fn is_too_long() -> Stop
 
 impl Source {
     /// The first byte of a name.
-    pub fn new(alloc: Global, name: &str) -> Result<Source, AllocError>
-        ensures { IfOk result (λ source. source ≡ record { name = name.now; at = 0; ahead = [] }) }
+    pub fn new(alloc: Global, name: &str, style: Style) -> Result<Source, AllocError>
+        ensures { IfOk result (λ source. source ≡ record { name = name.now; style = style; at = 0; ahead = [] }) }
     {
         let name = String::from_str(alloc, name)?;
         Ok(Source {
             alloc,
             name,
+            style,
             at: 0,
             buffer: [0; AHEAD],
             begin: 0,
@@ -97,7 +100,7 @@ impl Source {
     /// Goes back to an earlier offset.
     pub fn back(&mut self, at: u64)
         requires { at ≤ self.old.at }
-        ensures { self.new ≡ record { name = self.old.name; at = at; ahead = [] } }
+        ensures { self.new ≡ record { name = self.old.name; style = self.old.style; at = at; ahead = [] } }
     {
         self.at = at;
         self.begin = 0;
@@ -146,8 +149,17 @@ impl Source {
         Ok(!self.is_dry())
     }
 
-    // The next byte of those that were read ahead.
-    fn advance(&mut self) -> u8
+    /// Whether so many bytes are read ahead, and byte 2^44 isn't one of them.
+    pub fn has(&self, width: usize) -> bool
+        requires { width ≤ 16 }
+        ensures ahead { IsTrue result → width ≤ length self.now.ahead }
+        ensures room { IsTrue result → self.now.at + width ≤ 2 ^ 44 }
+    {
+        width <= self.end - self.begin && self.at <= LIMIT - 16
+    }
+
+    /// The next byte of those that were read ahead.
+    pub fn advance(&mut self) -> u8
         requires some { ¬ (self.old.ahead ≡ []) }
         requires room { self.old.at < 2 ^ 44 }
         ensures byte { self.old.ahead ≡ result ∷ self.new.ahead }

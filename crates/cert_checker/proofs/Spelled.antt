@@ -3,6 +3,7 @@ use Rattle.std.proofs.Common.{List, [], ◌∷◌, refl, sym, ◌∙◌}
 use Rattle.cert_bytes.specs.declared.item.Item.{Item}
 use Rattle.cert_bytes.specs.declared.order.Due.{Due}
 use Rattle.cert_bytes.specs.declared.order.Due.TheVariants.{Head}
+use Rattle.cert_bytes.specs.declared.style.Style.TheVariants.{First}
 use Rattle.cert_bytes.specs.Due.{due_behind}
 use Rattle.cert_bytes.specs.Reading.{Cursor, cursor}
 use Rattle.cert_bytes.specs.ReadOut.{AreRead, ReadsAreSpelled, SpelledAreRead}
@@ -25,10 +26,10 @@ read_come s d p c end (i ∷ items) r l = (r.2, (r.0, r.1, l.0, read_come s (due
 pub accepted_are_spelled : ReadsAreSpelled → AcceptedAreSpelled
 accepted_are_spelled spelled s bytes end all one comes =
     let items = comes.0 in
-    let t = come_in_order s Head (cursor bytes 0) (first s) end items comes.1 in
-    let whole = spelled bytes items all (come_read s Head (cursor bytes 0) (first s) end items comes.1) in
+    let t = come_in_order s Head (cursor First bytes 0) (first s) end items comes.1 in
+    let whole = spelled bytes items all (come_read s Head (cursor First bytes 0) (first s) end items comes.1) in
     (items, whole, record { certificate = whole.certificate; end = end; leads = t.1; cases = have_one_root s items end t.0 t.1 ∙ sym one; shown = refl })
 
 pub spelled_are_accepted : SpelledAreRead → SpelledAreAccepted
 spelled_are_accepted read s bytes items lines short whole acc =
-    (acc.end, (items, read_come s Head (cursor bytes 0) (first s) acc.end items (read bytes items short whole) acc.leads), acc.shown)
+    (acc.end, (items, read_come s Head (cursor First bytes 0) (first s) acc.end items (read bytes items short whole) acc.leads), acc.shown)

@@ -5,6 +5,7 @@ use Rattle.cert_bytes.specs.declared.fault.CertFault.{CertFault}
 use Rattle.cert_bytes.specs.declared.item.Item.{Item}
 use Rattle.cert_bytes.specs.declared.order.Due.{Due}
 use Rattle.cert_bytes.specs.declared.order.Due.TheVariants.{Head, Done}
+use Rattle.cert_bytes.specs.declared.style.Style.TheVariants.{First}
 use Rattle.cert_bytes.specs.Due.{due_behind}
 use Rattle.cert_bytes.specs.Certificates.{SpellsCertificate}
 use Rattle.cert_bytes.specs.Reading.{Cursor, cursor, item_at}
@@ -49,8 +50,8 @@ CheckedHolds = (s : Subject) (p : Cursor) (end : Context) → length s.cases ≡
 
 -- What comes of bytes from their first one, where they are accepted: they spell a certificate, which is accepted with these lines.
 abbrev pub AcceptedAreSpelled : Type 0
-AcceptedAreSpelled = (s : Subject) (bytes : List ℕ) (end : Context) → AreBytes bytes → length s.cases ≡ 1 → ComesOf s (cursor bytes 0) (accepted end) → (items : List Item) × SpellsCertificate bytes items × Accepts s items end.lines
+AcceptedAreSpelled = (s : Subject) (bytes : List ℕ) (end : Context) → AreBytes bytes → length s.cases ≡ 1 → ComesOf s (cursor First bytes 0) (accepted end) → (items : List Item) × SpellsCertificate bytes items × Accepts s items end.lines
 
 -- A certificate that is accepted is read and accepted, as far as byte 2^44 isn't asked for.
 abbrev pub SpelledAreAccepted : Type 0
-SpelledAreAccepted = (s : Subject) (bytes : List ℕ) (items : List Item) (lines : List Line) → length bytes ≤ 17592186044416 → SpellsCertificate bytes items → Accepts s items lines → (end : Context) × ComesOf s (cursor bytes 0) (accepted end) × (end.lines ≡ lines)
+SpelledAreAccepted = (s : Subject) (bytes : List ℕ) (items : List Item) (lines : List Line) → length bytes ≤ 17592186044416 → SpellsCertificate bytes items → Accepts s items lines → (end : Context) × ComesOf s (cursor First bytes 0) (accepted end) × (end.lines ≡ lines)

@@ -1,7 +1,9 @@
 use Rattle.std.proofs.Common.{◌≡◌, ◌+◌, ◌-◌, [], ℕ, suc, rules, arith, ap, subst, ◌∙◌}
 use Rattle.std.proofs.lemmas.Result.{err_from_is_err_and}
-use Rattle.cert_bytes.specs.Reading.{cursor, references_at}
+use Rattle.cert_bytes.specs.Reading.{references_at}
 use Rattle.cert_bytes.proofs.Rows.{one_reference, references_stop, references_end}
+use Rattle.cert_bytes.specs.Pieces.{cursor_of}
+use Rattle.cert_bytes.proofs.Told.{name_in}
 use Rattle.cert_bytes.proofs.source.Source.references.Goals as goal
 
 pub loop-have-preserved : goal.loop-have-preserved
@@ -12,29 +14,29 @@ loop-have-preserved g c =
       within = omega (arith, t);
       many = search (rules, arith);
       gives = λ all h.
-          let known = ap (g.F.Folder.told c.loop-have.folder) c.loop-have.invariant.name ∙ c.loop-have.invariant.told c.args.self.now.name ∙ h in
-          let read = c.in_ok-reference.ensures.gives all known in
-          let step = one_reference all (c.args.count - (c.loop-have.have + 1)) c.loop-have.self.at c.reference.new.self.at c.in_ok-reference.field-0 c.loop-have.numbers.items _
-          (subst (λ (k : ℕ). references_at k c.loop-have.numbers.items (cursor all c.loop-have.self.at) ≡ references_at c.args.count [] (cursor all c.args.self.now.at)) left (c.loop-have.invariant.gives all h)) read in
+          let known = ap (g.F.Folder.told c.loop-have.folder) (ap name_in c.loop-have.invariant.kept) ∙ c.loop-have.invariant.told c.args.self.now.name ∙ h in
+          let read = c.in_ok-read.ensures.gives all known in
+          let step = one_reference (cursor_of all c.loop-have.self) (cursor_of all c.read.new.source) (c.args.count - (c.loop-have.have + 1)) c.in_ok-read.field-0 c.loop-have.numbers.items _
+          (subst (λ (k : ℕ). references_at k c.loop-have.numbers.items (cursor_of all c.loop-have.self) ≡ references_at c.args.count [] (cursor_of all c.args.self.now)) left (c.loop-have.invariant.gives all h)) read in
           rw c.in_ok-push.ensures.items step;
-      agrees = c.in_ok-reference.ensures.agrees;
-      name = c.in_ok-reference.ensures.kept ∙ c.loop-have.invariant.name;
-      grows = omega (arith, c.in_ok-reference.ensures.grows, c.loop-have.invariant.grows);
-      told = λ other. c.in_ok-reference.ensures.told other ∙ c.loop-have.invariant.told other;
-      later = omega (arith, c.in_ok-reference.ensures.later, c.loop-have.invariant.later);
+      agrees = c.in_ok-read.ensures.agrees;
+      kept = c.in_ok-read.ensures.kept ∙ c.loop-have.invariant.kept;
+      grows = omega (arith, c.in_ok-read.ensures.grows, c.loop-have.invariant.grows);
+      told = λ other. c.in_ok-read.ensures.told other ∙ c.loop-have.invariant.told other;
+      later = omega (arith, c.in_ok-read.ensures.later, c.loop-have.invariant.later);
     }
 
 pub returns-clause-gives : goal.returns-clause-gives
 returns-clause-gives g c = λ all h.
-    let e = references_end (cursor all c.loop-have.self.at) (c.args.count - c.loop-have.have) c.loop-have.numbers.items _ (let t = c.loop-have-test.false in omega (arith, t)) (c.loop-have.invariant.gives all h) in
+    let e = references_end (cursor_of all c.loop-have.self) (c.args.count - c.loop-have.have) c.loop-have.numbers.items _ (let t = c.loop-have-test.false in omega (arith, t)) (c.loop-have.invariant.gives all h) in
     rw c.from_vec.ensures e
 
-pub returns-in_err-reference-clause-gives : goal.returns-in_err-reference-clause-gives
-returns-in_err-reference-clause-gives g c = λ all h.
+pub returns-in_err-read-clause-gives : goal.returns-in_err-read-clause-gives
+returns-in_err-read-clause-gives g c = λ all h.
     let p = err_from_is_err_and c.from_residual.result c.from_residual.ensures.1 in
     let t = c.loop-have-test.true in
-    let known = ap (g.F.Folder.told c.loop-have.folder) c.loop-have.invariant.name ∙ c.loop-have.invariant.told c.args.self.now.name ∙ h in
+    let known = ap (g.F.Folder.told c.loop-have.folder) (ap name_in c.loop-have.invariant.kept) ∙ c.loop-have.invariant.told c.args.self.now.name ∙ h in
     let left : c.args.count - c.loop-have.have ≡ suc (c.args.count - (c.loop-have.have + 1)) = omega (arith, t) in
-    rw (p.1, p.2) (λ f q. references_stop all (c.args.count - (c.loop-have.have + 1)) c.loop-have.self.at c.loop-have.numbers.items f (references_at c.args.count [] (cursor all c.args.self.now.at))
-    (subst (λ (k : ℕ). references_at k c.loop-have.numbers.items (cursor all c.loop-have.self.at) ≡ references_at c.args.count [] (cursor all c.args.self.now.at)) left (c.loop-have.invariant.gives all h))
-    (c.in_err-reference.ensures.gives all known f q))
+    rw (p.1, p.2) (λ f q. references_stop (cursor_of all c.loop-have.self) (c.args.count - (c.loop-have.have + 1)) c.loop-have.numbers.items f (references_at c.args.count [] (cursor_of all c.args.self.now))
+    (subst (λ (k : ℕ). references_at k c.loop-have.numbers.items (cursor_of all c.loop-have.self) ≡ references_at c.args.count [] (cursor_of all c.args.self.now)) left (c.loop-have.invariant.gives all h))
+    (c.in_err-read.ensures.gives all known f q))

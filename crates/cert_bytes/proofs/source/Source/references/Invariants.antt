@@ -1,15 +1,15 @@
 use Rattle.std.proofs.Common.{length, ◌≡◌, ◌≤◌, ◌-◌, ℕ, List, [], Some}
-use Rattle.cert_bytes.specs.Reading.{cursor, references_at}
-use Rattle.cert_bytes.specs.Pieces.{AgreesTold}
+use Rattle.cert_bytes.specs.Reading.{references_at}
+use Rattle.cert_bytes.specs.Pieces.{cursor_of, kept_of, AgreesTold}
 use Rattle.cert_bytes.proofs.source.Source.references.Given as goal
 
 abbrev pub invariant-loop-have : goal.invariant-loop-have
 invariant-loop-have g l = record {
   within : l.have ≤ l.count;
   many : length l.numbers.items ≡ l.have;
-  gives : (all : List ℕ) → g.F.Folder.told l.initial.folder l.initial.self.name ≡ Some all → references_at (l.count - l.have) l.numbers.items (cursor all l.self.at) ≡ references_at l.count [] (cursor all l.initial.self.at);
+  gives : (all : List ℕ) → g.F.Folder.told l.initial.folder l.initial.self.name ≡ Some all → references_at (l.count - l.have) l.numbers.items (cursor_of all l.self) ≡ references_at l.count [] (cursor_of all l.initial.self);
   agrees : AgreesTold (g.F.Folder.told l.folder l.self.name) l.self;
-  name : l.self.name ≡ l.initial.self.name;
+  kept : kept_of l.self ≡ kept_of l.initial.self;
   grows : l.initial.self.at ≤ l.self.at;
   told : (other : List ℕ) → g.F.Folder.told l.folder other ≡ g.F.Folder.told l.initial.folder other;
   later : g.F.Folder.read_faults l.initial.folder ≤ g.F.Folder.read_faults l.folder;
