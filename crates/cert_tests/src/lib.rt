@@ -1,0 +1,11 @@
+//! Certificates read, written and checked over folders in memory.
+#![tactic(auto)]
+
+#[cfg(test)]
+mod bytes;
+#[cfg(test)]
+mod checks;
+#[cfg(test)]
+mod turned;
+#[cfg(test)]
+mod worked;
