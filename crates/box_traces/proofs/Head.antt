@@ -126,6 +126,9 @@ from_all before (m ∷ rest) =
     one_longer (x ∷ before) m = let h = one_longer before m in omega (arith, h)
 
 -- ---- the certificate
+end_leads : (subject : Subject) (c : Context) → LeadsTo subject c (item.End ∷ []) (after c item.End)
+end_leads subject c = (refl, refl)
+
 -- A tree whose leaves are settled has a certificate that is accepted, with the lines of its leaves.
 pub certificate_exists : (u : Setting) (hints : List HintRow) → IsWritable u hints → (height : ℕ) (goals : List Goal) (subject : Subject) → IsSubjectOf subject u hints goals →
     (tree : Tree) → IsProved u height goals tree [] 0 → steps_in (most_steps u height) tree ≤ 2 ^ 64 →
@@ -155,7 +158,7 @@ certificate_exists u hints w height goals subject same tree proved room =
     let tail : List Item = s.items ++ item.End ∷ [] in
     let marked : List Item = item.Marks (length subject.marks) ∷ (map item.Mark subject.marks ++ tail) in
     let marks_from : AreFrom subject.marks m.marked subject.marks = subst (λ k. AreFrom subject.marks k subject.marks) (sym p.marked) (from_all [] subject.marks) in
-    let tail_leads : LeadsTo subject r tail f = lead_both subject r s.behind f s.items (item.End ∷ []) s.leads (refl, refl) in
+    let tail_leads : LeadsTo subject r tail f = lead_both subject r s.behind f s.items (item.End ∷ []) s.leads (end_leads subject s.behind) in
     let marks_then : LeadsTo subject m (map item.Mark subject.marks ++ tail) f = lead_both subject m r f (map item.Mark subject.marks) tail (marks_lead subject m subject.marks marks_from) tail_leads in (
       item.Nodes (length u.nodes) ∷ (map item.Node u.nodes ++ marked),
       record {
