@@ -1,0 +1,10 @@
+use Rattle.std.proofs.Common.{take}
+use Rattle.derivation.specs.Changes.{AreDue, AreUsers}
+use Rattle.rule_universe.specs.Placed.{slots_of}
+use Rattle.box_trace.proofs.marks.mark.Given as goal
+
+abbrev pub invariant-loop-p : goal.invariant-loop-p
+invariant-loop-p l = record {
+  marked : AreDue l.uni.instances (slots_of (take l.p-index l.changed)) l.due;
+  only : AreUsers l.uni.instances (slots_of (take l.p-index l.changed)) l.due;
+}

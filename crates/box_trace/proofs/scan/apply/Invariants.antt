@@ -1,0 +1,9 @@
+use Rattle.std.proofs.Common.{◌≡◌, drop}
+use Rattle.derivation.specs.Rounds.{all_at}
+use Rattle.rule_universe.specs.Placed.{slots_of}
+use Rattle.box_trace.specs.Tables.{known_at}
+use Rattle.box_trace.proofs.Gather.{after}
+use Rattle.box_trace.proofs.scan.apply.Given as goal
+
+abbrev pub invariant-loop-p : goal.invariant-loop-p
+invariant-loop-p l = all_at (known_at l.uni l.now) (slots_of l.placed) ≡ after l.premises.items (all_at (known_at l.uni l.now) (slots_of (drop l.p-index l.placed)))

@@ -1,0 +1,37 @@
+use Rattle.std.proofs.Common.{◌≡◌, length, sym, ap, subst, ◌∙◌, []}
+use Rattle.facts.specs.declared.fact.Fact.{Fact}
+use Rattle.facts.specs.declared.fact.Fact.TheVariants as fact
+use Rattle.derivation.specs.Derivations.{At}
+use Rattle.derivation.specs.Rounds.{Improves}
+use Rattle.box_trace.specs.Tables.{known_at}
+use Rattle.box_trace.specs.Logs.{Comes}
+use Rattle.box_trace.specs.declared.known.Known.{Known}
+use Rattle.box_trace.specs.declared.log.Log.{Log}
+use Rattle.box_trace.proofs.Logged.{comes_improves}
+use Rattle.box_trace.proofs.Rows.{same_known, same_rows}
+use Rattle.box_trace.proofs.Started.{comes_as, begins_below}
+use Rattle.box_trace.proofs.starts.child_start.Goals as goal
+
+pub come-requires-clause-rows : goal.come-requires-clause-rows
+come-requires-clause-rows c = same_rows c.args.uni.now c.args.parent.now c.begin-log.result.known (ap (λ (k : Known). k.rows.items) c.begin-log.ensures.known ∙ c.in_ok-known.ensures) c.requires.rows
+
+pub returns-clause-improves : goal.returns-clause-improves
+returns-clause-improves c =
+    let u = c.args.uni.now in
+    let f : Fact = fact.Bnd c.args.piece.0 c.args.piece.1 in
+    let old : Log = c.begin-log.result in
+    let same = ap (λ (k : Known). k.rows.items) c.begin-log.ensures.known ∙ c.in_ok-known.ensures in
+    let new = c.come.new.self in
+    let i = comes_improves u old new c.given-source.result.rule c.given-source.result.arg c.given-source.result.premises f
+    (same_rows u c.args.parent.now old.known same c.requires.rows).proper c.in_ok-_piece.ensures in
+    (i.0, subst (λ (at : At). Improves at (known_at u new.known) f i.0) (same_known u c.args.parent.now old.known same) i.1)
+
+pub returns-clause-begins : goal.returns-clause-begins
+returns-clause-begins c =
+    let u = c.args.uni.now in
+    let f : Fact = fact.Bnd c.args.piece.0 c.args.piece.1 in
+    let old : Log = c.begin-log.result in
+    let same = ap (λ (k : Known). k.rows.items) c.begin-log.ensures.known ∙ c.in_ok-known.ensures in
+    let new = c.come.new.self in
+    let come : Comes u old 102 0 [] f new = comes_as u old c.given-source.result.rule c.given-source.result.arg c.given-source.result.premises f new 102 0 c.given-source.ensures.rule c.given-source.ensures.arg c.given-source.ensures.premises c.in_ok-_piece.ensures in
+    begins_below u (c.args.piece.0, c.args.piece.1) c.args.parent.now c.args.first old new same c.begin-log.ensures.steps c.begin-log.ensures.first c.requires.rows c.requires.variable come

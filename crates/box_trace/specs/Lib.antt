@@ -1,0 +1,8 @@
+pub mod Sections
+pub mod Writing
+pub mod Steps
+pub mod Tables
+pub mod Ends
+pub mod Scans
+pub mod Logs
+pub mod Boxes

@@ -1,0 +1,15 @@
+//! The certificate steps of a box: a table of facts with the numbers of their steps, the log of steps, and rounds that write at most two
+//! steps for a slot.
+#![tactic(auto)]
+
+mod ends;
+mod known;
+mod log;
+mod marks;
+mod rounds;
+mod scan;
+mod starts;
+mod tracing;
+
+pub use known::Known;
+pub use tracing::{Traced, trace};
