@@ -16,8 +16,8 @@ use Rattle.derivation.specs.Exists.{joined}
 use Rattle.cert_bytes.specs.declared.item.StepRow.{StepRow}
 use Rattle.cert_checker.specs.Open.{Numbered, with_step}
 use Rattle.cert_checker.specs.Steps.{step_fact, step_facts, IsMetWith, IsLike, AreKnown, Givens, gives, met_with, IsEnough, IsConcluded, target_of}
-use Rattle.box_trace.specs.Sections.{behind, ArePlaces, IsTraced, AreBelow}
-use Rattle.box_trace.specs.Writing.{IsSlotKnown}
+use Rattle.box_traces.specs.Sections.{behind, ArePlaces, IsTraced, AreBelow}
+use Rattle.box_traces.specs.Writing.{IsSlotKnown}
 use Rattle.box_trace.specs.Steps.{met_by, with_by, coming}
 
 void_joined : (o : Option Fact) → joined o fact.Void ≡ fact.Void

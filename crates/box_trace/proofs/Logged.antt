@@ -21,8 +21,8 @@ use Rattle.rule_universe.specs.Worlds.{World}
 use Rattle.saturate.specs.Universes.{setting_of}
 use Rattle.box_trace.specs.declared.known.Known.{Known}
 use Rattle.box_trace.specs.declared.log.Log.{Log}
-use Rattle.box_trace.specs.Sections.{behind, AreAccepted, ArePlaces, AreBelow, IsTraced}
-use Rattle.box_trace.specs.Writing.{IsSlotKnown, IsWritable, givens_of}
+use Rattle.box_traces.specs.Sections.{behind, AreAccepted, ArePlaces, AreBelow, IsTraced}
+use Rattle.box_traces.specs.Writing.{IsSlotKnown, IsWritable, givens_of}
 use Rattle.box_trace.specs.Steps.{met_by, coming}
 use Rattle.box_trace.specs.Tables.{fact_of, number_or, cited_at, known_at, place_in, HasRows}
 use Rattle.box_trace.specs.Logs.{kept_in, IsStep, Comes, InSection, CanCite, GoesOnFrom}

@@ -28,12 +28,13 @@ use Rattle.rule_universe.specs.Places.{place_count}
 use Rattle.saturate.specs.Universes.{setting_of}
 use Rattle.box_trace.specs.declared.known.Known.{Known}
 use Rattle.box_trace.specs.declared.log.Log.{Log}
-use Rattle.box_trace.specs.Sections.{behind, AreAccepted, ArePlaces}
-use Rattle.box_trace.specs.Writing.{IsSlotKnown, IsWritable, givens_of}
+use Rattle.box_traces.specs.Sections.{behind, AreAccepted, ArePlaces}
+use Rattle.box_traces.specs.Writing.{IsSlotKnown, IsWritable, givens_of}
 use Rattle.box_trace.specs.Steps.{met_by}
 use Rattle.box_trace.specs.Tables.{known_at, place_in, HasRows}
 use Rattle.box_trace.specs.Logs.{Comes, InSection}
-use Rattle.box_trace.specs.Boxes.{IsNext, IsCutTo, IsSectionBelow, BeginsWithin, BeginsBelow}
+use Rattle.box_traces.specs.Traces.{IsCutTo}
+use Rattle.box_trace.specs.Boxes.{IsNext, IsSectionBelow, BeginsWithin, BeginsBelow}
 use Rattle.box_trace.proofs.Rows.{same_known, same_places, same_rows}
 use Rattle.box_trace.proofs.Logged.{Suffices, comes_rows, comes_first, comes_few, comes_section}
 use Rattle.box_trace.proofs.Coming.{enough}

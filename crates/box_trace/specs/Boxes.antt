@@ -14,8 +14,9 @@ use Rattle.saturate.specs.Universes.{setting_of}
 use Rattle.box_trace.specs.declared.known.Known.{Known}
 use Rattle.box_trace.specs.declared.log.Log.{Log}
 use Rattle.box_trace.specs.declared.tracing.Traced.{Traced}
-use Rattle.box_trace.specs.Sections.{ArePlaces, AreBelow, IsTraced}
-use Rattle.box_trace.specs.Writing.{IsWritable, givens_of}
+use Rattle.box_traces.specs.Sections.{ArePlaces, AreBelow, IsTraced}
+use Rattle.box_traces.specs.Writing.{IsWritable, givens_of}
+use Rattle.box_traces.specs.Traces.{IsCutTo}
 use Rattle.box_trace.specs.Tables.{known_at, place_in, HasRows}
 
 -- The box is the root, and nothing is given; or the last cut's piece and what is known at its parent are.
@@ -41,10 +42,6 @@ abbrev pub IsTableBelow : World → ℕ → Piece → Known → Known → Type 0
 IsTableBelow u height piece parent k = (above : List Piece) → IsTableAt (setting_of u) height above (known_at u parent) → IsTableAt (setting_of u) height (piece ∷ above) (known_at u k)
 
 -- ---- where the box's steps may stand
--- The piece of the certificate's cut, met with what the table knows of the variable, is as strong as the box's piece met with that.
-abbrev pub IsCutTo : At → Fact → Piece → Type 0
-IsCutTo at p piece = IsEnough (met_with (Some p) (at (slot.Bnd piece.0))) (joined (at (slot.Bnd piece.0)) (fact.Bnd piece.0 piece.1))
-
 -- The next step has the first number, and no number that may be cited is as large.
 abbrev pub IsNext : ℕ → Numbered → Type 0
 IsNext first s = (s.next ≡ first) × AreBelow s

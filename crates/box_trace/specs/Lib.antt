@@ -1,5 +1,3 @@
-pub mod Sections
-pub mod Writing
 pub mod Steps
 pub mod Tables
 pub mod Ends

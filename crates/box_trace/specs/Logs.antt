@@ -17,8 +17,8 @@ use Rattle.box_trace.specs.declared.known.Known.{Known}
 use Rattle.box_trace.specs.declared.log.Log.{Log}
 use Rattle.box_trace.specs.declared.ends.Ends.{Ends}
 use Rattle.box_trace.specs.Scans.{IsWide}
-use Rattle.box_trace.specs.Sections.{behind, ArePlaces, AreBelow, IsTraced}
-use Rattle.box_trace.specs.Writing.{IsWritable, givens_of}
+use Rattle.box_traces.specs.Sections.{behind, ArePlaces, AreBelow, IsTraced}
+use Rattle.box_traces.specs.Writing.{IsWritable, givens_of}
 use Rattle.box_trace.specs.Steps.{coming}
 use Rattle.box_trace.specs.Tables.{cited_at, known_at, place_in, HasRows}
 

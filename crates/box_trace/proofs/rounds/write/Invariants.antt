@@ -6,7 +6,7 @@ use Rattle.derivation.specs.Changes.{IsListed}
 use Rattle.rule_universe.specs.declared.placed.Placed.{Placed}
 use Rattle.rule_universe.specs.Placed.{slots_of, IsPlaced}
 use Rattle.saturate.specs.Universes.{setting_of}
-use Rattle.box_trace.specs.Writing.{IsWritable}
+use Rattle.box_traces.specs.Writing.{IsWritable}
 use Rattle.box_trace.specs.Tables.{known_at, HasRows}
 use Rattle.box_trace.specs.Scans.{most_for}
 use Rattle.box_trace.specs.Logs.{GoesOnFrom}
