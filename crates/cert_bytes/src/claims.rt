@@ -14,6 +14,7 @@ use interval::Interval;
 impl Field for Dyadic {
     ghost read_at = { point_at };
 
+    #[inline(always)]
     #[tactic(auto, unfolding(crate::specs::Reading::point_at))]
     fn read<F: Folder>(source: &mut Source, folder: &mut F) -> Result<Dyadic, Stop> {
         let start = source.at();
@@ -29,6 +30,7 @@ impl Field for Dyadic {
 impl Field for End {
     ghost read_at = { end_at };
 
+    #[inline(always)]
     #[tactic(auto, unfolding(crate::specs::Reading::end_at))]
     fn read<F: Folder>(source: &mut Source, folder: &mut F) -> Result<End, Stop> {
         let start = source.at();
@@ -44,6 +46,7 @@ impl Field for End {
 impl Field for Interval {
     ghost read_at = { interval_at };
 
+    #[inline(always)]
     #[tactic(auto, unfolding(crate::specs::Reading::interval_at))]
     fn read<F: Folder>(source: &mut Source, folder: &mut F) -> Result<Interval, Stop> {
         let start = source.at();
@@ -59,6 +62,7 @@ impl Field for Interval {
 impl Field for Size {
     ghost read_at = { size_at };
 
+    #[inline(always)]
     #[tactic(auto, unfolding(crate::specs::Reading::size_at))]
     fn read<F: Folder>(source: &mut Source, folder: &mut F) -> Result<Size, Stop> {
         let start = source.at();
@@ -73,6 +77,7 @@ impl Field for Size {
 impl Field for RelativeError {
     ghost read_at = { relative_at };
 
+    #[inline(always)]
     #[tactic(auto, unfolding(crate::specs::Reading::relative_at))]
     fn read<F: Folder>(source: &mut Source, folder: &mut F) -> Result<RelativeError, Stop> {
         let start = source.at();
@@ -87,6 +92,7 @@ impl Field for RelativeError {
 impl Field for Option<RelativeError> {
     ghost read_at = { error_at };
 
+    #[inline(always)]
     #[tactic(auto, unfolding(crate::specs::Reading::error_at))]
     fn read<F: Folder>(source: &mut Source, folder: &mut F) -> Result<Option<RelativeError>, Stop> {
         let start = source.at();
@@ -101,6 +107,7 @@ impl Field for Option<RelativeError> {
 impl Field for Place {
     ghost read_at = { place_at };
 
+    #[inline(always)]
     #[tactic(auto, unfolding(crate::specs::Reading::place_at))]
     fn read<F: Folder>(source: &mut Source, folder: &mut F) -> Result<Place, Stop> {
         let start = source.at();
@@ -115,6 +122,7 @@ impl Field for Place {
 impl Field for Fact {
     ghost read_at = { fact_at };
 
+    #[inline(always)]
     #[tactic(auto, unfolding(crate::specs::Reading::fact_at, crate::specs::Reading::bnd_at, crate::specs::Reading::abs_at, crate::specs::Reading::rel_at, crate::specs::Reading::fix_at, crate::specs::Reading::nzr_at))]
     fn read<F: Folder>(source: &mut Source, folder: &mut F) -> Result<Fact, Stop> {
         let start = source.at();

@@ -36,6 +36,7 @@ impl<A: Field + Drop, B: Field> Field for (A, B) {
 
     ghost Keeps = { λ p. A.Keeps p.0 × B.Keeps p.1 };
 
+    #[inline(always)]
     #[tactic(auto, unfolding(crate::specs::Reading::both_at))]
     fn read<F: Folder>(source: &mut Source, folder: &mut F) -> Result<(A, B), Stop> {
         let first = A::read(source, folder)?;

@@ -13,6 +13,7 @@ use fx_edge::{Folder, Items};
 
 impl Source {
     /// The next numbers, so many.
+    #[inline(always)]
     fn references<F: Folder>(&mut self, folder: &mut F, count: u16) -> Result<Items<u64>, Stop>
         requires agrees { AgreesTold (F.told folder.old self.old.name) self.old }
         ensures gives { (all : List ℕ) → F.told folder.old self.old.name ≡ Some all → Gives (λ x. x) all self.old self.new result (references_at count []) }
@@ -107,6 +108,7 @@ impl Field for Items<u64> {
 
     ghost Keeps = { IsCounted };
 
+    #[inline(always)]
     #[tactic(auto, unfolding(crate::specs::Reading::counted_at))]
     fn read<F: Folder>(source: &mut Source, folder: &mut F) -> Result<Items<u64>, Stop> {
         let count = u16::read(source, folder)?;
@@ -117,6 +119,7 @@ impl Field for Items<u64> {
 impl Field for Option<u64> {
     ghost read_at = { optional_at };
 
+    #[inline(always)]
     #[tactic(auto, unfolding(crate::specs::Reading::optional_at))]
     fn read<F: Folder>(source: &mut Source, folder: &mut F) -> Result<Option<u64>, Stop> {
         let start = source.at();

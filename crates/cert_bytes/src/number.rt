@@ -13,6 +13,7 @@ use fx_model::ExprId;
 
 impl Source {
     // The next number of so many bytes, which are read ahead.
+    #[inline(always)]
     fn number_ahead(&mut self, width: usize) -> u128
         requires width { width ≤ 16 }
         requires ahead { width ≤ length self.old.ahead }
@@ -33,6 +34,7 @@ impl Source {
     }
 
     /// The next number of so many bytes.
+    #[inline(always)]
     pub fn number<F: Folder>(&mut self, folder: &mut F, width: usize) -> Result<u128, Stop>
         requires width { width ≤ 16 }
         requires agrees { (all : List ℕ) → F.told folder.old self.old.name ≡ Some all → Agrees all self.old }
@@ -59,6 +61,7 @@ impl Source {
     }
 
     /// The next number of so many bytes.
+    #[inline(always)]
     pub fn digits<F: Folder>(&mut self, folder: &mut F, width: usize) -> Result<u128, Stop>
         requires width { width ≤ 16 }
         requires agrees { AgreesTold (F.told folder.old self.old.name) self.old }
@@ -79,6 +82,7 @@ impl Source {
 impl Field for u8 {
     ghost read_at = { byte_at };
 
+    #[inline(always)]
     fn read<F: Folder>(source: &mut Source, folder: &mut F) -> Result<u8, Stop> {
         source.byte(folder)
     }
@@ -87,6 +91,7 @@ impl Field for u8 {
 impl Field for u16 {
     ghost read_at = { short_at };
 
+    #[inline(always)]
     fn read<F: Folder>(source: &mut Source, folder: &mut F) -> Result<u16, Stop> {
         let number = source.digits(folder, 2)?;
         Ok(number as u16)
@@ -97,6 +102,7 @@ impl Field for u16 {
 impl Field for u64 {
     ghost read_at = { reference_at };
 
+    #[inline(always)]
     fn read<F: Folder>(source: &mut Source, folder: &mut F) -> Result<u64, Stop> {
         let number = source.digits(folder, 8)?;
         Ok(number as u64)
@@ -107,6 +113,7 @@ impl Field for u64 {
 impl Field for u128 {
     ghost read_at = { wide_at };
 
+    #[inline(always)]
     fn read<F: Folder>(source: &mut Source, folder: &mut F) -> Result<u128, Stop> {
         source.digits(folder, 16)
     }
@@ -115,6 +122,7 @@ impl Field for u128 {
 impl Field for i16 {
     ghost read_at = { signed_short_at };
 
+    #[inline(always)]
     #[tactic(auto, unfolding(crate::specs::Reading::signed_short_at))]
     fn read<F: Folder>(source: &mut Source, folder: &mut F) -> Result<i16, Stop> {
         let number = u16::read(source, folder)?;
@@ -125,6 +133,7 @@ impl Field for i16 {
 impl Field for i64 {
     ghost read_at = { signed_long_at };
 
+    #[inline(always)]
     #[tactic(auto, unfolding(crate::specs::Reading::signed_long_at))]
     fn read<F: Folder>(source: &mut Source, folder: &mut F) -> Result<i64, Stop> {
         let number = u64::read(source, folder)?;
@@ -135,6 +144,7 @@ impl Field for i64 {
 impl Field for ExprId {
     ghost read_at = { expr_at };
 
+    #[inline(always)]
     #[tactic(auto, unfolding(crate::specs::Reading::expr_at))]
     fn read<F: Folder>(source: &mut Source, folder: &mut F) -> Result<ExprId, Stop> {
         Ok(ExprId(u16::read(source, folder)?))

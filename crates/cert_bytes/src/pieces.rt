@@ -91,6 +91,7 @@ impl Source {
         Ok(self.mark(folder)?)
     }
 
+    #[inline(always)]
     #[tactic(auto, unfolding(crate::specs::Reading::section_or_end_at))]
     fn section_or_end<F: Folder>(&mut self, folder: &mut F, sections: u64) -> Result<Item, Stop>
         requires agrees { AgreesTold (F.told folder.old self.old.name) self.old }
@@ -112,6 +113,7 @@ impl Source {
     }
 
     /// The item that is due.
+    #[inline(always)]
     #[tactic(auto, unfolding(crate::specs::Reading::item_at))]
     pub fn item<F: Folder>(&mut self, folder: &mut F, due: Due) -> Result<Item, Stop>
         requires agrees { AgreesTold (F.told folder.old self.old.name) self.old }

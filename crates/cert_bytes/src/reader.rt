@@ -51,6 +51,7 @@ impl Reader {
     }
 
     // The next item, where no fault was met.
+    #[inline(always)]
     #[tactic(auto, using(crate::proofs::Paced::paced_on, crate::proofs::Paced::agrees_back))]
     fn advance<F: Folder>(&mut self, folder: &mut F) -> Result<Item, Stop>
         requires sound { self.old.fault ≡ None }
@@ -94,6 +95,7 @@ impl Reader {
     }
 
     /// The next item. A fault is answered again at each later call, and the end behind the end.
+    #[inline(always)]
     pub fn next<F: Folder>(&mut self, folder: &mut F) -> Result<Item, Stop>
         requires agrees { AgreesTold (F.told folder.old self.old.ahead.name) self.old.ahead }
         ensures gives { (all : List ℕ) → F.told folder.old self.old.ahead.name ≡ Some all → self.old.fault ≡ None → Gives (λ x. x) all self.old.ahead self.new.ahead result (item_at self.old.due) }

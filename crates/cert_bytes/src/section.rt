@@ -19,6 +19,7 @@ impl Field for StepRow {
 
     ghost Keeps = { λ step. IsCounted step.premises };
 
+    #[inline(always)]
     #[tactic(auto, unfolding(crate::specs::Reading::step_at))]
     fn read<F: Folder>(source: &mut Source, folder: &mut F) -> Result<StepRow, Stop> {
         let ((rule, arg), fact) = <((u8, u16), Fact)>::read(source, folder)?;
@@ -69,6 +70,7 @@ impl Source {
         Ok(Item::Cut(x, points))
     }
 
+    #[inline(always)]
     #[tactic(auto, unfolding(crate::specs::Reading::section_by, crate::specs::Reading::step_item_at, crate::specs::Reading::leaf_at, crate::specs::Reading::dead_at))]
     fn section_by<F: Folder>(&mut self, folder: &mut F, start: u64, tag: u8) -> Result<Item, Stop>
         requires agrees { AgreesTold (F.told folder.old self.old.name) self.old }
@@ -92,6 +94,7 @@ impl Source {
     }
 
     /// The next item of a section.
+    #[inline(always)]
     #[tactic(auto, unfolding(crate::specs::Reading::section_item_at))]
     pub fn section_item<F: Folder>(&mut self, folder: &mut F) -> Result<Item, Stop>
         requires agrees { AgreesTold (F.told folder.old self.old.name) self.old }

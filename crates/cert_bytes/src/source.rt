@@ -82,6 +82,7 @@ impl Source {
     }
 
     /// The offset.
+    #[inline(always)]
     pub fn at(&self) -> u64
         ensures { result ≡ self.now.at }
     {
@@ -108,6 +109,7 @@ impl Source {
     }
 
     // Whether nothing is read ahead.
+    #[inline(always)]
     fn is_dry(&self) -> bool
         ensures { IsTrue result ↔ (self.now.ahead ≡ []) }
     {
@@ -150,6 +152,7 @@ impl Source {
     }
 
     /// Whether so many bytes are read ahead, and byte 2^44 isn't one of them.
+    #[inline(always)]
     pub fn has(&self, width: usize) -> bool
         requires { width ≤ 16 }
         ensures ahead { IsTrue result → width ≤ length self.now.ahead }
@@ -159,6 +162,7 @@ impl Source {
     }
 
     /// The next byte of those that were read ahead.
+    #[inline(always)]
     pub fn advance(&mut self) -> u8
         requires some { ¬ (self.old.ahead ≡ []) }
         requires room { self.old.at < 2 ^ 44 }
