@@ -1,5 +1,5 @@
 -- What conclusions come to, one, two for a slot, and those of a whole round.
-use Rattle.std.specs.Prelude.{◌≡◌, ◌≢◌, ◌⊎◌, ◌<◌, ◌≤◌, ◌+◌, ◌*◌, ◌-◌, ℕ, min, List, [], ◌∷◌, ◌++◌, length, Option, Some, None, slice_get, map, Contains, refl}
+use Rattle.std.specs.Prelude.{◌≡◌, ◌≢◌, ◌⊎◌, ◌≤◌, ◌+◌, ◌*◌, ℕ, List, [], ◌∷◌, ◌++◌, length, Option, Some, None, slice_get, map, Contains, refl}
 use Rattle.std.proofs.Common.{sym, ◌∙◌, ap, subst, inl, inr, arith}
 use Rattle.std.proofs.lemmas.List.{map-append}
 use Rattle.std.proofs.lemmas.List.Elements.{Contains-push, Contains-push_cases, Contains-append_left}
@@ -26,12 +26,12 @@ use Rattle.box_trace.specs.declared.ends.Ends.{Ends}
 use Rattle.box_traces.specs.Sections.{behind, ArePlaces}
 use Rattle.box_traces.specs.Writing.{IsWritable}
 use Rattle.box_trace.specs.Tables.{known_at, place_in, HasRows}
-use Rattle.box_trace.specs.Scans.{IsConclusion, ends_in, AreEndsOf, IsScanned, IsWide, most_for}
+use Rattle.box_trace.specs.Scans.{IsConclusion, ends_in, AreEndsOf, IsWide, most_for}
 use Rattle.box_trace.specs.Logs.{Comes, CanCite, GoesOnFrom, IsLonger, IsComeBy, IsSlotWritten, IsRound}
 use Rattle.box_trace.proofs.OnePlace.{slot_once}
 use Rattle.box_trace.proofs.Rows.{same_known, same_places}
 use Rattle.box_trace.proofs.Logged.{comes_improves, comes_rows, comes_first, comes_few, instance_goes_on}
-use Rattle.box_trace.proofs.Scanned.{IsWritten, written_none, written_one, written_both, written_all, wide_cases}
+use Rattle.box_trace.proofs.Scanned.{IsWritten, written_one, written_both, wide_cases}
 
 module _ (u : World) (now : Known) where
   -- One conclusion came.

@@ -1,5 +1,5 @@
 -- The step by which a fact comes to a table.
-use Rattle.std.specs.Prelude.{◌≡◌, ◌≢◌, ◌⊎◌, ℕ, List, [], ◌∷◌, ◌++◌, Option, Some, None, refl}
+use Rattle.std.specs.Prelude.{◌≡◌, ℕ, List, Option, Some, None, refl}
 use Rattle.std.proofs.Common.{sym, ◌∙◌, ap, subst, inl, inr}
 use Rattle.fx_model.specs.declared.Node.{Node}
 use Rattle.facts.specs.declared.fact.Fact.{Fact}
@@ -9,14 +9,10 @@ use Rattle.facts.specs.declared.fact.Slot.TheVariants as slot
 use Rattle.facts.specs.Order.{slot_of, IsStronger, meet_of}
 use Rattle.facts.specs.Laws.{IsStronger-refl, meet_exists}
 use Rattle.facts.specs.Meets.{meet-exchanged}
-use Rattle.derivation.specs.Derivations.{At}
-use Rattle.derivation.specs.Rounds.{IsWritten}
-use Rattle.derivation.specs.Parts.{some_same, slot_cases, void_cases, stronger_slot}
+use Rattle.derivation.specs.Parts.{void_cases, stronger_slot}
 use Rattle.derivation.specs.Exists.{joined}
-use Rattle.cert_bytes.specs.declared.item.StepRow.{StepRow}
-use Rattle.cert_checker.specs.Open.{Numbered, with_step}
+use Rattle.cert_checker.specs.Open.{Numbered}
 use Rattle.cert_checker.specs.Steps.{step_fact, step_facts, IsMetWith, IsLike, AreKnown, Givens, gives, met_with, IsEnough, IsConcluded, target_of}
-use Rattle.box_traces.specs.Sections.{behind, ArePlaces, IsTraced, AreBelow}
 use Rattle.box_traces.specs.Writing.{IsSlotKnown}
 use Rattle.box_trace.specs.Steps.{met_by, with_by, coming}
 

@@ -1,33 +1,37 @@
 -- A fact that comes to a log keeps it a log: its steps are accepted, and each fact that is known has its step.
-use Rattle.std.specs.Prelude.{⊤, ◌≡◌, ◌≢◌, ◌⊎◌, ◌<◌, ◌≤◌, ◌+◌, ◌==◌, ℕ, false, List, [], ◌∷◌, ◌++◌, length, Option, Some, None, slice_get, map, refl}
+use Rattle.std.specs.Prelude.{◌≡◌, ◌<◌, ◌≤◌, ◌+◌, ◌==◌, ℕ, false, List, [], ◌∷◌, ◌++◌, length, Option, Some, slice_get, map, refl}
 use Rattle.std.proofs.Common.{sym, ◌∙◌, ap, subst, inl, inr, arith}
 use Rattle.std.proofs.lemmas.List.{length-append}
 use Rattle.facts.specs.declared.fact.Fact.{Fact}
 use Rattle.facts.specs.declared.fact.Slot.{Slot}
-use Rattle.facts.specs.declared.fact.Fact.TheVariants as fact
-use Rattle.facts.specs.declared.fact.Slot.TheVariants as slot
 use Rattle.facts.specs.declared.instance.Instance.{Instance}
 use Rattle.facts.specs.Order.{slot_of, IsStronger}
 use Rattle.theorem_list.specs.Concludes.{concludes}
 use Rattle.derivation.specs.Derivations.{At}
-use Rattle.derivation.specs.Rounds.{IsProper, Reads, conclusion, IsKept, IsWritten, Improves}
+use Rattle.derivation.specs.Rounds.{IsProper, Reads, conclusion, IsKept, Improves}
 use Rattle.derivation.specs.Parts.{some_same, slot_cases, conclusion_reads}
 use Rattle.derivation.specs.Steps.{improved_proper}
 use Rattle.derivation.specs.Exists.{joined, with_fact-improves}
 use Rattle.cert_bytes.specs.declared.item.StepRow.{StepRow}
+use Rattle.cert_bytes.specs.Certificates.{IsCounted, IsShort}
 use Rattle.cert_checker.specs.Open.{Numbered, with_step}
-use Rattle.cert_checker.specs.Steps.{step_fact, step_facts, Givens, gives, met_with, IsEnough, IsConcluded, target_of}
+use Rattle.cert_checker.specs.Steps.{step_fact, step_facts, gives, met_with, IsEnough, IsConcluded, target_of}
 use Rattle.rule_universe.specs.Worlds.{World}
 use Rattle.saturate.specs.Universes.{setting_of}
 use Rattle.box_trace.specs.declared.known.Known.{Known}
 use Rattle.box_trace.specs.declared.log.Log.{Log}
-use Rattle.box_traces.specs.Sections.{behind, AreAccepted, ArePlaces, AreBelow, IsTraced}
+use Rattle.box_traces.specs.Sections.{behind, AreAccepted, ArePlaces}
 use Rattle.box_traces.specs.Writing.{IsSlotKnown, IsWritable, givens_of}
+use Rattle.box_traces.specs.Traces.{HasFields, HaveFields}
 use Rattle.box_trace.specs.Steps.{met_by, coming}
 use Rattle.box_trace.specs.Tables.{fact_of, number_or, cited_at, known_at, place_in, HasRows}
 use Rattle.box_trace.specs.Logs.{kept_in, IsStep, Comes, InSection, CanCite, GoesOnFrom}
 use Rattle.box_trace.proofs.Cited.{step_kept, step_new, below_behind, behind_both, accepted_both, premises_found}
 use Rattle.box_trace.proofs.Coming.{aims, enough, coming_accepted}
+
+fields_more : (rows : List StepRow) (row : StepRow) → HaveFields rows → HasFields row → HaveFields (rows ++ row ∷ [])
+fields_more [] row a c = (c, tt)
+fields_more (r ∷ rows) row a c = (a.0, fields_more rows row a.1 c)
 
 -- ---- what becomes of the table
 module _ (u : World) (old new : Log) (rule arg : ℕ) (premises : List ℕ) (c : Fact) where
@@ -79,6 +83,10 @@ module _ (u : World) (cut : Option Fact) (s : Numbered) (old new : Log) (rule ar
   abbrev Row : StepRow
   Row = coming rule arg premises (known_at u old.known (slot_of c)) (place_in u old.known (slot_of c)) c
 
+  -- the rule, its argument and the number of premises have room
+  abbrev pub HasRoom : Type 0
+  HasRoom = IsCounted premises × (rule < 256) × IsShort arg
+
   -- what the rule gives is enough for c to come
   abbrev pub Suffices : List Fact → Type 0
   Suffices ps = IsEnough (met_with (gives (givens_of (setting_of u) u.hints cut) Row ps (met_by (known_at u old.known (slot_of c)) c)) (met_by (known_at u old.known (slot_of c)) c)) (joined (known_at u old.known (slot_of c)) c)
@@ -108,9 +116,9 @@ module _ (u : World) (cut : Option Fact) (s : Numbered) (old new : Log) (rule ar
               ap (step_fact (with_step last k).rows) (ap number_or there) ∙ step_kept last k (place_in u old.known t) f (i.traced.placed t f (sym (ap fact_of there) ∙ e)))
         ])
 
-    step_section : IsProper (known_at u old.known) → IsSlotKnown u.nodes (slot_of c) → (ps : List Fact) → step_facts (behind s old.steps.items).rows premises ≡ Some ps → Suffices ps →
+    step_section : IsProper (known_at u old.known) → HasRoom → IsSlotKnown u.nodes (slot_of c) → (ps : List Fact) → step_facts (behind s old.steps.items).rows premises ≡ Some ps → Suffices ps →
         InSection u cut s old → InSection u cut s new
-    step_section p known ps found suffices i =
+    step_section p room known ps found suffices i =
         let g = givens_of (setting_of u) u.hints cut in
         let concluded : IsConcluded g (behind s old.steps.items).rows Row =
         coming_accepted g (behind s old.steps.items) rule arg premises ps (known_at u old.known (slot_of c)) (place_in u old.known (slot_of c)) c
@@ -122,12 +130,13 @@ module _ (u : World) (cut : Option Fact) (s : Numbered) (old new : Log) (rule ar
             accepted = subst (AreAccepted g s) (sym w.steps) (accepted_both g s old.steps.items (Row ∷ []) i.traced.accepted (concluded, tt));
             placed = step_placed i;
           };
+          fields = subst HaveFields (sym w.steps) (fields_more old.steps.items Row i.fields (record { counted = room.0; rule = room.1; arg = room.2 }));
         }
 
   -- Where c comes, each section goes on.
-  pub comes_section : IsProper (known_at u old.known) → IsSlotKnown u.nodes (slot_of c) → (ps : List Fact) → step_facts (behind s old.steps.items).rows premises ≡ Some ps → Suffices ps →
+  pub comes_section : IsProper (known_at u old.known) → HasRoom → IsSlotKnown u.nodes (slot_of c) → (ps : List Fact) → step_facts (behind s old.steps.items).rows premises ≡ Some ps → Suffices ps →
       Comes u old rule arg premises c new → InSection u cut s old → InSection u cut s new
-  comes_section p known ps found suffices w i = elim w [ inl y ↦ subst (InSection u cut s) (sym y.3) i | inr y ↦ step_section y p known ps found suffices i ]
+  comes_section p room known ps found suffices w i = elim w [ inl y ↦ subst (InSection u cut s) (sym y.3) i | inr y ↦ step_section y p room known ps found suffices i ]
 
   pub comes_cites : (now : Known) → Comes u old rule arg premises c new → CanCite u s old now → CanCite u s new now
   comes_cites now w can =
@@ -135,6 +144,17 @@ module _ (u : World) (cut : Option Fact) (s : Numbered) (old new : Log) (rule ar
       elim w [ inl y ↦ subst P (sym y.3) can | inr y ↦ step_cites y now can ]
 
 -- ---- conclusions of instances
+mapped : (place : Slot → ℕ) (ss : List Slot) → length (map place ss) ≡ length ss
+mapped place [] = refl
+mapped place (s ∷ ss) = let h = mapped place ss in omega (arith, h)
+
+-- what is read is as many as the slots
+reads_length : (at : At) (ss : List Slot) (ps : List Fact) → Reads at ss ps → length ss ≡ length ps
+reads_length at [] [] r = refl
+reads_length at (s ∷ ss) (p ∷ ps) r = let h = reads_length at ss ps r.1 in omega (arith, h)
+reads_length at [] (p ∷ ps) r = absurd r
+reads_length at (s ∷ ss) [] r = absurd r
+
 other : (m n : ℕ) → m < n → (m == n) ≡ false
 other m n h = grind (arith, h)
 
@@ -163,6 +183,14 @@ module _ (u : World) (w : IsWritable (setting_of u) u.hints) where
         | inr q ↦ subst (IsSlotKnown u.nodes) (ap slot_of (sym q)) tt
       ]
 
+  instance_room : (k : ℕ) (i : Instance) (at : At) (place : Slot → ℕ) (ps : List Fact) (c : Fact) → slice_get u.instances k ≡ Some i → Reads at i.premises ps → concludes u.nodes u.hints i.rule i.arg ps i.target ≡ Some c →
+      IsCounted (map place i.premises) × (i.rule < 256) × IsShort i.arg
+  instance_room k i at place ps c g r e = (
+    (let m = mapped place i.premises in let l = reads_length at i.premises ps r in let n = w.counted i.rule i.arg ps i.target c e in omega (arith, m, l, n)),
+    (let l = w.low i.rule i.arg ps i.target c e in omega (arith, l)),
+    w.args k i g,
+  )
+
   -- Where the conclusion of an instance comes, by the steps of its premises, each section goes on.
   pub instance_goes_on : (now : Known) (old new : Log) (k : ℕ) (i : Instance) (c : Fact) → IsProper (known_at u old.known) → slice_get u.instances k ≡ Some i →
       conclusion (concludes u.nodes u.hints) (known_at u now) i ≡ Some c → Comes u old i.rule i.arg (map (place_in u now) i.premises) c new → GoesOnFrom u now old new
@@ -172,7 +200,7 @@ module _ (u : World) (w : IsWritable (setting_of u) u.hints) where
       let o : Option Fact = known_at u old.known (slot_of c) in
       let own : (h : Fact) → o ≡ Some h → slot_of h ≡ slot_of c = (λ h y. p (slot_of c) h y) in
       let P : Option Fact → Type 0 = λ x. IsEnough (met_with x (met_by o c)) (joined o c) in (
-        comes_section u cut s old new i.rule i.arg premises c p (target_known k i q.0 c there q.2) q.0
+        comes_section u cut s old new i.rule i.arg premises c p (instance_room k i (known_at u now) (place_in u now) q.0 c there q.1 q.2) (target_known k i q.0 c there q.2) q.0
             (premises_found (behind s old.steps.items) (known_at u now) (place_in u now) can i.premises q.0 q.1)
             (subst P (sym (instance_gives cut i o c q.0 premises (place_in u old.known (slot_of c)) q.2 own)) (enough o c own)) come section,
         comes_cites u cut s old new i.rule i.arg premises c now come can,

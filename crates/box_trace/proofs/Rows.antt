@@ -1,11 +1,11 @@
 -- A slot of a universe has its row, and a row has one slot.
 use Rattle.std.specs.Prelude.{◌≡◌, ◌≢◌, ◌<◌, ◌&&◌, ◌+◌, ◌*◌, ◌==◌, ℕ, zero, suc, Bool, true, false, List, [], ◌∷◌, length, Option, Some, None, slice_get, slice_set, if◌then◌else◌, nat_lt, refl}
-use Rattle.std.proofs.Common.{arith, sym, ap, ◌∙◌, subst, true≢false, rules}
+use Rattle.std.proofs.Common.{arith, sym, ap, ◌∙◌, subst, rules}
 use Rattle.fx_model.specs.declared.ExprId.{ExprId}
 use Rattle.facts.specs.declared.fact.Fact.{Fact}
 use Rattle.facts.specs.declared.fact.Slot.{Slot}
 use Rattle.facts.specs.declared.fact.Slot.TheVariants as slot
-use Rattle.facts.specs.Order.{slot_of, is_same}
+use Rattle.facts.specs.Order.{is_same}
 use Rattle.facts.specs.CommonParts.{and_both, expr_same}
 use Rattle.pair_closure.specs.Closure.{Pair}
 use Rattle.pair_closure.specs.Reached.{IsEachOnce}

@@ -1,9 +1,8 @@
 -- What a box begins with, in each section where its steps may stand.
-use Rattle.std.specs.Prelude.{⊤, ◌≡◌, ◌<◌, ◌≤◌, ◌+◌, ℕ, List, [], ◌∷◌, length, Option, Some, None, slice_get, refl}
+use Rattle.std.specs.Prelude.{◌≡◌, ◌<◌, ◌≤◌, ◌+◌, ℕ, List, [], length, Option, Some, None, slice_get, refl}
 use Rattle.std.proofs.Common.{sym, ◌∙◌, ap, subst, arith}
 use Rattle.std.proofs.lemmas.Option.{slice_get_within}
 use Rattle.fx_model.specs.declared.ExprId.{ExprId}
-use Rattle.fx_model.specs.declared.Node.{Node}
 use Rattle.fx_model.specs.declared.Node.TheVariants as node
 use Rattle.fx_model.specs.Grid.{Bound, Below, At as Number, Above}
 use Rattle.fx_model.specs.Enclosure.{BoundLe}
@@ -21,6 +20,7 @@ use Rattle.derivation.specs.Known.{Piece}
 use Rattle.derivation.specs.Rounds.{IsBlank}
 use Rattle.derivation.specs.Parts.{none_some}
 use Rattle.derivation.specs.Exists.{joined}
+use Rattle.cert_bytes.specs.Certificates.{IsShort}
 use Rattle.cert_checker.specs.Open.{Numbered}
 use Rattle.cert_checker.specs.Steps.{met_with, IsEnough, whole_line, variable_fact}
 use Rattle.rule_universe.specs.Worlds.{World}
@@ -30,11 +30,11 @@ use Rattle.box_trace.specs.declared.known.Known.{Known}
 use Rattle.box_trace.specs.declared.log.Log.{Log}
 use Rattle.box_traces.specs.Sections.{behind, AreAccepted, ArePlaces}
 use Rattle.box_traces.specs.Writing.{IsSlotKnown, IsWritable, givens_of}
+use Rattle.box_traces.specs.Traces.{IsCutTo, HaveFields}
 use Rattle.box_trace.specs.Steps.{met_by}
 use Rattle.box_trace.specs.Tables.{known_at, place_in, HasRows}
 use Rattle.box_trace.specs.Logs.{Comes, InSection}
-use Rattle.box_traces.specs.Traces.{IsCutTo}
-use Rattle.box_trace.specs.Boxes.{IsNext, IsSectionBelow, BeginsWithin, BeginsBelow}
+use Rattle.box_trace.specs.Boxes.{IsSectionBelow, BeginsWithin, BeginsBelow}
 use Rattle.box_trace.proofs.Rows.{same_known, same_places, same_rows}
 use Rattle.box_trace.proofs.Logged.{Suffices, comes_rows, comes_first, comes_few, comes_section}
 use Rattle.box_trace.proofs.Coming.{enough}
@@ -56,23 +56,27 @@ module _ (u : World) (first : ℕ) where
     rows = r;
     first_is = f;
     few = (let n : length log.steps.items ≡ 0 = ap length e in omega (arith, n));
-    steps = λ w s n. record {
-      accepted = subst (AreAccepted (givens_of (setting_of u) u.hints None) s) (sym e) tt;
-      placed = λ t g q. absurd (none_some g (known_at u log.known t) (b t) q);
-    };
+    steps = λ w s n. (
+      record {
+        accepted = subst (AreAccepted (givens_of (setting_of u) u.hints None) s) (sym e) tt;
+        placed = λ t g q. absurd (none_some g (known_at u log.known t) (b t) q);
+      },
+      subst HaveFields (sym e) tt,
+    );
   }
 
   -- A fact comes that is given.
   module _ (most : ℕ) (old new : Log) (rule arg : ℕ) (c : Fact) (b : BeginsWithin u first most old) (come : Comes u old rule arg [] c new)
-      (suffices : IsWritable (setting_of u) u.hints → IsSlotKnown u.nodes (slot_of c) × ((s : Numbered) → Suffices u None s old new rule arg [] c [])) where
+      (suffices : IsWritable (setting_of u) u.hints → (rule < 256) × IsShort arg × IsSlotKnown u.nodes (slot_of c) × ((s : Numbered) → Suffices u None s old new rule arg [] c [])) where
     pub begins_more : BeginsWithin u first (most + 1) new
     begins_more = record {
       rows = comes_rows u old new rule arg [] c b.rows come;
       first_is = comes_first u old new rule arg [] c come ∙ b.first_is;
       few = (let a = b.few in let d = comes_few u old new rule arg [] c come in omega (arith, a, d));
       steps = λ w s n.
-          let i : InSection u None s old = record { below = n.1; next = n.0 ∙ sym b.first_is; traced = b.steps w s n } in
-          (comes_section u None s old new rule arg [] c b.rows.proper (suffices w).0 [] refl ((suffices w).1 s) come i).traced;
+          let i : InSection u None s old = record { below = n.1; next = n.0 ∙ sym b.first_is; traced = (b.steps w s n).0; fields = (b.steps w s n).1 } in
+          let j = comes_section u None s old new rule arg [] c b.rows.proper (omega arith, (suffices w).0, (suffices w).1) (suffices w).2 [] refl ((suffices w).3 s) come i in
+          (j.traced, j.fields);
     }
 
   pub begins_slack : (most m : ℕ) (log : Log) → most ≤ m → BeginsWithin u first most log → BeginsWithin u first m log
@@ -83,7 +87,7 @@ module _ (u : World) (first : ℕ) where
   begins_hypothesis k old new c e b come =
       let o : Option Fact = known_at u old.known (slot_of c) in
       let P : Option Fact → Type 0 = λ x. IsEnough (met_with x (met_by o c)) (joined o c) in
-      begins_more k old new 100 k c b come (λ w. (w.hypotheses k c e, λ s. subst P (sym e) (enough o c (λ h q. b.rows.proper (slot_of c) h q))))
+      begins_more k old new 100 k c b come (λ w. (omega arith, (let l = slice_get_within u.hypotheses k c e in let m = w.few_hypotheses in omega (arith, l, m)), w.hypotheses k c e, λ s. subst P (sym e) (enough o c (λ h q. b.rows.proper (slot_of c) h q))))
 
   below_infinity : (b : Bound) → BoundLe b Above
   below_infinity Below = tt
@@ -113,7 +117,7 @@ module _ (u : World) (first : ℕ) where
       let j = line_joined x o (λ g q. b.rows.proper (slot.Bnd x) g q) in
       let line : whole_line u.nodes (joined o c) ≡ Some c = ap (whole_line u.nodes) j.1 ∙ ap (variable_fact x) e in
       let P : Option Fact → Type 0 = λ y. IsEnough (met_with y (met_by o c)) (joined o c) in
-      begins_more most old new 101 0 c b come (λ w. (slice_get_within u.nodes n (node.Var v) e, λ s. subst P (sym line) (enough o c (λ h q. b.rows.proper (slot_of c) h q))))
+      begins_more most old new 101 0 c b come (λ w. (omega arith, omega arith, slice_get_within u.nodes n (node.Var v) e, λ s. subst P (sym line) (enough o c (λ h q. b.rows.proper (slot_of c) h q))))
 
 -- ---- a box below another
 met_by_interval : (o : Option Fact) (x : ExprId) (i : Interval) → met_by o (fact.Bnd x i) ≡ o
@@ -136,6 +140,7 @@ module _ (u : World) (piece : Piece) (parent : Known) (first : ℕ) (old new : L
           accepted = subst (AreAccepted (givens_of (setting_of u) u.hints (Some p)) s) (sym none) tt;
           placed = subst (λ rows. ArePlaces (behind s rows) (known_at u old.known) (place_in u old.known)) (sym none) places;
         };
+        fields = subst HaveFields (sym none) tt;
       }
 
   -- The piece comes.
@@ -150,5 +155,6 @@ module _ (u : World) (piece : Piece) (parent : Known) (first : ℕ) (old new : L
         steps = λ w s p sec.
             let P : Option Fact → Type 0 = λ m. IsEnough (met_with (Some p) m) (joined o Piece_fact) in
             let cut : IsCutTo (known_at u old.known) p piece = subst (λ (at : At). IsCutTo at p piece) (sym (same_known u parent old.known e)) sec.2 in
-            (comes_section u (Some p) s old new 102 0 [] Piece_fact rows.proper known [] refl (subst P (sym (met_by_interval o piece.0 piece.1)) cut) come (old_section s p sec)).traced;
+            let j = comes_section u (Some p) s old new 102 0 [] Piece_fact rows.proper (omega arith, omega arith, omega arith) known [] refl (subst P (sym (met_by_interval o piece.0 piece.1)) cut) come (old_section s p sec) in
+            (j.traced, j.fields);
       }

@@ -1,9 +1,7 @@
 -- What the code of one step comes to.
-use Rattle.std.specs.Prelude.{◌≡◌, ◌<◌, ◌+◌, ℕ, List, [], ◌∷◌, ◌++◌, length, Option, Some, None, slice_set, refl}
+use Rattle.std.specs.Prelude.{◌≡◌, ◌<◌, ◌+◌, ℕ, List, [], ◌∷◌, ◌++◌, length, Option, Some, slice_set, refl}
 use Rattle.std.proofs.Common.{sym, ◌∙◌, ap, subst, inl, inr, arith, length-set}
 use Rattle.facts.specs.declared.fact.Fact.{Fact}
-use Rattle.facts.specs.declared.fact.Fact.TheVariants as fact
-use Rattle.facts.specs.declared.fact.Slot.TheVariants as slot
 use Rattle.facts.specs.Order.{slot_of, IsStronger, meet_of}
 use Rattle.facts.specs.Laws.{IsStronger-slot}
 use Rattle.pair_closure.specs.Reached.{IsEachOnce}
@@ -13,11 +11,10 @@ use Rattle.derivation.specs.Parts.{void_is}
 use Rattle.rule_universe.specs.Worlds.{World, HasSlot}
 use Rattle.rule_universe.specs.Places.{IsPlace}
 use Rattle.box_trace.specs.declared.known.Cited.{Cited}
-use Rattle.box_trace.specs.declared.known.Known.{Known}
 use Rattle.box_trace.specs.declared.log.Log.{Log}
 use Rattle.box_trace.specs.Steps.{with_by}
-use Rattle.box_trace.specs.Tables.{row_in, fact_of, number_of, number_or, cited_at, known_at, place_in, HasRows}
-use Rattle.box_trace.specs.Logs.{kept_in, IsStep, Comes}
+use Rattle.box_trace.specs.Tables.{row_in, fact_of, number_or, cited_at, known_at, place_in, HasRows}
+use Rattle.box_trace.specs.Logs.{kept_in, Comes}
 use Rattle.box_trace.proofs.OnePlace.{place_slot, place_within}
 use Rattle.box_trace.proofs.Rows.{read_at, put_here, put_there}
 use Rattle.box_trace.proofs.Coming.{with_by-some}

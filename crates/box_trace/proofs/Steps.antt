@@ -1,23 +1,21 @@
 -- Steps of a box, from its log to each section where they may stand.
-use Rattle.std.specs.Prelude.{◌≡◌, ◌<◌, ◌⊎◌, ℕ, length, List, [], ◌∷◌, Option, Some, None}
+use Rattle.std.specs.Prelude.{◌≡◌, ◌<◌, ◌⊎◌, ℕ, length, Option, Some, None}
 use Rattle.std.specs.Borrow.{Bor}
 use Rattle.std.proofs.Common.{sym, ◌∙◌, subst, inl, inr}
-use Rattle.facts.specs.declared.fact.Fact.{Fact}
 use Rattle.derivation.specs.Known.{Piece}
-use Rattle.cert_checker.specs.Open.{Numbered}
 use Rattle.rule_universe.specs.Worlds.{World}
 use Rattle.box_trace.specs.declared.known.Known.{Known}
 use Rattle.box_trace.specs.declared.log.Log.{Log}
 use Rattle.box_trace.specs.Tables.{HasRows}
 use Rattle.box_trace.specs.Logs.{IsLonger}
-use Rattle.box_trace.specs.Boxes.{IsOfUniverse, IsNext, IsSectionBelow, IsItsSection, IsTracedIn, AreRootSteps, AreStepsBelow, AreItsSteps, BeginsWithin, BeginsBelow}
+use Rattle.box_trace.specs.Boxes.{IsOfUniverse, IsTracedIn, AreRootSteps, AreStepsBelow, AreItsSteps, BeginsWithin, BeginsBelow}
 
 module _ (u : World) (first most more : ℕ) (old new : Log) (l : IsLonger u more old new) where
   pub root_steps : BeginsWithin u first most old → AreRootSteps u first new
-  root_steps b w s n = (l.goes_on w None s (record { below = n.1; next = n.0 ∙ sym b.first_is; traced = b.steps w s n })).traced
+  root_steps b w s n = (let t = b.steps w s n in let j = l.goes_on w None s (record { below = n.1; next = n.0 ∙ sym b.first_is; traced = t.0; fields = t.1 }) in (j.traced, j.fields))
 
   pub steps_below : (piece : Piece) (parent : Known) → BeginsBelow u piece parent first old → AreStepsBelow u piece parent first new
-  steps_below piece parent b w s p n = (l.goes_on w (Some p) s (record { below = n.0.1; next = n.0.0 ∙ sym b.first_is; traced = b.steps w s p n })).traced
+  steps_below piece parent b w s p n = (let t = b.steps w s p n in let j = l.goes_on w (Some p) s (record { below = n.0.1; next = n.0.0 ∙ sym b.first_is; traced = t.0; fields = t.1 }) in (j.traced, j.fields))
 
 module _ (u : World) (first : ℕ) (log : Log) where
   pub own_root_steps : (piece : Option Piece) (parent : Option (Bor Known)) → (piece ≡ None) ⊎ (parent ≡ None) → AreRootSteps u first log → AreItsSteps u piece parent first log

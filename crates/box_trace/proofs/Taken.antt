@@ -1,5 +1,5 @@
 -- What one instance concludes, gathered.
-use Rattle.std.specs.Prelude.{◌≡◌, ◌<◌, ◌+◌, ◌*◌, ℕ, true, List, length, Option, Some, None, map, [], ◌∷◌, refl}
+use Rattle.std.specs.Prelude.{◌≡◌, ◌<◌, ◌+◌, ◌*◌, ℕ, true, List, length, Option, Some, map, [], ◌∷◌, refl}
 use Rattle.std.proofs.Common.{sym, ◌∙◌, ap, subst, inl, inr, arith}
 use Rattle.std.proofs.lemmas.Option.{slice_get_within}
 use Rattle.facts.specs.declared.fact.Fact.{Fact}
@@ -11,7 +11,7 @@ use Rattle.pair_closure.specs.Reached.{IsEachOnce}
 use Rattle.derivation.specs.Derivations.{Beats}
 use Rattle.derivation.specs.Lists.{IsOnTargetList}
 use Rattle.derivation.specs.Rounds.{conclusion}
-use Rattle.derivation.specs.Parts.{some_same, none_some, conclusion_reads}
+use Rattle.derivation.specs.Parts.{some_same, conclusion_reads}
 use Rattle.rule_universe.specs.declared.placed.Placed.{Placed}
 use Rattle.rule_universe.specs.Worlds.{World}
 use Rattle.rule_universe.specs.Places.{IsPlace}

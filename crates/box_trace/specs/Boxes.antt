@@ -16,7 +16,7 @@ use Rattle.box_trace.specs.declared.log.Log.{Log}
 use Rattle.box_trace.specs.declared.tracing.Traced.{Traced}
 use Rattle.box_traces.specs.Sections.{ArePlaces, AreBelow, IsTraced}
 use Rattle.box_traces.specs.Writing.{IsWritable, givens_of}
-use Rattle.box_traces.specs.Traces.{IsCutTo}
+use Rattle.box_traces.specs.Traces.{HaveFields, IsCutTo}
 use Rattle.box_trace.specs.Tables.{known_at, place_in, HasRows}
 
 -- The box is the root, and nothing is given; or the last cut's piece and what is known at its parent are.
@@ -56,9 +56,9 @@ IsItsSection u None None first s cut = IsNext first s × (cut ≡ None)
 IsItsSection u (Some piece) (Some parent) first s cut = (p : Fact) × (cut ≡ Some p) × IsSectionBelow u piece parent.now first s p
 IsItsSection u piece parent first s cut = ⊥
 
--- The log's steps are accepted there one after the other, and behind them each fact that is known has its step.
+-- The log's steps are accepted there one after the other, and behind them each fact that is known has its step; they have room in their fields.
 abbrev pub IsTracedIn : World → Option Fact → Numbered → Log → Type 0
-IsTracedIn u cut s log = IsTraced (givens_of (setting_of u) u.hints cut) s log.steps.items (known_at u log.known) (place_in u log.known)
+IsTracedIn u cut s log = IsTraced (givens_of (setting_of u) u.hints cut) s log.steps.items (known_at u log.known) (place_in u log.known) × HaveFields log.steps.items
 
 abbrev pub AreRootSteps : World → ℕ → Log → Type 0
 AreRootSteps u first log = IsWritable (setting_of u) u.hints → (s : Numbered) → IsNext first s → IsTracedIn u None s log

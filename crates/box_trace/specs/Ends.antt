@@ -1,18 +1,11 @@
 -- Which of two facts on one slot has the further ends.
-use Rattle.std.specs.Prelude.{◌≡◌, ℤ, pos, negsuc, ◌≤ℤ◌, ⊤, Bool, true, false, Option, Some, None, refl}
-use Rattle.std.proofs.Common.{◌∙◌, arith, rules}
-use Rattle.std.proofs.lemmas.Int.{ints}
-use Rattle.dyadic.specs.Extremes.{BoundLe-trans, BoundLe-refl}
-use Rattle.dyadic.specs.Order.{le_bound, bound_total}
-use Rattle.dyadic.specs.Compared.{BoundLe_in}
-use Rattle.fx_model.specs.Grid.{Bound}
+use Rattle.std.specs.Prelude.{◌≤ℤ◌, ⊤, Option, Some, None}
 use Rattle.fx_model.specs.Enclosure.{BoundLe}
 use Rattle.interval.specs.declared.interval.Interval.{Interval}
 use Rattle.interval.specs.Intervals.{range_of}
 use Rattle.facts.specs.declared.relative.RelativeError.{RelativeError}
 use Rattle.facts.specs.declared.fact.Fact.{Fact}
 use Rattle.facts.specs.declared.fact.Fact.TheVariants as fact
-use Rattle.facts.specs.Order.{slot_of, IsStronger, IsWithin, IsWithinError}
 
 -- the first interval's lower end isn't above the second's
 abbrev pub IsLow : Interval → Interval → Type 0

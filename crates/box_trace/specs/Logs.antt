@@ -19,6 +19,7 @@ use Rattle.box_trace.specs.declared.ends.Ends.{Ends}
 use Rattle.box_trace.specs.Scans.{IsWide}
 use Rattle.box_traces.specs.Sections.{behind, ArePlaces, AreBelow, IsTraced}
 use Rattle.box_traces.specs.Writing.{IsWritable, givens_of}
+use Rattle.box_traces.specs.Traces.{HaveFields}
 use Rattle.box_trace.specs.Steps.{coming}
 use Rattle.box_trace.specs.Tables.{cited_at, known_at, place_in, HasRows}
 
@@ -41,11 +42,13 @@ Comes u old rule arg premises c new =
     ((g : Fact) × (known_at u old.known (slot_of c) ≡ Some g) × IsStronger g c × (new ≡ old)) ⊎ IsStep u old rule arg premises c new
 
 -- ---- sections
--- The log's steps stand behind s, in a section with this piece: they are accepted, and each fact that is known has its step.
+-- The log's steps stand behind s, in a section with this piece: they are accepted and have room in their fields, and each fact that is
+-- known has its step.
 pub record InSection (u : World) (cut : Option Fact) (s : Numbered) (log : Log) : Type 0 where
   pub below : AreBelow s
   pub next : s.next ≡ log.first
   pub traced : IsTraced (givens_of (setting_of u) u.hints cut) s log.steps.items (known_at u log.known) (place_in u log.known)
+  pub fields : HaveFields log.steps.items
 
 -- Behind the log's steps each of these facts may be cited by its step.
 abbrev pub CanCite : World → Numbered → Log → Known → Type 0

@@ -1,5 +1,4 @@
 use Rattle.std.proofs.Common.{◌∙◌}
-use Rattle.std.proofs.lemmas.Option.{slice_get_within}
 use Rattle.box_trace.proofs.Answered.{on_ok_map}
 use Rattle.box_trace.proofs.Came.{came}
 use Rattle.box_trace.proofs.rounds.come_by.Goals as goal

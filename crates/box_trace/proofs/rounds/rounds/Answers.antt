@@ -1,10 +1,8 @@
-use Rattle.std.specs.Prelude.{◌≡◌, ◌≤◌, ◌<◌, ◌+◌, ◌*◌, ◌++◌, ℕ, Bool, true, false, Option, Some, None, length, List, slice_get, refl}
+use Rattle.std.specs.Prelude.{◌≡◌, ◌+◌, ◌*◌, ◌++◌, Bool, true, false, Some, None, length, List, slice_get}
 use Rattle.std.proofs.Common.{sym, ap, subst, ◌∙◌, arith, suc, take, drop, add-one}
 use Rattle.std.proofs.lemmas.List.{length-map, length-replicate}
 use Rattle.std.proofs.lemmas.Bool.{eqb-true}
 use Rattle.std.specs.List.{Contains}
-use Rattle.facts.specs.declared.fact.Fact.{Fact}
-use Rattle.facts.specs.declared.fact.Slot.{Slot}
 use Rattle.facts.specs.declared.fact.Slot.TheVariants as slot
 use Rattle.facts.specs.declared.fact.Fact.TheVariants as fact
 use Rattle.derivation.specs.Rounds.{InTable, IsBestFrom, IsSame, IsAhead, AllSeen}
@@ -16,9 +14,9 @@ use Rattle.rule_universe.specs.declared.placed.Placed.{Placed}
 use Rattle.rule_universe.specs.Placed.{slots_of}
 use Rattle.saturate.specs.Universes.{setting_of}
 use Rattle.box_trace.specs.Tables.{known_at}
-use Rattle.box_trace.proofs.Rows.{same_known, same_rows}
+use Rattle.box_trace.proofs.Rows.{same_known}
 use Rattle.box_trace.proofs.Lists.{all_true, written_back, listed_none}
-use Rattle.box_trace.proofs.Came.{not_void, longer_round, longer_none, longer_slack}
+use Rattle.box_trace.proofs.Came.{not_void, longer_round, longer_none}
 use Rattle.box_trace.proofs.rounds.rounds.Goals as goal
 
 pub returns-then-begun-clause-best : goal.returns-then-begun-clause-best

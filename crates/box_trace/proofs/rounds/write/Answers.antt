@@ -1,15 +1,10 @@
-use Rattle.std.proofs.Common.{◌≡◌, ◌≤◌, ◌<◌, ◌+◌, ◌*◌, ◌++◌, [], ◌∷◌, true, false, Some, None, length, List, Option, sym, ap, subst, ◌∙◌, inl, inr, arith, refl}
+use Rattle.std.proofs.Common.{◌≡◌, ◌≤◌, ◌<◌, ◌+◌, ◌*◌, ◌++◌, [], ◌∷◌, true, false, Some, None, length, ap, subst, ◌∙◌, inr, arith, refl}
 use Rattle.std.specs.List.{Contains}
 use Rattle.std.proofs.lemmas.Option.{slice_get_read}
 use Rattle.facts.specs.declared.fact.Slot.TheVariants as slot
-use Rattle.facts.specs.declared.fact.Fact.TheVariants as fact
 use Rattle.facts.specs.Order.{slot_of}
-use Rattle.derivation.specs.Parts.{none_some}
-use Rattle.rule_universe.specs.declared.placed.Placed.{Placed}
-use Rattle.rule_universe.specs.Placed.{slots_of}
-use Rattle.box_trace.specs.declared.ends.Ends.{Ends}
 use Rattle.box_trace.specs.Tables.{known_at}
-use Rattle.box_trace.specs.Scans.{held, ends_in, AreEndsOf, most_for}
+use Rattle.box_trace.specs.Scans.{held, ends_in}
 use Rattle.box_trace.proofs.Scanned.{IsWritten, written_none, written_all}
 use Rattle.box_trace.proofs.Came.{begin_ahead, written_ahead, written_listed, written_placed, written_few, goes_on_both, most_bound, most_more, not_void, round_void}
 use Rattle.box_trace.proofs.rounds.write.Goals as goal

@@ -1,6 +1,5 @@
-use Rattle.std.proofs.Common.{◌≡◌, ◌≤◌, ◌+◌, length, None}
+use Rattle.std.proofs.Common.{◌≡◌, ◌≤◌, ◌+◌, length}
 use Rattle.std.specs.List.{Contains}
-use Rattle.facts.specs.declared.fact.Slot.TheVariants as slot
 use Rattle.derivation.specs.Rounds.{IsAhead}
 use Rattle.derivation.specs.Changes.{IsListed}
 use Rattle.rule_universe.specs.declared.placed.Placed.{Placed}

@@ -1,4 +1,3 @@
-use Rattle.std.proofs.Common.{arith}
 use Rattle.box_trace.proofs.Came.{slot_written}
 use Rattle.box_trace.proofs.rounds.write_slot.Goals as goal
 

@@ -1,6 +1,3 @@
-use Rattle.std.proofs.Common.{length, sym, ap, subst, ◌∙◌, arith}
-use Rattle.facts.specs.Order.{slot_of}
-use Rattle.rule_universe.specs.Places.{IsPlace}
 use Rattle.box_trace.proofs.Answered.{on_ok_map}
 use Rattle.box_trace.proofs.Came.{void_came}
 use Rattle.box_trace.proofs.rounds.write_void.Goals as goal

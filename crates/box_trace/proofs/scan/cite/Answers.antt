@@ -1,4 +1,4 @@
-use Rattle.std.specs.Prelude.{◌≡◌, IfOk, map}
+use Rattle.std.specs.Prelude.{map}
 use Rattle.std.proofs.Common.{ap, ◌∙◌}
 use Rattle.box_trace.specs.Tables.{place_in}
 use Rattle.box_trace.proofs.Answered.{ok_map}

@@ -1,16 +1,12 @@
-use Rattle.std.proofs.Common.{arith, ◌≡◌, ◌+◌, ◌<◌, Some, length, sym, ap, subst, ◌∙◌, slice_get, refl, []}
+use Rattle.std.proofs.Common.{arith, ◌≡◌, ◌+◌, ◌<◌, Some, length, sym, ap, subst, ◌∙◌, slice_get, []}
 use Rattle.fx_model.specs.declared.Node.TheVariants as node
 use Rattle.interval.specs.declared.interval.Interval.{Interval}
 use Rattle.interval.specs.Results.{whole_interval}
 use Rattle.facts.specs.declared.fact.Fact.{Fact}
 use Rattle.facts.specs.declared.fact.Fact.TheVariants as fact
-use Rattle.facts.specs.declared.fact.Slot.TheVariants as slot
-use Rattle.facts.specs.Order.{slot_of}
 use Rattle.derivation.specs.Known.{IsGiven}
 use Rattle.derivation.specs.Rounds.{IsBlank}
-use Rattle.derivation.specs.Begun.{FirstHypotheses, FirstLines, gather_blank, gather_less, gather_hypothesis, gather_line, lines_none, lines_skip, lines_fewer}
-use Rattle.rule_universe.specs.Worlds.{HasSlot}
-use Rattle.rule_universe.specs.Places.{IsPlace}
+use Rattle.derivation.specs.Begun.{FirstHypotheses, FirstLines, gather_blank, gather_less, gather_hypothesis, gather_line, lines_none, lines_skip}
 use Rattle.saturate.specs.Universes.{setting_of}
 use Rattle.box_trace.specs.declared.known.Known.{Known}
 use Rattle.box_trace.specs.Tables.{known_at}

@@ -3,8 +3,8 @@ use Rattle.derivation.specs.Known.{IsTableAt}
 use Rattle.saturate.specs.Universes.{setting_of}
 use Rattle.box_trace.specs.Tables.{known_at}
 use Rattle.box_trace.proofs.Answered.{ok_map}
-use Rattle.box_trace.proofs.Given.{child_box, root_box, parent_best}
-use Rattle.box_trace.proofs.Steps.{own_root_steps, own_steps_below, own_universe}
+use Rattle.box_trace.proofs.Given.{child_box, root_box}
+use Rattle.box_trace.proofs.Steps.{own_root_steps, own_steps_below}
 use Rattle.box_trace.proofs.tracing.log_at.Goals as goal
 use Rattle.box_trace.proofs.tracing.log_at.Goals.{in_default-via-in-Some+in_default, in_default-via-in_default}
 

@@ -1,4 +1,4 @@
-use Rattle.std.specs.Prelude.{◌≡◌, ◌+◌, length}
+use Rattle.std.specs.Prelude.{length}
 use Rattle.std.proofs.Common.{sym, ◌∙◌, subst, arith, refl}
 use Rattle.rule_universe.specs.Worlds.{HasSlot}
 use Rattle.rule_universe.specs.Places.{IsPlace}

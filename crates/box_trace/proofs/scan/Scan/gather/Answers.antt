@@ -1,9 +1,9 @@
-use Rattle.std.proofs.Common.{◌≡◌, ◌+◌, ◌<◌, ℕ, Some, None, false, List, length, slice_get, sym, ap, subst, inl, inr, ◌∙◌, arith, refl}
+use Rattle.std.proofs.Common.{◌≡◌, ◌<◌, ℕ, Some, false, List, length, slice_get, ap, subst, inl, inr, ◌∙◌, arith}
 use Rattle.std.proofs.lemmas.Option.{slice_get_cases, slice_get-get_or}
 use Rattle.facts.specs.declared.instance.Instance.{Instance}
 use Rattle.box_trace.specs.Tables.{known_at}
-use Rattle.box_trace.specs.Scans.{IsScanned, IsVisited, IsGathered}
-use Rattle.box_trace.proofs.Scanned.{scanned_beaten, scanned_none, none_in}
+use Rattle.box_trace.specs.Scans.{IsVisited}
+use Rattle.box_trace.proofs.Scanned.{scanned_beaten}
 use Rattle.box_trace.proofs.scan.Scan.gather.Goals as goal
 use Rattle.box_trace.proofs.scan.Scan.gather.Goals.{then-due-k+in_ok-visited+in_default, else-due-k}
 
