@@ -1,6 +1,7 @@
 //! The words of the command line.
 #![tactic(auto)]
 
+mod check;
 mod made;
 mod numbers;
 mod prove;
@@ -8,6 +9,7 @@ mod simple;
 #[cfg(test)]
 mod tests;
 
+pub use check::{CheckRequest, read_check};
 pub use made::read_gen;
 pub use prove::{Request, read_prove};
 pub use simple::WordsError;

@@ -1,4 +1,5 @@
 // Words after a command, and what they ask for, worked out by hand.
+use crate::check::read_check;
 use crate::made::read_gen;
 use crate::prove::read_prove;
 use crate::simple::WordsError;
@@ -100,6 +101,24 @@ const DEGREES: [(&[&str], Option<u8>); 18] = [
     (&["--help"], None),
 ];
 
+// Words after `check`, and the names of the script and the certificate that they ask for, if they do.
+const NAMES: [(&[&str], Option<(&str, &str)>); 14] = [
+    (&["a", "b"], Some(("a", "b"))),
+    (&["b", "a"], Some(("b", "a"))),
+    (&["-", "a"], Some(("-", "a"))),
+    (&["a", "--", "-b"], Some(("a", "-b"))),
+    (&["--", "--", "-"], Some(("--", "-"))),
+    (&["a", "a "], Some(("a", "a "))),
+    (&[], None),
+    (&["a"], None),
+    (&["a", "b", "c"], None),
+    (&["a", "a"], None),
+    (&["", "b"], None),
+    (&["a", ""], None),
+    (&["a", "b", "--rounds", "3"], None),
+    (&["a", "-b"], None),
+];
+
 // The words, as texts of their own.
 fn words_of(alloc: Global, words: &[&str]) -> Result<Vec<String>, AllocError> {
     let mut all = Vec::new(alloc);
@@ -168,6 +187,34 @@ fn asks_degree(
 fn degrees_are_read(rt: HostRuntime) -> Result<(), Fail> {
     for (line, wanted) in DEGREES {
         asks_degree(&rt, rt.alloc(), line, wanted)?;
+    }
+    Ok(())
+}
+
+// The words ask for these names.
+fn asks_names(
+    rt: &impl Abort,
+    alloc: Global,
+    line: &[&str],
+    wanted: Option<(&str, &str)>,
+) -> Result<(), Fail> {
+    let words = words_of(alloc, line)?;
+    match read_check(alloc, &words) {
+        Ok(found) => {
+            assert_eq!(rt; Some((found.script, found.cert)), wanted, "{line:?}");
+        }
+        Err(error) => {
+            assert_eq!(rt; error, WordsError::Usage, "{line:?}");
+            assert!(rt; wanted.is_none(), "{line:?}");
+        }
+    }
+    Ok(())
+}
+
+#[test]
+fn names_are_read(rt: HostRuntime) -> Result<(), Fail> {
+    for (line, wanted) in NAMES {
+        asks_names(&rt, rt.alloc(), line, wanted)?;
     }
     Ok(())
 }
