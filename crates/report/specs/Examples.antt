@@ -11,12 +11,15 @@ use Rattle.interval.specs.declared.interval.Interval.{Interval}
 use Rattle.script_words.specs.declared.class.Sign.TheVariants as sign
 use Rattle.script_words.specs.declared.lex.Token.{Token}
 use Rattle.script_words.specs.declared.lex.TokenKind.TheVariants as token
+use Rattle.cert_bytes.specs.declared.fault.CertKind.TheVariants as cert
+use Rattle.cert_checker.specs.declared.fault.CheckFault.TheVariants as check
 use Rattle.script_judge.specs.declared.refusal.LimitKind.TheVariants as limit
 use Rattle.script_judge.specs.declared.refusal.RefusalKind.TheVariants as kind
 use Rattle.facts.specs.declared.hint.HintMark.TheVariants.{Checked, Assumed}
 use Rattle.goals.specs.declared.line.Line.TheVariants as shown
 use Rattle.report.specs.Lines.{Bytes, refusal_line}
 use Rattle.report.specs.Proved.{goal_line, hint_lines}
+use Rattle.report.specs.Certificates.{cert_fault_line, check_fault_line}
 
 -- ---- numbers and intervals
 
@@ -92,3 +95,13 @@ nested = refl
 out_of_order : refusal_line (record { kind = kind.BadBound; at = 10 }) ≡ codes "script: BadBound at 10\n"
 unfolding digits
 out_of_order = refl
+
+-- ---- certificates
+
+cut_short : cert_fault_line (record { kind = cert.Truncated; at = 142 }) ≡ codes "certificate: Truncated at 142\n"
+unfolding digits
+cut_short = refl
+
+unsettled : check_fault_line (check.GoalMissing 3 1) ≡ codes "certificate: GoalMissing 3 1\n"
+unfolding digits
+unsettled = refl

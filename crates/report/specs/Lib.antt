@@ -1,4 +1,5 @@
 pub mod Lines
 pub mod Proved
 pub mod Unproved
+pub mod Certificates
 pub mod Examples

@@ -1,6 +1,7 @@
 //! The printed lines, exactly, as bytes.
 #![tactic(auto)]
 
+pub mod certificates;
 mod joined;
 pub mod parts;
 pub mod proved;

@@ -2,10 +2,13 @@
 
 ghost use Rattle.std.specs.Prelude.{◌<◌, ◌^◌, length};
 
+use crate::certificates::{cert_fault_line, check_fault_line};
 use crate::parts::part;
 use crate::proved::{answer_text, put_goal_line};
 use crate::refusals::refusal_line;
 use crate::runs::{boxes_text, expressions_text, read_fault_line, usage};
+use cert_bytes::{CertFault, CertKind};
+use cert_checker::CheckFault;
 use dyadic::{Dyadic, End};
 use facts::HintMark;
 use goal_spans::Span;
@@ -142,6 +145,38 @@ fn refusals(rt: HostRuntime) -> Result<(), Fail> {
         ),
     ] {
         let line = refusal_line(rt.alloc(), Refusal { kind, at })?;
+        assert_eq!(rt; line.as_slice(), wanted.as_bytes(), "{wanted}");
+    }
+    Ok(())
+}
+
+#[test]
+fn certificates(rt: HostRuntime) -> Result<(), Fail> {
+    for (kind, at, wanted) in [
+        (CertKind::BadMagic, 0, "certificate: BadMagic at 0\n"),
+        (CertKind::Truncated, 142, "certificate: Truncated at 142\n"),
+        (
+            CertKind::TooLong,
+            17592186044416,
+            "certificate: TooLong at 17592186044416\n",
+        ),
+    ] {
+        let line = cert_fault_line(rt.alloc(), CertFault { kind, at })?;
+        assert_eq!(rt; line.as_slice(), wanted.as_bytes(), "{wanted}");
+    }
+    for (fault, wanted) in [
+        (CheckFault::BadStep(2), "certificate: BadStep 2\n"),
+        (
+            CheckFault::BadPremise(u64::MAX),
+            "certificate: BadPremise 18446744073709551615\n",
+        ),
+        (
+            CheckFault::GoalMissing(0, 1),
+            "certificate: GoalMissing 0 1\n",
+        ),
+        (CheckFault::WrongScript(1), "certificate: WrongScript 1\n"),
+    ] {
+        let line = check_fault_line(rt.alloc(), fault)?;
         assert_eq!(rt; line.as_slice(), wanted.as_bytes(), "{wanted}");
     }
     Ok(())
