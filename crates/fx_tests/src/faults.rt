@@ -72,7 +72,7 @@ const LINES: [(&[&str], &[u8], &[u64], &str); 7] = [
         &["prove"],
         PRODUCT,
         &[],
-        "usage: fixprove prove SCRIPT [--rounds N] [--depth N] [--boxes N] [--workers N]\n",
+        "usage: fixprove prove SCRIPT [--rounds N] [--depth N] [--boxes N] [--workers N] | check SCRIPT CERT | gen N\n",
     ),
     (&["prove", "a"], PRODUCT, &[7], "read fault: a\n"),
     (&["prove", "a"], b"", &[], "script: Unexpected at 0\n"),

@@ -6,9 +6,9 @@ use std::test::Fail;
 const PRODUCT: &[u8] = b"{ x in [1,2] /\\ y in [3,5] -> x * y in ? }\n";
 
 const USAGE: &str =
-    "usage: fixprove prove SCRIPT [--rounds N] [--depth N] [--boxes N] [--workers N]\n";
+    "usage: fixprove prove SCRIPT [--rounds N] [--depth N] [--boxes N] [--workers N] | check SCRIPT CERT | gen N\n";
 
-const WRONG: [&[&str]; 23] = [
+const WRONG: [&[&str]; 26] = [
     &[],
     &["prove"],
     &["a"],
@@ -27,6 +27,9 @@ const WRONG: [&[&str]; 23] = [
     &["prove", "a", "-h"],
     &["prove", "a", "--cert", "b"],
     &["prove", "a", "--rounds", "3", "--rounds", "3"],
+    &["check", "a"],
+    &["check", "a", "a"],
+    &["check", "a", "b", "--rounds", "3"],
     &["gen"],
     &["gen", "0"],
     &["gen", "13"],

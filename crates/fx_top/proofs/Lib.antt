@@ -4,3 +4,5 @@ pub mod Exact
 pub mod Answered
 pub mod Ends
 pub mod Made
+pub mod Checked
+pub mod Complete

@@ -1,4 +1,5 @@
 pub mod Command
 pub mod Outside
 pub mod Answers
+pub mod Checked
 pub mod Run

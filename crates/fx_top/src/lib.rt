@@ -1,7 +1,8 @@
-//! The top call of the prover: reads a script, proves its goals and prints the answer.
+//! The top call of the prover: reads a script, proves its goals or checks a certificate of them, and prints the answer.
 #![tactic(auto)]
 
 mod answer;
+mod check;
 mod found;
 mod options;
 mod outside;

@@ -1,14 +1,16 @@
 // What a run puts into its sink.
-ghost use Rattle.std.specs.Prelude.{◌≡◌, ◌⊎◌};
+ghost use Rattle.std.specs.Prelude.{◌≡◌, ◌≤◌, ◌⊎◌, ℕ, List, Some};
 ghost use Rattle.fx_edge.specs.Outside.{Rose};
 ghost use Rattle.fx_top.specs.Answers.{AreAllowed, MadePrints, ProvePrints, options_from};
-ghost use Rattle.fx_top.specs.Run.{EndsAs, IsLine, StopPrints};
+ghost use Rattle.fx_top.specs.Checked.{IsAcceptable};
+ghost use Rattle.fx_top.specs.Run.{CheckedPrints, Comes, EndsAs, IsLine, StopPrints};
 
 use crate::answer::{answer, made_answer};
+use crate::check::check_answer;
 use crate::options::Options;
 use crate::outside::{ReadStop, put_all};
 use crate::run::Status;
-use fx_edge::{Failed, Gate, Sink};
+use fx_edge::{Failed, Folder, Gate, Sink};
 use report::runs::read_fault_line;
 use std::alloc::Global;
 use std::sync::Wait;
@@ -79,5 +81,25 @@ pub fn print_stop<O: Sink>(alloc: Global, name: &str, stop: ReadStop, out: &mut 
     match stop {
         ReadStop::Fault => print_read_fault(alloc, name, out),
         ReadStop::OutOfMemory => Status::OutOfMemory,
+    }
+}
+
+// Puts what is answered to the text and the certificate of this name, or why that wasn't read.
+pub fn print_checked<F: Folder, O: Sink>(
+    alloc: Global,
+    text: &[u8],
+    name: &str,
+    folder: &mut F,
+    out: &mut O,
+) -> Status
+    ensures ends { EndsAs (CheckedPrints text.now name.now (F.told folder.old name.now) (F.read_faults folder.old) (F.read_faults folder.new)) (O.taken out.old) (O.taken out.new) result }
+    ensures accepted { (all : List ℕ) → F.told folder.old name.now ≡ Some all → IsAcceptable text.now all → Comes Status.Answered result }
+    ensures cause { result ≡ Status.WriteFault → Rose (O.faults out.old) (O.faults out.new) }
+    ensures told { (other : List ℕ) → F.told folder.new other ≡ F.told folder.old other }
+    ensures later { F.read_faults folder.old ≤ F.read_faults folder.new }
+{
+    match check_answer(alloc, text, name, folder) {
+        Ok((status, lines)) => print(out, &lines, status),
+        Err(stop) => print_stop(alloc, name, stop, out),
     }
 }

@@ -1,17 +1,20 @@
 // The top call.
 ghost use Rattle.std.specs.Prelude.{◌≡◌, ◌≢◌, ℕ, List, false, map, string_bytes, Option, Some, None, IfOk, IfErr};
+ghost use Rattle.command_line.specs.Check.{check_of};
 ghost use Rattle.command_line.specs.Reading.{asked_of, AreInRange};
 ghost use Rattle.fx_edge.specs.Outside.{Rose};
 ghost use Rattle.fx_top.specs.Command.{IsInRange, command_from, reading};
-ghost use Rattle.fx_top.specs.Command.Command.{Prove, Gen};
-ghost use Rattle.fx_top.specs.Run.{Outside, EndsAs, IsExact, IsTelling, Prints, exit_code, is_written, seen};
+ghost use Rattle.fx_top.specs.Command.Command.{Prove, Check, Gen};
+ghost use Rattle.fx_top.specs.Checked.{IsAcceptable};
+ghost use Rattle.fx_top.specs.Run.{Outside, Comes, EndsAs, IsComplete, IsExact, IsTelling, Prints, exit_code, is_written, seen};
 
 use crate::options::options_of;
 use crate::outside::read_text;
-use crate::print::{print, print_answer, print_made, print_stop};
-use command_line::{Request, WordsError, read_gen, read_prove};
+use crate::print::{print, print_answer, print_checked, print_made, print_stop};
+use command_line::{CheckRequest, Request, WordsError, read_check, read_gen, read_prove};
 use fx_edge::{Folder, Gate, Sink};
 use report::runs::usage;
+use script_checker::checks_are_one;
 use script_grammar::script_or_refusal;
 use script_judge::first::firsts_are_unique;
 use settler::answers_are_one;
@@ -28,6 +31,7 @@ pub enum Status {
     Usage,
     Script,
     Limit,
+    Certificate,
     ReadFault,
     WriteFault,
     OutOfMemory,
@@ -44,6 +48,7 @@ impl Status {
             Status::Usage => 2,
             Status::Script => 3,
             Status::Limit => 4,
+            Status::Certificate => 5,
             Status::ReadFault => 6,
             Status::WriteFault => 7,
             Status::OutOfMemory => 8,
@@ -56,6 +61,8 @@ impl Status {
 pub enum Wanted<'a> {
     /// A script is to be proved.
     Prove(Request<'a>),
+    /// A certificate is to be checked.
+    Check(CheckRequest<'a>),
     /// The made script of this degree is to be proved.
     Gen(u8),
 }
@@ -71,6 +78,8 @@ fn command_of<'a>(alloc: Global, words: &'a [String]) -> Result<Wanted<'a>, Word
     };
     if command.as_str() == "prove" {
         Ok(Wanted::Prove(read_prove(alloc, words)?))
+    } else if command.as_str() == "check" {
+        Ok(Wanted::Check(read_check(alloc, words)?))
     } else if command.as_str() == "gen" {
         Ok(Wanted::Gen(read_gen(alloc, words)?))
     } else {
@@ -95,6 +104,25 @@ fn run_prove<F: Folder, O: Sink, G: Gate, R: Threads + Wait + Sync>(
 {
     match read_text(alloc, folder, request.script) {
         Ok(text) => print_answer(rt, alloc, &text, options_of(request), out, gate),
+        Err(stop) => print_stop(alloc, request.script, stop, out),
+    }
+}
+
+// What `check` does.
+fn run_check<F: Folder, O: Sink>(
+    alloc: Global,
+    request: CheckRequest<'_>,
+    folder: &mut F,
+    out: &mut O,
+) -> Status
+    ensures ends { (words : List (List ℕ)) → reading words ≡ Some (Check (check_of request.entry))
+        → EndsAs (Prints words (seen (F.told folder.old) (F.read_faults folder.old) (F.read_faults folder.new))) (O.taken out.old) (O.taken out.new) result }
+    ensures accepted { (text all : List ℕ) → F.told folder.old request.entry.script.now ≡ Some text → F.told folder.old request.entry.cert.now ≡ Some all → IsAcceptable text all → Comes Status.Answered result }
+    ensures write_fault { result ≡ Status.WriteFault → Rose (O.faults out.old) (O.faults out.new) }
+    ensures files { (name : List ℕ) → F.told folder.new name ≡ F.told folder.old name }
+{
+    match read_text(alloc, folder, request.script) {
+        Ok(text) => print_checked(alloc, &text, request.cert, folder, out),
         Err(stop) => print_stop(alloc, request.script, stop, out),
     }
 }
@@ -124,11 +152,13 @@ fn run_words<F: Folder, O: Sink, G: Gate, R: Threads + Wait + Sync>(
     gate: &G,
 ) -> Status
     ensures ends { EndsAs (Prints (map string_bytes words.now) (seen (F.told folder.old) (F.read_faults folder.old) (F.read_faults folder.new))) (O.taken out.old) (O.taken out.new) result }
+    ensures accepted { IsComplete (map string_bytes words.now) (F.told folder.old) result }
     ensures write_fault { result ≡ Status.WriteFault → Rose (O.faults out.old) (O.faults out.new) }
     ensures files { (name : List ℕ) → F.told folder.new name ≡ F.told folder.old name }
 {
     match command_of(alloc, words) {
         Ok(Wanted::Prove(request)) => run_prove(rt, alloc, request, folder, out, gate),
+        Ok(Wanted::Check(request)) => run_check(alloc, request, folder, out),
         Ok(Wanted::Gen(n)) => run_gen(rt, alloc, n, out, gate),
         Err(WordsError::Usage) => print(out, usage(), Status::Usage),
         Err(WordsError::OutOfMemory) => Status::OutOfMemory,
@@ -146,6 +176,7 @@ fn run_exactly<F: Folder, O: Sink, G: Gate, R: Threads + Wait + Sync>(
 ) -> Status
     ensures ends { EndsAs (Prints (map string_bytes words.now) (seen (F.told folder.old) (F.read_faults folder.old) (F.read_faults folder.new))) (O.taken out.old) (O.taken out.new) result }
     ensures exact { IsExact (map string_bytes words.now) (seen (F.told folder.old) (F.read_faults folder.old) (F.read_faults folder.new)) result }
+    ensures accepted { IsComplete (map string_bytes words.now) (F.told folder.old) result }
     ensures write_fault { result ≡ Status.WriteFault → Rose (O.faults out.old) (O.faults out.new) }
     ensures files { (name : List ℕ) → is_written (map string_bytes words.now) name ≡ false → F.told folder.new name ≡ F.told folder.old name }
 {
@@ -154,8 +185,9 @@ fn run_exactly<F: Folder, O: Sink, G: Gate, R: Threads + Wait + Sync>(
 }
 
 /// Runs the program on the words of its command line, without the program's name: `prove SCRIPT` reads the script's text
-/// from the folder, proves its goals, and puts the answer's lines; `gen N` does so with the made script of degree N. Workers, as many as the words say, settle the boxes; each calls
-/// the gate before and after a box. It may wait.
+/// from the folder, proves its goals, and puts the answer's lines; `gen N` does so with the made script of degree N. Workers, as many as
+/// the words say, settle the boxes; each calls the gate before and after a box. `check SCRIPT CERT` reads the script's text and then the
+/// certificate, and puts the lines that it shows, where it is accepted. It may wait.
 pub fn fx_run<R: Threads + Wait + Sync, F: Folder, O: Sink, G: Gate>(
     rt: &R,
     alloc: Global,
@@ -166,12 +198,16 @@ pub fn fx_run<R: Threads + Wait + Sync, F: Folder, O: Sink, G: Gate>(
 ) -> Status
     // Whatever the workers' schedule is, of which no clause speaks: each status comes only with its defined lines, which the sink took whole; after a write fault and want of memory it took a front of
     // defined lines. At `Answered` they have an interval for each goal of one script: the hull, over the boxes that aren't cut further, of the
-    // strongest facts that derivations of the given height conclude there. Under each assignment of fractions that meets the script, each
-    // goal's value lies in its interval, and each goal is true. A read fault comes only where reads failed in this call.
+    // strongest facts that derivations of the given height conclude there; or what an accepted certificate shows, whoever wrote it. Under each
+    // assignment of fractions that meets the script, each goal's value lies in its interval, and each goal is true. `Certificate` comes with the
+    // first fault of a certificate that isn't accepted. A read fault comes only where reads failed in this call.
     ensures ends { EndsAs (Prints (map string_bytes words.now) (seen (F.told folder.old) (F.read_faults folder.old) (F.read_faults folder.new))) (O.taken out.old) (O.taken out.new) result }
 
     // Where the folder tells what is read, the defined status comes, or else a fault of the outside or want of memory.
     ensures exact { IsExact (map string_bytes words.now) (seen (F.told folder.old) (F.read_faults folder.old) (F.read_faults folder.new)) result }
+
+    // A certificate that is accepted for the script is answered by its lines, or else a fault of the outside or want of memory.
+    ensures accepted { IsComplete (map string_bytes words.now) (F.told folder.old) result }
 
     // A write fault comes only where the sink failed in this call.
     ensures write_fault { result ≡ Status.WriteFault → Rose (O.faults out.old) (O.faults out.new) }
@@ -182,7 +218,7 @@ pub fn fx_run<R: Threads + Wait + Sync, F: Folder, O: Sink, G: Gate>(
     run_exactly(rt, alloc, words, folder, out, gate)
 }
 
-/// The law that one answer is defined, read faults aside: words with a told text have one status, of those that aren't `ReadFault`, and one
+/// The law that one answer is defined, read faults aside: words with told files have one status, of those that aren't `ReadFault`, and one
 /// text of lines. Nothing is done.
 pub fn answer_besides_read_faults_is_defined_once()
     ensures { (words : List (List ℕ)) (outside : Outside) (s t : Status) (lines others : List ℕ) → IsTelling words outside.told
@@ -192,6 +228,7 @@ pub fn answer_besides_read_faults_is_defined_once()
     firsts_are_unique();
     answers_are_one();
     marks_are_one();
+    checks_are_one();
 }
 
 // The law that a run which ends as defined has exactly the defined status. Nothing is done.

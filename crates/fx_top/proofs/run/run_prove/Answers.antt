@@ -1,6 +1,7 @@
-use Rattle.std.proofs.Common.{Err, ap, subst, rules}
+use Rattle.std.proofs.Common.{Err, ap, refl, subst, rules}
 use Rattle.command_line.specs.Reading.{asked_of}
 use Rattle.fx_top.specs.Answers.{ProvePrints, options_of}
+use Rattle.fx_top.specs.Command.Command.{Prove}
 use Rattle.fx_top.specs.Outside.{IsText}
 use Rattle.fx_top.specs.Run.{EndsAs, StopPrints}
 use Rattle.fx_top.proofs.Ends.{ends_more, answer_prints, stop_prints}
@@ -14,4 +15,4 @@ returns-in-Ok-clause-ends g c = λ words asked.
 
 pub returns-in-Err-clause-ends : goal.returns-in-Err-clause-ends
 returns-in-Err-clause-ends g c = λ words asked.
-    ends_more (StopPrints c.args.request.script.now c.in-Err.stop) _ (stop_prints words _ (asked_of c.args.request) asked c.in-Err.stop (λ e. c.in-Err.ensures.cause (ap Err e))) _ _ _ c.print_stop.ensures.ends
+    ends_more (StopPrints c.args.request.script.now c.in-Err.stop) _ (stop_prints words _ (Prove (asked_of c.args.request)) c.args.request.script.now asked c.in-Err.stop (λ e. (refl, c.in-Err.ensures.cause (ap Err e)))) _ _ _ c.print_stop.ensures.ends

@@ -1,8 +1,12 @@
-use Rattle.std.proofs.Common.{◌≡◌, map, string_bytes, None, refl, rules}
+use Rattle.std.proofs.Common.{◌≡◌, map, string_bytes, Some, None, refl, inr, rules}
+use Rattle.command_line.specs.Check.{check_of}
+use Rattle.command_line.specs.Reading.{asked_of}
 use Rattle.report.specs.Lines.{usage_line}
 use Rattle.fx_top.specs.Command.{reading}
+use Rattle.fx_top.specs.Command.Command.{Prove, Check, Gen}
 use Rattle.fx_top.specs.Run.{Prints, seen}
 use Rattle.fx_top.specs.declared.run.Status.TheVariants.{Usage}
+use Rattle.fx_top.proofs.Complete.{complete_check, complete_other, complete_none}
 use Rattle.fx_top.proofs.Ends.{ends_line}
 use Rattle.fx_top.proofs.run.run_words.Goals as goal
 
@@ -14,3 +18,26 @@ returns-in-Err-Usage-clause-ends g c =
 pub returns-in-Ok-Gen-clause-ends : goal.returns-in-Ok-Gen-clause-ends
 returns-in-Ok-Gen-clause-ends g c =
     c.run_gen.ensures.ends (map string_bytes c.args.words.now) (seen (g.F.Folder.told c.args.folder.now) (g.F.Folder.read_faults c.args.folder.now) (g.F.Folder.read_faults c.args.folder.now)) (search rules)
+
+pub returns-in-Ok-Prove-clause-accepted : goal.returns-in-Ok-Prove-clause-accepted
+returns-in-Ok-Prove-clause-accepted g c =
+    let asked : reading (map string_bytes c.args.words.now) ≡ Some (Prove (asked_of c.in-Ok-Prove.request)) = search rules in
+    complete_other (map string_bytes c.args.words.now) (g.F.Folder.told c.args.folder.now) c.run_prove.result (Prove (asked_of c.in-Ok-Prove.request)) (λ a e. cc e) asked
+
+pub returns-in-Ok-Check-clause-accepted : goal.returns-in-Ok-Check-clause-accepted
+returns-in-Ok-Check-clause-accepted g c =
+    let asked : reading (map string_bytes c.args.words.now) ≡ Some (Check (check_of c.in-Ok-Check.request)) = search rules in
+    complete_check (map string_bytes c.args.words.now) (g.F.Folder.told c.args.folder.now) c.run_check.result (check_of c.in-Ok-Check.request) asked c.run_check.ensures.accepted
+
+pub returns-in-Ok-Gen-clause-accepted : goal.returns-in-Ok-Gen-clause-accepted
+returns-in-Ok-Gen-clause-accepted g c =
+    let asked : reading (map string_bytes c.args.words.now) ≡ Some (Gen c.in-Ok-Gen.n) = search rules in
+    complete_other (map string_bytes c.args.words.now) (g.F.Folder.told c.args.folder.now) c.run_gen.result (Gen c.in-Ok-Gen.n) (λ a e. cc e) asked
+
+pub returns-in-Err-Usage-clause-accepted : goal.returns-in-Err-Usage-clause-accepted
+returns-in-Err-Usage-clause-accepted g c =
+    let none : reading (map string_bytes c.args.words.now) ≡ None = search rules in
+    complete_none (map string_bytes c.args.words.now) (g.F.Folder.told c.args.folder.now) c.print.result none
+
+pub returns-in-Err-OutOfMemory-clause-accepted : goal.returns-in-Err-OutOfMemory-clause-accepted
+returns-in-Err-OutOfMemory-clause-accepted g c = λ a text all e script cert p. inr (inr (inr refl))
