@@ -1,0 +1,14 @@
+use Rattle.cert_writer.proofs.GoesOn.{begun, ended, enters, settles, voids, follows, ends, whole}
+use Rattle.cert_writer.proofs.laws.writing_goes_on.Goals as goal
+
+pub returns : goal.returns
+returns c = record {
+  begun = begun c.certificates_exist.ensures.walks c.walks_move.ensures;
+  ended = ended c.certificates_exist.ensures.walks c.walks_move.ensures;
+  enters = enters c.certificates_exist.ensures.walks c.walks_move.ensures;
+  settles = settles c.certificates_exist.ensures.walks c.walks_move.ensures;
+  voids = voids c.certificates_exist.ensures.walks c.walks_move.ensures;
+  follows = follows c.certificates_exist.ensures.walks c.walks_move.ensures;
+  ends = ends c.certificates_exist.ensures.walks c.walks_move.ensures;
+  whole = whole c.certificates_exist.ensures.walks c.walks_move.ensures;
+}

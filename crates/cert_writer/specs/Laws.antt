@@ -1,0 +1,43 @@
+-- What is promised of a certificate that is written box by box.
+use Rattle.std.specs.Prelude.{◌≡◌, ℕ, List, [], ◌∷◌, Some, None}
+use Rattle.fx_model.specs.declared.ExprId.{ExprId}
+use Rattle.dyadic.specs.declared.number.Dyadic.{Dyadic}
+use Rattle.interval.specs.declared.interval.Interval.{Interval}
+use Rattle.facts.specs.declared.fact.Fact.TheVariants as fact
+use Rattle.facts.specs.declared.fact.Slot.TheVariants as slot
+use Rattle.derivation.specs.Exists.{table_at}
+use Rattle.saturate.specs.Universes.{setting_of}
+use Rattle.cert_bytes.specs.declared.item.Item.TheVariants as item
+use Rattle.cert_bytes.specs.declared.item.StepRow.{StepRow}
+use Rattle.cert_bytes.specs.Certificates.{certificate_of}
+use Rattle.cert_checker.specs.Steps.{step_fact}
+use Rattle.box_traces.specs.Trees.{Tree, Trees, leaf, cut, last, next, lines_of_tree}
+use Rattle.box_traces.specs.Walks.{behind_steps, Frame}
+use Rattle.cert_writer.specs.Standing.{Aim, IsAim, IsWhole, IsBegun, Place, IsAt, Ended, HasEnded, AreBoxSteps, AreCited, inside, closed, beside, around}
+
+-- This is so of each aim.
+abbrev pub OfAims : (Aim → Type 0) → Type 0
+OfAims P = (t : Aim) → IsAim t → P t
+
+pub record WritingGoesOn : Type 0 where
+  -- Where a section is to begin, what was written is a front of an accepted certificate with all lines,
+  pub begun : OfAims (λ t. (p : Place) → IsAt t p → IsBegun t (certificate_of p.items))
+  -- and where one has ended.
+  pub ended : OfAims (λ t. (e : Ended) → HasEnded t e → IsBegun t (certificate_of e.items))
+  -- Behind its steps a box is cut, and its first piece begins;
+  pub enters : OfAims (λ t. (p : Place) (rows : List StepRow) (x : ExprId) (points : List Dyadic) (i : Interval) (tree : Tree) (later : Trees) → p.tree ≡ cut x points (next i tree later) → IsAt t p →
+      AreBoxSteps t p rows → IsAt t (inside p rows x points i tree later))
+  -- or a leaf ends it,
+  pub settles : OfAims (λ t. (p : Place) (rows : List StepRow) (refs : List ℕ) → p.tree ≡ leaf → IsAt t p → AreBoxSteps t p rows →
+      table_at (setting_of t.world) t.height p.pieces slot.Void ≡ None → AreCited (behind_steps p.context rows).steps (table_at (setting_of t.world) t.height p.pieces) t.world.goals refs →
+      HasEnded t (closed p rows (item.Leaf refs) (lines_of_tree (setting_of t.world) t.height t.world.goals leaf p.pieces p.context.lines)))
+  -- or a step that concludes VOID.
+  pub voids : OfAims (λ t. (p : Place) (rows : List StepRow) (r : ℕ) → p.tree ≡ leaf → IsAt t p → AreBoxSteps t p rows →
+      table_at (setting_of t.world) t.height p.pieces slot.Void ≡ Some fact.Void → step_fact (behind_steps p.context rows).steps r ≡ Some fact.Void → HasEnded t (closed p rows (item.Dead r) p.context.lines))
+  -- Behind a section the next piece begins,
+  pub follows : OfAims (λ t. (e : Ended) (fr : Frame) (i : Interval) (tree : Tree) (later : Trees) (frames : List Frame) → e.frames ≡ fr ∷ frames → fr.later ≡ next i tree later → HasEnded t e →
+      IsAt t (beside e fr i tree later frames))
+  -- and behind the last its box has ended.
+  pub ends : OfAims (λ t. (e : Ended) (fr : Frame) (frames : List Frame) → e.frames ≡ fr ∷ frames → fr.later ≡ last → HasEnded t e → HasEnded t (around e fr frames))
+  -- Behind the root section the certificate is whole.
+  pub whole : OfAims (λ t. (e : Ended) → e.frames ≡ [] → HasEnded t e → IsWhole t (certificate_of e.items))

@@ -1,0 +1,152 @@
+-- Where a certificate that is being written stands.
+use Rattle.std.specs.Prelude.{◌≡◌, ◌≤◌, ◌+◌, ◌*◌, ◌^◌, ⊤, ℕ, suc, List, [], ◌∷◌, ◌++◌, length, map, Some}
+use Rattle.fx_model.specs.declared.ExprId.{ExprId}
+use Rattle.dyadic.specs.declared.number.Dyadic.{Dyadic}
+use Rattle.interval.specs.declared.interval.Interval.{Interval}
+use Rattle.facts.specs.declared.fact.Fact.{Fact}
+use Rattle.goals.specs.declared.goal.Goal.{Goal}
+use Rattle.goals.specs.declared.line.Line.{Line}
+use Rattle.goals.specs.Settles.{Settles}
+use Rattle.derivation.specs.Derivations.{At}
+use Rattle.derivation.specs.Known.{Piece}
+use Rattle.rule_universe.specs.Worlds.{World}
+use Rattle.saturate.specs.Universes.{setting_of}
+use Rattle.cert_bytes.specs.declared.item.Item.{Item}
+use Rattle.cert_bytes.specs.declared.item.Item.TheVariants as item
+use Rattle.cert_bytes.specs.declared.item.StepRow.{StepRow}
+use Rattle.cert_bytes.specs.declared.order.Due.TheVariants.{Sections}
+use Rattle.cert_bytes.specs.Certificates.{AreDue, AreCertificate, certificate_of}
+use Rattle.cert_bytes.specs.Fronts.{IsFront}
+use Rattle.cert_checker.specs.declared.open.Citable.{Citable}
+use Rattle.cert_checker.specs.declared.subject.Subject.{Subject}
+use Rattle.cert_checker.specs.Contexts.{Context, first}
+use Rattle.cert_checker.specs.Steps.{step_fact}
+use Rattle.cert_checker.specs.After.{after}
+use Rattle.cert_checker.specs.Accepted.{LeadsTo, Accepts}
+use Rattle.box_traces.specs.Writing.{IsWritable}
+use Rattle.box_traces.specs.Trees.{Tree, Trees, lines_of_tree, steps_in}
+use Rattle.box_traces.specs.Trees as trees
+use Rattle.box_traces.specs.Walks.{behind_steps, IsBehind, IsEndOf, Frame, LiesIn, left_in, lines_behind, steps_behind}
+use Rattle.box_traces.specs.Moves.{AreSteps, IsEntered, frame_of, turned}
+
+-- ---- what is written
+-- For what a certificate is written: the universe, the rounds that settle a box, what the certificate is judged against, and its lines.
+pub record Aim : Type 0 where
+  pub world : World
+  pub height : ℕ
+  pub subject : Subject
+  pub lines : List Line
+
+-- What derivations conclude can be written, and is judged against what they use.
+pub record IsAim (t : Aim) : Type 0 where
+  pub writable : IsWritable (setting_of t.world) t.world.hints
+  pub subject : trees.IsSubjectOf t.subject (setting_of t.world) t.world.hints t.world.goals
+
+-- so many steps at most for each box
+abbrev pub most_for : Aim → ℕ
+most_for t = length t.world.hypotheses + length t.world.nodes + 1 + t.height * length t.world.instances + t.height * 8192
+
+-- The bytes spell a certificate that is accepted with the lines.
+abbrev pub IsWhole : Aim → List ℕ → Type 0
+IsWhole t bytes = (items : List Item) × Accepts t.subject items t.lines × (bytes ≡ certificate_of items)
+
+-- The bytes are a front of such.
+abbrev pub IsBegun : Aim → List ℕ → Type 0
+IsBegun t bytes = (items : List Item) × Accepts t.subject items t.lines × IsFront bytes (certificate_of items)
+
+-- ---- where it stands
+-- Nothing is wrong with the items; behind them the context is c, and so many sections are still to come.
+pub record HasWritten (t : Aim) (items : List Item) (c : Context) (n : ℕ) : Type 0 where
+  pub leads : LeadsTo t.subject (first t.subject) items c
+  pub due : (rest : List Item) → AreDue (Some (Sections n)) rest → AreCertificate (items ++ rest)
+
+-- The section of a box is to begin: the items so far, what they come to, the box with those below it, its pieces, how many cuts there are around it, and these.
+pub record Place : Type 0 where
+  pub items : List Item
+  pub context : Context
+  pub tree : Tree
+  pub pieces : List Piece
+  pub depth : ℕ
+  pub frames : List Frame
+
+-- The certificate stands there.
+pub record IsAt (t : Aim) (p : Place) : Type 0 where
+  pub written : HasWritten t p.items p.context (suc (left_in p.frames))
+  pub entered : IsEntered (setting_of t.world) t.world.hints t.height (most_for t) t.world.goals p.context p.tree p.pieces p.depth p.frames
+  pub room : p.context.next + (steps_in (most_for t) p.tree + steps_behind (most_for t) p.frames) ≤ 2 ^ 64
+  pub shown : t.lines ≡ lines_behind (setting_of t.world) t.height t.world.goals p.frames (lines_of_tree (setting_of t.world) t.height t.world.goals p.tree p.pieces p.context.lines)
+
+-- The section of a box has ended: the items so far, where it began, what they come to, the cuts around it, and the lines that the leaves so far show.
+pub record Ended : Type 0 where
+  pub items : List Item
+  pub begin : Context
+  pub context : Context
+  pub frames : List Frame
+  pub lines : List Line
+
+-- The certificate stands there.
+pub record HasEnded (t : Aim) (e : Ended) : Type 0 where
+  pub written : HasWritten t e.items e.context (left_in e.frames)
+  pub ended : IsEndOf e.begin e.context e.lines
+  pub lies : LiesIn (setting_of t.world) t.height t.world.goals e.begin e.frames
+  pub room : e.context.next + steps_behind (most_for t) e.frames ≤ 2 ^ 64
+  pub shown : t.lines ≡ lines_behind (setting_of t.world) t.height t.world.goals e.frames e.lines
+
+-- ---- how it goes on
+-- The steps of the box may be written, and conclude its best facts.
+pub record AreBoxSteps (t : Aim) (p : Place) (rows : List StepRow) : Type 0 where
+  pub steps : AreSteps t.subject p.context rows
+  pub behind : IsBehind (setting_of t.world) t.height (behind_steps p.context rows) p.pieces
+  pub few : length rows ≤ most_for t
+
+-- Each goal has a step with the table's fact on its slot, which settles it.
+abbrev pub AreCited : List Citable → At → List Goal → List ℕ → Type 0
+AreCited steps at [] [] = ⊤
+AreCited steps at (g ∷ goals) (r ∷ refs) = ((f : Fact) × (at g.of ≡ Some f) × (step_fact steps r ≡ Some f) × Settles g f) × AreCited steps at goals refs
+AreCited steps at _ _ = ⊥
+
+-- the box's items: its steps, and what is behind them
+abbrev pub own_items : List StepRow → Item → List Item
+own_items rows last = map item.Step rows ++ last ∷ []
+
+-- the box's first piece is to begin
+abbrev pub inside : Place → List StepRow → ExprId → List Dyadic → Interval → Tree → Trees → Place
+inside p rows x points i tree later = record {
+  items = p.items ++ own_items rows (item.Cut x points);
+  context = after (behind_steps p.context rows) (item.Cut x points);
+  tree = tree;
+  pieces = (x, i) ∷ p.pieces;
+  depth = p.depth + 1;
+  frames = frame_of p.context rows x points later p.pieces (p.depth + 1) ∷ p.frames;
+}
+
+-- its own section has ended, with this item
+abbrev pub closed : Place → List StepRow → Item → List Line → Ended
+closed p rows last lines = record {
+  items = p.items ++ own_items rows last;
+  begin = p.context;
+  context = after (behind_steps p.context rows) last;
+  frames = p.frames;
+  lines = lines;
+}
+
+-- behind a section the next piece is to begin
+abbrev pub beside : Ended → Frame → Interval → Tree → Trees → List Frame → Place
+beside e fr i tree later frames = record {
+  items = e.items;
+  context = e.context;
+  tree = tree;
+  pieces = (fr.var, i) ∷ fr.pieces;
+  depth = fr.depth;
+  frames = turned fr later ∷ frames;
+}
+
+-- behind the last its box has ended
+abbrev pub around : Ended → Frame → List Frame → Ended
+around e fr frames = record {
+  items = e.items;
+  begin = fr.begin;
+  context = e.context;
+  frames = frames;
+  lines = e.lines;
+}
