@@ -39,7 +39,7 @@ use Rattle.cert_writer.specs.Standing.{Aim, IsWhole, IsBegun, Place, IsAt, Ended
 use Rattle.cert_writer.specs.Laws.{OfAims}
 
 -- ---- items one behind the other
-lead_both : (s : Subject) (c d e : Context) (items more : List Item) → LeadsTo s c items d → LeadsTo s d more e → LeadsTo s c (items ++ more) e
+pub lead_both : (s : Subject) (c d e : Context) (items more : List Item) → LeadsTo s c items d → LeadsTo s d more e → LeadsTo s c (items ++ more) e
 lead_both s c d e [] more l m = subst (λ y. LeadsTo s y more e) (sym l) m
 lead_both s c d e (i ∷ items) more l m = (l.0, lead_both s (after c i) d e items more l.1 m)
 

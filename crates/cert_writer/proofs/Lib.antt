@@ -1,2 +1,5 @@
 mod Taken
 mod GoesOn
+mod Begun
+mod Spelled
+mod Slots

@@ -1,25 +1,30 @@
 -- What is promised of a certificate that is written box by box.
-use Rattle.std.specs.Prelude.{◌≡◌, ℕ, List, [], ◌∷◌, Some, None}
+use Rattle.std.specs.Prelude.{◌≡◌, ◌≤◌, ◌^◌, ℕ, List, [], ◌∷◌, map, Some, None}
 use Rattle.fx_model.specs.declared.ExprId.{ExprId}
 use Rattle.dyadic.specs.declared.number.Dyadic.{Dyadic}
 use Rattle.interval.specs.declared.interval.Interval.{Interval}
 use Rattle.facts.specs.declared.fact.Fact.TheVariants as fact
 use Rattle.facts.specs.declared.fact.Slot.TheVariants as slot
+use Rattle.goals.specs.declared.line.Line.TheVariants as line
 use Rattle.derivation.specs.Exists.{table_at}
 use Rattle.saturate.specs.Universes.{setting_of}
 use Rattle.cert_bytes.specs.declared.item.Item.TheVariants as item
 use Rattle.cert_bytes.specs.declared.item.StepRow.{StepRow}
 use Rattle.cert_bytes.specs.Certificates.{certificate_of}
+use Rattle.cert_checker.specs.Contexts.{Context}
 use Rattle.cert_checker.specs.Steps.{step_fact}
-use Rattle.box_traces.specs.Trees.{Tree, Trees, leaf, cut, last, next, lines_of_tree}
+use Rattle.box_traces.specs.Trees.{Tree, Trees, leaf, cut, last, next, IsProved, lines_of_tree, steps_in}
 use Rattle.box_traces.specs.Walks.{behind_steps, Frame}
-use Rattle.cert_writer.specs.Standing.{Aim, IsAim, IsWhole, IsBegun, Place, IsAt, Ended, HasEnded, AreBoxSteps, AreCited, inside, closed, beside, around}
+use Rattle.cert_writer.specs.Standing.{Aim, IsAim, IsWhole, IsBegun, Place, IsAt, Ended, HasEnded, AreBoxSteps, AreCited, most_for, at_root, inside, closed, beside, around}
 
 -- This is so of each aim.
 abbrev pub OfAims : (Aim → Type 0) → Type 0
 OfAims P = (t : Aim) → IsAim t → P t
 
 pub record WritingGoesOn : Type 0 where
+  -- Behind the head of a proved tree whose steps can be numbered the root's section is to begin, with step 0.
+  pub begins : OfAims (λ t. (tree : Tree) → IsProved (setting_of t.world) t.height t.world.goals tree [] 0 → steps_in (most_for t) tree ≤ 2 ^ 64 →
+      t.lines ≡ lines_of_tree (setting_of t.world) t.height t.world.goals tree [] (map (λ g. line.Empty) t.world.goals) → (c : Context) × (c.next ≡ 0) × IsAt t (at_root t c tree))
   -- Where a section is to begin, what was written is a front of an accepted certificate with all lines,
   pub begun : OfAims (λ t. (p : Place) → IsAt t p → IsBegun t (certificate_of p.items))
   -- and where one has ended.

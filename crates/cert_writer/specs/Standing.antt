@@ -28,6 +28,7 @@ use Rattle.box_traces.specs.Trees.{Tree, Trees, lines_of_tree, steps_in}
 use Rattle.box_traces.specs.Trees as trees
 use Rattle.box_traces.specs.Walks.{behind_steps, IsBehind, IsEndOf, Frame, LiesIn, left_in, lines_behind, steps_behind}
 use Rattle.box_traces.specs.Moves.{AreSteps, IsEntered, frame_of, turned}
+use Rattle.cert_writer.specs.Heads.{head_items}
 
 -- ---- what is written
 -- For what a certificate is written: the universe, the rounds that settle a box, what the certificate is judged against, and its lines.
@@ -93,6 +94,10 @@ pub record HasEnded (t : Aim) (e : Ended) : Type 0 where
   pub shown : t.lines ≡ lines_behind (setting_of t.world) t.height t.world.goals e.frames e.lines
 
 -- ---- how it goes on
+-- the root's section is to begin behind the head
+abbrev pub at_root : Aim → Context → Tree → Place
+at_root t c tree = record { items = head_items t.world.nodes t.subject.marks; context = c; tree = tree; pieces = []; depth = 0; frames = [] }
+
 -- The steps of the box may be written, and conclude its best facts.
 pub record AreBoxSteps (t : Aim) (p : Place) (rows : List StepRow) : Type 0 where
   pub steps : AreSteps t.subject p.context rows

@@ -1,8 +1,14 @@
 //! Writes the certificate of a proved script to a file, box by box.
 #![tactic(auto)]
 
+mod ending;
 mod file;
+mod head;
 mod laws;
+mod spell;
 
+pub use ending::{cut_of, end_of};
 pub use file::append_all;
+pub use head::spell_head;
 pub use laws::writing_goes_on;
+pub use spell::{refs_of, spell_steps};

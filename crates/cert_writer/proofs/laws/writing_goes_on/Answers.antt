@@ -1,8 +1,10 @@
 use Rattle.cert_writer.proofs.GoesOn.{begun, ended, enters, settles, voids, follows, ends, whole}
+use Rattle.cert_writer.proofs.Begun.{begins}
 use Rattle.cert_writer.proofs.laws.writing_goes_on.Goals as goal
 
 pub returns : goal.returns
 returns c = record {
+  begins = begins c.certificates_exist.ensures.traces;
   begun = begun c.certificates_exist.ensures.walks c.walks_move.ensures;
   ended = ended c.certificates_exist.ensures.walks c.walks_move.ensures;
   enters = enters c.certificates_exist.ensures.walks c.walks_move.ensures;

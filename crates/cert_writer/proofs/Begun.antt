@@ -1,0 +1,162 @@
+-- What stands before the root section, and that the root's section is to begin behind it.
+use Rattle.std.specs.Prelude.{◌≡◌, ◌≤◌, ◌+◌, ◌^◌, ℕ, zero, false, List, [], ◌∷◌, ◌++◌, length, map, Some, None, slice_get, refl}
+use Rattle.std.proofs.Common.{sym, ◌∙◌, ap, subst, append-nil, arith}
+use Rattle.std.proofs.lemmas.List.{append_assoc}
+use Rattle.fx_model.specs.declared.Node.{Node}
+use Rattle.facts.specs.declared.hint.HintMark.{HintMark}
+use Rattle.goals.specs.declared.goal.Goal.{Goal}
+use Rattle.goals.specs.declared.line.Line.{Line}
+use Rattle.goals.specs.declared.line.Line.TheVariants as line
+use Rattle.derivation.specs.Derivations.{Setting}
+use Rattle.derivation.specs.Exists.{table_at}
+use Rattle.saturate.specs.Universes.{setting_of}
+use Rattle.cert_bytes.specs.declared.item.Item.{Item}
+use Rattle.cert_bytes.specs.declared.item.Item.TheVariants as item
+use Rattle.cert_bytes.specs.declared.order.Due.TheVariants.{Nodes, Marks, Sections}
+use Rattle.cert_bytes.specs.Certificates.{AreDue}
+use Rattle.cert_checker.specs.declared.subject.Subject.{Subject}
+use Rattle.cert_checker.specs.Contexts.{Context, first, open_piece}
+use Rattle.cert_checker.specs.After.{after, around_of, cuts_behind}
+use Rattle.cert_checker.specs.Accepted.{LeadsTo}
+use Rattle.box_traces.specs.Sections.{AllBelow}
+use Rattle.box_traces.specs.Writing.{givens_of}
+use Rattle.box_traces.specs.Traces.{Trace}
+use Rattle.box_traces.specs.Trees.{Tree, IsProved, lines_of_tree, steps_in, AreTaken}
+use Rattle.box_traces.specs.Walks.{numbered, IsOpen}
+use Rattle.box_traces.specs.Laws.{TracesExist}
+use Rattle.cert_writer.specs.Standing.{IsAt, most_for, at_root}
+use Rattle.cert_writer.specs.Laws.{OfAims}
+use Rattle.cert_writer.proofs.GoesOn.{lead_both}
+
+-- ---- what they come to
+abbrev with_nodes : Context → List Node → Context
+with_nodes c [] = c
+with_nodes c (n ∷ rest) = with_nodes (after c (item.Node n)) rest
+
+abbrev with_marks : Context → List HintMark → Context
+with_marks c [] = c
+with_marks c (m ∷ rest) = with_marks (after c (item.Mark m)) rest
+
+-- nothing but nodes and marks has come
+record IsEarly (c : Context) (nodes : List Node) (marked : ℕ) (lines : List Line) : Type 0 where
+  nodes_are : c.nodes ≡ nodes
+  marked_is : c.marked ≡ marked
+  next : c.next ≡ 0
+  steps : c.steps ≡ []
+  cuts : c.cuts ≡ []
+  case : c.case ≡ 0
+  lines_are : c.lines ≡ lines
+  ended : c.ended ≡ false
+
+early_nodes : (c : Context) (rest nodes : List Node) (lines : List Line) → IsEarly c nodes 0 lines → IsEarly (with_nodes c rest) (nodes ++ rest) 0 lines
+early_nodes c [] nodes lines e = subst (λ ns. IsEarly c ns 0 lines) (sym (append-nil nodes)) e
+early_nodes c (n ∷ rest) nodes lines e =
+    let d : Context = after c (item.Node n) in
+    let here : IsEarly d (nodes ++ n ∷ []) 0 lines = record {
+      nodes_are = ap (λ ns. ns ++ n ∷ []) e.nodes_are;
+      marked_is = e.marked_is;
+      next = e.next;
+      steps = e.steps;
+      cuts = e.cuts;
+      case = e.case;
+      lines_are = e.lines_are;
+      ended = refl;
+    } in
+    subst (λ ns. IsEarly (with_nodes d rest) ns 0 lines) (append_assoc nodes (n ∷ []) rest) (early_nodes d rest (nodes ++ n ∷ []) lines here)
+
+early_marks : (c : Context) (rest : List HintMark) (nodes : List Node) (k : ℕ) (lines : List Line) → IsEarly c nodes k lines → (n : ℕ) × IsEarly (with_marks c rest) nodes n lines
+early_marks c [] nodes k lines e = (k, e)
+early_marks c (m ∷ rest) nodes k lines e =
+    early_marks (after c (item.Mark m)) rest nodes (k + 1) lines
+    (record { nodes_are = e.nodes_are; marked_is = ap (λ n. n + 1) e.marked_is; next = e.next; steps = e.steps; cuts = e.cuts; case = e.case; lines_are = e.lines_are; ended = refl })
+
+-- ---- nothing is wrong with them
+nodes_lead : (s : Subject) (c : Context) (rest : List Node) → AreTaken s c.nodes rest → LeadsTo s c (map item.Node rest) (with_nodes c rest)
+nodes_lead s c [] t = refl
+nodes_lead s c (n ∷ rest) t = (t.0, nodes_lead s (after c (item.Node n)) rest t.3)
+
+mark_there : (before : List HintMark) (m : HintMark) (rest : List HintMark) → slice_get (before ++ m ∷ rest) (length before) ≡ Some m
+mark_there [] m rest = refl
+mark_there (x ∷ before) m rest = mark_there before m rest
+
+one_longer : (before : List HintMark) (m : HintMark) → length (before ++ m ∷ []) ≡ length before + 1
+one_longer [] m = omega arith
+one_longer (x ∷ before) m = let h = one_longer before m in omega (arith, h)
+
+marks_lead : (s : Subject) (c : Context) (before rest : List HintMark) → s.marks ≡ before ++ rest → c.marked ≡ length before → LeadsTo s c (map item.Mark rest) (with_marks c rest)
+marks_lead s c before [] all k = refl
+marks_lead s c before (m ∷ rest) all k =
+    let here : slice_get s.marks c.marked ≡ Some m = ap (λ ms. slice_get ms c.marked) all ∙ (ap (λ n. slice_get (before ++ m ∷ rest) n) k ∙ mark_there before m rest) in
+    (here, marks_lead s (after c (item.Mark m)) (before ++ m ∷ []) rest (all ∙ sym (append_assoc before (m ∷ []) rest)) (ap (λ n. n + 1) k ∙ sym (one_longer before m)))
+
+-- ---- they are due
+nodes_due : (s : Subject) (before rest : List Node) (more tail : List Item) → AreTaken s before rest → AreDue (Some (Nodes zero)) (more ++ tail) → AreDue (Some (Nodes (length rest))) ((map item.Node rest ++ more) ++ tail)
+nodes_due s before [] more tail t d = d
+nodes_due s before (n ∷ rest) more tail t d = ((t.1, t.2), nodes_due s (before ++ n ∷ []) rest more tail t.3 d)
+
+marks_due : (rest : List HintMark) (tail : List Item) → AreDue (Some (Marks zero)) tail → AreDue (Some (Marks (length rest))) (map item.Mark rest ++ tail)
+marks_due [] tail d = d
+marks_due (m ∷ rest) tail d = ((tt, tt), marks_due rest tail d)
+
+root_due : (items : List Item) → AreDue (Some (Sections 1)) items → AreDue (Some (Marks zero)) items
+root_due [] d = cc
+root_due (item.Step r ∷ items) d = d
+root_due (item.Cut x ps ∷ items) d = let e : 0 + (length ps + 1) ≡ length ps + 1 = omega arith in (d.0, subst (λ n. AreDue (Some (Sections n)) items) e d.1)
+root_due (item.Leaf refs ∷ items) d = d
+root_due (item.Dead r ∷ items) d = d
+root_due (item.Nodes n ∷ items) d = absurd d.1
+root_due (item.Node n ∷ items) d = absurd d.1
+root_due (item.Marks n ∷ items) d = absurd d.1
+root_due (item.Mark m ∷ items) d = absurd d.1
+root_due (item.End ∷ items) d = absurd d.1
+
+-- ---- the root
+module _ (exist : TracesExist) where
+  pub begins : OfAims (λ t. (tree : Tree) → IsProved (setting_of t.world) t.height t.world.goals tree [] 0 → steps_in (most_for t) tree ≤ 2 ^ 64 →
+      t.lines ≡ lines_of_tree (setting_of t.world) t.height t.world.goals tree [] (map (λ g. line.Empty) t.world.goals) → (c : Context) × (c.next ≡ 0) × IsAt t (at_root t c tree))
+  begins t a tree proved room shown =
+      let v : Setting = setting_of t.world in
+      let most : ℕ = most_for t in
+      let s : Subject = t.subject in
+      let marks : List HintMark = s.marks in
+      let start : Context = first s in
+      let lines : List Line = map (λ g. line.Empty) s.goals in
+      let c : Context = with_nodes start v.nodes in
+      let m : Context = after c (item.Marks (length marks)) in
+      let r : Context = with_marks m marks in
+      let e0 : IsEarly start [] 0 lines = record { nodes_are = refl; marked_is = refl; next = refl; steps = refl; cuts = refl; case = refl; lines_are = refl; ended = refl } in
+      let e1 = early_nodes start v.nodes [] lines e0 in
+      let e2 : IsEarly m v.nodes 0 lines = record { nodes_are = e1.nodes_are; marked_is = e1.marked_is; next = e1.next; steps = e1.steps; cuts = e1.cuts; case = e1.case; lines_are = e1.lines_are; ended = refl } in
+      let e = early_marks m marks v.nodes 0 lines e2 in
+      let at : IsEarly r v.nodes e.0 lines = e.1 in
+      let below : AllBelow r.next r.steps = subst (λ x. AllBelow r.next x) (sym at.steps) tt in
+      let found = exist.root v t.world.hints a.writable (numbered r) below t.height in
+      let short = found.few in
+      let root : Trace (givens_of v t.world.hints None) (numbered r) (table_at v t.height []) most = record { rows = found.rows; place = found.place; proper = found.proper; traced = found.traced; fields = found.fields; few = omega (arith, short) } in
+      let opened : IsOpen v t.world.hints t.height most r [] = record {
+        nodes = at.nodes_are;
+        case = at.case;
+        below = below;
+        ended = at.ended;
+        room = subst (λ y. around_of (cuts_behind y) ≤ length r.steps) (sym at.cuts) (omega arith);
+        trace = subst (λ o. Trace (givens_of v t.world.hints o) (numbered r) (table_at v t.height []) most) (sym (ap open_piece at.cuts)) root;
+      } in
+      let goals : s.goals ≡ t.world.goals = a.subject.wanted in
+      let empty : map (λ (g : Goal). line.Empty) t.world.goals ≡ r.lines = sym (at.lines_are ∙ ap (map (λ (g : Goal). line.Empty)) goals) in
+      let none = at.next in (
+        r,
+        at.next,
+        record {
+          written = record {
+            leads = (
+              a.subject.own,
+              lead_both s start c r (map item.Node v.nodes) (item.Marks (length marks) ∷ map item.Mark marks) (nodes_lead s start v.nodes a.subject.taken)
+                  (refl, marks_lead s m [] marks refl e2.marked_is),
+            );
+            due = λ rest d. ((tt, a.writable.few_nodes), nodes_due s [] v.nodes (item.Marks (length marks) ∷ map item.Mark marks) rest a.subject.taken ((tt, a.subject.few_marks), marks_due marks rest (root_due rest d)));
+          };
+          entered = record { opened = opened; deep = ap length at.cuts; proved = proved; lies = (at.cuts, at.case) };
+          room = omega (arith, none, room);
+          shown = shown ∙ ap (lines_of_tree v t.height t.world.goals tree []) empty;
+        },
+      )

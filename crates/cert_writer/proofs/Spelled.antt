@@ -1,0 +1,47 @@
+-- What is spelled one behind the other.
+use Rattle.std.specs.Prelude.{◌≡◌, ◌+◌, ℕ, zero, suc, List, [], ◌∷◌, ◌++◌, map, take, Some, slice_get}
+use Rattle.std.specs.List.{AllByRecursion}
+use Rattle.std.proofs.Common.{sym, ◌∙◌, ap, append-nil, arith}
+use Rattle.std.proofs.lemmas.List.{append_assoc, map-append}
+use Rattle.std.proofs.lemmas.Grind.{flat_map-append}
+use Rattle.cert_bytes.specs.declared.item.Item.{Item}
+use Rattle.cert_bytes.specs.declared.item.StepRow.{StepRow}
+use Rattle.cert_bytes.specs.Spelling.{spelling_of}
+use Rattle.cert_bytes.specs.Certificates.{certificate_of}
+use Rattle.box_traces.specs.Traces.{HasFields, HaveFields}
+use Rattle.cert_writer.specs.Boxes.{HasShortList, HasRanges}
+
+-- one item more
+pub spelled_more : (old now new : List ℕ) (items : List Item) (i : Item) → now ≡ old ++ certificate_of items → new ≡ now ++ spelling_of i → new ≡ old ++ certificate_of (items ++ i ∷ [])
+spelled_more old now new items i e f =
+    let one : certificate_of (i ∷ []) ≡ spelling_of i = append-nil (spelling_of i) in
+    let all : certificate_of (items ++ i ∷ []) ≡ certificate_of items ++ spelling_of i = flat_map-append spelling_of items (i ∷ []) ∙ ap (λ bs. certificate_of items ++ bs) one in
+    f ∙ ap (λ bs. bs ++ spelling_of i) e ∙ append_assoc old (certificate_of items) (spelling_of i) ∙ ap (λ bs. old ++ bs) (sym all)
+
+-- one item more of a kind
+pub spelled_map : {X : Type 0} (f : X → Item) (xs : List X) (x : X) (old now new : List ℕ) → now ≡ old ++ certificate_of (map f xs) → new ≡ now ++ spelling_of (f x) → new ≡ old ++ certificate_of (map f (xs ++ x ∷ []))
+spelled_map f xs x old now new e h = spelled_more old now new (map f xs) (f x) e h ∙ ap (λ items. old ++ certificate_of items) (sym (map-append f xs (x ∷ [])))
+
+take_get : {X : Type 0} (xs : List X) (k : ℕ) (x : X) → slice_get xs k ≡ Some x → take (suc k) xs ≡ take k xs ++ x ∷ []
+take_get [] k x e = cc
+take_get (y ∷ ys) zero x e = let q : y ≡ x = cc in ap (λ z. z ∷ []) q
+take_get (y ∷ ys) (suc k) x e = ap (λ l. y ∷ l) (take_get ys k x e)
+
+-- the next of a list
+pub spelled_next : {X : Type 0} (f : X → Item) (xs : List X) (k : ℕ) (x : X) (old now new : List ℕ) → slice_get xs k ≡ Some x → now ≡ old ++ certificate_of (map f (take k xs)) → new ≡ now ++ spelling_of (f x) →
+    new ≡ old ++ certificate_of (map f (take (k + 1) xs))
+spelled_next f xs k x old now new there e h =
+    let n : k + 1 ≡ suc k = omega arith in
+    let front : take (k + 1) xs ≡ take k xs ++ x ∷ [] = ap (λ i. take i xs) n ∙ take_get xs k x there in
+    spelled_map f (take k xs) x old now new e h ∙ ap (λ ys. old ++ certificate_of (map f ys)) (sym front)
+
+pub fields_more : (rows : List StepRow) (row : StepRow) → (AllByRecursion HasShortList rows → HaveFields rows) → HasRanges row → AllByRecursion HasShortList (rows ++ row ∷ []) → HaveFields (rows ++ row ∷ [])
+fields_more rows row h r all = let w = last_of rows row all in and_then rows row (h w.0) (record { counted = w.1; rule = r.0; arg = r.1 })
+  where
+    last_of : (rows : List StepRow) (row : StepRow) → AllByRecursion HasShortList (rows ++ row ∷ []) → AllByRecursion HasShortList rows × HasShortList row
+    last_of [] row a = (tt, a.0)
+    last_of (x ∷ rows) row a = let w = last_of rows row a.1 in ((a.0, w.0), w.1)
+
+    and_then : (rows : List StepRow) (row : StepRow) → HaveFields rows → HasFields row → HaveFields (rows ++ row ∷ [])
+    and_then [] row h r = (r, tt)
+    and_then (x ∷ rows) row h r = (h.0, and_then rows row h.1 r)

@@ -1,0 +1,43 @@
+//! The head of a certificate.
+ghost use Rattle.std.specs.Prelude.{◌≡◌, ◌++◌, ◌≤◌, length, map, OnOk};
+ghost use Rattle.cert_bytes.specs.Certificates.{certificate_of};
+ghost use Rattle.cert_bytes.specs.declared.item.Item.TheVariants as item;
+ghost use Rattle.cert_writer.specs.Heads.{head_items};
+
+use cert_bytes::{Item, write_item};
+use expr_dag::Dag;
+use facts::HintMark;
+use fx_model::ExprId;
+use std::alloc::AllocError;
+
+// The nodes behind their count.
+fn spell_nodes(nodes: &Dag, out: &mut Vec<u8>) -> Result<(), AllocError>
+    ensures { OnOk result (out.new.items ≡ out.old.items ++ certificate_of (map item.Node nodes.now)) }
+{
+    nodes.laws();
+    for k in 0..nodes.len() {
+        write_item(&Item::Node(nodes.node(ExprId(k))), out)?;
+    }
+    Ok(())
+}
+
+// The marks behind their count.
+fn spell_marks(marks: &[HintMark], out: &mut Vec<u8>) -> Result<(), AllocError>
+    ensures { OnOk result (out.new.items ≡ out.old.items ++ certificate_of (map item.Mark marks.now)) }
+{
+    for mark in marks {
+        write_item(&Item::Mark(*mark), out)?;
+    }
+    Ok(())
+}
+
+/// Appends what stands before the root section: the nodes and the marks, each behind their count.
+pub fn spell_head(nodes: &Dag, marks: &[HintMark], out: &mut Vec<u8>) -> Result<(), AllocError>
+    requires few { length marks.now ≤ 65535 }
+    ensures { OnOk result (out.new.items ≡ out.old.items ++ certificate_of (head_items nodes.now marks.now)) }
+{
+    write_item(&Item::Nodes(nodes.len()), out)?;
+    spell_nodes(nodes, out)?;
+    write_item(&Item::Marks(marks.len() as u16), out)?;
+    spell_marks(marks, out)
+}

@@ -1,0 +1,58 @@
+//! What is spelled of a box.
+ghost use Rattle.std.specs.Prelude.{◌≡◌, ◌++◌, map, IfOk, OnOk};
+ghost use Rattle.std.specs.List.{AllByRecursion};
+ghost use Rattle.cert_bytes.specs.declared.item.Item.TheVariants as item;
+ghost use Rattle.cert_bytes.specs.Certificates.{certificate_of};
+ghost use Rattle.box_trace.specs.Tables.{known_at};
+ghost use Rattle.box_traces.specs.Traces.{HaveFields};
+ghost use Rattle.box_traces.specs.Trees.{AllSettled};
+ghost use Rattle.cert_writer.specs.Boxes.{HasShortList, HasRanges, refs_in};
+
+use box_trace::Known;
+use cert_bytes::{Item, StepRow, write_item};
+use goals::Goal;
+use rule_universe::Universe;
+use std::alloc::{AllocError, Global};
+
+// Nothing is done. The clause tells a caller that the step's rule and argument have room in their fields.
+fn has_ranges(row: &StepRow)
+    ensures { HasRanges row.now }
+{
+    let _rule = row.rule;
+    let _arg = row.arg;
+}
+
+/// Appends the steps as items. Their numbers of rules and arguments have room in steps, since their types keep that.
+pub fn spell_steps(rows: Vec<StepRow>, out: &mut Vec<u8>) -> Result<(), AllocError>
+    requires { AllByRecursion HasShortList rows.items }
+    ensures spelled { OnOk result (out.new.items ≡ out.old.items ++ certificate_of (map item.Step rows.items)) }
+    ensures fields { OnOk result (HaveFields rows.items) }
+{
+    for row in rows {
+        has_ranges(&row);
+        write_item(&Item::Step(row), out)?;
+    }
+    Ok(())
+}
+
+/// The step of each goal's fact.
+pub fn refs_of(
+    alloc: Global,
+    uni: &Universe,
+    known: &Known,
+    goals: &[Goal],
+) -> Result<Vec<u64>, AllocError>
+    requires { AllSettled (known_at uni.now known.now) goals.now }
+    ensures { IfOk result (λ refs. refs.items ≡ refs_in uni.now known.now goals.now) }
+{
+    let mut refs = Vec::new(alloc);
+    let mut goals = goals;
+    while let [goal, later @ ..] = goals {
+        let Some(number) = known.step(uni, goal.of) else {
+            unreachable!()
+        };
+        refs.push(number)?;
+        goals = later;
+    }
+    Ok(refs)
+}
