@@ -1,8 +1,7 @@
 -- What the words after `check` ask for.
-use Rattle.std.specs.Prelude.{◌==◌, ◌||◌, List, length, Option, Some, None, codes, if◌then◌else◌}
-use Rattle.std.specs.Str.{bytes_eq}
+use Rattle.std.specs.Prelude.{List, Option, Some, None, codes, if◌then◌else◌}
 use Rattle.clap.specs.Words.{App, Text, with_rule}
-use Rattle.command_line.specs.Simple.{name_rule, bare_app, Texts, read_by, ◌>>=◌}
+use Rattle.command_line.specs.Simple.{name_rule, bare_app, are_names, Texts, read_by, ◌>>=◌}
 use Rattle.command_line.specs.declared.check.CheckRequest.{CheckRequest}
 
 -- the command, as clap sees it
@@ -19,9 +18,9 @@ abbrev pub names_from : Option Text → Option Text → Option AskedCheck
 names_from given other = do
   script ← given
   cert ← other
-  if length script == 0 || (length cert == 0 || bytes_eq script cert)
-      then None
-      else Some (record { script = script; cert = cert })
+  if are_names script (Some cert)
+      then Some (record { script = script; cert = cert })
+      else None
 
 abbrev pub check_from : Texts → Option AskedCheck
 check_from given = names_from (given (codes "script")) (given (codes "cert"))

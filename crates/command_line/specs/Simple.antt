@@ -1,5 +1,6 @@
 -- A simple command as clap sees it, and what its words ask for.
-use Rattle.std.specs.Prelude.{List, [], ◌∷◌, true, Option, Some, None}
+use Rattle.std.specs.Prelude.{◌==◌, ◌&&◌, Bool, not, List, [], ◌∷◌, length, true, Option, Some, None}
+use Rattle.std.specs.Str.{bytes_eq}
 use Rattle.clap.specs.Words.{App, Row, Rule, Text, new_app, new_rule, matches_of, first_of, Kinds, fault_of}
 use Rattle.clap.specs.declared.builder.ArgAction.TheVariants.{Set}
 
@@ -16,6 +17,13 @@ name_rule name = record (new_rule name) { required = true; action = Some Set }
 -- a command without options: its words are all the words, and it has no help
 abbrev pub bare_app : Text → App
 bare_app name = record { top = record (new_app name).top { no_binary_name = true; disable_help_flag = true }; subs = [] }
+
+-- ---- names of files
+
+-- a script's name, and a certificate's, if there is one: neither is empty, and they aren't equal
+abbrev pub are_names : Text → Option Text → Bool
+are_names script None = not (length script == 0)
+are_names script (Some cert) = not (length script == 0) && (not (length cert == 0) && not (bytes_eq script cert))
 
 -- ---- the reading
 

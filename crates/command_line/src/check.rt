@@ -4,7 +4,7 @@ ghost use Rattle.std.specs.Option.{option_map};
 ghost use Rattle.clap.specs.Words.{app_of, found_of, first_value};
 ghost use Rattle.command_line.specs.Check.{check_app, asked_check, check_from, check_of};
 
-use crate::simple::{WordsError, bare, matches_by, name};
+use crate::simple::{WordsError, are_names, bare, matches_by, name};
 use clap::{ArgMatches, Command};
 use std::alloc::{AllocError, Global};
 
@@ -31,7 +31,7 @@ fn request_in<'a>(matches: &ArgMatches<'a>) -> Option<CheckRequest<'a>>
 {
     let script = matches.get_str("script")?;
     let cert = matches.get_str("cert")?;
-    if script.is_empty() || cert.is_empty() || script == cert {
+    if !are_names(script, Some(cert)) {
         return None;
     }
     Some(CheckRequest { script, cert })

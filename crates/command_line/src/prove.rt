@@ -6,7 +6,7 @@ ghost use Rattle.command_line.specs.Numbers.{number_or};
 ghost use Rattle.command_line.specs.Reading.{prove_app, asked, asked_of, asked_from, given_by, AreInRange};
 
 use crate::numbers::number;
-use crate::simple::{WordsError, bare, matches_by, name, option};
+use crate::simple::{WordsError, are_names, bare, matches_by, name, option};
 use clap::{ArgMatches, Command};
 use std::alloc::{AllocError, Global};
 
@@ -15,6 +15,8 @@ use std::alloc::{AllocError, Global};
 pub struct Request<'a> {
     /// The script's name; it isn't empty.
     pub script: &'a str,
+    /// The certificate's name, if one is to be written; it is neither empty nor the script's.
+    pub cert: Option<&'a str>,
     /// The height of derivations: 1 to 64.
     pub rounds: u8,
     /// How often boxes are halved at most: 0 to 32.
@@ -30,6 +32,7 @@ fn prove_command<'a>(alloc: Global) -> Result<Command<'a>, AllocError>
 {
     bare(alloc, "prove")
         .arg(name(alloc, "script"))?
+        .arg(option(alloc, "cert"))?
         .arg(option(alloc, "rounds"))?
         .arg(option(alloc, "depth"))?
         .arg(option(alloc, "boxes"))?
@@ -62,15 +65,17 @@ fn request_from<'a>(matches: &ArgMatches<'a>) -> Option<Request<'a>>
     ensures range { IfSome result AreInRange }
 {
     let script = matches.get_str("script")?;
+    let cert = matches.get_str("cert");
     let rounds = option_number(matches, "rounds", 20, 1, 64)?;
     let depth = option_number(matches, "depth", 16, 0, 32)?;
     let boxes = option_number(matches, "boxes", 4096, 1, 8192)?;
     let workers = option_number(matches, "workers", 4, 1, 16)?;
-    if script.is_empty() {
+    if !are_names(script, cert) {
         return None;
     }
     Some(Request {
         script,
+        cert,
         rounds: rounds as u8,
         depth: depth as u8,
         boxes,
@@ -78,9 +83,9 @@ fn request_from<'a>(matches: &ArgMatches<'a>) -> Option<Request<'a>>
     })
 }
 
-/// Reads the words after `prove`, by what clap states of a simple command: one name, and options `--rounds`, `--depth`,
-/// `--boxes`, `--workers`, each at most once, as `--name value` or `--name=value`, anywhere before `--`. `Usage` comes
-/// exactly where they ask for nothing.
+/// Reads the words after `prove`, by what clap states of a simple command: one name, and options `--cert`, `--rounds`,
+/// `--depth`, `--boxes`, `--workers`, each at most once, as `--name value` or `--name=value`, anywhere before `--`. The
+/// value of `--cert` isn't empty and isn't the name. `Usage` comes exactly where they ask for nothing.
 #[tactic(auto, unfolding(crate::specs::Reading::asked))]
 pub fn read_prove<'a>(alloc: Global, words: &'a [String]) -> Result<Request<'a>, WordsError>
     ensures ok { IfOk result (λ r. asked (map string_bytes words.entry.now) ≡ Some (asked_of r)) }

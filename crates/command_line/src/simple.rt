@@ -1,7 +1,8 @@
 // Simple commands: names, and options with a value.
 ghost use Rattle.std.specs.Prelude.{◌≡◌, ◌≢◌, [], map, string_bytes, IfOk, IfErr, true, false};
+ghost use Rattle.std.specs.Option.{option_map};
 ghost use Rattle.clap.specs.Words.{rule_of, app_of, rows_of, found_of, matches_of, fault_of, is_simple_and_free};
-ghost use Rattle.command_line.specs.Simple.{option_rule, name_rule, bare_app};
+ghost use Rattle.command_line.specs.Simple.{option_rule, name_rule, bare_app, are_names};
 
 use clap::error::ErrorKind;
 use clap::{Arg, ArgAction, ArgMatches, Command};
@@ -39,6 +40,16 @@ pub fn bare<'a>(alloc: Global, name: &'a str) -> Command<'a>
     Command::new(alloc, name)
         .no_binary_name(true)
         .disable_help_flag(true)
+}
+
+/// Whether a script, and a certificate, if there is one, may have these names: neither is empty, and they aren't equal.
+pub fn are_names(script: &str, cert: Option<&str>) -> bool
+    ensures { result ≡ are_names script.now (option_map (λ c. c.now) cert.entry) }
+{
+    match cert {
+        Some(cert) => !script.is_empty() && !cert.is_empty() && script != cert,
+        None => !script.is_empty(),
+    }
 }
 
 /// What clap makes of the words.

@@ -11,7 +11,7 @@ use std::test::Fail;
 type Numbers = (&'static str, u8, u8, u32, u8);
 
 // Words, and what they ask for, if it is anything.
-const ROWS: [(&[&str], Option<Numbers>); 40] = [
+const ROWS: [(&[&str], Option<Numbers>); 39] = [
     (&["a"], Some(("a", 20, 16, 4096, 4))),
     (&["-"], Some(("-", 20, 16, 4096, 4))),
     (&["a b"], Some(("a b", 20, 16, 4096, 4))),
@@ -72,11 +72,50 @@ const ROWS: [(&[&str], Option<Numbers>); 40] = [
     (&["a", "--workers", "17"], None),
     // unknown, shortened and repeated options
     (&["a", "--rou", "3"], None),
-    (&["a", "--cert", "b"], None),
     (&["a", "-h"], None),
     (&["a", "--help"], None),
     (&["a", "--version"], None),
     (&["a", "--rounds", "3", "--rounds=3"], None),
+];
+
+// Words after `prove`, and the names of the script and the certificate that they ask for, if they do.
+const CERTS: [(&[&str], Option<(&str, Option<&str>)>); 26] = [
+    (&["a"], Some(("a", None))),
+    // in both forms and anywhere among the names
+    (&["a", "--cert", "b"], Some(("a", Some("b")))),
+    (&["--cert=b", "a"], Some(("a", Some("b")))),
+    (&["--cert", "-", "a", "--depth=0"], Some(("a", Some("-")))),
+    (&["a", "--cert", "a "], Some(("a", Some("a ")))),
+    // what stands behind `=` is the value, whatever it begins with
+    (&["a", "--cert=-b"], Some(("a", Some("-b")))),
+    (&["--cert=--", "a"], Some(("a", Some("--")))),
+    (&["--cert=b=c", "a"], Some(("a", Some("b=c")))),
+    // names behind `--`
+    (
+        &["--cert", "b", "--", "--cert"],
+        Some(("--cert", Some("b"))),
+    ),
+    (&["--", "--cert=b"], Some(("--cert=b", None))),
+    (&["a", "--", "--cert", "b"], None),
+    // no value, and an empty one
+    (&["a", "--cert"], None),
+    (&["--cert", "--", "a"], None),
+    (&["a", "--cert", "-b"], None),
+    (&["a", "--cert", "--depth=3"], None),
+    (&["a", "--cert="], None),
+    (&["a", "--cert", ""], None),
+    // the script's name
+    (&["a", "--cert", "a"], None),
+    (&["--cert=a", "a"], None),
+    (&["--cert=-a", "--", "-a"], None),
+    // no script, and an empty name
+    (&["--cert", "b"], None),
+    (&["", "--cert", "b"], None),
+    // twice, and shortened
+    (&["a", "--cert", "b", "--cert=c"], None),
+    (&["a", "--cert=b", "--cert=b"], None),
+    (&["a", "--cer", "b"], None),
+    (&["a", "-c", "b"], None),
 ];
 
 // Words after `gen`, and the degree that they ask for, if they do.
@@ -159,6 +198,34 @@ fn asks(
 fn words_are_read(rt: HostRuntime) -> Result<(), Fail> {
     for (line, wanted) in ROWS {
         asks(&rt, rt.alloc(), line, wanted)?;
+    }
+    Ok(())
+}
+
+// The words ask for these names.
+fn asks_cert(
+    rt: &impl Abort,
+    alloc: Global,
+    line: &[&str],
+    wanted: Option<(&str, Option<&str>)>,
+) -> Result<(), Fail> {
+    let words = words_of(alloc, line)?;
+    match read_prove(alloc, &words) {
+        Ok(found) => {
+            assert_eq!(rt; Some((found.script, found.cert)), wanted, "{line:?}");
+        }
+        Err(error) => {
+            assert_eq!(rt; error, WordsError::Usage, "{line:?}");
+            assert!(rt; wanted.is_none(), "{line:?}");
+        }
+    }
+    Ok(())
+}
+
+#[test]
+fn certs_are_read(rt: HostRuntime) -> Result<(), Fail> {
+    for (line, wanted) in CERTS {
+        asks_cert(&rt, rt.alloc(), line, wanted)?;
     }
     Ok(())
 }
