@@ -66,7 +66,7 @@ read_fault_line name = codes "read fault: " ++ name ++ codes "\n"
 
 -- of words that ask for nothing: the commands with their names and options. Each further command stands behind a bar.
 abbrev pub usage_line : Bytes
-usage_line = codes "usage: fixprove prove SCRIPT [--rounds N] [--depth N] [--boxes N] [--workers N] | check SCRIPT CERT | gen N\n"
+usage_line = codes "usage: fixprove prove SCRIPT [--cert FILE] [--rounds N] [--depth N] [--boxes N] [--workers N] | check SCRIPT CERT | gen N\n"
 
 -- of a script that needs more expressions than a universe may have
 abbrev pub expressions_text : Bytes

@@ -9,7 +9,7 @@ use std::alloc::{AllocError, Global};
 pub fn usage() -> &'static [u8]
     ensures { result.now ≡ spec.usage_line }
 {
-    "usage: fixprove prove SCRIPT [--rounds N] [--depth N] [--boxes N] [--workers N] | check SCRIPT CERT | gen N\n".as_bytes()
+    "usage: fixprove prove SCRIPT [--cert FILE] [--rounds N] [--depth N] [--boxes N] [--workers N] | check SCRIPT CERT | gen N\n".as_bytes()
 }
 
 /// The line of a script that needs more expressions than a universe may have.

@@ -186,7 +186,7 @@ fn certificates(rt: HostRuntime) -> Result<(), Fail> {
 fn other_lines(rt: HostRuntime) -> Result<(), Fail> {
     assert_eq!(rt;
         usage(),
-        "usage: fixprove prove SCRIPT [--rounds N] [--depth N] [--boxes N] [--workers N] | check SCRIPT CERT | gen N\n".as_bytes()
+        "usage: fixprove prove SCRIPT [--cert FILE] [--rounds N] [--depth N] [--boxes N] [--workers N] | check SCRIPT CERT | gen N\n".as_bytes()
     );
     assert_eq!(rt;
         expressions_text(),
