@@ -1,5 +1,5 @@
 -- The printed lines of certificates that aren't accepted, as bytes. Each ends with a line feed.
-use Rattle.std.specs.Prelude.{ℕ, ◌++◌, codes, List}
+use Rattle.std.specs.Prelude.{◌++◌, codes}
 use Rattle.std.specs.Fmt.{decimal}
 use Rattle.cert_bytes.specs.declared.fault.CertFault.{CertFault}
 use Rattle.cert_bytes.specs.declared.fault.CertKind.{CertKind}
