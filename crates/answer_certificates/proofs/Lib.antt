@@ -10,3 +10,9 @@ mod Leaves
 mod Shown
 mod Proved
 mod Whole
+mod Keeping
+mod Numbered
+mod Passed
+mod FewClaims
+mod SplitNames
+mod Spelled

@@ -1,14 +1,17 @@
 -- What a script and its universe keep, so that a certificate has room for them.
-use Rattle.std.specs.Prelude.{◌<◌, ◌≤◌, ◌^◌, ℕ, length}
+use Rattle.std.specs.Prelude.{◌<◌, ◌≤◌, ◌^◌, ℕ, List, length}
 use Rattle.std.specs.List.{AllByRecursion}
 use Rattle.fx_model.specs.declared.ExprId.{ExprId}
 use Rattle.fx_model.specs.declared.Node.{Node}
 use Rattle.fx_model.specs.declared.Node.TheVariants.{Var}
 use Rattle.expr_dag.specs.Nodes.{IsAt, IsLawful}
+use Rattle.goals.specs.declared.goal.Goal.{Goal}
 use Rattle.node_counts.specs.Few.{HasFewHints}
-use Rattle.script_grammar.specs.Spells.{View}
+use Rattle.script_grammar.specs.Spells.{View, Spells}
+use Rattle.script_grammar.specs.Names.{NamesNodes}
+use Rattle.rule_universe.specs.Worlds.{World, HasSlot, IsWhole}
+use Rattle.universe.specs.Universes.{IsUniverse}
 use Rattle.cert_checker.specs.Faults.{IsVariable}
-use Rattle.rule_universe.specs.Worlds.{World, IsWhole}
 
 pub record HasRoom (s : View) (u : World) : Type 0 where
   -- each universe that is made keeps these,
@@ -21,3 +24,21 @@ pub record HasRoom (s : View) (u : World) : Type 0 where
   pub hypotheses : length u.hypotheses ≤ 2 ^ 16
   pub numbers : (x : ExprId) (v : ℕ) → IsAt s.nodes x (Var v) → v < 2 ^ 16
   pub splits : AllByRecursion (IsVariable s.nodes) s.hints.order
+
+-- What each universe that was built keeps.
+pub record IsBuilt (u : World) : Type 0 where
+  pub whole : IsWhole u
+  pub lawful : (x : ExprId) (n : Node) → IsAt u.nodes x n → IsLawful x.0 n
+  pub short : length u.nodes ≤ 1024
+
+-- A script that a text spells has room for its certificates, with its universe.
+abbrev pub ScriptsHaveRoom : Type 0
+ScriptsHaveRoom = (text : List ℕ) (s : View) (u : World) → Spells text s → IsUniverse s u → IsBuilt u → HasRoom s u
+
+-- each goal is about a slot of the universe
+abbrev pub HasSlots : World → List Goal → Type 0
+HasSlots u goals = AllByRecursion (λ (g : Goal). HasSlot u g.of) goals
+
+-- The goals of a script are about slots of its universe.
+abbrev pub GoalsHaveSlots : Type 0
+GoalsHaveSlots = (s : View) (u : World) → NamesNodes s → IsUniverse s u → HasSlots u u.goals

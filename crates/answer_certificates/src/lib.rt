@@ -2,5 +2,7 @@
 #![tactic(auto)]
 
 mod laws;
+mod room;
 
 pub use laws::{answers_have_certificates, subjects_are_written};
+pub use room::{script_has_room, scripts_have_room};

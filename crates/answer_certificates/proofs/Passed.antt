@@ -1,0 +1,126 @@
+-- Words that the judge lets pass.
+use Rattle.std.specs.Prelude.{◌≡◌, ℕ, ◌+◌, ◌≤◌, nat_lt, List, ◌∷◌, length, Option, Some, None, Bool, true, false, ◌||◌, if◌then◌else◌, take, refl}
+use Rattle.std.proofs.Common.{ap, ◌∙◌, subst}
+use Rattle.std.proofs.Math.Seq.{take-length}
+use Rattle.std.proofs.lemmas.Bool.{ltb-false}
+use Rattle.script_words.specs.Lex.{LexesOnce}
+use Rattle.script_words.specs.Words.{Word}
+use Rattle.script_words.specs.Named.{words_of}
+use Rattle.script_shape.specs.Tree.{script_words, IsScript}
+use Rattle.script_shape.specs.Roles.{Leaf, script_leaves, HasRoles, LeavesAreOfTrees}
+use Rattle.script_shape.specs.ShapeLaw.{IsShapeOf}
+use Rattle.script_judge.specs.declared.refusal.Refusal.{Refusal}
+use Rattle.script_judge.specs.declared.refusal.RefusalKind.{RefusalKind}
+use Rattle.script_judge.specs.declared.counts.Counts.{Counts}
+use Rattle.script_judge.specs.declared.fault.Fault.{Fault}
+use Rattle.script_judge.specs.Names.{is_some_among, is_used, defines, split_name}
+use Rattle.script_judge.specs.Bounds.{is_bad_bound}
+use Rattle.script_judge.specs.Splits.{is_rangeless, is_bad_point}
+use Rattle.script_judge.specs.Numbers.{Verdict, has_no_pieces, is_past_lsb, is_past_pieces}
+use Rattle.script_judge.specs.Judge.{Seen, seen_after, has_arrow, is_empty, is_on_wrong_side, form_kind, form_refusal, limit_kind, limit_refusal, or_else, refusal_at, Judged, refused, passed, nothing_seen}
+use Rattle.script_judge.specs.Reading.{Reading, IsReadingOf, fault}
+use Rattle.script_judge.specs.First.{IsFirstRefusal, unread, read, first_of, refusal_of}
+use Rattle.script_grammar.specs.Spells.{View, Spells}
+
+-- ---- one word
+
+-- the word passes, and so do those behind it
+pub record Passed (i : ℕ) (seen : Seen) (l : Leaf) (ls : List Leaf) : Type 0 where
+  pub verdict : Verdict
+  pub passes : refusal_at verdict seen l.role l.word ls ≡ None
+  pub rest : Judged (i + 1) (seen_after verdict seen l.role l.word) ls None
+
+found_passed : {i : ℕ} {seen : Seen} {found : Option Fault} (l : Leaf) (ls : List Leaf) → Judged i seen (l ∷ ls) found → found ≡ None → Passed i seen l ls
+found_passed l ls (refused t r) e = absurd (cc e)
+found_passed {i} {seen} l ls (passed {v = v} t r j) e = record { verdict = v; passes = r; rest = subst (Judged (i + 1) (seen_after v seen l.role l.word) ls) e j }
+
+pub one_passed : (i : ℕ) (seen : Seen) (l : Leaf) (ls : List Leaf) → Judged i seen (l ∷ ls) None → Passed i seen l ls
+one_passed i seen l ls j = found_passed l ls j refl
+
+-- ---- what isn't refused of it
+
+fails : (b : Bool) (k : RefusalKind) (rest : Option RefusalKind) → (if b then Some k else rest) ≡ None → (b ≡ false) × (rest ≡ None)
+fails true k rest e = absurd (cc e)
+fails false k rest e = (refl, e)
+
+neither : (a b : Bool) → (a || b) ≡ false → (a ≡ false) × (b ≡ false)
+neither true b e = absurd (cc e)
+neither false b e = (refl, e)
+
+both_none : (a b : Option RefusalKind) → or_else a b ≡ None → (a ≡ None) × (b ≡ None)
+both_none None b e = (refl, e)
+both_none (Some k) b e = absurd (cc e)
+
+few_propositions : (opened halved : ℕ) (c : Counts) (lsb pieces : Bool) → limit_kind opened halved c lsb pieces ≡ None → c.propositions ≤ 128
+few_propositions opened halved c lsb pieces h =
+    let nesting = fails (nat_lt 64 opened) _ _ h in
+    let definitions = fails (nat_lt 256 c.definitions) _ _ nesting.1 in
+    let propositions = fails (nat_lt 128 c.propositions) _ _ definitions.1 in
+    ltb-false 128 c.propositions propositions.0
+
+not_defined : (side used bad rangeless defined none point past : Bool) → form_kind side used bad rangeless defined none point past ≡ None → defined ≡ false
+not_defined side used bad rangeless defined none point past e =
+    let a = fails side _ _ e in
+    let b = fails used _ _ a.1 in
+    let c = fails bad _ _ b.1 in
+    let d = fails rangeless _ _ c.1 in
+    let f = fails (defined || none || point) _ _ d.1 in
+    let g = neither (defined || none) point f.0 in
+    (neither defined none g.0).0
+
+-- there are no more than 128 propositions so far
+pub within_limits : (v : Verdict) (seen : Seen) (l : Leaf) (ls : List Leaf) → refusal_at v seen l.role l.word ls ≡ None → (seen_after v seen l.role l.word).counts.propositions ≤ 128
+within_limits v seen l ls e =
+    let after = seen_after v seen l.role l.word in
+    let limits = both_none (form_refusal v seen l.role l.word (has_arrow ls) ls) (limit_refusal after l.role l.word) e in
+    few_propositions (length after.opened) (length after.names.halved) after.counts (is_past_lsb l.role l.word) (is_past_pieces l.role l.word) limits.1
+
+-- a name that is split has no definition
+pub split_plain : (v : Verdict) (seen : Seen) (l : Leaf) (ls : List Leaf) → refusal_at v seen l.role l.word ls ≡ None → is_some_among seen.names.defined (split_name l.role l.word) ≡ false
+split_plain v seen l ls e =
+    let named = split_name l.role l.word in
+    let form = both_none (form_refusal v seen l.role l.word (has_arrow ls) ls) (limit_refusal (seen_after v seen l.role l.word) l.role l.word) e in
+    not_defined (is_on_wrong_side l.role l.word (has_arrow ls) (is_empty ls)) (is_used seen.names (defines l.role l.word) ls) (is_bad_bound seen.bounds v.number)
+    (is_rangeless seen.splits.ranges (is_some_among seen.names.defined named) named) (is_some_among seen.names.defined named) (has_no_pieces l.role l.word) (is_bad_point seen.splits (nat_lt 0 seen.counts.pieces) v.number) v.past form.0
+
+-- ---- the words of a text that spells a script
+
+later_none : (a b : Option Refusal) → first_of a b ≡ None → b ≡ None
+later_none None b e = e
+later_none (Some x) None e = refl
+later_none (Some x) (Some y) e = absurd (by_test _ e)
+  where
+    by_test : (t : Bool) → (if t then Some y else Some x) ≡ None → ⊥
+    by_test true e = cc e
+    by_test false e = cc e
+
+fault_none : (r : Reading) (o : Option Fault) → refusal_of r o ≡ None → o ≡ None
+fault_none r None e = refl
+fault_none r (Some f) e = absurd (cc e)
+
+-- the text is read, and each of its words passes
+record IsRead (text : List ℕ) : Type 0 where
+  reading : Reading
+  is : IsReadingOf text reading
+  judged : Judged 0 nothing_seen reading.leaves None
+
+text_read : (text : List ℕ) (o : Option Refusal) → IsFirstRefusal text o → o ≡ None → IsRead text
+text_read text o (unread h) e = absurd (cc e)
+text_read text o (read {r = r} {found = found} k h j) e =
+    record { reading = r; is = h; judged = subst (Judged 0 nothing_seen r.leaves) (fault_none r found (later_none (fault (length text) r) (refusal_of r found) e)) j }
+
+-- the words of a script are read whole
+whole_taken : (ws : List Word) (n : ℕ) (b : Bool) → IsShapeOf ws n b → IsScript ws → n ≡ length ws
+whole_taken ws n true s i = (s.whole refl).0
+whole_taken ws n false s i = absurd (s.not_whole refl i)
+
+pub spelled_passes : LexesOnce → LeavesAreOfTrees → (text : List ℕ) (s : View) (p : Spells text s) → Judged 0 nothing_seen (script_leaves p.tree) None
+spelled_passes lexes are text s p =
+    let found = text_read text None p.accepted refl in
+    let r = found.reading in
+    let h = found.is in
+    let same = lexes text s.tokens r.tokens None r.bad p.lexed h.lexed in
+    let words : script_words p.tree ≡ r.words = p.words ∙ ap (words_of text) same.tokens ∙ h.words in
+    let all : take r.taken r.words ≡ r.words = ap (λ n. take n r.words) (whole_taken r.words r.taken r.whole h.shape (p.tree, words)) ∙ take-length r.words in
+    let leaves : r.leaves ≡ script_leaves p.tree = are p.tree r.words r.leaves words (subst (λ ws. HasRoles ws r.leaves) all h.roles) in
+    subst (λ ls. Judged 0 nothing_seen ls None) leaves found.judged

@@ -1,0 +1,87 @@
+-- A script that a text spells has room for its certificates, and its goals are about slots of its universe.
+use Rattle.std.specs.Prelude.{ℕ, ◌+◌, ◌≤◌, List, [], ◌∷◌, ◌++◌, length, map, Option, Some, None, refl}
+use Rattle.std.specs.List.{AllByRecursion}
+use Rattle.std.proofs.Common.{sym, ap, subst, inr, arith, length-append}
+use Rattle.std.proofs.lemmas.List.{length-map}
+use Rattle.fx_model.specs.declared.Node.{Node}
+use Rattle.facts.specs.declared.fact.Fact.{Fact}
+use Rattle.goals.specs.declared.goal.Goal.{Goal}
+use Rattle.script_words.specs.Lex.{LexesOnce}
+use Rattle.script_shape.specs.Roles.{LeavesAreOfTrees}
+use Rattle.script_nodes.specs.Known.{nothing_known}
+use Rattle.script_claims.specs.declared.claim.Claim.{Claim}
+use Rattle.script_claims.specs.declared.claim.Claim.TheVariants.{Bounded, Asked, Relative, RelativeAsked, Multiple}
+use Rattle.script_claims.specs.Facts.{hypothesis_fact, slot_of}
+use Rattle.script_grammar.specs.Spells.{View, SpelledAreShort}
+use Rattle.script_grammar.specs.Names.{ClaimIsOf}
+use Rattle.script_grammar.specs.Few.{SpelledHaveFewHints}
+use Rattle.pair_closure.specs.Reached.{Has}
+use Rattle.pair_closure.specs.Reached.IsReached.{begin}
+use Rattle.pair_closure.specs.Closure.{Pair, difference_of}
+use Rattle.pair_closure.specs.Members.{has_left, has_right}
+use Rattle.rule_universe.specs.Worlds.{IsSlot, HasSlot}
+use Rattle.universe.specs.Starts.{claim_pairs, claims_pairs, hints_pairs}
+use Rattle.universe.specs.Universes.{goal_of, with_fact, facts_of}
+use Rattle.cert_checker.specs.Faults.{IsVariable}
+use Rattle.answer_certificates.specs.Scripts.{ScriptsHaveRoom, GoalsHaveSlots}
+use Rattle.answer_certificates.proofs.Numbered.{AreNumbered, script_numbered}
+use Rattle.answer_certificates.proofs.Passed.{spelled_passes}
+use Rattle.answer_certificates.proofs.FewClaims.{claims_few}
+use Rattle.answer_certificates.proofs.SplitNames.{splits_are_variables}
+
+-- ---- a hypothesis gives one fact at most
+fact_counted : (o : Option Fact) (fs : List Fact) → length (with_fact o fs) ≤ 1 + length fs
+fact_counted None fs = omega arith
+fact_counted (Some f) fs = omega arith
+
+facts_counted : (cs : List Claim) → length (facts_of cs) ≤ length cs
+facts_counted [] = omega arith
+facts_counted (c ∷ cs) = omega (arith, fact_counted (hypothesis_fact c) (facts_of cs), facts_counted cs)
+
+-- ---- slots of goals
+module _ (nodes : List Node) (n m : ℕ) (pairs : List Pair) (longer : n ≤ m) where
+  claim_slot : (c : Claim) → ClaimIsOf n c → ((p : Pair) → Has (claim_pairs nodes c) p → Has pairs p) → IsSlot m pairs (slot_of c)
+  claim_slot (Bounded x lower upper) k e = omega (arith, k, longer)
+  claim_slot (Asked x) k e = omega (arith, k, longer)
+  claim_slot (Relative x y lower upper) k e = e (x, y) (0, refl)
+  claim_slot (RelativeAsked x y) k e = e (x, y) (0, refl)
+  claim_slot (Multiple x j) k e = omega (arith, k, longer)
+
+  goal_slots : (cs : List Claim) → AllByRecursion (ClaimIsOf n) cs → ((p : Pair) → Has (claims_pairs nodes cs) p → Has pairs p) → AllByRecursion (λ (g : Goal). IsSlot m pairs g.of) (map goal_of cs)
+  goal_slots [] k e = tt
+  goal_slots (c ∷ cs) k e = (
+    claim_slot c k.0 (λ p h. e p (has_left (claim_pairs nodes c) (claims_pairs nodes cs) p h)),
+    goal_slots cs k.1 (λ p h. e p (has_right (claim_pairs nodes c) (claims_pairs nodes cs) p h)),
+  )
+
+pub goals_have_slots : GoalsHaveSlots
+goals_have_slots s u names universe =
+    let closure = universe.closure in
+    let followed = closure.order in
+    let longer : length s.nodes ≤ length u.nodes = omega (arith, ap length followed.list, length-append s.nodes (map difference_of followed.differences)) in
+    let hypotheses = claims_pairs s.nodes s.hypotheses in
+    let goals = claims_pairs s.nodes s.goals in
+    let rewrites = hints_pairs s.nodes s.hints.rewrites in
+    let there : (p : Pair) → Has goals p → Has u.pairs p =
+    λ p h. closure.pairs.each p (begin p (inr (has_right s.hints.likes (hypotheses ++ (goals ++ rewrites)) p (has_right hypotheses (goals ++ rewrites) p (has_left goals rewrites p h))))) in
+    subst (AllByRecursion (λ (g : Goal). HasSlot u g.of)) (sym universe.goals) (goal_slots s.nodes (length s.nodes) (length u.nodes) u.pairs longer s.goals names.goals there)
+
+-- ---- room
+pub scripts_have_room : SpelledAreShort → SpelledHaveFewHints → LexesOnce → LeavesAreOfTrees → ScriptsHaveRoom
+scripts_have_room short few lexes are text s u p universe built =
+    let passes = spelled_passes lexes are text s p in
+    let claims : length s.hypotheses + length s.goals ≤ 130 = subst (λ (v : View). length v.hypotheses + length v.goals ≤ 130) (sym p.says) (claims_few p.tree nothing_known passes) in
+    let numbered : AreNumbered s.nodes s.variables = subst (λ (v : View). AreNumbered v.nodes v.variables) (sym p.says) (script_numbered p.tree) in
+    let splits : AllByRecursion (IsVariable s.nodes) s.hints.order = subst (λ (v : View). AllByRecursion (IsVariable v.nodes) v.hints.order) (sym p.says) (splits_are_variables p.tree passes) in
+    let names = numbered.few in
+    let nodes = short text s p in
+    record {
+      whole = built.whole;
+      lawful = built.lawful;
+      short = built.short;
+      goals = omega (arith, claims, ap length universe.goals, length-map s.goals goal_of);
+      hints = few text s p;
+      hypotheses = omega (arith, claims, ap length universe.hypotheses, facts_counted s.hypotheses);
+      numbers = λ x v e. let low = numbered.below x v e in omega (arith, low, names, nodes);
+      splits = splits;
+    }
