@@ -2,6 +2,7 @@
 #![tactic(auto, using(crate::proofs::Fronts::front_then, crate::proofs::Fronts::same_front))]
 
 mod claims;
+mod cut_points;
 mod fault;
 mod field;
 mod front;
@@ -19,6 +20,7 @@ mod source;
 mod style;
 mod writing;
 
+pub use cut_points::CutPoints;
 pub use fault::{CertFault, CertKind, Stop};
 pub use item::{Item, StepRow};
 pub use laws::{certificates_are_spelled_once, spellings_read_back};

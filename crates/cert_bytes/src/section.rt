@@ -6,6 +6,7 @@ ghost use Rattle.cert_bytes.specs.Due.{is_of_section};
 ghost use Rattle.cert_bytes.specs.Certificates.{HasSpelling, IsCounted};
 ghost use Rattle.cert_bytes.specs.Pieces.{Gives, AgreesTold, kept_of};
 
+use crate::cut_points::CutPoints;
 use crate::fault::{CertKind, Stop, fault};
 use crate::field::Field;
 use crate::item::{Item, StepRow};
@@ -67,7 +68,7 @@ impl Source {
     {
         let (x, count) = self.cut_head(folder)?;
         let points = self.points(folder, count)?;
-        Ok(Item::Cut(x, points))
+        Ok(Item::Cut(x, CutPoints::new(self.alloc(), points)?))
     }
 
     #[inline(always)]

@@ -327,7 +327,7 @@ fn put_item(item: &Item, out: &mut Vec<u8>) -> Result<(), AllocError>
         Item::Marks(n) => put_short(*n, out)?,
         Item::Mark(mark) => out.push(mark_byte(*mark))?,
         Item::Step(step) => put_step(step, out)?,
-        Item::Cut(var, points) => put_cut(*var, points, out)?,
+        Item::Cut(var, points) => put_cut(*var, points.points(), out)?,
         Item::Leaf(steps) => {
             out.push(3)?;
             put_counted(steps.as_slice(), out)?;
