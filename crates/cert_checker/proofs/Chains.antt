@@ -1,6 +1,5 @@
 -- An item that is refused changes nothing.
-use Rattle.std.proofs.Common.{◌≡◌, Result, Err, subst, ◌∙◌, Option}
-use Rattle.facts.specs.declared.fact.Fact.{Fact}
+use Rattle.std.proofs.Common.{◌≡◌, Result, Err, subst, ◌∙◌}
 use Rattle.cert_bytes.specs.declared.item.StepRow.{StepRow}
 use Rattle.cert_bytes.specs.declared.item.Item.TheVariants as item
 use Rattle.cert_checker.specs.Contexts.{open_piece}
@@ -18,10 +17,9 @@ refuses X Y old new i OutOfMemory j e = e
 pub refuses_at : (X Y : Type 0) (old seen new : Standing) (i : Item) (stop : TakeStop) → seen ≡ old → IsJudged {X = X} (JudgesItem seen.subject seen.context i) (Err stop) → new ≡ seen → Changes {X = Y} old i (Err stop) new
 refuses_at X Y old seen new i stop e j n = let P : Standing → Type 0 = λ s. IsJudged {X = X} (JudgesItem s.subject s.context i) (Err stop) in refuses X Y old new i stop (subst P e j) (n ∙ e)
 
-pub judged_step : (X : Type 0) (seen now : Standing) (row : StepRow) (piece : Option Fact) (r : Result X TakeStop) → seen ≡ now → piece ≡ open_piece seen.context.cuts
-    → IsJudged (JudgesStep (record { facts = case_facts seen.subject.cases seen.context.case; hints = seen.subject.hints; nodes = seen.context.nodes; piece = piece }) seen.context.steps seen.context.next row) r
+pub judged_step : (X : Type 0) (seen now : Standing) (row : StepRow) (r : Result X TakeStop) → seen ≡ now
+    → IsJudged (JudgesStep (record { facts = case_facts seen.subject.cases seen.context.case; hints = seen.subject.hints; nodes = seen.context.nodes; piece = open_piece seen.context.cuts }) seen.context.steps seen.context.next row) r
     → IsJudged (JudgesItem now.subject now.context (item.Step row)) r
-judged_step X seen now row piece r e p j =
+judged_step X seen now row r e j =
     let P : Standing → Type 0 = λ s. IsJudged (JudgesItem s.subject s.context (item.Step row)) r in
-    let R : Option Fact → Type 0 = λ x. IsJudged (JudgesStep (record { facts = case_facts seen.subject.cases seen.context.case; hints = seen.subject.hints; nodes = seen.context.nodes; piece = x }) seen.context.steps seen.context.next row) r in
-    subst P e (subst R p j)
+    subst P e j

@@ -160,12 +160,11 @@ impl Chain {
         ensures judged { IsJudged (JudgesItem self.old.subject self.old.context (item.Step row.now)) result }
         ensures same { self.new ≡ self.old }
     {
-        let piece = self.cuts.open_piece();
         judge_step(
             &self.subject,
             self.case,
             &self.nodes,
-            piece,
+            &self.cuts,
             &self.steps,
             row,
             &mut self.premises,
@@ -183,16 +182,16 @@ impl Chain {
         Ok(())
     }
 
-    fn take_cut(&mut self, var: ExprId, points: Points) -> Result<(), TakeStop>
+    fn take_cut(&mut self, var: ExprId, points: &Points) -> Result<(), TakeStop>
         requires { HasRoom self.old }
-        ensures { Changes self.old (item.Cut var points) result self.new }
+        ensures { Changes self.old (item.Cut var points.now) result self.new }
     {
         if let Err(stop) = judge_cut(&self.nodes, self.cuts.len(), self.section, var) {
             return Err(stop);
         }
         self.cuts.push(OpenCut {
             var,
-            points,
+            points: *points,
             entered: 1,
             around: self.steps.len(),
         })?;
@@ -296,7 +295,7 @@ impl Chain {
             Item::Marks(count) => self.take_marks(*count),
             Item::Mark(mark) => self.take_mark(*mark),
             Item::Step(row) => self.take_step(row),
-            Item::Cut(var, points) => self.take_cut(*var, *points),
+            Item::Cut(var, points) => self.take_cut(*var, points.points()),
             Item::Leaf(refs) => self.take_leaf(refs.as_slice()),
             Item::Dead(step) => self.take_dead(*step),
             Item::End => Ok(()),

@@ -1,9 +1,11 @@
 //! Whether a step is concluded.
 ghost use Rattle.std.specs.Prelude.{◌≡◌, ◌↔◌, IsTrue, Some, None, MatchOption, Option, IfOk, length};
 ghost use Rattle.fx_model.specs.declared.Node.{Node};
+ghost use Rattle.cert_checker.specs.Contexts.{open_piece};
 ghost use Rattle.cert_checker.specs.Steps as spec;
 ghost use Rattle.cert_checker.specs.Steps.{Givens, Concludes, IsMetWith, IsLike, Found};
 
+use crate::cuts::Cuts;
 use crate::open::OpenSteps;
 use crate::subject::Subject;
 use cert_bytes::StepRow;
@@ -88,12 +90,12 @@ fn gives(
     subject: &Subject,
     case: usize,
     nodes: &Dag,
-    piece: Option<Fact>,
+    cuts: &Cuts,
     row: &StepRow,
     premises: &[Fact],
     with: Option<Fact>,
 ) -> Option<Fact>
-    ensures { result ≡ spec.gives (record { facts = spec.case_facts subject.now.cases case; hints = subject.now.hints; nodes = nodes.now; piece = piece }) row.now premises.now with }
+    ensures { result ≡ spec.gives (record { facts = spec.case_facts subject.now.cases case; hints = subject.now.hints; nodes = nodes.now; piece = open_piece cuts.now }) row.now premises.now with }
 {
     if row.rule == 100 {
         return without(premises, hypothesis(subject.facts(case), row.arg));
@@ -102,7 +104,7 @@ fn gives(
         return without(premises, only_for(row.arg, whole_line(nodes, &row.fact)));
     }
     if row.rule == 102 {
-        return without(premises, only_for(row.arg, piece));
+        return without(premises, only_for(row.arg, cuts.open_piece()));
     }
     let target = target_of(&row.fact, with);
     conclude(
@@ -145,17 +147,17 @@ pub fn is_concluded(
     subject: &Subject,
     case: usize,
     nodes: &Dag,
-    piece: Option<Fact>,
+    cuts: &Cuts,
     row: &StepRow,
     premises: &[Fact],
     with: Option<Fact>,
 ) -> bool
-    ensures { IsTrue result ↔ Concludes (record { facts = spec.case_facts subject.now.cases case; hints = subject.now.hints; nodes = nodes.now; piece = piece }) row.now premises.now with }
+    ensures { IsTrue result ↔ Concludes (record { facts = spec.case_facts subject.now.cases case; hints = subject.now.hints; nodes = nodes.now; piece = open_piece cuts.now }) row.now premises.now with }
 {
     if !are_known(nodes, &row.fact) {
         return false;
     }
-    let given = gives(subject, case, nodes, piece, row, premises, with);
+    let given = gives(subject, case, nodes, cuts, row, premises, with);
     is_enough(met_with(given, with), &row.fact)
 }
 

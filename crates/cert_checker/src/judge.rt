@@ -1,10 +1,12 @@
 //! What is wrong with steps and with ends of sections, if anything.
 ghost use Rattle.std.specs.Prelude.{◌≡◌, ◌<◌, ◌↔◌, IsTrue, MatchOption, Some, length};
 ghost use Rattle.facts.specs.declared.fact.Fact.TheVariants as fact;
+ghost use Rattle.cert_checker.specs.Contexts.{open_piece};
 ghost use Rattle.cert_checker.specs.Steps.{case_facts, step_fact};
 ghost use Rattle.cert_checker.specs.Faults.{IsJudged, JudgesStep, JudgesCut, JudgesLeaf, JudgesDead, AreSettled, IsFirstMissing, IsSettledBy, MayBeCut};
 
 use crate::conclude::{is_concluded, is_like, premise_facts, with_fact};
+use crate::cuts::Cuts;
 use crate::fault::{CheckFault, TakeStop};
 use crate::open::OpenSteps;
 use crate::subject::Subject;
@@ -25,12 +27,12 @@ pub fn judge_step(
     subject: &Subject,
     case: usize,
     nodes: &Dag,
-    piece: Option<Fact>,
+    cuts: &Cuts,
     steps: &OpenSteps,
     row: &StepRow,
     premises: &mut Vec<Fact>,
 ) -> Result<(), TakeStop>
-    ensures { IsJudged (JudgesStep (record { facts = case_facts subject.now.cases case; hints = subject.now.hints; nodes = nodes.now; piece = piece }) steps.now.rows steps.now.next row.now) result }
+    ensures { IsJudged (JudgesStep (record { facts = case_facts subject.now.cases case; hints = subject.now.hints; nodes = nodes.now; piece = open_piece cuts.now }) steps.now.rows steps.now.next row.now) result }
 {
     let bad_premise = CheckFault::BadPremise(steps.next());
     if !premise_facts(steps, row.premises.as_slice(), premises)? {
@@ -42,7 +44,7 @@ pub fn judge_step(
     if !is_like(&row.fact, with) {
         return refuse(bad_premise);
     }
-    if !is_concluded(subject, case, nodes, piece, row, premises, with) {
+    if !is_concluded(subject, case, nodes, cuts, row, premises, with) {
         return refuse(CheckFault::BadStep(steps.next()));
     }
     Ok(())

@@ -1,5 +1,6 @@
 use Rattle.std.proofs.Common.{rules, refl, ◌≡◌, Some}
 use Rattle.cert_checker.proofs.Judged.{not_concluded, cites}
+use Rattle.cert_checker.specs.Contexts.{open_piece}
 use Rattle.cert_checker.specs.Steps.{step_facts, case_facts}
 use Rattle.cert_checker.proofs.judge.judge_step.Goals as goal
 
@@ -10,5 +11,5 @@ returns-then-not-is_concluded c =
     rw (c.refuse-then-not-is_concluded.ensures, c.next-then-not-is_concluded.ensures) (
       refl,
       cites c.args.steps.now.rows c.args.row.now c.premise_facts.new.premises.items c.in-Some.with found met (search rules),
-      not_concluded (record { facts = case_facts c.args.subject.now.cases c.args.case; hints = c.args.subject.now.hints; nodes = c.args.nodes.now; piece = c.args.piece }) c.args.steps.now.rows c.args.row.now c.premise_facts.new.premises.items c.in-Some.with found met (search rules),
+      not_concluded (record { facts = case_facts c.args.subject.now.cases c.args.case; hints = c.args.subject.now.hints; nodes = c.args.nodes.now; piece = open_piece c.args.cuts.now }) c.args.steps.now.rows c.args.row.now c.premise_facts.new.premises.items c.in-Some.with found met (search rules),
     )

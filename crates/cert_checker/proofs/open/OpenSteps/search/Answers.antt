@@ -2,7 +2,7 @@ use Rattle.std.proofs.Common.{◌≡◌, ◌+◌, ◌-◌, ◌/◌, ◌<◌, ari
 use Rattle.cert_checker.specs.Open.{Numbered}
 use Rattle.cert_checker.specs.Steps.{step_fact}
 use Rattle.cert_checker.proofs.Find.{found_at, narrows_up, narrowed, row_is}
-use Rattle.cert_checker.proofs.open.OpenSteps.find.Goals as goal
+use Rattle.cert_checker.proofs.open.OpenSteps.search.Goals as goal
 
 pub returns-then-row-number : goal.returns-then-row-number
 returns-then-row-number c =
