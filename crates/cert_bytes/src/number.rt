@@ -33,9 +33,10 @@ impl Source {
         value
     }
 
-    /// The next number of so many bytes.
-    #[inline(always)]
-    pub fn number<F: Folder>(&mut self, folder: &mut F, width: usize) -> Result<u128, Stop>
+    // The next number of so many bytes, also where more has to be read for it.
+    #[cold]
+    #[inline(never)]
+    fn number_over<F: Folder>(&mut self, folder: &mut F, width: usize) -> Result<u128, Stop>
         requires width { width ≤ 16 }
         requires agrees { (all : List ℕ) → F.told folder.old self.old.name ≡ Some all → Agrees all self.old }
         ensures gives { (all : List ℕ) → F.told folder.old self.old.name ≡ Some all → Gives (λ x. x) all self.old self.new result (number_at width) }
@@ -48,9 +49,6 @@ impl Source {
         ensures later { F.read_faults folder.old ≤ F.read_faults folder.new }
         ensures cause { IsErrOf result Stop.Failed → Rose (F.read_faults folder.old) (F.read_faults folder.new) }
     {
-        if self.has(width) {
-            return Ok(self.number_ahead(width));
-        }
         let mut value = 0u128;
         let mut have = 0usize;
         while have < width {
@@ -75,7 +73,10 @@ impl Source {
         ensures later { F.read_faults folder.old ≤ F.read_faults folder.new }
         ensures cause { IsErrOf result Stop.Failed → Rose (F.read_faults folder.old) (F.read_faults folder.new) }
     {
-        self.number(folder, width)
+        if self.has(width) {
+            return Ok(self.number_ahead(width));
+        }
+        self.number_over(folder, width)
     }
 }
 

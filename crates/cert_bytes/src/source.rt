@@ -117,6 +117,8 @@ impl Source {
     }
 
     // Reads ahead.
+    #[cold]
+    #[inline(never)]
     fn fill<F: Folder>(&mut self, folder: &mut F) -> Result<(), Failed>
         requires agrees { (all : List ℕ) → F.told folder.old self.old.name ≡ Some all → Agrees all self.old }
         ensures filled { IfOk result (λ _. (all : List ℕ) → F.told folder.old self.old.name ≡ Some all → IsFilled all self.new) }
@@ -134,6 +136,7 @@ impl Source {
     }
 
     // Whether a further byte is there. It is then read ahead.
+    #[inline(always)]
     pub fn ready<F: Folder>(&mut self, folder: &mut F) -> Result<bool, Failed>
         requires agrees { (all : List ℕ) → F.told folder.old self.old.name ≡ Some all → Agrees all self.old }
         ensures ready { IfOk result (λ more. IsReady self.new more) }
@@ -177,6 +180,7 @@ impl Source {
     }
 
     /// The next byte.
+    #[inline(always)]
     #[tactic(auto, unfolding(crate::specs::Reading::byte_at))]
     pub fn byte<F: Folder>(&mut self, folder: &mut F) -> Result<u8, Stop>
         requires agrees { (all : List ℕ) → F.told folder.old self.old.name ≡ Some all → Agrees all self.old }

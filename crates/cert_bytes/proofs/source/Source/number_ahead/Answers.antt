@@ -1,4 +1,4 @@
-use Rattle.std.proofs.Common.{◌≡◌, ◌≤◌, ◌+◌, ◌-◌, ◌∷◌, ℕ, suc, List, length, rules, arith, sym, ap, subst, ◌∙◌, refl}
+use Rattle.std.proofs.Common.{◌≡◌, ◌+◌, ◌-◌, ℕ, suc, List, length, rules, arith, ap, subst, ◌∙◌, refl}
 use Rattle.cert_bytes.specs.Reading.{bytes_at, number_at}
 use Rattle.cert_bytes.specs.Pieces.{Agrees, cursor_of}
 use Rattle.cert_bytes.proofs.Bytes.{one_more, finishes, fits, sixteen}

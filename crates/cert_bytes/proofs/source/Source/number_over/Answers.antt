@@ -4,7 +4,7 @@ use Rattle.cert_bytes.specs.Reading.{bytes_at, number_at}
 use Rattle.cert_bytes.proofs.Bytes.{one_more, stops, finishes, fits, sixteen}
 use Rattle.cert_bytes.specs.Pieces.{cursor_of}
 use Rattle.cert_bytes.proofs.Told.{name_in}
-use Rattle.cert_bytes.proofs.source.Source.number.Goals as goal
+use Rattle.cert_bytes.proofs.source.Source.number_over.Goals as goal
 
 pub loop-have-init : goal.loop-have-init
 loop-have-init g c = record {
@@ -50,9 +50,6 @@ pub overflow_add-value : goal.overflow_add-value
 overflow_add-value g c =
     let t = c.loop-have-test.true in
     omega (arith, fits c.loop-have.value c.loop-have.have c.from.result c.loop-have.invariant.small (search (arith, rules)), sixteen (c.loop-have.have + 1) (let w = c.requires.width in omega (arith, t, w)))
-
-pub returns-then-has-clause-agrees : goal.returns-then-has-clause-agrees
-returns-then-has-clause-agrees g c = λ all h. c.number_ahead.ensures.agrees all (c.requires.agrees all h)
 
 pub returns-clause-gives : goal.returns-clause-gives
 returns-clause-gives g c = λ all h.
