@@ -5,6 +5,7 @@ mod Written
 mod Judged
 mod Cuts
 mod Known
+mod Pieces
 mod CutTo
 mod Leaves
 mod Shown

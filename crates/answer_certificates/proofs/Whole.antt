@@ -49,7 +49,7 @@ use Rattle.box_traces.specs.Trees.{Tree, IsProved, lines_of_tree, steps_in}
 use Rattle.box_traces.specs.Laws.{CertificatesExist}
 use Rattle.answer_certificates.specs.Scripts.{HasRoom}
 use Rattle.answer_certificates.specs.Boxes.{boxes_of}
-use Rattle.answer_certificates.specs.Laws.{UniversesAreWritten, SubjectsAreOfUniverses, TreesAreProved, AreInRange, AnswersHaveCertificates, AnswersAreSpelled}
+use Rattle.answer_certificates.specs.Laws.{UniversesAreWritten, InstancesAreFew, SubjectsAreOfUniverses, TreesAreProved, AreInRange, AnswersHaveCertificates, AnswersAreSpelled}
 use Rattle.answer_certificates.proofs.Counted.{few_instances}
 use Rattle.answer_certificates.proofs.Known.{AreRangesAt, whole_ranges}
 use Rattle.answer_certificates.proofs.Proved.{box_done}
@@ -102,13 +102,16 @@ listed_answer one t listed limit count leaves a =
     ]
 
 -- ---- numbers
+pub instances_are_few : InstancesAreFew
+instances_are_few s u has room =
+    let rows = has.universe.hints.count in
+    let hints = room.hints.rewrites in
+    subst (λ (is : List Instance). length is ≤ 2 ^ 22) (sym has.universe.order) (few_instances u.nodes u.pairs u.hints room.short room.whole.few (omega (arith, rows, hints)))
+
 -- a step for each hypothesis, node and instance of all rounds, in each box, has a number of 64 bits
 can_be_numbered : (s : View) (u : World) → HasUniverse s u → HasRoom s u → (o : Options) (count : ℕ) → AreInRange o → count ≤ o.boxes → most_steps (setting_of u) o.rounds * count ≤ 2 ^ 64
 can_be_numbered s u has room o count range few =
-    let rows = has.universe.hints.count in
-    let hints = room.hints.rewrites in
-    let instances : length u.instances ≤ 2 ^ 22 =
-    subst (λ (is : List Instance). length is ≤ 2 ^ 22) (sym has.universe.order) (few_instances u.nodes u.pairs u.hints room.short room.whole.few (omega (arith, rows, hints))) in
+    let instances : length u.instances ≤ 2 ^ 22 = instances_are_few s u has room in
     let drawn : o.rounds * length u.instances ≤ 64 * 2 ^ 22 = mul-le o.rounds (length u.instances) 64 (2 ^ 22) range.0 instances in
     let short = room.short in
     let hypotheses = room.hypotheses in

@@ -1,5 +1,6 @@
 -- The tree of a script's boxes, as a certificate goes over it.
 use Rattle.std.specs.Prelude.{◌≡◌, ◌+◌, ◌*◌, ◌++◌, ℕ, zero, suc, List, [], ◌∷◌, Option, Some, None, map}
+use Rattle.fx_model.specs.declared.ExprId.{ExprId}
 use Rattle.interval.specs.declared.interval.Interval.{Interval}
 use Rattle.interval.specs.Results.{whole_interval}
 use Rattle.derivation.specs.Known.{Piece}
@@ -19,6 +20,12 @@ use Rattle.box_traces.specs.Trees.{Tree, Trees, leaf, cut, last, next, IsProved,
 abbrev pub range_of_piece : Option Piece → Interval
 range_of_piece None = whole_interval
 range_of_piece (Some p) = p.1
+
+-- the variable along which the cut goes; none at the bottom
+abbrev pub variable_of : Cut → Option ExprId
+variable_of (Forced x points) = Some x
+variable_of (Half x m) = Some x
+variable_of Bottom = None
 
 -- the pieces of the box at the path from number i on, of which n are left, each with what `below` says is below it
 abbrev pub pieces_from : PlanParts → (List ℕ → Tree) → List ℕ → ℕ → ℕ → Trees
