@@ -1,5 +1,5 @@
 -- The pieces of a box that is cut are of the cut's variable.
-use Rattle.std.specs.Prelude.{◌≡◌, ℕ, List, [], ◌∷◌, ◌++◌, Option, Some}
+use Rattle.std.specs.Prelude.{◌≡◌, ℕ, Option, Some}
 use Rattle.std.proofs.Common.{sym, ap, subst}
 use Rattle.fx_model.specs.declared.ExprId.{ExprId}
 use Rattle.derivation.specs.Known.{Piece}

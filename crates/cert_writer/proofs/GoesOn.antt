@@ -43,7 +43,7 @@ pub lead_both : (s : Subject) (c d e : Context) (items more : List Item) → Lea
 lead_both s c d e [] more l m = subst (λ y. LeadsTo s y more e) (sym l) m
 lead_both s c d e (i ∷ items) more l m = (l.0, lead_both s (after c i) d e items more l.1 m)
 
-spelled_both : (items more : List Item) → certificate_of (items ++ more) ≡ certificate_of items ++ certificate_of more
+pub spelled_both : (items more : List Item) → certificate_of (items ++ more) ≡ certificate_of items ++ certificate_of more
 spelled_both items more = flat_map-append spelling_of items more
 
 more_due : (t : Aim) (items more rest : List Item) → AreCertificate (items ++ (more ++ rest)) → AreCertificate ((items ++ more) ++ rest)
@@ -74,7 +74,7 @@ front t items c n w e =
     )
 
 -- ---- one box
-next_behind : (c : Context) (rows : List StepRow) → (behind_steps c rows).next ≡ c.next + length rows
+pub next_behind : (c : Context) (rows : List StepRow) → (behind_steps c rows).next ≡ c.next + length rows
 next_behind c [] = omega arith
 next_behind c (row ∷ rows) = let h = next_behind (after c (item.Step row)) rows in omega (arith, h)
 
@@ -129,10 +129,19 @@ cited_lines rows at (g ∷ goals) (r ∷ refs) (l ∷ lines) a =
 cited_lines rows at [] (r ∷ refs) lines a = absurd a
 cited_lines rows at (g ∷ goals) [] lines a = absurd a
 
-module _ (goes : WalksGoOn) (moves : WalksMove) where
-  enough : (t : Aim) → most_steps (setting_of t.world) t.height ≤ most_for t
-  enough t = omega arith
+-- ---- numbers of steps
+below_more : (n : ℕ) (rows : List Citable) (f : Fact) → AllBelow n rows → AllBelow (n + 1) (rows ++ record { number = n; fact = f } ∷ [])
+below_more n [] f b = (omega arith, tt)
+below_more n (r ∷ rows) f b = let l : r.number < n = b.0 in (omega (arith, l), below_more n rows f b.1)
 
+pub below_behind : (c : Context) (rows : List StepRow) → AllBelow c.next c.steps → AllBelow (behind_steps c rows).next (behind_steps c rows).steps
+below_behind c [] b = b
+below_behind c (row ∷ rows) b = below_behind (after c (item.Step row)) rows (below_more c.next c.steps row.fact b)
+
+pub enough : (t : Aim) → most_steps (setting_of t.world) t.height ≤ most_for t
+enough t = omega arith
+
+module _ (goes : WalksGoOn) (moves : WalksMove) where
   pub begun : OfAims (λ t. (p : Place) → IsAt t p → IsBegun t (certificate_of p.items))
   begun t a p here =
       let v : Setting = setting_of t.world in
@@ -183,21 +192,20 @@ module _ (goes : WalksGoOn) (moves : WalksMove) where
       }
 
   -- what is so of each end of a box's own section
-  close : (t : Aim) (p : Place) (rows : List StepRow) (l : Item) (lines : List Line) → p.tree ≡ leaf → IsAt t p → AreBoxSteps t p rows → JudgesItem t.subject (behind_steps p.context rows) l None →
+  close : (t : Aim) (p : Place) (rows : List StepRow) (l : Item) (lines : List Line) → p.tree ≡ leaf → IsAt t p → AreSteps t.subject p.context rows → length rows ≤ most_for t → JudgesItem t.subject (behind_steps p.context rows) l None →
       ((rest : List Item) → AreDue (Some (Sections (left_in p.frames))) rest → AreDue (Some (Sections (suc (left_in p.frames)))) (l ∷ rest)) →
       IsEndOf p.context (after (behind_steps p.context rows) l) lines → (after (behind_steps p.context rows) l).next ≡ (behind_steps p.context rows).next →
       lines_of_tree (setting_of t.world) t.height t.world.goals leaf p.pieces p.context.lines ≡ lines → HasEnded t (closed p rows l lines)
-  close t p rows l lines e here own j due end same shown =
+  close t p rows l lines e here steps k j due end same shown =
       let v : Setting = setting_of t.world in
       let most : ℕ = most_for t in
       let n = next_behind p.context rows in
-      let k = own.few in
       let room : p.context.next + (most + steps_behind most p.frames) ≤ 2 ^ 64 = subst (λ y. p.context.next + (steps_in most y + steps_behind most p.frames) ≤ 2 ^ 64) e here.room in
       let all : t.lines ≡ lines_behind v t.height t.world.goals p.frames (lines_of_tree v t.height t.world.goals leaf p.pieces p.context.lines) =
       subst (λ y. t.lines ≡ lines_behind v t.height t.world.goals p.frames (lines_of_tree v t.height t.world.goals y p.pieces p.context.lines)) e here.shown in
       record {
         written = written_more t p.items (own_items rows l) p.context (after (behind_steps p.context rows) l) (suc (left_in p.frames)) (left_in p.frames)
-            here.written (own_leads t p.context rows l own.steps j) (own_due t p.context rows l (left_in p.frames) (left_in p.frames) own.steps due);
+            here.written (own_leads t p.context rows l steps j) (own_due t p.context rows l (left_in p.frames) (left_in p.frames) steps due);
         ended = end;
         lies = here.entered.lies;
         room = omega (arith, same, n, k, room);
@@ -224,23 +232,22 @@ module _ (goes : WalksGoOn) (moves : WalksMove) where
       let long : d.next ≤ 2 ^ 64 = omega (arith, n, k, room) in
       let count = cited_count d.steps at t.world.goals refs cited in
       let goals = a.subject.few_goals in
-      close t p rows (item.Leaf refs) lines e here own m.0
+      close t p rows (item.Leaf refs) lines e here own.steps k m.0
       (λ rest r. ((omega (arith, count, goals), cited_long d.steps at d.next t.world.goals refs own.behind.below long cited), r))
       (subst (λ y. IsEndOf p.context (after d (item.Leaf refs)) y) shown m.1) refl refl
 
-  pub voids : OfAims (λ t. (p : Place) (rows : List StepRow) (r : ℕ) → p.tree ≡ leaf → IsAt t p → AreBoxSteps t p rows →
+  pub voids : OfAims (λ t. (p : Place) (rows : List StepRow) (r : ℕ) → p.tree ≡ leaf → IsAt t p → AreSteps t.subject p.context rows → length rows ≤ most_for t →
       table_at (setting_of t.world) t.height p.pieces slot.Void ≡ Some fact.Void → step_fact (behind_steps p.context rows).steps r ≡ Some fact.Void → HasEnded t (closed p rows (item.Dead r) p.context.lines))
-  voids t a p rows r e here own void is =
+  voids t a p rows r e here steps k void is =
       let v : Setting = setting_of t.world in
       let most : ℕ = most_for t in
       let d : Context = behind_steps p.context rows in
-      let m = moves.void v t.world.hints a.writable t.height most (enough t) t.world.goals t.subject a.subject p.context p.pieces rows r here.entered.opened own.steps is in
+      let m = moves.void v t.world.hints a.writable t.height most (enough t) t.world.goals t.subject a.subject p.context p.pieces rows r here.entered.opened steps is in
       let n = next_behind p.context rows in
-      let k = own.few in
       let room : p.context.next + (most + steps_behind most p.frames) ≤ 2 ^ 64 = subst (λ y. p.context.next + (steps_in most y + steps_behind most p.frames) ≤ 2 ^ 64) e here.room in
       let long : d.next ≤ 2 ^ 64 = omega (arith, n, k, room) in
-      close t p rows (item.Dead r) p.context.lines e here own m.0
-      (λ rest q. ((tt, found_long d.steps r d.next fact.Void own.behind.below long is), q))
+      close t p rows (item.Dead r) p.context.lines e here steps k m.0
+      (λ rest q. ((tt, found_long d.steps r d.next fact.Void (below_behind p.context rows here.entered.opened.below) long is), q))
       m.1 refl (ap (λ o. leaf_lines o (table_at v t.height p.pieces) t.world.goals p.context.lines) void)
 
   pub follows : OfAims (λ t. (e : Ended) (fr : Frame) (i : Interval) (tree : Tree) (later : Trees) (frames : List Frame) → e.frames ≡ fr ∷ frames → fr.later ≡ next i tree later → HasEnded t e →

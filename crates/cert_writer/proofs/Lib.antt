@@ -3,3 +3,8 @@ mod GoesOn
 mod Begun
 mod Spelled
 mod Slots
+mod Turn
+mod Start
+mod Own
+mod Node
+mod Done

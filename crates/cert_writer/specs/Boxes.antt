@@ -1,6 +1,5 @@
 -- What is spelled of a box.
 use Rattle.std.specs.Prelude.{◌≡◌, ◌⊎◌, ◌<◌, ⊤, ℕ, List, [], ◌∷◌, map, Option, Some, None}
-use Rattle.std.specs.List.{AllByRecursion}
 use Rattle.fx_model.specs.declared.ExprId.{ExprId}
 use Rattle.dyadic.specs.declared.number.Dyadic.{Dyadic}
 use Rattle.facts.specs.declared.fact.Fact.{Fact}
@@ -9,7 +8,7 @@ use Rattle.facts.specs.declared.fact.Slot.TheVariants as slot
 use Rattle.goals.specs.declared.goal.Goal.{Goal}
 use Rattle.goals.specs.Settles.{Settles}
 use Rattle.derivation.specs.Derivations.{At}
-use Rattle.rule_universe.specs.Worlds.{World, HasSlot}
+use Rattle.rule_universe.specs.Worlds.{World}
 use Rattle.box_tree.specs.declared.cut.Cut.{Cut}
 use Rattle.box_tree.specs.declared.cut.Cut.TheVariants.{Forced, Half, Bottom}
 use Rattle.cert_bytes.specs.declared.item.Item.{Item}
@@ -35,10 +34,6 @@ refs_in u k goals = map (λ (g : Goal). place_in u k g.of) goals
 -- a fact is known that settles the goal
 abbrev pub IsSettled : At → Goal → Type 0
 IsSettled at g = (f : Fact) × (at g.of ≡ Some f) × Settles g f
-
--- each goal is about a slot of the universe
-abbrev pub HasSlots : World → List Goal → Type 0
-HasSlots u goals = AllByRecursion (λ (g : Goal). HasSlot u g.of) goals
 
 abbrev pub KnowsVoid : At → Type 0
 KnowsVoid at = at slot.Void ≡ Some fact.Void

@@ -1,5 +1,5 @@
 -- What is promised of a certificate that is written box by box.
-use Rattle.std.specs.Prelude.{◌≡◌, ◌≤◌, ◌^◌, ℕ, List, [], ◌∷◌, map, Some, None}
+use Rattle.std.specs.Prelude.{◌≡◌, ◌≤◌, ◌^◌, ℕ, List, [], ◌∷◌, length, map, Some, None}
 use Rattle.fx_model.specs.declared.ExprId.{ExprId}
 use Rattle.dyadic.specs.declared.number.Dyadic.{Dyadic}
 use Rattle.interval.specs.declared.interval.Interval.{Interval}
@@ -15,6 +15,7 @@ use Rattle.cert_checker.specs.Contexts.{Context}
 use Rattle.cert_checker.specs.Steps.{step_fact}
 use Rattle.box_traces.specs.Trees.{Tree, Trees, leaf, cut, last, next, IsProved, lines_of_tree, steps_in}
 use Rattle.box_traces.specs.Walks.{behind_steps, Frame}
+use Rattle.box_traces.specs.Moves.{AreSteps}
 use Rattle.cert_writer.specs.Standing.{Aim, IsAim, IsWhole, IsBegun, Place, IsAt, Ended, HasEnded, AreBoxSteps, AreCited, most_for, at_root, inside, closed, beside, around}
 
 -- This is so of each aim.
@@ -36,8 +37,8 @@ pub record WritingGoesOn : Type 0 where
   pub settles : OfAims (λ t. (p : Place) (rows : List StepRow) (refs : List ℕ) → p.tree ≡ leaf → IsAt t p → AreBoxSteps t p rows →
       table_at (setting_of t.world) t.height p.pieces slot.Void ≡ None → AreCited (behind_steps p.context rows).steps (table_at (setting_of t.world) t.height p.pieces) t.world.goals refs →
       HasEnded t (closed p rows (item.Leaf refs) (lines_of_tree (setting_of t.world) t.height t.world.goals leaf p.pieces p.context.lines)))
-  -- or a step that concludes VOID.
-  pub voids : OfAims (λ t. (p : Place) (rows : List StepRow) (r : ℕ) → p.tree ≡ leaf → IsAt t p → AreBoxSteps t p rows →
+  -- or a step that concludes VOID, whatever else its steps conclude.
+  pub voids : OfAims (λ t. (p : Place) (rows : List StepRow) (r : ℕ) → p.tree ≡ leaf → IsAt t p → AreSteps t.subject p.context rows → length rows ≤ most_for t →
       table_at (setting_of t.world) t.height p.pieces slot.Void ≡ Some fact.Void → step_fact (behind_steps p.context rows).steps r ≡ Some fact.Void → HasEnded t (closed p rows (item.Dead r) p.context.lines))
   -- Behind a section the next piece begins,
   pub follows : OfAims (λ t. (e : Ended) (fr : Frame) (i : Interval) (tree : Tree) (later : Trees) (frames : List Frame) → e.frames ≡ fr ∷ frames → fr.later ≡ next i tree later → HasEnded t e →

@@ -2,4 +2,7 @@ pub mod Files
 pub mod Heads
 pub mod Boxes
 pub mod Standing
+pub mod Courses
 pub mod Laws
+pub mod Walks
+pub mod Written

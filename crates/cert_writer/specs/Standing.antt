@@ -45,7 +45,7 @@ pub record IsAim (t : Aim) : Type 0 where
 
 -- so many steps at most for each box
 abbrev pub most_for : Aim → ℕ
-most_for t = length t.world.hypotheses + length t.world.nodes + 1 + t.height * length t.world.instances + t.height * 8192
+most_for t = length t.world.hypotheses + length t.world.nodes + 2 + t.height * length t.world.instances + t.height * 8192
 
 -- The bytes spell a certificate that is accepted with the lines.
 abbrev pub IsWhole : Aim → List ℕ → Type 0

@@ -3,7 +3,8 @@ ghost use Rattle.std.specs.Prelude.{◌≡◌, ◌↔◌, ◌∷◌, [], IsTrue,
 ghost use Rattle.rule_universe.specs.Worlds.{HasSlot};
 ghost use Rattle.box_trace.specs.Tables.{known_at, HasRows};
 ghost use Rattle.box_traces.specs.Trees.{AllSettled};
-ghost use Rattle.cert_writer.specs.Boxes.{IsSettled, HasSlots, CutsAt, IsEnd, IsClosed};
+ghost use Rattle.answer_certificates.specs.Scripts.{HasSlots};
+ghost use Rattle.cert_writer.specs.Boxes.{IsSettled, CutsAt, IsEnd, IsClosed};
 
 use crate::spell::refs_of;
 use box_trace::Known;

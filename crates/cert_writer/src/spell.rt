@@ -2,11 +2,12 @@
 ghost use Rattle.std.specs.Prelude.{◌≡◌, ◌++◌, map, IfOk, OnOk};
 ghost use Rattle.std.specs.List.{AllByRecursion};
 ghost use Rattle.cert_bytes.specs.declared.item.Item.TheVariants as item;
-ghost use Rattle.cert_bytes.specs.Certificates.{certificate_of};
+ghost use Rattle.cert_bytes.specs.Certificates.{HasSpelling, certificate_of};
 ghost use Rattle.box_trace.specs.Tables.{known_at};
 ghost use Rattle.box_traces.specs.Traces.{HaveFields};
 ghost use Rattle.box_traces.specs.Trees.{AllSettled};
 ghost use Rattle.cert_writer.specs.Boxes.{HasShortList, HasRanges, refs_in};
+ghost use Rattle.cert_writer.specs.Standing.{own_items};
 
 use box_trace::Known;
 use cert_bytes::{Item, StepRow, write_item};
@@ -55,4 +56,17 @@ pub fn refs_of(
         goals = later;
     }
     Ok(refs)
+}
+
+/// The bytes of a box's own items: its steps, and the last.
+pub fn spell_box(alloc: Global, steps: Vec<StepRow>, last: &Item) -> Result<Vec<u8>, AllocError>
+    requires steps { AllByRecursion HasShortList steps.items }
+    requires last { HasSpelling last.now }
+    ensures spelled { IfOk result (λ bytes. bytes.items ≡ certificate_of (own_items steps.items last.now)) }
+    ensures fields { IfOk result (λ bytes. HaveFields steps.items) }
+{
+    let mut bytes = Vec::new(alloc);
+    spell_steps(steps, &mut bytes)?;
+    write_item(last, &mut bytes)?;
+    Ok(bytes)
 }

@@ -1,0 +1,169 @@
+//! The walk over a script's boxes that writes their sections.
+ghost use Rattle.std.specs.Prelude.{◌≡◌, ◌≢◌, ◌<◌, ◌≤◌, ℕ, List, length, IfOk, OnErr};
+ghost use Rattle.box_trace.specs.Tables.{HasRows};
+ghost use Rattle.answer_certificates.specs.Scripts.{HasSlots};
+ghost use Rattle.cert_writer.specs.Courses.{GrewToFront, IsSomewhere, OnCourses, IsPast, HasDone, AreOwnBytes};
+ghost use Rattle.cert_writer.specs.Walks.{MayEnd, IsLast, HasWriteCause};
+ghost use Rattle.cert_writer.specs.declared.walk.WriteStop.TheVariants as WriteStop;
+
+use crate::ending::{cut_of, end_of};
+use crate::file::append_all;
+use crate::laws::{walk_goes_on, writing_goes_on};
+use crate::spell::spell_box;
+use box_trace::{Known, Traced, trace};
+use box_tree::{Cut, Plan};
+use cert_bytes::{CutPoints, Item};
+use fx_edge::{Failed, Folder, Path};
+use rule_universe::Universe;
+use std::alloc::{AllocError, Global};
+
+/// Why a certificate wasn't written whole.
+#[derive(Clone, Copy, PartialEq, Eq, Debug)]
+pub enum WriteStop {
+    /// A write of the folder failed.
+    Failed,
+    /// No memory was found.
+    OutOfMemory,
+}
+
+impl From<Failed> for WriteStop {
+    ghost from_gives = { λ _ e. e ≡ WriteStop.Failed };
+
+    fn from(_: Failed) -> Self {
+        WriteStop::Failed
+    }
+}
+
+impl From<AllocError> for WriteStop {
+    ghost from_gives = { λ _ e. e ≡ WriteStop.OutOfMemory };
+
+    fn from(_: AllocError) -> Self {
+        WriteStop::OutOfMemory
+    }
+}
+
+// The last of a box's own items, and into how many pieces it is cut.
+fn last_item(
+    alloc: Global,
+    uni: &Universe,
+    cut: Cut,
+    known: &Known,
+) -> Result<(Item, u8), AllocError>
+    requires slots { HasSlots uni.now uni.now.goals }
+    requires rows { HasRows uni.now known.now }
+    requires ends { MayEnd uni.now known.now cut }
+    ensures { IfOk result (λ r. IsLast uni.now known.now cut r.0 r.1) }
+{
+    if let Some((x, points)) = cut_of(uni, cut, known) {
+        let pieces = points.len() + 1;
+        return Ok((Item::Cut(x, CutPoints::new(alloc, points)?), pieces));
+    }
+    Ok((end_of(alloc, uni, known)?, 0))
+}
+
+// What a box's pieces need behind its own items: what is known there, how many pieces there are, and the number of the next step.
+#[derive(Drop)]
+struct Own {
+    known: Known,
+    pieces: u8,
+    next: u64,
+}
+
+// The bytes of the box's own items.
+fn own_bytes(
+    alloc: Global,
+    uni: &Universe,
+    plan: &Plan,
+    rounds: u8,
+    path: &Path,
+    parent: Option<&Known>,
+    first: u64,
+) -> Result<(Vec<u8>, Own), AllocError>
+    requires somewhere { IsSomewhere uni.now plan.now rounds path.now parent first }
+    ensures own { IfOk result (λ r. OnCourses uni.now plan.now rounds path.now parent.entry first (λ c p. AreOwnBytes c path.now p r.1.known r.1.pieces r.1.next r.0.items)) }
+    ensures room { IfOk result (λ r. 0 < r.1.pieces → length path.now < 36) }
+    ensures pieces { IfOk result (λ r. r.1.pieces ≤ 64) }
+{
+    walk_goes_on(plan);
+    let Traced { steps, known } = trace(alloc, uni, plan.piece(path), parent, rounds, first)?;
+    let next = first + steps.len() as u64;
+    let (last, pieces) = last_item(alloc, uni, plan.cut(path), &known)?;
+    let bytes = spell_box(alloc, steps, &last)?;
+    Ok((
+        bytes,
+        Own {
+            known,
+            pieces,
+            next,
+        },
+    ))
+}
+
+// Writes the box's own items.
+fn write_own<F: Folder>(
+    alloc: Global,
+    uni: &Universe,
+    plan: &Plan,
+    rounds: u8,
+    folder: &mut F,
+    name: &str,
+    path: &Path,
+    parent: Option<&Known>,
+    first: u64,
+) -> Result<Own, WriteStop>
+    requires somewhere { IsSomewhere uni.now plan.now rounds path.now parent first }
+    ensures ok { IfOk result (λ own. OnCourses uni.now plan.now rounds path.now parent.entry first
+        (λ c p. HasDone c path.now own.known p (F.told folder.old name.now) own.pieces 0 own.next (F.told folder.new name.now))) }
+    ensures room { IfOk result (λ own. 0 < own.pieces → length path.now < 36) }
+    ensures pieces { IfOk result (λ own. own.pieces ≤ 64) }
+    ensures err { OnErr result (OnCourses uni.now plan.now rounds path.now parent.entry first
+        (λ c p. GrewToFront c.aim p.items (F.told folder.old name.now) (F.told folder.new name.now))) }
+    ensures others { (other : List ℕ) → other ≢ name.now → F.told folder.new other ≡ F.told folder.old other }
+    ensures cause { HasWriteCause (F.write_faults folder.old) (F.write_faults folder.new) result }
+    ensures quiet { F.read_faults folder.new ≡ F.read_faults folder.old }
+{
+    writing_goes_on();
+    let (bytes, own) = own_bytes(alloc, uni, plan, rounds, path, parent, first)?;
+    append_all(folder, name, &bytes)?;
+    Ok(own)
+}
+
+// Writes the section of the box at the path and of those below it. It answers the number of the next step.
+pub(crate) fn write_box<F: Folder>(
+    alloc: Global,
+    uni: &Universe,
+    plan: &Plan,
+    rounds: u8,
+    folder: &mut F,
+    name: &str,
+    path: Path,
+    parent: Option<&Known>,
+    first: u64,
+) -> Result<u64, WriteStop>
+    requires somewhere { IsSomewhere uni.now plan.now rounds path parent first }
+    ensures ok { IfOk result (λ next. OnCourses uni.now plan.now rounds path parent.entry first
+        (λ c p. IsPast c p (F.told folder.old name.now) next (F.told folder.new name.now))) }
+    ensures err { OnErr result (OnCourses uni.now plan.now rounds path parent.entry first
+        (λ c p. GrewToFront c.aim p.items (F.told folder.old name.now) (F.told folder.new name.now))) }
+    ensures others { (other : List ℕ) → other ≢ name.now → F.told folder.new other ≡ F.told folder.old other }
+    ensures cause { HasWriteCause (F.write_faults folder.old) (F.write_faults folder.new) result }
+    ensures quiet { F.read_faults folder.new ≡ F.read_faults folder.old }
+{
+    walk_goes_on(plan);
+    let own = write_own(alloc, uni, plan, rounds, folder, name, &path, parent, first)?;
+    let mut next = own.next;
+    for i in 0..own.pieces {
+        next = write_box(
+            alloc,
+            uni,
+            plan,
+            rounds,
+            folder,
+            name,
+            path.child(i),
+            Some(&own.known),
+            next,
+        )?;
+    }
+    Ok(next)
+}
