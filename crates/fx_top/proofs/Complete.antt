@@ -58,7 +58,7 @@ pub not_refused : (end : Context) (why : CheckStop) (f : CheckFault) → why ≡
 not_refused end why f e a = subst (λ (t : CheckStop). IsAnswer (accepted end) (Err t)) e a
 
 -- a text that spells a script is read whole
-read_whole : (text read : Bytes) (s : View) → Spells text s → read ≡ take 1048577 text → text ≡ read
+pub read_whole : (text read : Bytes) (s : View) → Spells text s → read ≡ take 1048577 text → text ≡ read
 read_whole text read s spelled e = by (eq-or-lt_of_le (let size = front_size text read e in omega (arith, size)))
   where
     by : (length read ≡ 1048577) ⊎ (length read < 1048577) → text ≡ read

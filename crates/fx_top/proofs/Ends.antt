@@ -81,7 +81,7 @@ module _ (P : Bytes → Type 0) (long : (t text : Bytes) → 2 ^ 20 < length t �
       let size = front_size all text e in
       (all, refl, subst P (e ∙ take_all 1048577 all (omega (arith, size, short))) p)
 
-  told_text : (known : Option Bytes) (text : Bytes) → IsText known text → P text → (t : Bytes) × IsTold known t × P t
+  pub told_text : (known : Option Bytes) (text : Bytes) → IsText known text → P text → (t : Bytes) × IsTold known t × P t
   told_text None text read p = (text, tt, p)
   told_text (Some all) text e p = told_front all text e (eq-or-lt_of_le (let size = front_size all text e in omega (arith, size))) p
 
@@ -139,7 +139,7 @@ ends_line P s line other same p before after result ends =
 -- ---- the lines of the words
 
 -- a count that rose later rose
-rose_later : (before middle now : ℕ) → before ≤ middle → Rose middle now → Rose before now
+pub rose_later : (before middle now : ℕ) → before ≤ middle → Rose middle now → Rose before now
 rose_later before middle now l r = omega (arith, l, r)
 
 module _ (words : List Bytes) (outside : Outside) (a : Asked) (asked : reading words ≡ Some (Prove a)) where

@@ -6,3 +6,4 @@ pub mod Ends
 pub mod Made
 pub mod Checked
 pub mod Complete
+pub mod Written

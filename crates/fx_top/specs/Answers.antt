@@ -29,6 +29,7 @@ options_of a = record { rounds = a.rounds; depth = a.depth; boxes = a.boxes }
 
 -- the numbers are in their ranges
 pub record AreAllowed (a : Asking) : Type 0 where
+  pub rounds : a.rounds ≤ 64
   pub depth : a.depth ≤ 32
   pub boxes : (1 ≤ a.boxes) × (a.boxes ≤ 8192)
   pub workers : (1 ≤ a.workers) × (a.workers ≤ 16)

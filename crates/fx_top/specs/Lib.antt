@@ -3,3 +3,4 @@ pub mod Outside
 pub mod Answers
 pub mod Checked
 pub mod Run
+pub mod Written

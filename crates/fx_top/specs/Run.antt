@@ -1,6 +1,7 @@
 -- What a run of the program prints, reads and answers.
 use Rattle.std.specs.Prelude.{◌≡◌, ◌≢◌, ◌⊎◌, ℕ, List, ⊤, Bool, false, Option, Some, None}
 use Rattle.std.specs.Io.KnownBytes.{Appends, Keeps}
+use Rattle.std.specs.Str.{bytes_eq}
 use Rattle.fx_edge.specs.Outside.{Rose}
 use Rattle.script_grammar.specs.Spells.{View, Spells}
 use Rattle.command_line.specs.Check.{AskedCheck}
@@ -63,9 +64,19 @@ Reads (Prove a) told name = name ≡ a.script
 Reads (Check a) told name = (name ≡ a.script) ⊎ ((name ≡ a.cert) × IsScript (told a.script))
 Reads (Gen n) told name = ⊥
 
+-- a name that is given is this one
+abbrev pub is_name : Option Bytes → Bytes → Bool
+is_name None name = false
+is_name (Some given) name = bytes_eq given name
+
+-- the command writes a file of this name: `prove` that of its certificate
+abbrev pub writes : Option Command → Bytes → Bool
+writes (Some (Prove a)) name = is_name a.cert name
+writes _ name = false
+
 -- the words name a file of this name to be written
 abbrev pub is_written : List Bytes → Bytes → Bool
-is_written words name = false
+is_written words name = writes (reading words) name
 
 -- The words and the folder have this status and these lines. A read fault has its line only where reads failed in this run.
 abbrev pub Prints : List Bytes → Outside → Status → Bytes → Type 0

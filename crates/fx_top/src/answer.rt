@@ -19,8 +19,8 @@ use std::sync::Wait;
 use std::thread::Threads;
 use universe::classify;
 
-// The status and the lines for what was found of the script.
-fn lines_for(
+/// The status and the lines for what was found of the script.
+pub fn lines_for(
     alloc: Global,
     script: &Script<'_>,
     options: Options,

@@ -2,6 +2,7 @@
 #![tactic(auto)]
 
 mod answer;
+mod certify;
 mod check;
 mod found;
 mod options;

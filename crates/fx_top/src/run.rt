@@ -1,16 +1,18 @@
 // The top call.
-ghost use Rattle.std.specs.Prelude.{◌≡◌, ◌≢◌, ℕ, List, false, map, string_bytes, Option, Some, None, IfOk, IfErr};
+ghost use Rattle.std.specs.Prelude.{◌≡◌, ◌≢◌, ◌⊎◌, ℕ, List, false, map, string_bytes, Option, Some, None, IfOk, IfErr};
 ghost use Rattle.command_line.specs.Check.{check_of};
 ghost use Rattle.command_line.specs.Reading.{asked_of, AreInRange};
 ghost use Rattle.fx_edge.specs.Outside.{Rose};
+ghost use Rattle.fx_top.specs.Answers.{options_of};
 ghost use Rattle.fx_top.specs.Command.{IsInRange, command_from, reading};
 ghost use Rattle.fx_top.specs.Command.Command.{Prove, Check, Gen};
 ghost use Rattle.fx_top.specs.Checked.{IsAcceptable};
-ghost use Rattle.fx_top.specs.Run.{Outside, Comes, EndsAs, IsComplete, IsExact, IsTelling, Prints, exit_code, is_written, seen};
+ghost use Rattle.fx_top.specs.Run.{Outside, Comes, EndsAs, IsComplete, IsExact, IsTelling, Prints, exit_code, is_name, is_written, seen};
+ghost use Rattle.fx_top.specs.Written.{Certifies, IsCertified, faults};
 
 use crate::options::options_of;
 use crate::outside::read_text;
-use crate::print::{print, print_answer, print_checked, print_made, print_stop};
+use crate::print::{print, print_answer, print_certified, print_checked, print_made, print_stop};
 use command_line::{CheckRequest, Request, WordsError, read_check, read_gen, read_prove};
 use fx_edge::{Folder, Gate, Sink};
 use report::runs::usage;
@@ -99,11 +101,26 @@ fn run_prove<F: Folder, O: Sink, G: Gate, R: Threads + Wait + Sync>(
     requires { AreInRange request }
     ensures ends { (words : List (List ℕ)) → reading words ≡ Some (Prove (asked_of request.entry))
         → EndsAs (Prints words (seen (F.told folder.old) (F.read_faults folder.old) (F.read_faults folder.new))) (O.taken out.old) (O.taken out.new) result }
-    ensures write_fault { result ≡ Status.WriteFault → Rose (O.faults out.old) (O.faults out.new) }
-    ensures files { (name : List ℕ) → F.told folder.new name ≡ F.told folder.old name }
+    ensures certificate { (name text : List ℕ) → (asked_of request.entry).cert ≡ Some name → F.told folder.old request.entry.script.now ≡ Some text
+        → IsCertified (options_of (asked_of request.entry)) text (faults (F.read_faults folder.old) (F.write_faults folder.old)) (faults (F.read_faults folder.new) (F.write_faults folder.new)) result (F.told folder.old name) (F.told folder.new name) }
+    ensures unchanged { result ≢ Status.Answered → result ≢ Status.WriteFault → result ≢ Status.OutOfMemory → (name : List ℕ) → F.told folder.new name ≡ F.told folder.old name }
+    ensures write_fault { result ≡ Status.WriteFault → Rose (O.faults out.old) (O.faults out.new) ⊎ Rose (F.write_faults folder.old) (F.write_faults folder.new) }
+    ensures files { (name : List ℕ) → is_name (asked_of request.entry).cert name ≡ false → F.told folder.new name ≡ F.told folder.old name }
 {
     match read_text(alloc, folder, request.script) {
-        Ok(text) => print_answer(rt, alloc, &text, options_of(request), out, gate),
+        Ok(text) => match request.cert {
+            Some(name) => print_certified(
+                rt,
+                alloc,
+                &text,
+                options_of(request),
+                folder,
+                name,
+                out,
+                gate,
+            ),
+            None => print_answer(rt, alloc, &text, options_of(request), out, gate),
+        },
         Err(stop) => print_stop(alloc, request.script, stop, out),
     }
 }
@@ -153,8 +170,10 @@ fn run_words<F: Folder, O: Sink, G: Gate, R: Threads + Wait + Sync>(
 ) -> Status
     ensures ends { EndsAs (Prints (map string_bytes words.now) (seen (F.told folder.old) (F.read_faults folder.old) (F.read_faults folder.new))) (O.taken out.old) (O.taken out.new) result }
     ensures accepted { IsComplete (map string_bytes words.now) (F.told folder.old) result }
-    ensures write_fault { result ≡ Status.WriteFault → Rose (O.faults out.old) (O.faults out.new) }
-    ensures files { (name : List ℕ) → F.told folder.new name ≡ F.told folder.old name }
+    ensures certificate { Certifies (map string_bytes words.now) (F.told folder.old) (F.told folder.new) (faults (F.read_faults folder.old) (F.write_faults folder.old)) (faults (F.read_faults folder.new) (F.write_faults folder.new)) result }
+    ensures unchanged { result ≢ Status.Answered → result ≢ Status.WriteFault → result ≢ Status.OutOfMemory → (name : List ℕ) → F.told folder.new name ≡ F.told folder.old name }
+    ensures write_fault { result ≡ Status.WriteFault → Rose (O.faults out.old) (O.faults out.new) ⊎ Rose (F.write_faults folder.old) (F.write_faults folder.new) }
+    ensures files { (name : List ℕ) → is_written (map string_bytes words.now) name ≡ false → F.told folder.new name ≡ F.told folder.old name }
 {
     match command_of(alloc, words) {
         Ok(Wanted::Prove(request)) => run_prove(rt, alloc, request, folder, out, gate),
@@ -177,7 +196,9 @@ fn run_exactly<F: Folder, O: Sink, G: Gate, R: Threads + Wait + Sync>(
     ensures ends { EndsAs (Prints (map string_bytes words.now) (seen (F.told folder.old) (F.read_faults folder.old) (F.read_faults folder.new))) (O.taken out.old) (O.taken out.new) result }
     ensures exact { IsExact (map string_bytes words.now) (seen (F.told folder.old) (F.read_faults folder.old) (F.read_faults folder.new)) result }
     ensures accepted { IsComplete (map string_bytes words.now) (F.told folder.old) result }
-    ensures write_fault { result ≡ Status.WriteFault → Rose (O.faults out.old) (O.faults out.new) }
+    ensures certificate { Certifies (map string_bytes words.now) (F.told folder.old) (F.told folder.new) (faults (F.read_faults folder.old) (F.write_faults folder.old)) (faults (F.read_faults folder.new) (F.write_faults folder.new)) result }
+    ensures unchanged { result ≢ Status.Answered → result ≢ Status.WriteFault → result ≢ Status.OutOfMemory → (name : List ℕ) → F.told folder.new name ≡ F.told folder.old name }
+    ensures write_fault { result ≡ Status.WriteFault → Rose (O.faults out.old) (O.faults out.new) ⊎ Rose (F.write_faults folder.old) (F.write_faults folder.new) }
     ensures files { (name : List ℕ) → is_written (map string_bytes words.now) name ≡ false → F.told folder.new name ≡ F.told folder.old name }
 {
     defined_status_comes();
@@ -186,7 +207,8 @@ fn run_exactly<F: Folder, O: Sink, G: Gate, R: Threads + Wait + Sync>(
 
 /// Runs the program on the words of its command line, without the program's name: `prove SCRIPT` reads the script's text
 /// from the folder, proves its goals, and puts the answer's lines; `gen N` does so with the made script of degree N. Workers, as many as
-/// the words say, settle the boxes; each calls the gate before and after a box. `check SCRIPT CERT` reads the script's text and then the
+/// the words say, settle the boxes; each calls the gate before and after a box. With `--cert FILE`, where all goals are proved, the file is
+/// made new first and takes a certificate of them. `check SCRIPT CERT` reads the script's text and then the
 /// certificate, and puts the lines that it shows, where it is accepted. It may wait.
 pub fn fx_run<R: Threads + Wait + Sync, F: Folder, O: Sink, G: Gate>(
     rt: &R,
@@ -209,8 +231,16 @@ pub fn fx_run<R: Threads + Wait + Sync, F: Folder, O: Sink, G: Gate>(
     // A certificate that is accepted for the script is answered by its lines, or else a fault of the outside or want of memory.
     ensures accepted { IsComplete (map string_bytes words.now) (F.told folder.old) result }
 
-    // A write fault comes only where the sink failed in this call.
-    ensures write_fault { result ≡ Status.WriteFault → Rose (O.faults out.old) (O.faults out.new) }
+    // The certificate that the words ask for is written before the lines. At `Answered` the file of its name holds one that is accepted for the
+    // script with its lines, and after a write fault too, where no read and no write of the folder failed; after any write fault and want of memory
+    // a front of one, or what it held. It holds what it held where the script isn't proved,
+    ensures certificate { Certifies (map string_bytes words.now) (F.told folder.old) (F.told folder.new) (faults (F.read_faults folder.old) (F.write_faults folder.old)) (faults (F.read_faults folder.new) (F.write_faults folder.new)) result }
+
+    // and no name's bytes change where the run ends in another way.
+    ensures unchanged { result ≢ Status.Answered → result ≢ Status.WriteFault → result ≢ Status.OutOfMemory → (name : List ℕ) → F.told folder.new name ≡ F.told folder.old name }
+
+    // A write fault comes only where the sink or a write of the folder failed in this call.
+    ensures write_fault { result ≡ Status.WriteFault → Rose (O.faults out.old) (O.faults out.new) ⊎ Rose (F.write_faults folder.old) (F.write_faults folder.new) }
 
     // No name's bytes change but those of a file that the words name to be written.
     ensures files { (name : List ℕ) → is_written (map string_bytes words.now) name ≡ false → F.told folder.new name ≡ F.told folder.old name }

@@ -1,18 +1,70 @@
-use Rattle.std.proofs.Common.{Err, ap, refl, subst, rules}
+use Rattle.std.proofs.Common.{Err, ap, refl, inl, subst, rules, arith, ◌∙◌}
 use Rattle.command_line.specs.Reading.{asked_of}
-use Rattle.fx_top.specs.Answers.{ProvePrints, options_of}
+use Rattle.fx_edge.specs.Outside.{Rose}
+use Rattle.fx_top.specs.Answers.{ProvePrints, options_from, options_of}
 use Rattle.fx_top.specs.Command.Command.{Prove}
 use Rattle.fx_top.specs.Outside.{IsText}
 use Rattle.fx_top.specs.Run.{EndsAs, StopPrints}
+use Rattle.fx_top.specs.Written.{faults}
+use Rattle.fx_top.specs.declared.run.Status.TheVariants.{ReadFault}
+use Rattle.fx_top.proofs.Complete.{comes_stop}
 use Rattle.fx_top.proofs.Ends.{ends_more, answer_prints, stop_prints}
+use Rattle.fx_top.proofs.Written.{certified_read, certified_stopped, kept_all, either_later, name_is, name_is_other, name_is_none}
 use Rattle.fx_top.proofs.run.run_prove.Goals as goal
+
+pub returns-in-Some-clause-ends : goal.returns-in-Some-clause-ends
+returns-in-Some-clause-ends g c = λ words asked.
+    let read : IsText (g.F.Folder.told c.args.folder.now c.args.request.script.now) c.deref.result.now = subst (IsText (g.F.Folder.told c.args.folder.now c.args.request.script.now)) (search rules) c.in-Ok.ensures.text in
+    ends_more (ProvePrints (options_of (asked_of c.args.request)) c.deref.result.now) _ (answer_prints words _ (asked_of c.args.request) asked c.deref.result.now read) _ _ _
+    (subst (λ o. EndsAs (ProvePrints o c.deref.result.now) (g.O.Sink.taken c.args.out.now) (g.O.Sink.taken c.print_certified.new.out) c.print_certified.result) c.options_of.ensures.is c.print_certified.ensures.ends)
+
+pub returns-in-Some-clause-certificate : goal.returns-in-Some-clause-certificate
+returns-in-Some-clause-certificate g c = λ name text named script.
+    let read : IsText (g.F.Folder.told c.args.folder.now c.args.request.script.now) c.deref.result.now = subst (IsText (g.F.Folder.told c.args.folder.now c.args.request.script.now)) (search rules) c.in-Ok.ensures.text in
+    certified_read (options_of (asked_of c.args.request)) (options_from c.options_of.result) text c.deref.result.now
+    (faults (g.F.Folder.read_faults c.args.folder.now) (g.F.Folder.write_faults c.args.folder.now)) (faults (g.F.Folder.read_faults c.read_text.new.folder) (g.F.Folder.write_faults c.read_text.new.folder)) (faults (g.F.Folder.read_faults c.print_certified.new.folder) (g.F.Folder.write_faults c.print_certified.new.folder))
+    (g.F.Folder.told c.args.folder.now) (g.F.Folder.told c.read_text.new.folder) (g.F.Folder.told c.print_certified.new.folder)
+    (g.F.Folder.told c.args.folder.now c.args.request.script.now) c.in-Some.name.now name c.print_certified.result
+    c.options_of.ensures.is (name_is c.args.request.cert c.in-Some.name name c.in-Some.is named) (c.in-Ok.ensures.told c.in-Some.name.now) script read
+    c.in-Ok.ensures.later (omega (arith, c.in-Ok.ensures.quiet)) c.print_certified.ensures.certificate
+
+pub returns-in-Some-clause-unchanged : goal.returns-in-Some-clause-unchanged
+returns-in-Some-clause-unchanged g c = λ n m k name.
+    kept_all (g.F.Folder.told c.read_text.new.folder) (g.F.Folder.told c.print_certified.new.folder) c.in-Some.name.now (c.print_certified.ensures.unchanged n m k) c.print_certified.ensures.others name
+    ∙ c.in-Ok.ensures.told name
+
+pub returns-in-Some-clause-write_fault : goal.returns-in-Some-clause-write_fault
+returns-in-Some-clause-write_fault g c = λ e.
+    either_later (Rose (g.O.Sink.faults c.args.out.now) (g.O.Sink.faults c.print_certified.new.out)) (g.F.Folder.write_faults c.args.folder.now) (g.F.Folder.write_faults c.read_text.new.folder) (g.F.Folder.write_faults c.print_certified.new.folder)
+    (omega (arith, c.in-Ok.ensures.quiet)) (c.print_certified.ensures.cause e)
+
+pub returns-in-Some-clause-files : goal.returns-in-Some-clause-files
+returns-in-Some-clause-files g c = λ name other.
+    c.print_certified.ensures.others name (name_is_other c.args.request.cert c.in-Some.name name c.in-Some.is other) ∙ c.in-Ok.ensures.told name
 
 pub returns-in-Ok-clause-ends : goal.returns-in-Ok-clause-ends
 returns-in-Ok-clause-ends g c = λ words asked.
-    let read : IsText (g.F.Folder.told c.args.folder.now c.args.request.script.now) c.deref.result.now = subst (IsText (g.F.Folder.told c.args.folder.now c.args.request.script.now)) (search rules) c.in-Ok.ensures.text in
-    ends_more (ProvePrints (options_of (asked_of c.args.request)) c.deref.result.now) _ (answer_prints words _ (asked_of c.args.request) asked c.deref.result.now read) _ _ _
-    (subst (λ o. EndsAs (ProvePrints o c.deref.result.now) (g.O.Sink.taken c.args.out.now) (g.O.Sink.taken c.print_answer.new.out) c.print_answer.result) c.options_of.ensures.is c.print_answer.ensures.ends)
+    let read : IsText (g.F.Folder.told c.args.folder.now c.args.request.script.now) c.deref-in-None.result.now = subst (IsText (g.F.Folder.told c.args.folder.now c.args.request.script.now)) (search rules) c.in-Ok.ensures.text in
+    ends_more (ProvePrints (options_of (asked_of c.args.request)) c.deref-in-None.result.now) _ (answer_prints words _ (asked_of c.args.request) asked c.deref-in-None.result.now read) _ _ _
+    (subst (λ o. EndsAs (ProvePrints o c.deref-in-None.result.now) (g.O.Sink.taken c.args.out.now) (g.O.Sink.taken c.print_answer.new.out) c.print_answer.result) c.options_of-in-None.ensures.is c.print_answer.ensures.ends)
 
-pub returns-in-Err-clause-ends : goal.returns-in-Err-clause-ends
-returns-in-Err-clause-ends g c = λ words asked.
+pub returns-in-Ok-clause-certificate : goal.returns-in-Ok-clause-certificate
+returns-in-Ok-clause-certificate g c = λ name text named script. absurd (name_is_none c.args.request.cert name c.in-None.is named)
+
+pub returns-in-Ok-clause-write_fault : goal.returns-in-Ok-clause-write_fault
+returns-in-Ok-clause-write_fault g c = λ e. inl (c.print_answer.ensures.cause e)
+
+pub returns-clause-ends : goal.returns-clause-ends
+returns-clause-ends g c = λ words asked.
     ends_more (StopPrints c.args.request.script.now c.in-Err.stop) _ (stop_prints words _ (Prove (asked_of c.args.request)) c.args.request.script.now asked c.in-Err.stop (λ e. (refl, c.in-Err.ensures.cause (ap Err e)))) _ _ _ c.print_stop.ensures.ends
+
+pub returns-clause-certificate : goal.returns-clause-certificate
+returns-clause-certificate g c = λ name text named script.
+    certified_stopped (options_of (asked_of c.args.request)) text
+    (faults (g.F.Folder.read_faults c.args.folder.now) (g.F.Folder.write_faults c.args.folder.now)) (faults (g.F.Folder.read_faults c.read_text.new.folder) (g.F.Folder.write_faults c.read_text.new.folder))
+    (g.F.Folder.told c.args.folder.now name) (g.F.Folder.told c.read_text.new.folder name) c.print_stop.result (c.in-Err.ensures.told name)
+    (λ e. c.in-Err.ensures.cause (ap Err (c.print_stop.ensures.fault e)))
+    (comes_stop c.args.request.script.now c.in-Err.stop ReadFault _ _ c.print_stop.result c.print_stop.ensures.ends)
+
+pub returns-clause-write_fault : goal.returns-clause-write_fault
+returns-clause-write_fault g c = λ e. inl (c.print_stop.ensures.cause e)

@@ -1,0 +1,68 @@
+-- What a run writes of a script's certificate.
+use Rattle.std.specs.Prelude.{◌≡◌, ◌≢◌, ℕ, List, Option, Some}
+use Rattle.goals.specs.declared.line.Line.{Line}
+use Rattle.fx_edge.specs.Outside.{Rose}
+use Rattle.script_grammar.specs.Spells.{View}
+use Rattle.settler.specs.Answers.{Options}
+use Rattle.report.specs.Lines.{Bytes}
+use Rattle.cert_writer.specs.Written.{HoldsCertificate, HoldsFront}
+use Rattle.command_line.specs.Reading.{Asked}
+use Rattle.fx_top.specs.Answers.{IsProvedText, options_of}
+use Rattle.fx_top.specs.Command.{reading}
+use Rattle.fx_top.specs.Command.Command.{Prove}
+use Rattle.fx_top.specs.Run.{Told}
+use Rattle.fx_top.specs.declared.run.Status.{Status}
+use Rattle.fx_top.specs.declared.run.Status.TheVariants as status
+
+-- a folder's counts of failed reads and of failed writes
+pub record Faults : Type 0 where
+  pub reads : ℕ
+  pub writes : ℕ
+
+abbrev pub faults : ℕ → ℕ → Faults
+faults reads writes = record { reads = reads; writes = writes }
+
+-- neither rose
+abbrev pub AreQuiet : Faults → Faults → Type 0
+AreQuiet before after = (¬ Rose before.reads after.reads) × (¬ Rose before.writes after.writes)
+
+-- This is so of the script that proves the text, and of its lines. (There is one at most, with one list of lines.)
+abbrev pub WhereProved : Options → Bytes → (View → List Line → Type 0) → Type 0
+WhereProved o text P = (s : View) (boxes : ℕ) (shown : List Line) → IsProvedText o text s boxes shown → P s shown
+
+abbrev pub IsProvable : Options → Bytes → Type 0
+IsProvable o text = (s : View) × (boxes : ℕ) × (shown : List Line) × IsProvedText o text s boxes shown
+
+-- ---- what a run leaves under the certificate's name
+
+-- The script is proved with these lines, and a run ended so. At `Answered` the file holds a certificate that is accepted for the script with
+-- the lines, and after a write fault too, where no read and no write of the folder failed: then it was the sink that failed. After any write
+-- fault, and where memory ran out, it holds a front of such a certificate, or what it held.
+abbrev pub HoldsAfter : Status → Faults → Faults → View → List Line → Option Bytes → Option Bytes → Type 0
+HoldsAfter status.Answered before after s shown old new = HoldsCertificate s shown old new
+HoldsAfter status.WriteFault before after s shown old new = (AreQuiet before after → HoldsCertificate s shown old new) × HoldsFront s shown old new
+HoldsAfter status.OutOfMemory before after s shown old new = HoldsFront s shown old new
+HoldsAfter _ before after s shown old new = new ≡ old
+
+-- A certificate of the text is asked for, and a run ended so.
+pub record IsCertified (o : Options) (text : Bytes) (before after : Faults) (result : Status) (old new : Option Bytes) : Type 0 where
+  pub proved : WhereProved o text (λ s shown. HoldsAfter result before after s shown old new)
+  -- where the text isn't proved, the file is what it was
+  pub spared : ¬ IsProvable o text → new ≡ old
+
+-- The words ask for a script to be proved, whose text the folder tells, and name a file for the certificate.
+abbrev pub Certifies : List Bytes → Told → Told → Faults → Faults → Status → Type 0
+Certifies words told_old told_new before after result = (a : Asked) (name text : Bytes) → reading words ≡ Some (Prove a) → a.cert ≡ Some name → told_old a.script ≡ Some text →
+    IsCertified (options_of a) text before after result (told_old name) (told_new name)
+
+-- ---- before the lines are put
+
+-- There is an answer with this status: where it has lines of goals, the certificate is written; otherwise the file is what it was.
+pub record IsWritten (o : Options) (text : Bytes) (result : Status) (old new : Option Bytes) : Type 0 where
+  pub proved : WhereProved o text (λ s shown. (result ≡ status.Answered) × HoldsCertificate s shown old new)
+  pub other : result ≢ status.Answered → new ≡ old
+
+-- There is none: a write failed, or memory ran out.
+pub record IsBrokenOff (o : Options) (text : Bytes) (old new : Option Bytes) : Type 0 where
+  pub proved : WhereProved o text (λ s shown. HoldsFront s shown old new)
+  pub spared : ¬ IsProvable o text → new ≡ old
