@@ -6,6 +6,8 @@ mod answers;
 #[cfg(test)]
 mod asked;
 #[cfg(test)]
+mod checks;
+#[cfg(test)]
 mod engine;
 #[cfg(test)]
 mod faults;

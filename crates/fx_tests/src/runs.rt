@@ -54,16 +54,14 @@ pub fn ends_on(
     status: Status,
     printed: &str,
 ) -> Result<(), Fail> {
-    assert!(rt; run.most >= 1);
-    let files = files_with(alloc, run.text)?;
-    let failing = run.failing_reads.to_vec(alloc)?;
-    let mut folder = MemFolder::new(alloc, files, failing, 4096, run.most)?;
-    let failing = run.failing_puts.to_vec(alloc)?;
-    let mut out = MemSink::new(alloc, failing, 4096, run.most)?;
-    let words = words_of(alloc, words)?;
-    let ended = fx_run(rt, alloc, &words, &mut folder, &mut out, &OpenGate);
-    assert_eq!(rt; ended, status, "{}", printed);
-    assert_eq!(rt; out.bytes(), printed.as_bytes(), "{}", printed);
+    let outside = Outside {
+        files: &[("a", run.text)],
+        failing_calls: run.failing_reads,
+        failing_puts: run.failing_puts,
+        room: 4096,
+        most: run.most,
+    };
+    run_ends(rt, alloc, words, &outside, status, printed)?;
     Ok(())
 }
 
@@ -83,6 +81,80 @@ pub fn words_end(
     assert_eq!(rt; ended, status, "{}", printed);
     assert_eq!(rt; out.bytes(), printed.as_bytes(), "{}", printed);
     Ok(())
+}
+
+/// What a run meets.
+#[derive(Clone, Copy)]
+pub struct Outside<'a> {
+    /// The files with their bytes.
+    pub files: &'a [(&'a str, &'a [u8])],
+    /// The numbers of the folder's calls that fail.
+    pub failing_calls: &'a [u64],
+    /// The numbers of the sink's calls that fail.
+    pub failing_puts: &'a [u64],
+    /// How many bytes a file and the sink have room for.
+    pub room: usize,
+    /// The most bytes that a call moves.
+    pub most: usize,
+}
+
+/// Files that have room, in a folder and beside a sink of which no call fails.
+pub fn sound<'a>(files: &'a [(&'a str, &'a [u8])], most: usize) -> Outside<'a> {
+    Outside {
+        files,
+        failing_calls: &[],
+        failing_puts: &[],
+        room: 65536,
+        most,
+    }
+}
+
+/// How a run ended, and what it left.
+#[derive(Drop)]
+pub struct Ended {
+    pub status: Status,
+    pub folder: MemFolder,
+    pub out: MemSink,
+}
+
+/// Runs the words.
+pub fn run_on(
+    rt: &(impl Abort + Threads + Wait + Sync),
+    alloc: Global,
+    words: &[&str],
+    outside: &Outside<'_>,
+) -> Result<Ended, Fail> {
+    assert!(rt; outside.most >= 1);
+    let mut files = Vec::new(alloc);
+    for (name, bytes) in outside.files {
+        files.push((String::from_str(alloc, *name)?, bytes.to_vec(alloc)?))?;
+    }
+    let failing = outside.failing_calls.to_vec(alloc)?;
+    let mut folder = MemFolder::new(alloc, files, failing, outside.room, outside.most)?;
+    let failing = outside.failing_puts.to_vec(alloc)?;
+    let mut out = MemSink::new(alloc, failing, outside.room, outside.most)?;
+    let words = words_of(alloc, words)?;
+    let status = fx_run(rt, alloc, &words, &mut folder, &mut out, &OpenGate);
+    Ok(Ended {
+        status,
+        folder,
+        out,
+    })
+}
+
+/// The words end with this status and line. What they left is answered.
+pub fn run_ends(
+    rt: &(impl Abort + Threads + Wait + Sync),
+    alloc: Global,
+    words: &[&str],
+    outside: &Outside<'_>,
+    status: Status,
+    printed: &str,
+) -> Result<Ended, Fail> {
+    let ended = run_on(rt, alloc, words, outside)?;
+    assert_eq!(rt; ended.status, status, "{}", printed);
+    assert_eq!(rt; ended.out.bytes(), printed.as_bytes(), "{}", printed);
+    Ok(ended)
 }
 
 /// `prove` on each text ends with this status and the line beside it.
