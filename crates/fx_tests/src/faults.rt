@@ -1,5 +1,6 @@
 // Runs whose outside fails: each read and each put of each line, a name that isn't there, a sink without room.
 use crate::runs::{Run, ends, ends_on, room_ends};
+use crate::words::USAGE;
 use fx_top::Status;
 use std::test::Fail;
 
@@ -68,12 +69,7 @@ fn an_absent_name_is_a_read_fault(rt: HostRuntime) -> Result<(), Fail> {
 
 // Words, a text, the reads that fail, and the text that is then put a byte a call.
 const LINES: [(&[&str], &[u8], &[u64], &str); 7] = [
-    (
-        &["prove"],
-        PRODUCT,
-        &[],
-        "usage: fixprove prove SCRIPT [--rounds N] [--depth N] [--boxes N] [--workers N] | check SCRIPT CERT | gen N\n",
-    ),
+    (&["prove"], PRODUCT, &[], USAGE),
     (&["prove", "a"], PRODUCT, &[7], "read fault: a\n"),
     (&["prove", "a"], b"", &[], "script: Unexpected at 0\n"),
     (

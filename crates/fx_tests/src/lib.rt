@@ -21,3 +21,5 @@ mod refusals;
 mod runs;
 #[cfg(test)]
 mod words;
+#[cfg(test)]
+mod written;

@@ -5,10 +5,11 @@ use std::test::Fail;
 
 const PRODUCT: &[u8] = b"{ x in [1,2] /\\ y in [3,5] -> x * y in ? }\n";
 
-const USAGE: &str =
-    "usage: fixprove prove SCRIPT [--rounds N] [--depth N] [--boxes N] [--workers N] | check SCRIPT CERT | gen N\n";
+/// What is printed where the words ask for nothing.
+pub const USAGE: &str =
+    "usage: fixprove prove SCRIPT [--cert FILE] [--rounds N] [--depth N] [--boxes N] [--workers N] | check SCRIPT CERT | gen N\n";
 
-const WRONG: [&[&str]; 26] = [
+const WRONG: [&[&str]; 30] = [
     &[],
     &["prove"],
     &["a"],
@@ -25,11 +26,15 @@ const WRONG: [&[&str]; 26] = [
     &["prove", "a", "--depth", "03"],
     &["prove", "a", "--rou", "3"],
     &["prove", "a", "-h"],
-    &["prove", "a", "--cert", "b"],
+    &["prove", "a", "--cert"],
+    &["prove", "a", "--cert", ""],
+    &["prove", "a", "--cert", "a"],
+    &["prove", "a", "--cert", "b", "--cert", "b"],
     &["prove", "a", "--rounds", "3", "--rounds", "3"],
     &["check", "a"],
     &["check", "a", "a"],
     &["check", "a", "b", "--rounds", "3"],
+    &["check", "a", "b", "--cert", "b"],
     &["gen"],
     &["gen", "0"],
     &["gen", "13"],
@@ -45,14 +50,15 @@ fn wrong_words_have_the_usage_line(rt: HostRuntime) -> Result<(), Fail> {
     Ok(())
 }
 
-// A name that isn't there has no bytes in a sure folder; `-` is a name.
-const RIGHT: [(&[&str], Status, &str); 5] = [
+// A name that isn't there has no bytes in a sure folder, and takes none; `-` is a name.
+const RIGHT: [(&[&str], Status, &str); 6] = [
     (&["prove", "a"], Status::Answered, "x * y in [3, 5b1]\n"),
     (
         &["prove", "--rounds", "3", "a"],
         Status::Answered,
         "x * y in [3, 5b1]\n",
     ),
+    (&["prove", "--cert=b", "a"], Status::WriteFault, ""),
     (&["prove", "b"], Status::Script, "script: Unexpected at 0\n"),
     (&["prove", "-"], Status::Script, "script: Unexpected at 0\n"),
     (

@@ -1,0 +1,287 @@
+// Certificates that `prove` writes to `c`. What is written is judged by `check`. Expected lines were worked out by hand, or by a
+// plain program of the definitions.
+use crate::runs::{Ended, Outside, run_ends, run_on, sound};
+use crate::words::USAGE;
+use fx_top::Status;
+use std::alloc::Global;
+use std::process::Abort;
+use std::sync::Wait;
+use std::test::Fail;
+use std::thread::Threads;
+
+// What `c` has before a run.
+const OLD: &[u8] = b"old";
+
+const WRITE: &[&str] = &["prove", "a", "--cert", "c"];
+
+const CHECK: &[&str] = &["check", "a", "c"];
+
+// 15 boxes
+const HALVED: &str = "{ x in [0,1] -> x * (1 - x) in [0,0.3] } x * (1 - x) $ x;";
+
+const HALVED_LINE: &str = "x * ( 1 - x ) in [0, 9b-5]\n";
+
+// The bytes of `c`.
+fn cert_of<'a>(rt: &impl Abort, ended: &'a Ended) -> &'a [u8] {
+    ended.folder.bytes("c").expect(rt, "`c` is there")
+}
+
+// The words end with this status and these lines, and leave `c` with these bytes.
+fn ends_with(
+    rt: &(impl Abort + Threads + Wait + Sync),
+    alloc: Global,
+    words: &[&str],
+    outside: &Outside<'_>,
+    status: Status,
+    printed: &str,
+    cert: &[u8],
+) -> Result<(), Fail> {
+    let ended = run_ends(rt, alloc, words, outside, status, printed)?;
+    assert_eq!(rt; cert_of(rt, &ended), cert, "{}", printed);
+    Ok(())
+}
+
+// Words, a script, and the lines, which a check of what was written has too.
+const ANSWERED: [(&[&str], &str, &str); 12] = [
+    (WRITE, HALVED, HALVED_LINE),
+    (
+        WRITE,
+        "{ x in [1,2] /\\ y in [3,5] -> x * y in ? }",
+        "x * y in [3, 5b1]\n",
+    ),
+    (WRITE, "{ x >= 1 -> x >= 0.5 }", "x in [1, +inf]\n"),
+    // no assignment is left: of the script, and of two of four boxes
+    (
+        WRITE,
+        "{ x in [0,1] /\\ x in [2,3] -> x in ? }",
+        "x in empty\n",
+    ),
+    (
+        WRITE,
+        "{ x in [-1,1] /\\ x * x in [0.5,1] -> 1 / x in ? } $ x in 4;",
+        "1 / x in [-1b1, 1b1]\n",
+    ),
+    // cuts at points, and pieces that are halved
+    (
+        WRITE,
+        "{ x in [0,1] -> x * (1 - x) in ? } $ x in (0.25, 0.5);",
+        "x * ( 1 - x ) in [0, 1b-1]\n",
+    ),
+    (
+        &["prove", "--cert=c", "--depth=4", "a"],
+        "{ x in [0,1] /\\ y in [0,1] -> x * (1 - x) in [0,0.6] /\\ y in ? } x * (1 - x) $ x; $ y in 2;",
+        "x * ( 1 - x ) in [0, 1b-1]\ny in [0, 1]\n",
+    ),
+    // hints that are checked, and assumed ones
+    (
+        WRITE,
+        "{ x in [1,2] /\\ y in [2,3] -> y / x * x in ? } y / x * x -> y;",
+        "y / x * x in [1b1, 3]\n",
+    ),
+    (
+        WRITE,
+        "{ x in [0,1] -> y in ? /\\ z in ? } y -> x + 1; x * x -> x * x; z -> y + 1;",
+        "y in [1, 1b1]\nz in [1b1, 3]\nhint 1 assumed\nhint 3 assumed\n",
+    ),
+    // relative errors
+    (
+        WRITE,
+        "{ x -/ y in [-0.5,-0.25] /\\ x -/ y in [0.25,0.5] -> x -/ y in ? /\\ y in ? }",
+        "x -/ y in none\ny in [0, 0]\n",
+    ),
+    (
+        &["prove", "a", "--rounds", "2", "--cert", "c"],
+        "@rnd = fixed<-10,ne>; { x in [1,2] -> rnd(x) -/ x in ? }",
+        "rnd ( x ) -/ x in [-1b-11, 1b-11]\n",
+    ),
+    // an interpolation, which needs seven rounds
+    (
+        &["prove", "a", "--rounds", "7", "--cert", "c"],
+        "@q = fixed<-15,dn>; d q= b - a; p q= d * t; r q= a + p; Mr = a + (b - a) * t; \
+         { @FIX(a,-15) /\\ @FIX(b,-15) /\\ @FIX(t,-15) /\\ a in [0,1] /\\ b in [0,1] /\\ t in [0,1] -> r in ? /\\ r - Mr in ? }",
+        "r in [-1, 1b1]\nr - Mr in [-32767b-30, 0]\n",
+    ),
+];
+
+// The words that end with an answer, and then a check of what they wrote.
+#[test]
+fn what_is_written_is_accepted(rt: HostRuntime) -> Result<(), Fail> {
+    for (words, text, lines) in ANSWERED {
+        let files = [("a", text.as_bytes()), ("c", OLD)];
+        let before = sound(&files, 4096);
+        let written = run_ends(&rt, rt.alloc(), words, &before, Status::Answered, lines)?;
+        let cert = cert_of(&rt, &written);
+        let files = [("a", text.as_bytes()), ("c", cert)];
+        let after = sound(&files, 4096);
+        run_ends(&rt, rt.alloc(), CHECK, &after, Status::Answered, lines)?;
+    }
+    Ok(())
+}
+
+// How many workers there are, and the most bytes that a call moves.
+const SAME: [(&[&str], usize); 6] = [
+    (&["prove", "a", "--cert", "c", "--workers", "1"], 4096),
+    (&["prove", "a", "--cert", "c", "--workers", "2"], 4096),
+    (&["prove", "a", "--cert", "c", "--workers", "16"], 4096),
+    (WRITE, 1),
+    (WRITE, 7),
+    (&["prove", "a", "--cert", "c", "--workers", "16"], 7),
+];
+
+// Four pieces whatever is settled: what is written for halved boxes shows a narrower interval than a run would.
+const QUARTERED: &str = "{ x in [0,1] -> x * (1 - x) in ? } $ x in 4;";
+
+#[test]
+fn neither_workers_nor_pieces_change_a_byte(rt: HostRuntime) -> Result<(), Fail> {
+    let old = [("a", HALVED.as_bytes()), ("c", OLD)];
+    let written = run_on(&rt, rt.alloc(), WRITE, &sound(&old, 4096))?;
+    let cert = cert_of(&rt, &written);
+    let own = [("a", HALVED.as_bytes()), ("c", cert)];
+    let other = [("a", QUARTERED.as_bytes()), ("c", cert)];
+    for (words, most) in SAME {
+        for (words, files) in [(words, &old), (CHECK, &own), (CHECK, &other)] {
+            let outside = sound(files, most);
+            ends_with(
+                &rt,
+                rt.alloc(),
+                words,
+                &outside,
+                Status::Answered,
+                HALVED_LINE,
+                cert,
+            )?;
+        }
+    }
+    Ok(())
+}
+
+// Runs that write nothing: of a script that is refused, that isn't there, that stays unproved, that has too many boxes; and of a
+// certificate whose name isn't there.
+const UNWRITTEN: [(&[&str], &str, Status, &str); 8] = [
+    (WRITE, "!", Status::Script, "script: BadToken at 0\n"),
+    (
+        &["prove", "b", "--cert", "c"],
+        "",
+        Status::ReadFault,
+        "read fault: b\n",
+    ),
+    (
+        WRITE,
+        "{ x in ? }",
+        Status::Unproved,
+        "unproved: goal 1 at the whole box\n",
+    ),
+    (
+        &["prove", "a", "--cert", "c", "--depth", "3"],
+        HALVED,
+        Status::Unproved,
+        "unproved: goal 1 at x in [3b-3, 1b-1]\n",
+    ),
+    (
+        &["prove", "a", "--cert", "c", "--boxes", "14"],
+        HALVED,
+        Status::Limit,
+        "limit: more than 14 boxes\n",
+    ),
+    (&["prove", "c", "--cert", "c"], "", Status::Usage, USAGE),
+    (
+        &["prove", "a", "--cert", "d"],
+        "!",
+        Status::Script,
+        "script: BadToken at 0\n",
+    ),
+    (
+        &["prove", "a", "--cert", "d"],
+        HALVED,
+        Status::WriteFault,
+        "",
+    ),
+];
+
+#[test]
+fn a_file_is_kept_where_nothing_is_written(rt: HostRuntime) -> Result<(), Fail> {
+    for (words, text, status, printed) in UNWRITTEN {
+        let files = [("a", text.as_bytes()), ("c", OLD)];
+        let outside = sound(&files, 4096);
+        ends_with(&rt, rt.alloc(), words, &outside, status, printed, OLD)?;
+    }
+    Ok(())
+}
+
+// The folder's first calls read the script to its end and make the file new.
+const FIRST: [(u64, Status, &str); 3] = [
+    (1, Status::ReadFault, "read fault: a\n"),
+    (2, Status::ReadFault, "read fault: a\n"),
+    (3, Status::WriteFault, ""),
+];
+
+#[test]
+fn a_fault_leaves_a_front(rt: HostRuntime) -> Result<(), Fail> {
+    let files = [("a", HALVED.as_bytes()), ("c", OLD)];
+    let whole = sound(&files, 64);
+    let written = run_ends(
+        &rt,
+        rt.alloc(),
+        WRITE,
+        &whole,
+        Status::Answered,
+        HALVED_LINE,
+    )?;
+    let cert = cert_of(&rt, &written);
+    // too little room
+    let outside = Outside { room: 100, ..whole };
+    let front = cert.get(..100).unwrap_or(&[]);
+    ends_with(
+        &rt,
+        rt.alloc(),
+        WRITE,
+        &outside,
+        Status::WriteFault,
+        "",
+        front,
+    )?;
+    // puts of seven bytes, behind which the certificate is whole
+    for number in 1..5usize {
+        let failing = [number as u64];
+        let outside = Outside {
+            failing_puts: &failing,
+            most: 7,
+            ..whole
+        };
+        let front = HALVED_LINE.get(..7 * (number - 1)).unwrap_or("");
+        ends_with(
+            &rt,
+            rt.alloc(),
+            WRITE,
+            &outside,
+            Status::WriteFault,
+            front,
+            cert,
+        )?;
+    }
+    for (number, status, printed) in FIRST {
+        let failing = [number];
+        let outside = Outside {
+            failing_calls: &failing,
+            ..whole
+        };
+        ends_with(&rt, rt.alloc(), WRITE, &outside, status, printed, OLD)?;
+    }
+    // appends of 64 bytes at most, until a run meets no fault
+    for number in 4..4000u64 {
+        let failing = [number];
+        let outside = Outside {
+            failing_calls: &failing,
+            ..whole
+        };
+        let ended = run_on(&rt, rt.alloc(), WRITE, &outside)?;
+        if ended.status == Status::Answered {
+            assert_eq!(rt; cert_of(&rt, &ended), cert);
+            return Ok(());
+        }
+        assert_eq!(rt; ended.status, Status::WriteFault, "call {number}");
+        assert_eq!(rt; ended.out.bytes(), b"".as_slice(), "call {number}");
+        assert!(rt; cert.starts_with(cert_of(&rt, &ended)), "call {number}");
+    }
+    panic!(rt; "each run met a fault")
+}
