@@ -1,5 +1,5 @@
 -- What is answered to a script and a certificate, from what its check answers.
-use Rattle.std.specs.Prelude.{◌≡◌, ℕ, List, [], length, Option, Some, None, Err}
+use Rattle.std.specs.Prelude.{◌≡◌, [], length, Some, None, Err}
 use Rattle.std.proofs.Common.{◌∙◌, ap, subst, inl, inr}
 use Rattle.fx_model.specs.Expression.{Assignment}
 use Rattle.script_grammar.specs.Spells.{View, Spells, GoalsHaveSpans}

@@ -1,5 +1,5 @@
 -- What is answered to the made script, from what is found of it.
-use Rattle.std.proofs.Common.{◌≡◌, ◌≢◌, ℕ, List, refl, subst}
+use Rattle.std.proofs.Common.{◌≡◌, ◌≢◌, ℕ, List, subst}
 use Rattle.goals.specs.declared.line.Line.{Line}
 use Rattle.script_judge.specs.declared.refusal.Refusal.{Refusal}
 use Rattle.script_grammar.specs.Spells.{View, IsRefused}

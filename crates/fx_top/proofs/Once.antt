@@ -11,7 +11,7 @@ use Rattle.bisect.specs.declared.outcome.Outcome.TheVariants as outcome
 use Rattle.bisect.specs.Gathered.{lines_of}
 use Rattle.settler.specs.Answers.{Options, Answer, expr_limit, box_limit, unproved, proved, ComesTo, IsScriptAnswer, AnswersAreOne, OutcomesAreOne, HasTooManyExpressions, HasTooManyBoxes, plan_of}
 use Rattle.cert_bytes.specs.declared.style.Style.TheVariants.{First}
-use Rattle.cert_bytes.specs.Reading.{Cursor, cursor}
+use Rattle.cert_bytes.specs.Reading.{cursor}
 use Rattle.cert_checker.specs.Contexts.{Context}
 use Rattle.cert_checker.specs.Outcomes.{Outcome, accepted, unread, refused}
 use Rattle.script_checker.specs.Checking.{ComesFor, ChecksAreOne}

@@ -25,7 +25,7 @@ use Rattle.fx_top.specs.Command.{Command, reading}
 use Rattle.fx_top.specs.Command.Command.{Prove}
 use Rattle.fx_top.specs.Outside.{IsText}
 use Rattle.fx_top.specs.Run.{Told, Comes, is_name, writes, is_written}
-use Rattle.fx_top.specs.Written.{Faults, AreQuiet, WhereProved, IsProvable, HoldsAfter, IsCertified, Certifies, IsWritten, IsBrokenOff}
+use Rattle.fx_top.specs.Written.{Faults, WhereProved, IsProvable, HoldsAfter, IsCertified, Certifies, IsWritten, IsBrokenOff}
 use Rattle.fx_top.specs.declared.options.Options.{Options as Asking}
 use Rattle.fx_top.specs.declared.run.Status.{Status}
 use Rattle.fx_top.specs.declared.run.Status.TheVariants.{Answered, Unproved, Usage, Limit, Certificate, ReadFault, WriteFault, OutOfMemory}

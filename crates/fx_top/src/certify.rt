@@ -1,7 +1,7 @@
 // A script's certificate, written behind its answer.
-ghost use Rattle.std.specs.Prelude.{◌≡◌, ◌≢◌, ℕ, List, IfOk, IfErr, OnOk, OnErr};
+ghost use Rattle.std.specs.Prelude.{◌≡◌, ◌≢◌, ℕ, List, IfOk, OnOk, OnErr};
 ghost use Rattle.goals.specs.declared.line.Line.{Line};
-ghost use Rattle.universe.specs.Universes.{IsUniverse};
+ghost use Rattle.universe.specs.Universes.{IsUniverse, IsTooLarge};
 ghost use Rattle.settler.specs.Answers.{IsProved};
 ghost use Rattle.cert_writer.specs.Walks.{HasWriteCause};
 ghost use Rattle.cert_writer.specs.Written.{HoldsCertificate, HoldsFront};
@@ -21,46 +21,25 @@ use script_checker::subject_of;
 use script_grammar::{ParseStop, Script, parse, script_or_refusal};
 use script_judge::first::firsts_are_unique;
 use settler::answers_are_one;
-use std::alloc::Global;
+use std::alloc::{AllocError, Global};
 use std::sync::Wait;
 use std::thread::Threads;
 use universe::{Universe, UniverseFault, build, marks_are_one};
 
-// Writes the certificate of a script that is proved, over its universe.
-fn write_over<F: Folder>(
-    alloc: Global,
-    script: &Script<'_>,
-    universe: &Universe,
-    options: Options,
-    folder: &mut F,
-    name: &str,
-) -> Result<(), WriteStop>
-    requires universe { IsUniverse script.now universe.now }
-    requires allowed { AreAllowed options }
-    requires proved { (shown : List Line) × IsProved script.now (options_from options) shown }
-    ensures ok { OnOk result ((shown : List Line) → IsProved script.now (options_from options) shown → HoldsCertificate script.now shown (F.told folder.old name.now) (F.told folder.new name.now)) }
-    ensures err { OnErr result ((shown : List Line) → IsProved script.now (options_from options) shown → HoldsFront script.now shown (F.told folder.old name.now) (F.told folder.new name.now)) }
-    ensures others { (other : List ℕ) → other ≢ name.now → F.told folder.new other ≡ F.told folder.old other }
-    ensures cause { HasWriteCause (F.write_faults folder.old) (F.write_faults folder.new) result }
-    ensures quiet { F.read_faults folder.new ≡ F.read_faults folder.old }
+// The universe of a script that hasn't too many expressions.
+fn universe_of(alloc: Global, script: &Script<'_>) -> Result<Universe, AllocError>
+    requires { ¬ IsTooLarge script.now }
+    ensures { IfOk result (IsUniverse script.now) }
 {
-    script.laws();
-    script_has_room(script, universe);
-    let plan = Plan::new(alloc, script.hypotheses(), script.hints(), options.depth)?;
-    let subject = subject_of(alloc, script)?;
-    write_cert(
-        alloc,
-        universe,
-        &subject,
-        &plan,
-        options.rounds,
-        folder,
-        name,
-    )
+    match build(alloc, script) {
+        Ok(universe) => Ok(universe),
+        Err(UniverseFault::ExprLimit) => unreachable!(),
+        Err(UniverseFault::OutOfMemory) => Err(AllocError),
+    }
 }
 
-// Writes the certificate of a script that is proved under the options. Its universe is made again: what the workers knew of the boxes
-// is gone, so each box is settled once more, and its facts traced.
+// Writes the certificate of a script that is proved under the options. Its universe is made again, and each box is settled again: what
+// the workers knew of it is gone.
 fn write_proved<F: Folder>(
     alloc: Global,
     script: &Script<'_>,
@@ -76,12 +55,20 @@ fn write_proved<F: Folder>(
     ensures cause { HasWriteCause (F.write_faults folder.old) (F.write_faults folder.new) result }
     ensures quiet { F.read_faults folder.new ≡ F.read_faults folder.old }
 {
-    match build(alloc, script) {
-        Ok(universe) => write_over(alloc, script, &universe, options, folder, name),
-        // What is proved hasn't too many expressions.
-        Err(UniverseFault::ExprLimit) => unreachable!(),
-        Err(UniverseFault::OutOfMemory) => Err(WriteStop::OutOfMemory),
-    }
+    script.laws();
+    let universe = universe_of(alloc, script)?;
+    script_has_room(script, &universe);
+    let plan = Plan::new(alloc, script.hypotheses(), script.hints(), options.depth)?;
+    let subject = subject_of(alloc, script)?;
+    write_cert(
+        alloc,
+        &universe,
+        &subject,
+        &plan,
+        options.rounds,
+        folder,
+        name,
+    )
 }
 
 // The status and the lines for a script. Where its goals are all settled, its certificate is written once the lines are made.

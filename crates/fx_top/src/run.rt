@@ -206,10 +206,10 @@ fn run_exactly<F: Folder, O: Sink, G: Gate, R: Threads + Wait + Sync>(
 }
 
 /// Runs the program on the words of its command line, without the program's name: `prove SCRIPT` reads the script's text
-/// from the folder, proves its goals, and puts the answer's lines; `gen N` does so with the made script of degree N. Workers, as many as
-/// the words say, settle the boxes; each calls the gate before and after a box. With `--cert FILE`, where all goals are proved, the file is
-/// made new first and takes a certificate of them. `check SCRIPT CERT` reads the script's text and then the
-/// certificate, and puts the lines that it shows, where it is accepted. It may wait.
+/// from the folder, proves its goals, and puts the answer's lines; with `--cert FILE`, where all goals are proved, it first makes the file new
+/// and writes to it a certificate of the answer. `gen N` proves the made script of degree N. Workers, as many as the words say, settle the
+/// boxes; each calls the gate before and after a box. `check SCRIPT CERT` reads the script's text and then the certificate, and puts the
+/// lines that it shows, where it is accepted. It may wait.
 pub fn fx_run<R: Threads + Wait + Sync, F: Folder, O: Sink, G: Gate>(
     rt: &R,
     alloc: Global,
@@ -231,12 +231,13 @@ pub fn fx_run<R: Threads + Wait + Sync, F: Folder, O: Sink, G: Gate>(
     // A certificate that is accepted for the script is answered by its lines, or else a fault of the outside or want of memory.
     ensures accepted { IsComplete (map string_bytes words.now) (F.told folder.old) result }
 
-    // The certificate that the words ask for is written before the lines. At `Answered` the file of its name holds one that is accepted for the
-    // script with its lines, and after a write fault too, where no read and no write of the folder failed; after any write fault and want of memory
-    // a front of one, or what it held. It holds what it held where the script isn't proved,
+    // The words ask for a certificate, and the folder tells the script's text. At `Answered` the certificate's file holds one that is accepted for the
+    // script with the answer's lines. It is written before these are put: so also after a write fault, where no read and no write of the folder failed.
+    // After any write fault, and where memory ran out, the file holds a front of such a certificate, or what it held; and what it held, where the script
+    // isn't proved.
     ensures certificate { Certifies (map string_bytes words.now) (F.told folder.old) (F.told folder.new) (faults (F.read_faults folder.old) (F.write_faults folder.old)) (faults (F.read_faults folder.new) (F.write_faults folder.new)) result }
 
-    // and no name's bytes change where the run ends in another way.
+    // Where the run ends in another way, no name's bytes change.
     ensures unchanged { result ≢ Status.Answered → result ≢ Status.WriteFault → result ≢ Status.OutOfMemory → (name : List ℕ) → F.told folder.new name ≡ F.told folder.old name }
 
     // A write fault comes only where the sink or a write of the folder failed in this call.
