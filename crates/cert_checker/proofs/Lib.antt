@@ -17,6 +17,7 @@ pub mod Exact
 pub mod Roots
 pub mod Find
 pub mod Premises
+pub mod Enough
 pub mod Judged
 pub mod Own
 pub mod Chains

@@ -1,6 +1,7 @@
 //! Whether a step is concluded.
 ghost use Rattle.std.specs.Prelude.{◌≡◌, ◌↔◌, IsTrue, Some, None, MatchOption, Option, IfOk, length};
 ghost use Rattle.fx_model.specs.declared.Node.{Node};
+ghost use Rattle.facts.specs.declared.fact.Fact.TheVariants as fact_of;
 ghost use Rattle.cert_checker.specs.Contexts.{open_piece};
 ghost use Rattle.cert_checker.specs.Steps as spec;
 ghost use Rattle.cert_checker.specs.Steps.{Givens, Concludes, IsMetWith, IsLike, Found};
@@ -123,6 +124,16 @@ fn hypothesis(facts: &[Fact], arg: u16) -> Option<Fact>
     facts.get(usize::from(arg)).copied()
 }
 
+// Whether what is given is as strong as the fact.
+fn is_given(given: Option<Fact>, fact: &Fact) -> bool
+    ensures { IsTrue result ↔ spec.IsEnough given fact.now }
+{
+    match given {
+        Some(conclusion) => stronger(&conclusion, fact),
+        None => false,
+    }
+}
+
 fn met_with(given: Option<Fact>, with: Option<Fact>) -> Option<Fact>
     ensures { result ≡ spec.met_with given with }
 {
@@ -133,13 +144,12 @@ fn met_with(given: Option<Fact>, with: Option<Fact>) -> Option<Fact>
     }
 }
 
-fn is_enough(given: Option<Fact>, fact: &Fact) -> bool
-    ensures { IsTrue result ↔ spec.IsEnough given fact.now }
+// The same of what is given, met with this fact. Where they are alike, what is as strong alone needs no meeting.
+fn is_enough(given: Option<Fact>, with: Option<Fact>, fact: &Fact) -> bool
+    requires { IsLike fact.now with }
+    ensures { IsTrue result ↔ spec.IsEnough (spec.met_with given with) fact.now }
 {
-    match given {
-        Some(conclusion) => stronger(&conclusion, fact),
-        None => false,
-    }
+    is_given(given, fact) || is_given(met_with(given, with), fact)
 }
 
 /// Whether the stated fact is no stronger than what the rule gives from these premises, met with the fact that is cited for that.
@@ -152,13 +162,14 @@ pub fn is_concluded(
     premises: &[Fact],
     with: Option<Fact>,
 ) -> bool
+    requires { IsLike row.now.fact with }
     ensures { IsTrue result ↔ Concludes (record { facts = spec.case_facts subject.now.cases case; hints = subject.now.hints; nodes = nodes.now; piece = open_piece cuts.now }) row.now premises.now with }
 {
     if !are_known(nodes, &row.fact) {
         return false;
     }
     let given = gives(subject, case, nodes, cuts, row, premises, with);
-    is_enough(met_with(given, with), &row.fact)
+    is_enough(given, with, &row.fact)
 }
 
 /// The facts of the premises, one after the other; false exactly where one of them can't be cited.
@@ -181,13 +192,19 @@ pub fn premise_facts(
     Ok(true)
 }
 
+fn is_void(fact: &Fact) -> bool
+    ensures { IsTrue result ↔ (fact.now ≡ fact_of.Void) }
+{
+    matches!(*fact, Fact::Void)
+}
+
 // Whether the stated fact and the one that it is met with are on one slot, or one is VOID.
 pub fn is_like(fact: &Fact, with: Option<Fact>) -> bool
     ensures { IsTrue result ↔ IsLike fact.now with }
 {
     match with {
         None => true,
-        Some(other) => meet(fact, &other).is_some(),
+        Some(other) => is_void(fact) || is_void(&other) || slot(fact) == slot(&other),
     }
 }
 
