@@ -12,7 +12,7 @@ use indexmap::IndexSet;
 use std::alloc::{AllocError, Global};
 use std::marker::Model;
 
-// Pairs in the order in which they were found.
+/// Pairs of expressions, each once, in the order in which they were found or, after `sort`, by rising sides.
 #[derive(Drop)]
 pub struct PairSet {
     set: IndexSet<Pair>,
@@ -31,6 +31,7 @@ impl Model for PairSet {
 }
 
 impl PairSet {
+    /// No pairs.
     pub fn new(alloc: Global) -> PairSet
         ensures { result ≡ [] }
     {
@@ -39,7 +40,7 @@ impl PairSet {
         }
     }
 
-    // Adds a pair that isn't there.
+    /// Adds a pair that isn't there. `Err` only where memory runs out.
     pub fn add(&mut self, first: ExprId, second: ExprId) -> Result<(), AllocError>
         ensures { OnOk result (IsGrown self.old self.new (λ p. p ≡ (first, second))) }
     {
@@ -47,7 +48,7 @@ impl PairSet {
         Ok(())
     }
 
-    // Puts the pairs in order, by rising sides.
+    /// Puts the pairs in order, by rising sides. `Err` only where memory runs out.
     pub fn sort(&mut self) -> Result<(), AllocError>
         requires { AreBelow 65536 self.old }
         ensures rising { OnOk result (AreRising self.new) }
@@ -57,7 +58,7 @@ impl PairSet {
         self.set.sort_by_key(|pair| pair.rank())
     }
 
-    // The pair at a place that is taken.
+    /// The pair at a place that is taken.
     pub fn pair(&self, place: usize) -> (ExprId, ExprId)
         requires { place < length self.now }
         ensures { slice_get self.now place ≡ Some result }
@@ -65,7 +66,7 @@ impl PairSet {
         self.set.as_slice()[place].sides()
     }
 
-    // The pair at a place.
+    /// The pair at a place, if there is one.
     pub fn get(&self, place: usize) -> Option<(ExprId, ExprId)>
         ensures { result ≡ slice_get self.now place }
     {
@@ -75,21 +76,21 @@ impl PairSet {
         }
     }
 
-    // Whether a pair is there.
+    /// Whether a pair is there.
     pub fn has(&self, first: ExprId, second: ExprId) -> bool
         ensures { result ≡ is_among self.now (first, second) }
     {
         self.set.contains(&Pair::new(first, second))
     }
 
-    // Where a pair stands, if it is there.
+    /// Where a pair stands, if it is there.
     pub fn place(&self, first: ExprId, second: ExprId) -> Option<usize>
         ensures { IsPlaceOf self.now (first, second) result }
     {
         self.set.get_index_of(&Pair::new(first, second))
     }
 
-    // The pairs in a list of their own.
+    /// The pairs in a list of their own. `Err` only where memory runs out.
     pub fn to_vec(&self, alloc: Global) -> Result<Vec<(ExprId, ExprId)>, AllocError>
         ensures { IfOk result (λ list. list.items ≡ self.now) }
     {
@@ -100,13 +101,14 @@ impl PairSet {
         Ok(list)
     }
 
-    // Nothing is done. The clause tells a caller that no pair is there twice.
+    /// Nothing is done. The clause tells a caller that no pair is there twice.
     pub fn laws(&self)
         ensures { IsEachOnce self.now }
     {
         let _set = &self.set;
     }
 
+    /// How many pairs there are.
     pub fn len(&self) -> usize
         ensures { result ≡ length self.now }
     {

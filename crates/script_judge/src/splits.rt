@@ -26,6 +26,7 @@ pub struct Ends {
     high: Dyadic,
 }
 
+/// A variable that a hint may split, with the finite ends of its range.
 #[derive(Clone, Copy)]
 pub struct SplitRange<'a> {
     variable: &'a [u8],

@@ -47,6 +47,7 @@ pub enum Spelled {
     Plain,
 }
 
+/// How a literal is spelled.
 #[derive(Clone, Copy, Debug, PartialEq, Eq)]
 pub enum Number {
     /// The digit 0 alone.
