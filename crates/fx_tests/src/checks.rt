@@ -1,6 +1,6 @@
 // Certificates that are checked: one that is accepted, another script's, damaged ones. The certificate and its faults were worked
 // out by hand.
-use crate::runs::{Outside, run_ends, sound};
+use crate::runs::{Outside, run_ends, run_on, sound};
 use fx_top::Status;
 use std::alloc::{AllocError, Global};
 use std::test::Fail;
@@ -8,6 +8,8 @@ use std::test::Fail;
 const PRODUCT: &str = "{ x in [1,2] /\\ y in [3,5] -> x * y in ? }";
 
 const PRODUCT_LINE: &str = "x * y in [3, 5b1]\n";
+
+const CHECK: &[&str] = &["check", "a", "c"];
 
 const CERT: [u8; 143] = [
     0x46, 0x58, 0x50, 0x43, 1, 0, 3, // the head, three nodes
@@ -24,7 +26,7 @@ const CERT: [u8; 143] = [
 ];
 
 // A script; the certificate's bytes before a place, a piece, and its bytes from a place on; and how the check of these ends.
-const ROWS: [(&str, usize, &[u8], usize, Status, &str); 11] = [
+const ROWS: [(&str, usize, &[u8], usize, Status, &str); 10] = [
     (PRODUCT, 143, &[], 143, Status::Answered, PRODUCT_LINE),
     // the bounds of a goal are judged by what the certificate shows
     (
@@ -102,8 +104,6 @@ const ROWS: [(&str, usize, &[u8], usize, Status, &str); 11] = [
         Status::Certificate,
         "certificate: BadVersion at 4\n",
     ),
-    // behind a text that is refused, no certificate is asked for
-    ("!", 0, &[], 143, Status::Script, "script: BadToken at 0\n"),
 ];
 
 // The certificate's bytes before `front`, the piece, and its bytes from `back` on.
@@ -121,48 +121,87 @@ fn certificates_are_checked(rt: HostRuntime) -> Result<(), Fail> {
         let files = [("a", text.as_bytes()), ("c", cert.as_slice())];
         for most in [1, 7, 4096] {
             let outside = sound(&files, most);
-            run_ends(
-                &rt,
-                rt.alloc(),
-                &["check", "a", "c"],
-                &outside,
-                status,
-                printed,
-            )?;
+            run_ends(&rt, rt.alloc(), CHECK, &outside, status, printed)?;
         }
     }
+    Ok(())
+}
+
+#[test]
+fn each_front_is_truncated_at_its_length(rt: HostRuntime) -> Result<(), Fail> {
+    for len in 0..143usize {
+        let line = format!(in rt.alloc(); "certificate: Truncated at {len}\n")?;
+        let files = [("a", PRODUCT.as_bytes()), ("c", &CERT[..len])];
+        let outside = sound(&files, 4096);
+        run_ends(
+            &rt,
+            rt.alloc(),
+            CHECK,
+            &outside,
+            Status::Certificate,
+            line.as_str(),
+        )?;
+    }
+    Ok(())
+}
+
+// The bytes of the last step's upper end that are higher with their low bit turned, and what is shown then.
+const WIDER: [(usize, &str); 8] = [
+    (103, "x * y in [3, 72057594037927941b1]\n"),
+    (104, "x * y in [3, 281474976710661b1]\n"),
+    (105, "x * y in [3, 1099511627781b1]\n"),
+    (106, "x * y in [3, 4294967301b1]\n"),
+    (107, "x * y in [3, 16777221b1]\n"),
+    (108, "x * y in [3, 65541b1]\n"),
+    (109, "x * y in [3, 261b1]\n"),
+    (111, "x * y in [3, 5b257]\n"),
+];
+
+#[test]
+fn a_turned_bit_shows_no_narrower_interval(rt: HostRuntime) -> Result<(), Fail> {
+    for place in 0..143usize {
+        let cert = edited(rt.alloc(), place, &[CERT[place] ^ 1], place + 1)?;
+        let files = [("a", PRODUCT.as_bytes()), ("c", cert.as_slice())];
+        let ended = run_on(&rt, rt.alloc(), CHECK, &sound(&files, 4096))?;
+        let wider = WIDER.iter().find(|row| row.0 == place);
+        let Some((_, line)) = wider else {
+            assert_eq!(rt; ended.status, Status::Certificate, "byte {place}");
+            continue;
+        };
+        assert_eq!(rt; ended.status, Status::Answered, "byte {place}");
+        assert_eq!(rt; ended.out.bytes(), line.as_bytes(), "byte {place}");
+    }
+    Ok(())
+}
+
+#[test]
+fn exchanged_steps_are_refused(rt: HostRuntime) -> Result<(), Fail> {
+    let mut cert = CERT[..20].to_vec(rt.alloc())?;
+    for (from, to) in [(84, 132), (52, 84), (20, 52), (132, 143)] {
+        cert.extend_from_slice(&CERT[from..to])?;
+    }
+    let files = [("a", PRODUCT.as_bytes()), ("c", cert.as_slice())];
+    let outside = sound(&files, 4096);
+    run_ends(
+        &rt,
+        rt.alloc(),
+        CHECK,
+        &outside,
+        Status::Certificate,
+        "certificate: BadPremise 0\n",
+    )?;
     Ok(())
 }
 
 // A script is read by two calls, the second at its end; then the certificate is.
 #[test]
 fn a_read_fault_names_its_file(rt: HostRuntime) -> Result<(), Fail> {
-    let rows: [(&[&str], u64, Status, &str); 7] = [
-        (
-            &["check", "a", "c"],
-            1,
-            Status::ReadFault,
-            "read fault: a\n",
-        ),
-        (
-            &["check", "a", "c"],
-            2,
-            Status::ReadFault,
-            "read fault: a\n",
-        ),
-        (
-            &["check", "a", "c"],
-            3,
-            Status::ReadFault,
-            "read fault: c\n",
-        ),
-        (
-            &["check", "a", "c"],
-            4,
-            Status::ReadFault,
-            "read fault: c\n",
-        ),
-        (&["check", "a", "c"], 5, Status::Answered, PRODUCT_LINE),
+    let rows: [(&[&str], u64, Status, &str); 8] = [
+        (CHECK, 1, Status::ReadFault, "read fault: a\n"),
+        (CHECK, 2, Status::ReadFault, "read fault: a\n"),
+        (CHECK, 3, Status::ReadFault, "read fault: c\n"),
+        (CHECK, 4, Status::ReadFault, "read fault: c\n"),
+        (CHECK, 5, Status::Answered, PRODUCT_LINE),
         (
             &["check", "a", "d"],
             0,
@@ -175,10 +214,17 @@ fn a_read_fault_names_its_file(rt: HostRuntime) -> Result<(), Fail> {
             Status::ReadFault,
             "read fault: b\n",
         ),
+        // behind a text that is refused, no certificate is asked for
+        (
+            &["check", "r", "d"],
+            0,
+            Status::Script,
+            "script: BadToken at 0\n",
+        ),
     ];
     for (words, failing, status, printed) in rows {
         let outside = Outside {
-            files: &[("a", PRODUCT.as_bytes()), ("c", &CERT)],
+            files: &[("a", PRODUCT.as_bytes()), ("c", &CERT), ("r", b"!")],
             failing_calls: &[failing],
             failing_puts: &[],
             room: 4096,

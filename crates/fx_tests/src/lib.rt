@@ -20,6 +20,8 @@ mod refusals;
 #[cfg(test)]
 mod runs;
 #[cfg(test)]
+mod shared;
+#[cfg(test)]
 mod words;
 #[cfg(test)]
 mod written;

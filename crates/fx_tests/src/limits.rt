@@ -33,7 +33,7 @@ fn rows_end(
 const PRODUCT: &str = "{ x in [1,2] /\\ y in [3,5] -> x * y in ? }";
 
 // The product has 42 bytes, and 2^20 is 1,048,576.
-const BYTES: [(Pieces, Status, &str); 4] = [
+const BYTES: [(Pieces, Status, &str); 5] = [
     (
         &[(PRODUCT, 1), (" ", 1_048_534)],
         ANSWERED,
@@ -41,6 +41,11 @@ const BYTES: [(Pieces, Status, &str); 4] = [
     ),
     (
         &[(PRODUCT, 1), (" ", 1_048_535)],
+        REFUSED,
+        "script: Limit(Bytes) at 1048576\n",
+    ),
+    (
+        &[(" ", 1_048_577)],
         REFUSED,
         "script: Limit(Bytes) at 1048576\n",
     ),
@@ -254,14 +259,14 @@ const SPLITS: [(Pieces, Status, &str); 13] = [
     ),
     // pieces
     (
-        &[("{x in[0,1]->x in?}$x in 64;", 1)],
+        &[("{ x in [0,1] -> x in ? } $ x in 64;", 1)],
         ANSWERED,
         "x in [0, 1]\n",
     ),
     (
-        &[("{x in[0,1]->x in?}$x in 65;", 1)],
+        &[("{ x in [0,1] -> x in ? } $ x in 65;", 1)],
         REFUSED,
-        "script: Limit(Pieces) at 24\n",
+        "script: Limit(Pieces) at 32\n",
     ),
     (&[(POINTS, 1), (");", 1)], ANSWERED, "x in [0, 99]\n"),
 ];

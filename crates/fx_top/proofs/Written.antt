@@ -1,6 +1,7 @@
 -- What a run leaves under the name of a certificate.
 use Rattle.std.proofs.Common.{◌≡◌, ◌≢◌, ◌≤◌, ℕ, List, [], Bool, true, false, Option, Some, None, Result, Ok, Err, OnOk, OnErr, refl, sym, ap, ◌∙◌, subst, inl, inr, append-nil}
 use Rattle.std.specs.Prelude.{◌⊎◌}
+use Rattle.std.specs.Io.KnownBytes.{Keeps}
 use Rattle.std.specs.Borrow.{Bor}
 use Rattle.std.specs.Option.{option_map}
 use Rattle.std.specs.Str.{bytes_eq}
@@ -24,8 +25,10 @@ use Rattle.fx_top.specs.Answers.{AreAllowed, IsProvedText, IsAnswered, ProvePrin
 use Rattle.fx_top.specs.Command.{Command, reading}
 use Rattle.fx_top.specs.Command.Command.{Prove}
 use Rattle.fx_top.specs.Outside.{IsText}
-use Rattle.fx_top.specs.Run.{Told, Comes, is_name, writes, is_written}
-use Rattle.fx_top.specs.Written.{Faults, WhereProved, IsProvable, HoldsAfter, IsCertified, Certifies, IsWritten, IsBrokenOff}
+use Rattle.fx_top.specs.Run.{Told, Comes, EndsAs, StopPrints, is_name, writes, is_written}
+use Rattle.fx_top.specs.Written.{Faults, WhereProved, IsProvable, HoldsAfter, IsCertified, Certifies, IsPutBehind, PutsBehind, IsWritten, IsBrokenOff}
+use Rattle.fx_top.specs.declared.outside.ReadStop.{ReadStop}
+use Rattle.fx_top.specs.declared.outside.ReadStop.TheVariants as stop
 use Rattle.fx_top.specs.declared.options.Options.{Options as Asking}
 use Rattle.fx_top.specs.declared.run.Status.{Status}
 use Rattle.fx_top.specs.declared.run.Status.TheVariants.{Answered, Unproved, Usage, Limit, Certificate, ReadFault, WriteFault, OutOfMemory}
@@ -206,10 +209,51 @@ certified_read o p text read before middle after told_old told_middle told_new k
     let there : IsCertified o read middle after result (told_old given) (told_new given) = subst (λ (x : Option Bytes). IsCertified o read middle after result x (told_new given)) kept here in
     subst (λ (n : Bytes). IsCertified o text before after result (told_old n) (told_new n)) same (certified_told o text before middle after (told_old given) (told_new given) known read result e is reads writes there)
 
--- what failed later failed
-pub either_later : (R : Type 0) (before middle now : ℕ) → before ≤ middle → R ⊎ Rose middle now → R ⊎ Rose before now
-either_later R before middle now later (inl r) = inl r
-either_later R before middle now later (inr rose) = inr (rose_later before middle now later rose)
+-- ---- in which order
+
+-- a sink that wasn't called took nothing
+pub kept_same : (taken : Option Bytes) → Keeps taken taken
+kept_same None = tt
+kept_same (Some bytes) = refl
+
+-- an answer is put behind its certificate
+pub behind_put : (o : Options) (text : Bytes) (t : Status) (taken_old taken_new old new : Option Bytes) → IsWritten o text t old new → IsPutBehind o text taken_old taken_new old new
+behind_put o text t taken_old taken_new old new w = λ s boxes shown p. inr (w.proved s boxes shown p).1
+
+-- nothing is put
+pub behind_none : (o : Options) (text : Bytes) (taken_old taken_new old new : Option Bytes) → Keeps taken_old taken_new → IsPutBehind o text taken_old taken_new old new
+behind_none o text taken_old taken_new old new kept = λ s boxes shown p. inl kept
+
+-- the folder told the same of the file when the text was read
+pub behind_read : (o p : Options) (text read : Bytes) (told_old told_middle told_new : Told) (known : Option Bytes) (given name : Bytes) (taken_old taken_new : Option Bytes)
+    → p ≡ o → given ≡ name → told_middle given ≡ told_old given → known ≡ Some text → IsText known read
+    → IsPutBehind p read taken_old taken_new (told_middle given) (told_new given) → IsPutBehind o text taken_old taken_new (told_old name) (told_new name)
+behind_read o p text read told_old told_middle told_new known given name taken_old taken_new same_options same kept e is b =
+    let here : IsPutBehind o read taken_old taken_new (told_middle given) (told_new given) = subst (λ (x : Options). IsPutBehind x read taken_old taken_new (told_middle given) (told_new given)) same_options b in
+    let there : IsPutBehind o read taken_old taken_new (told_old given) (told_new given) = subst (λ (x : Option Bytes). IsPutBehind o read taken_old taken_new x (told_new given)) kept here in
+    let front : IsText (Some text) read = subst (λ (k : Option Bytes). IsText k read) e is in
+    subst (λ (n : Bytes). IsPutBehind o text taken_old taken_new (told_old n) (told_new n)) same
+    (λ s boxes shown p. there s boxes shown (subst (λ (w : Bytes). IsProvedText o w s boxes shown) (read_whole text read s p.spelled front) p))
+
+-- where memory ran out while a file was read, nothing is put; otherwise a read failed
+pub stop_keeps : (name : Bytes) (why : ReadStop) (before after : Option Bytes) (result : Status) → why ≢ stop.Fault → EndsAs (StopPrints name why) before after result → Keeps before after
+stop_keeps name stop.Fault before after result failed ends = absurd (failed refl)
+stop_keeps name stop.OutOfMemory before after WriteFault failed (inl kept) = kept
+stop_keeps name stop.OutOfMemory before after WriteFault failed (inr (s, lines, p, took)) = absurd p
+stop_keeps name stop.OutOfMemory before after OutOfMemory failed (inl kept) = kept
+stop_keeps name stop.OutOfMemory before after OutOfMemory failed (inr (s, lines, p, took)) = absurd p
+stop_keeps name stop.OutOfMemory before after Answered failed (lines, p, took) = absurd p
+stop_keeps name stop.OutOfMemory before after Unproved failed (lines, p, took) = absurd p
+stop_keeps name stop.OutOfMemory before after Usage failed (lines, p, took) = absurd p
+stop_keeps name stop.OutOfMemory before after status.Script failed (lines, p, took) = absurd p
+stop_keeps name stop.OutOfMemory before after Limit failed (lines, p, took) = absurd p
+stop_keeps name stop.OutOfMemory before after Certificate failed (lines, p, took) = absurd p
+stop_keeps name stop.OutOfMemory before after ReadFault failed (lines, p, took) = absurd p
+
+-- what failed later failed, and so it was to be written
+pub either_later : (R N : Type 0) (before middle now : ℕ) → N → before ≤ middle → R ⊎ Rose middle now → R ⊎ (N × Rose before now)
+either_later R N before middle now named later (inl r) = inl r
+either_later R N before middle now named later (inr rose) = inr (named, rose_later before middle now later rose)
 
 -- no file changed, if neither the given nor another did
 pub kept_all : (told_old told_new : Told) (given : Bytes) → told_new given ≡ told_old given → ((other : Bytes) → other ≢ given → told_new other ≡ told_old other) → (name : Bytes) → told_new name ≡ told_old name
@@ -227,6 +271,9 @@ asked_name cert = option_map (λ (c : Bor (List ℕ)). c.now) cert
 
 pub name_is : (cert : Option (Bor (List ℕ))) (given : Bor (List ℕ)) (name : Bytes) → cert ≡ Some given → asked_name cert ≡ Some name → given.now ≡ name
 name_is cert given name e f = let h : Some given.now ≡ Some name = sym (ap asked_name e) ∙ f in cc h
+
+pub name_is_given : (cert : Option (Bor (List ℕ))) (given : Bor (List ℕ)) → cert ≡ Some given → asked_name cert ≡ Some given.now
+name_is_given cert given e = ap asked_name e
 
 pub name_is_other : (cert : Option (Bor (List ℕ))) (given : Bor (List ℕ)) (name : Bytes) → cert ≡ Some given → is_name (asked_name cert) name ≡ false → name ≢ given.now
 name_is_other cert given name e f same =
@@ -263,6 +310,39 @@ module _ (words : List Bytes) (told_old told_new : Told) (before after : Faults)
   certifies_starved kept a name text e cert script =
       record { proved = λ s boxes shown p. front_kept s shown (told_old name) (told_new name) (kept name); spared = λ _. kept name }
 
+module _ (words : List Bytes) (told_old told_new : Told) (before after : Faults) (taken_old taken_new : Option Bytes) where
+  -- they ask for a proof
+  pub behind_prove : (a : Asked) → reading words ≡ Some (Prove a)
+      → ((name text : Bytes) → a.cert ≡ Some name → told_old a.script ≡ Some text → ¬ Rose before.reads after.reads → IsPutBehind (options_of a) text taken_old taken_new (told_old name) (told_new name))
+      → PutsBehind words told_old told_new before after taken_old taken_new
+  behind_prove a asked so b name text e cert script read =
+      let h : Some (Prove a) ≡ Some (Prove b) = sym asked ∙ e in
+      let one : a ≡ b = cc h in
+      subst (λ (x : Asked). IsPutBehind (options_of x) text taken_old taken_new (told_old name) (told_new name)) one
+      (so name text (ap (λ (x : Asked). x.cert) one ∙ cert) (ap (λ (x : Asked). told_old x.script) one ∙ script) read)
+
+  -- they ask for another command
+  pub behind_other : (c : Command) → ((a : Asked) → c ≢ Prove a) → reading words ≡ Some c → PutsBehind words told_old told_new before after taken_old taken_new
+  behind_other c differs asked a name text e cert script read = let h : Some c ≡ Some (Prove a) = sym asked ∙ e in let one : c ≡ Prove a = cc h in absurd (differs a one)
+
+  -- they ask for nothing
+  pub behind_usage : reading words ≡ None → PutsBehind words told_old told_new before after taken_old taken_new
+  behind_usage none a name text e cert script read = let h : None ≡ Some (Prove a) = sym none ∙ e in cc h
+
+  -- it isn't known what they ask for, and nothing is put
+  pub behind_starved : Keeps taken_old taken_new → PutsBehind words told_old told_new before after taken_old taken_new
+  behind_starved kept a name text e cert script read = behind_none (options_of a) text taken_old taken_new (told_old name) (told_new name) kept
+
 -- the file that a proof writes is that of its certificate
 pub names_cert : (words : List Bytes) (a : Asked) (name : Bytes) → reading words ≡ Some (Prove a) → is_written words name ≡ false → is_name a.cert name ≡ false
 names_cert words a name asked e = subst (λ (c : Option Command). writes c name ≡ false) asked e
+
+names_written : (words : List Bytes) (a : Asked) (name : Bytes) → reading words ≡ Some (Prove a) → a.cert ≡ Some name → is_written words name ≡ true
+names_written words a name asked e =
+    let h : is_name a.cert name ≡ true = subst (λ (c : Option Bytes). is_name c name ≡ true) (sym e) ((bytes_eq-Decides name name).1 refl) in
+    subst (λ (c : Option Command). writes c name ≡ true) (sym asked) h
+
+-- what a proof was to write the words name
+pub either_written : (words : List Bytes) (a : Asked) (R S : Type 0) → reading words ≡ Some (Prove a) → R ⊎ (((name : Bytes) × (a.cert ≡ Some name)) × S) → R ⊎ (((name : Bytes) × (is_written words name ≡ true)) × S)
+either_written words a R S asked (inl r) = inl r
+either_written words a R S asked (inr ((name, e), s)) = inr ((name, names_written words a name asked e), s)

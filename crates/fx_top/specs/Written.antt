@@ -1,5 +1,6 @@
 -- What a run writes of a script's certificate.
-use Rattle.std.specs.Prelude.{◌≡◌, ◌≢◌, ℕ, List, Option, Some}
+use Rattle.std.specs.Prelude.{◌≡◌, ◌≢◌, ◌⊎◌, ℕ, List, true, Option, Some}
+use Rattle.std.specs.Io.KnownBytes.{Keeps}
 use Rattle.goals.specs.declared.line.Line.{Line}
 use Rattle.fx_edge.specs.Outside.{Rose}
 use Rattle.script_grammar.specs.Spells.{View}
@@ -10,7 +11,7 @@ use Rattle.command_line.specs.Reading.{Asked}
 use Rattle.fx_top.specs.Answers.{IsProvedText, options_of}
 use Rattle.fx_top.specs.Command.{reading}
 use Rattle.fx_top.specs.Command.Command.{Prove}
-use Rattle.fx_top.specs.Run.{Told}
+use Rattle.fx_top.specs.Run.{Told, is_written}
 use Rattle.fx_top.specs.declared.run.Status.{Status}
 use Rattle.fx_top.specs.declared.run.Status.TheVariants as status
 
@@ -25,6 +26,10 @@ faults reads writes = record { reads = reads; writes = writes }
 -- neither rose
 abbrev pub AreQuiet : Faults → Faults → Type 0
 AreQuiet before after = (¬ Rose before.reads after.reads) × (¬ Rose before.writes after.writes)
+
+-- The words name a file to be written, and a write of the folder failed.
+abbrev pub IsWriteBroken : List Bytes → Faults → Faults → Type 0
+IsWriteBroken words before after = ((name : Bytes) × (is_written words name ≡ true)) × Rose before.writes after.writes
 
 -- This is so of the script that proves the text, and of its lines. (There is one at most, with one list of lines.)
 abbrev pub WhereProved : Options → Bytes → (View → List Line → Type 0) → Type 0
@@ -54,6 +59,17 @@ pub record IsCertified (o : Options) (text : Bytes) (before after : Faults) (res
 abbrev pub Certifies : List Bytes → Told → Told → Faults → Faults → Status → Type 0
 Certifies words told_old told_new before after result = (a : Asked) (name text : Bytes) → reading words ≡ Some (Prove a) → a.cert ≡ Some name → told_old a.script ≡ Some text →
     IsCertified (options_of a) text before after result (told_old name) (told_new name)
+
+-- ---- what is put behind it
+
+-- The script that proves the text has a certificate in the file, whole and with its lines; or the sink took nothing.
+abbrev pub IsPutBehind : Options → Bytes → Option Bytes → Option Bytes → Option Bytes → Option Bytes → Type 0
+IsPutBehind o text taken_old taken_new old new = WhereProved o text (λ s shown. Keeps taken_old taken_new ⊎ HoldsCertificate s shown old new)
+
+-- So it is however the run ended, if no read failed, where the words ask for a certificate of a script whose text the folder tells.
+abbrev pub PutsBehind : List Bytes → Told → Told → Faults → Faults → Option Bytes → Option Bytes → Type 0
+PutsBehind words told_old told_new before after taken_old taken_new = (a : Asked) (name text : Bytes) → reading words ≡ Some (Prove a) → a.cert ≡ Some name → told_old a.script ≡ Some text →
+    ¬ Rose before.reads after.reads → IsPutBehind (options_of a) text taken_old taken_new (told_old name) (told_new name)
 
 -- ---- before the lines are put
 

@@ -4,7 +4,7 @@ ghost use Rattle.fx_edge.specs.Outside.{Rose};
 ghost use Rattle.fx_top.specs.Answers.{AreAllowed, MadePrints, ProvePrints, options_from};
 ghost use Rattle.fx_top.specs.Checked.{IsAcceptable};
 ghost use Rattle.fx_top.specs.Run.{CheckedPrints, Comes, EndsAs, IsLine, StopPrints};
-ghost use Rattle.fx_top.specs.Written.{IsCertified, faults};
+ghost use Rattle.fx_top.specs.Written.{IsCertified, IsPutBehind, faults};
 
 use crate::answer::{answer, made_answer};
 use crate::certify::answer_certified;
@@ -65,6 +65,7 @@ pub fn print_certified<F: Folder, O: Sink, G: Gate, R: Threads + Wait + Sync>(
     ensures ends { EndsAs (ProvePrints (options_from options) text.now) (O.taken out.old) (O.taken out.new) result }
     ensures certificate { IsCertified (options_from options) text.now (faults (F.read_faults folder.old) (F.write_faults folder.old)) (faults (F.read_faults folder.new) (F.write_faults folder.new)) result
         (F.told folder.old name.now) (F.told folder.new name.now) }
+    ensures order { IsPutBehind (options_from options) text.now (O.taken out.old) (O.taken out.new) (F.told folder.old name.now) (F.told folder.new name.now) }
     ensures unchanged { result ≢ Status.Answered → result ≢ Status.WriteFault → result ≢ Status.OutOfMemory → F.told folder.new name.now ≡ F.told folder.old name.now }
     ensures others { (other : List ℕ) → other ≢ name.now → F.told folder.new other ≡ F.told folder.old other }
     ensures cause { result ≡ Status.WriteFault → Rose (O.faults out.old) (O.faults out.new) ⊎ Rose (F.write_faults folder.old) (F.write_faults folder.new) }

@@ -8,7 +8,7 @@ ghost use Rattle.fx_top.specs.Command.{IsInRange, command_from, reading};
 ghost use Rattle.fx_top.specs.Command.Command.{Prove, Check, Gen};
 ghost use Rattle.fx_top.specs.Checked.{IsAcceptable};
 ghost use Rattle.fx_top.specs.Run.{Outside, Comes, EndsAs, IsComplete, IsExact, IsTelling, Prints, exit_code, is_name, is_written, seen};
-ghost use Rattle.fx_top.specs.Written.{Certifies, IsCertified, faults};
+ghost use Rattle.fx_top.specs.Written.{Certifies, IsCertified, IsPutBehind, IsWriteBroken, PutsBehind, faults};
 
 use crate::options::options_of;
 use crate::outside::read_text;
@@ -103,8 +103,10 @@ fn run_prove<F: Folder, O: Sink, G: Gate, R: Threads + Wait + Sync>(
         → EndsAs (Prints words (seen (F.told folder.old) (F.read_faults folder.old) (F.read_faults folder.new))) (O.taken out.old) (O.taken out.new) result }
     ensures certificate { (name text : List ℕ) → (asked_of request.entry).cert ≡ Some name → F.told folder.old request.entry.script.now ≡ Some text
         → IsCertified (options_of (asked_of request.entry)) text (faults (F.read_faults folder.old) (F.write_faults folder.old)) (faults (F.read_faults folder.new) (F.write_faults folder.new)) result (F.told folder.old name) (F.told folder.new name) }
+    ensures order { (name text : List ℕ) → (asked_of request.entry).cert ≡ Some name → F.told folder.old request.entry.script.now ≡ Some text → ¬ Rose (F.read_faults folder.old) (F.read_faults folder.new)
+        → IsPutBehind (options_of (asked_of request.entry)) text (O.taken out.old) (O.taken out.new) (F.told folder.old name) (F.told folder.new name) }
     ensures unchanged { result ≢ Status.Answered → result ≢ Status.WriteFault → result ≢ Status.OutOfMemory → (name : List ℕ) → F.told folder.new name ≡ F.told folder.old name }
-    ensures write_fault { result ≡ Status.WriteFault → Rose (O.faults out.old) (O.faults out.new) ⊎ Rose (F.write_faults folder.old) (F.write_faults folder.new) }
+    ensures write_fault { result ≡ Status.WriteFault → Rose (O.faults out.old) (O.faults out.new) ⊎ (((name : List ℕ) × ((asked_of request.entry).cert ≡ Some name)) × Rose (F.write_faults folder.old) (F.write_faults folder.new)) }
     ensures files { (name : List ℕ) → is_name (asked_of request.entry).cert name ≡ false → F.told folder.new name ≡ F.told folder.old name }
 {
     match read_text(alloc, folder, request.script) {
@@ -171,8 +173,9 @@ fn run_words<F: Folder, O: Sink, G: Gate, R: Threads + Wait + Sync>(
     ensures ends { EndsAs (Prints (map string_bytes words.now) (seen (F.told folder.old) (F.read_faults folder.old) (F.read_faults folder.new))) (O.taken out.old) (O.taken out.new) result }
     ensures accepted { IsComplete (map string_bytes words.now) (F.told folder.old) result }
     ensures certificate { Certifies (map string_bytes words.now) (F.told folder.old) (F.told folder.new) (faults (F.read_faults folder.old) (F.write_faults folder.old)) (faults (F.read_faults folder.new) (F.write_faults folder.new)) result }
+    ensures order { PutsBehind (map string_bytes words.now) (F.told folder.old) (F.told folder.new) (faults (F.read_faults folder.old) (F.write_faults folder.old)) (faults (F.read_faults folder.new) (F.write_faults folder.new)) (O.taken out.old) (O.taken out.new) }
     ensures unchanged { result ≢ Status.Answered → result ≢ Status.WriteFault → result ≢ Status.OutOfMemory → (name : List ℕ) → F.told folder.new name ≡ F.told folder.old name }
-    ensures write_fault { result ≡ Status.WriteFault → Rose (O.faults out.old) (O.faults out.new) ⊎ Rose (F.write_faults folder.old) (F.write_faults folder.new) }
+    ensures write_fault { result ≡ Status.WriteFault → Rose (O.faults out.old) (O.faults out.new) ⊎ IsWriteBroken (map string_bytes words.now) (faults (F.read_faults folder.old) (F.write_faults folder.old)) (faults (F.read_faults folder.new) (F.write_faults folder.new)) }
     ensures files { (name : List ℕ) → is_written (map string_bytes words.now) name ≡ false → F.told folder.new name ≡ F.told folder.old name }
 {
     match command_of(alloc, words) {
@@ -197,8 +200,9 @@ fn run_exactly<F: Folder, O: Sink, G: Gate, R: Threads + Wait + Sync>(
     ensures exact { IsExact (map string_bytes words.now) (seen (F.told folder.old) (F.read_faults folder.old) (F.read_faults folder.new)) result }
     ensures accepted { IsComplete (map string_bytes words.now) (F.told folder.old) result }
     ensures certificate { Certifies (map string_bytes words.now) (F.told folder.old) (F.told folder.new) (faults (F.read_faults folder.old) (F.write_faults folder.old)) (faults (F.read_faults folder.new) (F.write_faults folder.new)) result }
+    ensures order { PutsBehind (map string_bytes words.now) (F.told folder.old) (F.told folder.new) (faults (F.read_faults folder.old) (F.write_faults folder.old)) (faults (F.read_faults folder.new) (F.write_faults folder.new)) (O.taken out.old) (O.taken out.new) }
     ensures unchanged { result ≢ Status.Answered → result ≢ Status.WriteFault → result ≢ Status.OutOfMemory → (name : List ℕ) → F.told folder.new name ≡ F.told folder.old name }
-    ensures write_fault { result ≡ Status.WriteFault → Rose (O.faults out.old) (O.faults out.new) ⊎ Rose (F.write_faults folder.old) (F.write_faults folder.new) }
+    ensures write_fault { result ≡ Status.WriteFault → Rose (O.faults out.old) (O.faults out.new) ⊎ IsWriteBroken (map string_bytes words.now) (faults (F.read_faults folder.old) (F.write_faults folder.old)) (faults (F.read_faults folder.new) (F.write_faults folder.new)) }
     ensures files { (name : List ℕ) → is_written (map string_bytes words.now) name ≡ false → F.told folder.new name ≡ F.told folder.old name }
 {
     defined_status_comes();
@@ -232,16 +236,19 @@ pub fn fx_run<R: Threads + Wait + Sync, F: Folder, O: Sink, G: Gate>(
     ensures accepted { IsComplete (map string_bytes words.now) (F.told folder.old) result }
 
     // The words ask for a certificate, and the folder tells the script's text. At `Answered` the certificate's file holds one that is accepted for the
-    // script with the answer's lines. It is written before these are put: so also after a write fault, where no read and no write of the folder failed.
+    // script with the answer's lines. After a write fault too, where no read and no write of the folder failed.
     // After any write fault, and where memory ran out, the file holds a front of such a certificate, or what it held; and what it held, where the script
     // isn't proved.
     ensures certificate { Certifies (map string_bytes words.now) (F.told folder.old) (F.told folder.new) (faults (F.read_faults folder.old) (F.write_faults folder.old)) (faults (F.read_faults folder.new) (F.write_faults folder.new)) result }
 
+    // However it ends, lines of a proved script are put only behind its whole certificate, unless a read failed.
+    ensures order { PutsBehind (map string_bytes words.now) (F.told folder.old) (F.told folder.new) (faults (F.read_faults folder.old) (F.write_faults folder.old)) (faults (F.read_faults folder.new) (F.write_faults folder.new)) (O.taken out.old) (O.taken out.new) }
+
     // Where the run ends in another way, no name's bytes change.
     ensures unchanged { result ≢ Status.Answered → result ≢ Status.WriteFault → result ≢ Status.OutOfMemory → (name : List ℕ) → F.told folder.new name ≡ F.told folder.old name }
 
-    // A write fault comes only where the sink or a write of the folder failed in this call.
-    ensures write_fault { result ≡ Status.WriteFault → Rose (O.faults out.old) (O.faults out.new) ⊎ Rose (F.write_faults folder.old) (F.write_faults folder.new) }
+    // A write fault comes only where in this call the sink failed or, where the words name a file to be written, a write of the folder.
+    ensures write_fault { result ≡ Status.WriteFault → Rose (O.faults out.old) (O.faults out.new) ⊎ IsWriteBroken (map string_bytes words.now) (faults (F.read_faults folder.old) (F.write_faults folder.old)) (faults (F.read_faults folder.new) (F.write_faults folder.new)) }
 
     // No name's bytes change but those of a file that the words name to be written.
     ensures files { (name : List ℕ) → is_written (map string_bytes words.now) name ≡ false → F.told folder.new name ≡ F.told folder.old name }

@@ -3,7 +3,7 @@ use Rattle.fx_edge.specs.Outside.{Rose}
 use Rattle.fx_top.specs.Answers.{ProvePrints, options_from}
 use Rattle.fx_top.specs.Written.{faults}
 use Rattle.fx_top.proofs.Ends.{ends_line}
-use Rattle.fx_top.proofs.Written.{certified_put, certified_failed, certified_starved, unchanged_put, no_fault}
+use Rattle.fx_top.proofs.Written.{certified_put, certified_failed, certified_starved, behind_put, behind_none, kept_same, unchanged_put, no_fault}
 use Rattle.fx_top.proofs.print.print_certified.Goals as goal
 
 pub returns-in-Ok-clause-ends : goal.returns-in-Ok-clause-ends
@@ -41,3 +41,18 @@ returns-in-Err-OutOfMemory-clause-certificate g c =
     certified_starved (options_from c.args.options) c.args.text.now
     (faults (g.F.Folder.read_faults c.args.folder.now) (g.F.Folder.write_faults c.args.folder.now)) (faults (g.F.Folder.read_faults c.answer_certified.new.folder) (g.F.Folder.write_faults c.answer_certified.new.folder))
     (g.F.Folder.told c.args.folder.now c.args.name.now) (g.F.Folder.told c.answer_certified.new.folder c.args.name.now) c.in-Err-OutOfMemory.ensures.err
+
+pub returns-in-Ok-clause-order : goal.returns-in-Ok-clause-order
+returns-in-Ok-clause-order g c =
+    behind_put (options_from c.args.options) c.args.text.now c.in-Ok.status (g.O.Sink.taken c.args.out.now) (g.O.Sink.taken c.print.new.out)
+    (g.F.Folder.told c.args.folder.now c.args.name.now) (g.F.Folder.told c.answer_certified.new.folder c.args.name.now) c.in-Ok.ensures.ok
+
+pub returns-in-Err-Failed-clause-order : goal.returns-in-Err-Failed-clause-order
+returns-in-Err-Failed-clause-order g c =
+    behind_none (options_from c.args.options) c.args.text.now (g.O.Sink.taken c.args.out.now) (g.O.Sink.taken c.args.out.now)
+    (g.F.Folder.told c.args.folder.now c.args.name.now) (g.F.Folder.told c.answer_certified.new.folder c.args.name.now) (kept_same (g.O.Sink.taken c.args.out.now))
+
+pub returns-in-Err-OutOfMemory-clause-order : goal.returns-in-Err-OutOfMemory-clause-order
+returns-in-Err-OutOfMemory-clause-order g c =
+    behind_none (options_from c.args.options) c.args.text.now (g.O.Sink.taken c.args.out.now) (g.O.Sink.taken c.args.out.now)
+    (g.F.Folder.told c.args.folder.now c.args.name.now) (g.F.Folder.told c.answer_certified.new.folder c.args.name.now) (kept_same (g.O.Sink.taken c.args.out.now))

@@ -1,4 +1,4 @@
-use Rattle.std.proofs.Common.{Err, ap, refl, inl, subst, rules, arith, ◌∙◌}
+use Rattle.std.proofs.Common.{◌≡◌, ℕ, List, Some, Err, ap, refl, inl, subst, rules, arith, ◌∙◌}
 use Rattle.command_line.specs.Reading.{asked_of}
 use Rattle.fx_edge.specs.Outside.{Rose}
 use Rattle.fx_top.specs.Answers.{ProvePrints, options_from, options_of}
@@ -9,7 +9,7 @@ use Rattle.fx_top.specs.Written.{faults}
 use Rattle.fx_top.specs.declared.run.Status.TheVariants.{ReadFault}
 use Rattle.fx_top.proofs.Complete.{comes_stop}
 use Rattle.fx_top.proofs.Ends.{ends_more, answer_prints, stop_prints}
-use Rattle.fx_top.proofs.Written.{certified_read, certified_stopped, kept_all, either_later, name_is, name_is_other, name_is_none}
+use Rattle.fx_top.proofs.Written.{certified_read, certified_stopped, behind_read, behind_none, stop_keeps, kept_all, either_later, name_is, name_is_given, name_is_other, name_is_none}
 use Rattle.fx_top.proofs.run.run_prove.Goals as goal
 
 pub returns-in-Some-clause-ends : goal.returns-in-Some-clause-ends
@@ -35,8 +35,9 @@ returns-in-Some-clause-unchanged g c = λ n m k name.
 
 pub returns-in-Some-clause-write_fault : goal.returns-in-Some-clause-write_fault
 returns-in-Some-clause-write_fault g c = λ e.
-    either_later (Rose (g.O.Sink.faults c.args.out.now) (g.O.Sink.faults c.print_certified.new.out)) (g.F.Folder.write_faults c.args.folder.now) (g.F.Folder.write_faults c.read_text.new.folder) (g.F.Folder.write_faults c.print_certified.new.folder)
-    (omega (arith, c.in-Ok.ensures.quiet)) (c.print_certified.ensures.cause e)
+    either_later (Rose (g.O.Sink.faults c.args.out.now) (g.O.Sink.faults c.print_certified.new.out)) ((name : List ℕ) × ((asked_of c.args.request).cert ≡ Some name))
+    (g.F.Folder.write_faults c.args.folder.now) (g.F.Folder.write_faults c.read_text.new.folder) (g.F.Folder.write_faults c.print_certified.new.folder)
+    (c.in-Some.name.now, name_is_given c.args.request.cert c.in-Some.name c.in-Some.is) (omega (arith, c.in-Ok.ensures.quiet)) (c.print_certified.ensures.cause e)
 
 pub returns-in-Some-clause-files : goal.returns-in-Some-clause-files
 returns-in-Some-clause-files g c = λ name other.
@@ -68,3 +69,20 @@ returns-clause-certificate g c = λ name text named script.
 
 pub returns-clause-write_fault : goal.returns-clause-write_fault
 returns-clause-write_fault g c = λ e. inl (c.print_stop.ensures.cause e)
+
+pub returns-in-Some-clause-order : goal.returns-in-Some-clause-order
+returns-in-Some-clause-order g c = λ name text named script _.
+    let read : IsText (g.F.Folder.told c.args.folder.now c.args.request.script.now) c.deref.result.now = subst (IsText (g.F.Folder.told c.args.folder.now c.args.request.script.now)) (search rules) c.in-Ok.ensures.text in
+    behind_read (options_of (asked_of c.args.request)) (options_from c.options_of.result) text c.deref.result.now
+    (g.F.Folder.told c.args.folder.now) (g.F.Folder.told c.read_text.new.folder) (g.F.Folder.told c.print_certified.new.folder)
+    (g.F.Folder.told c.args.folder.now c.args.request.script.now) c.in-Some.name.now name (g.O.Sink.taken c.args.out.now) (g.O.Sink.taken c.print_certified.new.out)
+    c.options_of.ensures.is (name_is c.args.request.cert c.in-Some.name name c.in-Some.is named) (c.in-Ok.ensures.told c.in-Some.name.now) script read
+    c.print_certified.ensures.order
+
+pub returns-in-Ok-clause-order : goal.returns-in-Ok-clause-order
+returns-in-Ok-clause-order g c = λ name text named script _. absurd (name_is_none c.args.request.cert name c.in-None.is named)
+
+pub returns-clause-order : goal.returns-clause-order
+returns-clause-order g c = λ name text named script quiet.
+    behind_none (options_of (asked_of c.args.request)) text (g.O.Sink.taken c.args.out.now) (g.O.Sink.taken c.print_stop.new.out) (g.F.Folder.told c.args.folder.now name) (g.F.Folder.told c.read_text.new.folder name)
+    (stop_keeps c.args.request.script.now c.in-Err.stop (g.O.Sink.taken c.args.out.now) (g.O.Sink.taken c.print_stop.new.out) c.print_stop.result (λ e. quiet (c.in-Err.ensures.cause (ap Err e))) c.print_stop.ensures.ends)

@@ -10,7 +10,7 @@ use Rattle.fx_top.specs.Written.{faults}
 use Rattle.fx_top.specs.declared.run.Status.TheVariants.{Usage}
 use Rattle.fx_top.proofs.Complete.{complete_check, complete_other, complete_none}
 use Rattle.fx_top.proofs.Ends.{ends_line}
-use Rattle.fx_top.proofs.Written.{certifies_prove, certifies_other, certifies_none, certifies_starved, names_cert, not_put}
+use Rattle.fx_top.proofs.Written.{certifies_prove, certifies_other, certifies_none, certifies_starved, behind_prove, behind_other, behind_usage, behind_starved, kept_same, names_cert, either_written, not_put}
 use Rattle.fx_top.proofs.run.run_words.Goals as goal
 
 pub returns-in-Err-Usage-clause-ends : goal.returns-in-Err-Usage-clause-ends
@@ -51,6 +51,12 @@ returns-in-Ok-Prove-clause-certificate g c =
     certifies_prove (map string_bytes c.args.words.now) (g.F.Folder.told c.args.folder.now) (g.F.Folder.told c.run_prove.new.folder)
     (faults (g.F.Folder.read_faults c.args.folder.now) (g.F.Folder.write_faults c.args.folder.now)) (faults (g.F.Folder.read_faults c.run_prove.new.folder) (g.F.Folder.write_faults c.run_prove.new.folder))
     c.run_prove.result (asked_of c.in-Ok-Prove.request) asked c.run_prove.ensures.certificate
+
+pub returns-in-Ok-Prove-clause-write_fault : goal.returns-in-Ok-Prove-clause-write_fault
+returns-in-Ok-Prove-clause-write_fault g c = λ e.
+    let asked : reading (map string_bytes c.args.words.now) ≡ Some (Prove (asked_of c.in-Ok-Prove.request)) = search rules in
+    either_written (map string_bytes c.args.words.now) (asked_of c.in-Ok-Prove.request) (Rose (g.O.Sink.faults c.args.out.now) (g.O.Sink.faults c.run_prove.new.out))
+    (Rose (g.F.Folder.write_faults c.args.folder.now) (g.F.Folder.write_faults c.run_prove.new.folder)) asked (c.run_prove.ensures.write_fault e)
 
 pub returns-in-Ok-Prove-clause-files : goal.returns-in-Ok-Prove-clause-files
 returns-in-Ok-Prove-clause-files g c = λ name other.
@@ -97,3 +103,37 @@ pub returns-in-Err-OutOfMemory-clause-certificate : goal.returns-in-Err-OutOfMem
 returns-in-Err-OutOfMemory-clause-certificate g c =
     certifies_starved (map string_bytes c.args.words.now) (g.F.Folder.told c.args.folder.now) (g.F.Folder.told c.args.folder.now)
     (faults (g.F.Folder.read_faults c.args.folder.now) (g.F.Folder.write_faults c.args.folder.now)) (faults (g.F.Folder.read_faults c.args.folder.now) (g.F.Folder.write_faults c.args.folder.now)) (λ name. refl)
+
+pub returns-in-Ok-Prove-clause-order : goal.returns-in-Ok-Prove-clause-order
+returns-in-Ok-Prove-clause-order g c =
+    let asked : reading (map string_bytes c.args.words.now) ≡ Some (Prove (asked_of c.in-Ok-Prove.request)) = search rules in
+    behind_prove (map string_bytes c.args.words.now) (g.F.Folder.told c.args.folder.now) (g.F.Folder.told c.run_prove.new.folder)
+    (faults (g.F.Folder.read_faults c.args.folder.now) (g.F.Folder.write_faults c.args.folder.now)) (faults (g.F.Folder.read_faults c.run_prove.new.folder) (g.F.Folder.write_faults c.run_prove.new.folder))
+    (g.O.Sink.taken c.args.out.now) (g.O.Sink.taken c.run_prove.new.out) (asked_of c.in-Ok-Prove.request) asked c.run_prove.ensures.order
+
+pub returns-in-Ok-Check-clause-order : goal.returns-in-Ok-Check-clause-order
+returns-in-Ok-Check-clause-order g c =
+    let asked : reading (map string_bytes c.args.words.now) ≡ Some (Check (check_of c.in-Ok-Check.request)) = search rules in
+    behind_other (map string_bytes c.args.words.now) (g.F.Folder.told c.args.folder.now) (g.F.Folder.told c.run_check.new.folder)
+    (faults (g.F.Folder.read_faults c.args.folder.now) (g.F.Folder.write_faults c.args.folder.now)) (faults (g.F.Folder.read_faults c.run_check.new.folder) (g.F.Folder.write_faults c.run_check.new.folder))
+    (g.O.Sink.taken c.args.out.now) (g.O.Sink.taken c.run_check.new.out) (Check (check_of c.in-Ok-Check.request)) (λ a e. cc e) asked
+
+pub returns-in-Ok-Gen-clause-order : goal.returns-in-Ok-Gen-clause-order
+returns-in-Ok-Gen-clause-order g c =
+    let asked : reading (map string_bytes c.args.words.now) ≡ Some (Gen c.in-Ok-Gen.n) = search rules in
+    behind_other (map string_bytes c.args.words.now) (g.F.Folder.told c.args.folder.now) (g.F.Folder.told c.args.folder.now)
+    (faults (g.F.Folder.read_faults c.args.folder.now) (g.F.Folder.write_faults c.args.folder.now)) (faults (g.F.Folder.read_faults c.args.folder.now) (g.F.Folder.write_faults c.args.folder.now))
+    (g.O.Sink.taken c.args.out.now) (g.O.Sink.taken c.run_gen.new.out) (Gen c.in-Ok-Gen.n) (λ a e. cc e) asked
+
+pub returns-in-Err-Usage-clause-order : goal.returns-in-Err-Usage-clause-order
+returns-in-Err-Usage-clause-order g c =
+    let none : reading (map string_bytes c.args.words.now) ≡ None = search rules in
+    behind_usage (map string_bytes c.args.words.now) (g.F.Folder.told c.args.folder.now) (g.F.Folder.told c.args.folder.now)
+    (faults (g.F.Folder.read_faults c.args.folder.now) (g.F.Folder.write_faults c.args.folder.now)) (faults (g.F.Folder.read_faults c.args.folder.now) (g.F.Folder.write_faults c.args.folder.now))
+    (g.O.Sink.taken c.args.out.now) (g.O.Sink.taken c.print.new.out) none
+
+pub returns-in-Err-OutOfMemory-clause-order : goal.returns-in-Err-OutOfMemory-clause-order
+returns-in-Err-OutOfMemory-clause-order g c =
+    behind_starved (map string_bytes c.args.words.now) (g.F.Folder.told c.args.folder.now) (g.F.Folder.told c.args.folder.now)
+    (faults (g.F.Folder.read_faults c.args.folder.now) (g.F.Folder.write_faults c.args.folder.now)) (faults (g.F.Folder.read_faults c.args.folder.now) (g.F.Folder.write_faults c.args.folder.now))
+    (g.O.Sink.taken c.args.out.now) (g.O.Sink.taken c.args.out.now) (kept_same (g.O.Sink.taken c.args.out.now))
