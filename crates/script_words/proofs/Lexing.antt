@@ -1,21 +1,18 @@
--- The lexer's loops, a turn at a time.
+-- The tokens of a text, a token at a time.
 use Rattle.std.proofs.Common.{◌≡◌, ℕ, ◌+◌, ◌<◌, ◌≤◌, false, List, [], ◌∷◌, ◌++◌, length, drop, Option, Some, None, sym, ap, ◌∙◌, subst, arith, append_assoc, append-nil, length-drop}
-use Rattle.std.specs.List.{All}
 use Rattle.std.proofs.lemmas.List.{drop-drop}
-use Rattle.std.proofs.lemmas.List.Elements.{All-nil, All-push}
 use Rattle.std.proofs.Math.ListN.{drop_of_length-le}
 use Rattle.script_words.specs.declared.lex.TokenKind.{TokenKind}
 use Rattle.script_words.specs.declared.lex.Token.{Token}
-use Rattle.script_words.specs.Lex.{blank_len, front, IsWithin, Lexes, ends, bad, token}
+use Rattle.script_words.specs.Lex.{blank_len, front, Lexes, ends, bad, token}
 
 -- The tokens so far, and those of the rest, are those of the whole text.
 pub record LexedTo (text : List ℕ) (at : ℕ) (found : List Token) : Type 0 where
   pub within : at ≤ length text
-  pub inside : All (IsWithin text) found
   pub rest : (more : List Token) (end : Option ℕ) → Lexes at (drop at text) more end → Lexes 0 text (found ++ more) end
 
 pub lexed_none : (text : List ℕ) → LexedTo text 0 []
-lexed_none text = record { within = omega arith; inside = All-nil (IsWithin text); rest = λ more end h. h }
+lexed_none text = record { within = omega arith; rest = λ more end h. h }
 
 done : (text : List ℕ) (found : List Token) (end : Option ℕ) → Lexes 0 text (found ++ []) end → Lexes 0 text found end
 done text found end h = subst (λ l. Lexes 0 text l end) (append-nil found) h
@@ -42,7 +39,6 @@ module _ (text : List ℕ) (at : ℕ) (found : List Token) (l : LexedTo text at 
   pub lexed_more : (blank len : ℕ) (k : TokenKind) → blank ≡ blank_len false (drop at text) → at + blank + len ≤ length text → front (drop (at + blank) text) ≡ Some (k, len) → LexedTo text (at + blank + len) (found ++ (record { kind = k; start = at + blank; end = at + blank + len } ∷ []))
   lexed_more blank len k e h n = record {
     within = h;
-    inside = All-push (IsWithin text) found _ l.inside (record { ordered = omega arith; inside = h });
     rest = more_at blank len k e n;
   }
 

@@ -1,27 +1,23 @@
--- The loop over tokens, a turn at a time.
-use Rattle.std.proofs.Common.{◌≡◌, ℕ, ◌+◌, ◌<◌, Bool, true, false, ◌||◌, cond, List, [], ◌∷◌, ◌++◌, length, drop, map, get_or, Option, Some, option_to_list, refl, sym, ap, ◌∙◌, append_assoc}
+-- The words of tokens, a word at a time.
+use Rattle.std.proofs.Common.{◌≡◌, ℕ, Bool, true, false, ◌||◌, cond, List, [], ◌∷◌, ◌++◌, Option, Some, option_to_list, refl, sym, ap, ◌∙◌, append_assoc, append-nil}
 use Rattle.std.specs.List.{list_any}
 use Rattle.std.specs.Str.{bytes_eq}
 use Rattle.std.specs.BTreeSet.{BTreeSet, contains, Updates}
 use Rattle.std.specs.Borrow.{Bor}
 use Rattle.std.specs.Option.{option_copied}
-use Rattle.std.proofs.lemmas.List.{map-append, drop_more, length_push}
+use Rattle.std.proofs.lemmas.List.{map-append}
 use Rattle.std.proofs.lemmas.Map.Text.{is_eq-slice_cmp}
 use Rattle.script_words.specs.declared.class.Spelled.{Spelled}
 use Rattle.script_words.specs.declared.lex.Token.{Token}
 use Rattle.script_words.specs.declared.lex.TokenKind.{TokenKind}
 use Rattle.script_words.specs.declared.lex.TokenKind.TheVariants as kind
+use Rattle.script_words.specs.declared.list.Placed.{Placed}
 use Rattle.script_words.specs.declared.words.Word.{Word as CodeWord}
 use Rattle.script_words.specs.declared.words.Naming.{Naming as CodeNaming}
-use Rattle.script_words.specs.Words.{name, rounding}
+use Rattle.script_words.specs.declared.words.Naming.TheVariants as code_naming
+use Rattle.script_words.specs.Words.{name, rounding, class_of}
 use Rattle.script_words.specs.Named.{word_of, naming_of, kind_word, token_word, naming_after, defined_by, words_from, words_of, text_cmp, HasNames, spelled_of}
-
--- The words so far, and those of the tokens that are left, are those of all tokens.
-pub record MarkedTo (text : List ℕ) (tokens : List Token) (i : ℕ) (found : List CodeWord) (naming : CodeNaming) (set : BTreeSet (Bor (List ℕ))) : Type 0 where
-  pub count : length found ≡ i
-  pub names : List (List ℕ)
-  pub has : HasNames set names
-  pub rest : map word_of found ++ words_from text (naming_of naming) names (drop i tokens) ≡ words_of text tokens
+use Rattle.script_words.specs.Placed.{word_with, kind_of, word_text, word_at, words_at, token_of, tokens_of}
 
 module _ (names : List (List ℕ)) (k : TokenKind) (text : List ℕ) (spelled : Spelled) (is_name : k ≡ kind.Name) (same : spelled ≡ spelled_of text) where
   -- a name that is among the operators'
@@ -44,27 +40,77 @@ added set new k o e updates names has q =
     updates.0 q ∙ ap (λ b. cond b true (contains text_cmp set q)) (is_eq-slice_cmp k.now q.now) ∙ here_or_before (bytes_eq k.now q.now) (contains text_cmp set q)
     ∙ ap (λ b. bytes_eq k.now q.now || b) (has q) ∙ ap (λ x. list_any (λ n. bytes_eq n q.now) (option_to_list (option_copied x) ++ names)) (sym e)
 
--- A turn of the loop: one more word, and its operator where it ends a definition.
-pub marked_more : {text : List ℕ} {tokens : List Token} {i : ℕ} {found : List CodeWord} {naming : CodeNaming} {set : BTreeSet (Bor (List ℕ))} → MarkedTo text tokens i found naming set → i < length tokens
-    → (d : Token) → (w : CodeWord) → ((names : List (List ℕ)) → HasNames set names → word_of w ≡ token_word text names (get_or tokens i d))
-    → (naming' : CodeNaming) → naming_of naming' ≡ naming_after (naming_of naming) (word_of w)
-    → (o : Option (Bor (List ℕ))) → option_copied o ≡ defined_by (naming_of naming) (word_of w)
-    → (set' : BTreeSet (Bor (List ℕ))) → ((names : List (List ℕ)) → HasNames set names → HasNames set' (option_to_list (option_copied o) ++ names))
-    → (found' : List CodeWord) → found' ≡ found ++ (w ∷ []) → MarkedTo text tokens (i + 1) found' naming' set'
-marked_more {text} {tokens} {i} {found} {naming} {set} m h d w words naming' n o joins set' grows found' e =
-    let left = drop (i + 1) tokens in
-    let before = naming_of naming in
-    let tail = words_from text (naming_of naming') (option_to_list (option_copied o) ++ m.names) left in
-    let one : map word_of found' ≡ map word_of found ++ (word_of w ∷ []) = ap (map word_of) e ∙ map-append word_of found (w ∷ []) in
-    let tails : tail ≡ words_from text (naming_after before (word_of w)) (option_to_list (defined_by before (word_of w)) ++ m.names) left =
-    ap (λ x. words_from text x (option_to_list (option_copied o) ++ m.names) left) n ∙ ap (λ x. words_from text (naming_after before (word_of w)) (option_to_list x ++ m.names) left) joins in
-    let step : word_of w ∷ tail ≡ words_from text before m.names (drop i tokens) =
-    ap (λ l. word_of w ∷ l) tails
-    ∙ ap (λ x. x ∷ words_from text (naming_after before x) (option_to_list (defined_by before x) ++ m.names) left) (words m.names m.has)
-    ∙ ap (λ l. words_from text before m.names l) (sym (drop_more tokens i d h)) in
-    record {
-      count = ap length e ∙ length_push found w ∙ ap (λ n. n + 1) m.count;
-      names = option_to_list (option_copied o) ++ m.names;
-      has = grows m.names m.has;
-      rest = ap (λ l. l ++ tail) one ∙ append_assoc (map word_of found) (word_of w ∷ []) tail ∙ ap (λ l. map word_of found ++ l) step ∙ m.rest;
-    }
+-- ---- a word's class and text are the word, and its class is its token's kind
+
+class_and_text : (names : List (List ℕ)) (k : TokenKind) (t : List ℕ) → word_with (class_of (kind_word names k t)) t ≡ kind_word names k t
+class_and_text names kind.Name t = by_name (list_any (λ n. bytes_eq n t) names)
+  where
+    by_name : (b : Bool) → word_with (class_of (cond b (rounding (spelled_of t) t) (name (spelled_of t) t))) t ≡ cond b (rounding (spelled_of t) t) (name (spelled_of t) t)
+    by_name true = refl
+    by_name false = refl
+class_and_text names kind.Literal t = refl
+class_and_text names (kind.Sign g) t = refl
+
+kind_told : (names : List (List ℕ)) (k : TokenKind) (t : List ℕ) → kind_of (class_of (kind_word names k t)) ≡ k
+kind_told names kind.Name t = by_name (list_any (λ n. bytes_eq n t) names)
+  where
+    by_name : (b : Bool) → kind_of (class_of (cond b (rounding (spelled_of t) t) (name (spelled_of t) t))) ≡ kind.Name
+    by_name true = refl
+    by_name false = refl
+kind_told names kind.Literal t = refl
+kind_told names (kind.Sign g) t = refl
+
+-- ---- the loop
+
+-- The words so far are those of their tokens, whatever tokens come behind.
+pub record MarkedTo (text : List ℕ) (placed : List Placed) (naming : CodeNaming) (set : BTreeSet (Bor (List ℕ))) : Type 0 where
+  pub names : List (List ℕ)
+  pub has : HasNames set names
+  pub rest : (more : List Token) → words_of text (tokens_of placed ++ more) ≡ words_at text placed ++ words_from text (naming_of naming) names more
+
+pub marked_none : (text : List ℕ) (placed : List Placed) (set : BTreeSet (Bor (List ℕ))) → placed ≡ [] → HasNames set [] → MarkedTo text placed code_naming.Nothing set
+marked_none text placed set e h = record {
+  names = [];
+  has = h;
+  rest = λ more. ap (λ ps. words_of text (tokens_of ps ++ more)) e ∙ ap (λ ps. words_at text ps ++ words_of text more) (sym e);
+}
+
+pub marked_all : {text : List ℕ} {placed : List Placed} {naming : CodeNaming} {set : BTreeSet (Bor (List ℕ))} → MarkedTo text placed naming set → words_at text placed ≡ words_of text (tokens_of placed)
+marked_all {text} {placed} m = sym (append-nil (words_at text placed)) ∙ sym (m.rest []) ∙ ap (words_of text) (append-nil (tokens_of placed))
+
+module _ {text : List ℕ} {placed : List Placed} {naming : CodeNaming} {set : BTreeSet (Bor (List ℕ))} (m : MarkedTo text placed naming set) (p : Placed) (k : TokenKind) (w : CodeWord)
+    (words : (names : List (List ℕ)) → HasNames set names → word_of w ≡ kind_word names k (word_text text p)) (c : p.class ≡ class_of (word_of w)) where
+  same_class : p.class ≡ class_of (kind_word m.names k (word_text text p))
+  same_class = c ∙ ap class_of (words m.names m.has)
+
+  -- the word is made again from its class and place
+  pub made_again : word_at text p ≡ word_of w
+  made_again = ap (λ x. word_with x (word_text text p)) same_class ∙ class_and_text m.names k (word_text text p) ∙ sym (words m.names m.has)
+
+  pub same_kind : kind_of p.class ≡ k
+  same_kind = ap kind_of same_class ∙ kind_told m.names k (word_text text p)
+
+  told : token_word text m.names (token_of p) ≡ word_of w
+  told = ap (λ x. kind_word m.names x (word_text text p)) same_kind ∙ sym (words m.names m.has)
+
+  -- One more word, and its operator where it ends a definition.
+  pub marked_more : (naming' : CodeNaming) → naming_of naming' ≡ naming_after (naming_of naming) (word_of w) → (o : Option (Bor (List ℕ))) → option_copied o ≡ defined_by (naming_of naming) (word_of w)
+      → (set' : BTreeSet (Bor (List ℕ))) → ((names : List (List ℕ)) → HasNames set names → HasNames set' (option_to_list (option_copied o) ++ names))
+      → (placed' : List Placed) → placed' ≡ placed ++ (p ∷ []) → MarkedTo text placed' naming' set'
+  marked_more naming' n o joins set' grows placed' e = record {
+    names = option_to_list (option_copied o) ++ m.names;
+    has = grows m.names m.has;
+    rest = λ more.
+        let before = naming_of naming in
+        let tail = words_from text (naming_of naming') (option_to_list (option_copied o) ++ m.names) more in
+        let tokens : tokens_of placed' ++ more ≡ tokens_of placed ++ (token_of p ∷ more) =
+        ap (λ ps. tokens_of ps ++ more) e ∙ ap (λ ts. ts ++ more) (map-append token_of placed (p ∷ [])) ∙ append_assoc (tokens_of placed) (token_of p ∷ []) more in
+        let found : words_at text placed' ++ tail ≡ words_at text placed ++ (word_of w ∷ tail) =
+        ap (λ ps. words_at text ps ++ tail) e ∙ ap (λ ws. ws ++ tail) (map-append (word_at text) placed (p ∷ [])) ∙ append_assoc (words_at text placed) (word_at text p ∷ []) tail
+        ∙ ap (λ x. words_at text placed ++ (x ∷ tail)) made_again in
+        let step : token_word text m.names (token_of p) ∷ words_from text (naming_after before (token_word text m.names (token_of p))) (option_to_list (defined_by before (token_word text m.names (token_of p))) ++ m.names) more ≡ word_of w ∷ tail =
+        ap (λ x. x ∷ words_from text (naming_after before x) (option_to_list (defined_by before x) ++ m.names) more) told
+        ∙ ap (λ x. word_of w ∷ words_from text x (option_to_list (defined_by before (word_of w)) ++ m.names) more) (sym n)
+        ∙ ap (λ x. word_of w ∷ words_from text (naming_of naming') (option_to_list x ++ m.names) more) (sym joins) in
+        ap (words_of text) tokens ∙ m.rest (token_of p ∷ more) ∙ ap (λ l. words_at text placed ++ l) step ∙ sym found;
+  }

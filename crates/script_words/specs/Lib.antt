@@ -3,3 +3,5 @@ pub mod Signs
 pub mod Lex
 pub mod Words
 pub mod Named
+pub mod Placed
+pub mod Kept

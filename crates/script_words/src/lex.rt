@@ -1,13 +1,12 @@
 //! Bytes to tokens.
 
-ghost use Rattle.std.specs.Prelude.{◌≡◌, ◌≤◌, ◌<◌, ◌^◌, All, length, drop, false, IfSome, IfOk};
+ghost use Rattle.std.specs.Prelude.{◌≡◌, ◌≤◌, ◌<◌, length, drop, false, IfSome};
 ghost use Rattle.script_words.specs.Literals as literals;
 ghost use Rattle.script_words.specs.Signs as signs;
 ghost use Rattle.script_words.specs.Lex as spec;
-ghost use Rattle.script_words.specs.Lex.{IsWithin, Lexes, LexesOnce, LexesAll};
+ghost use Rattle.script_words.specs.Lex.{LexesOnce, LexesAll};
 
 use crate::class::Sign;
-use std::alloc::{AllocError, Global};
 
 /// What a token is, to the reader of a script.
 #[derive(Clone, Copy, Debug, PartialEq, Eq)]
@@ -134,7 +133,7 @@ fn literal_len(text: &[u8]) -> usize
 }
 
 /// How many bytes at the front are blank or in a comment.
-fn blank_len(text: &[u8]) -> usize
+pub(crate) fn blank_len(text: &[u8]) -> usize
     ensures len { result ≡ spec.blank_len false text.now }
     ensures within { result ≤ length text.now }
 {
@@ -248,7 +247,7 @@ fn word_kind(word: &[u8]) -> TokenKind
 
 /// The token at the front, with its length.
 #[tactic(auto, unfolding(crate::specs::Lex::front))]
-fn front(text: &[u8]) -> Option<(TokenKind, usize)>
+pub(crate) fn front(text: &[u8]) -> Option<(TokenKind, usize)>
     ensures token { result ≡ spec.front text.now }
     ensures within { IfSome result (λ found. (0 < found.1) × (found.1 ≤ length text.now)) }
 {
@@ -270,48 +269,12 @@ fn front(text: &[u8]) -> Option<(TokenKind, usize)>
     }
 }
 
-/// The tokens of a text, up to the first byte outside of blanks and comments that begins none.
-#[derive(Drop)]
-pub struct Lexed {
-    pub tokens: Vec<Token>,
-    pub bad: Option<u32>,
-}
-
 /// The text from a place on.
-fn rest_at(text: &[u8], at: usize) -> &[u8]
+pub(crate) fn rest_at(text: &[u8], at: usize) -> &[u8]
     requires { at ≤ length text.now }
     ensures { result.now ≡ drop at text.now }
 {
     &text[at..]
-}
-
-/// The tokens of a text. `Err` only where memory runs out.
-pub fn lex(alloc: Global, text: &[u8]) -> Result<Lexed, AllocError>
-    requires { length text.now < 2 ^ 32 }
-    ensures tokens { IfOk result (λ lexed. Lexes 0 text.now lexed.tokens.items lexed.bad) }
-    ensures within { IfOk result (λ lexed. All (IsWithin text.now) lexed.tokens.items) }
-{
-    let mut tokens = Vec::new(alloc);
-    let mut at = 0;
-    while at < text.len() {
-        let start = at + blank_len(rest_at(text, at));
-        if start == text.len() {
-            return Ok(Lexed { tokens, bad: None });
-        }
-        let Some((kind, len)) = front(rest_at(text, start)) else {
-            return Ok(Lexed {
-                tokens,
-                bad: Some(start as u32),
-            });
-        };
-        tokens.push(Token {
-            kind,
-            start: start as u32,
-            end: (start + len) as u32,
-        })?;
-        at = start + len;
-    }
-    Ok(Lexed { tokens, bad: None })
 }
 
 /// A text has one list of tokens, and one byte at most that begins none.

@@ -4,6 +4,7 @@
 pub mod class;
 pub mod digits;
 pub mod lex;
+pub mod list;
 #[cfg(test)]
 mod tests;
 pub mod words;

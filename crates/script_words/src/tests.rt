@@ -13,7 +13,8 @@ fn lexed(alloc: Global, text: &[u8]) -> Result<(Vec<u8>, Option<u32>), AllocErro
 {
     let read = read_words(alloc, text)?;
     let mut joined = Vec::new(alloc);
-    for token in &read.tokens {
+    let tokens = read.list().tokens(alloc)?;
+    for token in &tokens {
         let spelled = text.get(token.start as usize..token.end as usize);
         joined.extend_from_slice(spelled.unwrap_or(&[]))?;
         joined.push(b'\n')?;
@@ -109,8 +110,9 @@ fn letters(alloc: Global, text: &[u8]) -> Result<Vec<u8>, AllocError>
 {
     let read = read_words(alloc, text)?;
     let mut found = Vec::new(alloc);
-    for word in &read.words {
-        found.push(letter(*word))?;
+    let words = read.list();
+    for number in 0..words.len() {
+        found.push(letter(words.at(number)))?;
     }
     Ok(found)
 }

@@ -1,6 +1,6 @@
 //! The words of a text: its tokens by class, with the names of rounding operators marked.
 
-ghost use Rattle.std.specs.Prelude.{◌≡◌, ℕ, ◌<◌, ◌^◌, List, All, length, ◌++◌, map, IfOk, OnOk, option_to_list};
+ghost use Rattle.std.specs.Prelude.{◌≡◌, ℕ, ◌<◌, ◌^◌, List, All, length, ◌++◌, IfOk, OnOk, option_to_list};
 ghost use Rattle.std.specs.List.{list_all, list_any};
 ghost use Rattle.std.specs.Option.{option_copied};
 ghost use Rattle.std.specs.Str.{bytes_eq};
@@ -9,9 +9,11 @@ ghost use Rattle.script_words.specs.Named as spec;
 ghost use Rattle.script_words.specs.Named.{HasNames, IsOneList};
 ghost use Rattle.script_words.specs.Words.{class_of};
 ghost use Rattle.script_words.specs.Lex.{IsWithin, Lexes};
+ghost use Rattle.script_words.specs.Kept.{all_words, all_tokens};
 
 use crate::class::{Class, Number, Sign, Spelled};
-use crate::lex::{Lexed, Token, TokenKind, lex};
+use crate::lex::{TokenKind, blank_len, front, rest_at};
+use crate::list::{Placed, Words};
 use std::alloc::{AllocError, Global};
 use std::collections::BTreeSet;
 
@@ -37,14 +39,6 @@ impl Word<'_> {
             Word::Sign(sign) => Class::Sign(sign),
         }
     }
-}
-
-/// The words of a text with their places, up to the first byte that begins no token.
-#[derive(Drop)]
-pub struct Words<'a> {
-    pub words: Vec<Word<'a>>,
-    pub tokens: Vec<Token>,
-    pub bad: Option<u32>,
 }
 
 fn is_direction(word: &[u8]) -> bool
@@ -114,13 +108,12 @@ fn add_operator<'a>(operators: &mut Operators<'a>, name: Option<&'a [u8]>) -> Re
     Ok(())
 }
 
-fn token_word<'a>(text: &'a [u8], operators: &Operators<'a>, token: &Token) -> Word<'a>
-    requires { IsWithin text.now token.now }
+/// The word of a token with this text.
+fn kind_word<'a>(operators: &Operators<'a>, kind: TokenKind, spelled: &'a [u8]) -> Word<'a>
     ensures { (names : List (List ℕ)) → HasNames operators.now names
-        → spec.word_of result ≡ spec.token_word text.now names token.now }
+        → spec.word_of result ≡ spec.kind_word names kind spelled.now }
 {
-    let spelled = &text[token.start as usize..token.end as usize];
-    match token.kind {
+    match kind {
         TokenKind::Name => {
             if is_operator(operators, spelled) {
                 Word::Rounding(spelled_of(spelled), spelled)
@@ -165,39 +158,50 @@ fn defined_by<'a>(naming: Naming<'a>, word: Word<'a>) -> Option<&'a [u8]>
     }
 }
 
-fn words_of<'a>(
-    alloc: Global,
-    text: &'a [u8],
-    tokens: &[Token],
-) -> Result<Vec<Word<'a>>, AllocError>
-    requires { All (IsWithin text.now) tokens.now }
-    ensures words { IfOk result (λ words. map spec.word_of words.items ≡ spec.words_of text.now tokens.now) }
-    ensures places { IfOk result (λ words. length tokens.now ≡ length words.items) }
-{
-    let mut words = Vec::with_capacity(alloc, tokens.len())?;
-    let mut operators = BTreeSet::new(alloc);
-    let mut naming = Naming::Nothing;
-    for token in tokens {
-        let word = token_word(text, &operators, token);
-        add_operator(&mut operators, defined_by(naming, word))?;
-        naming = naming_after(naming, word);
-        words.push(word)?;
-    }
-    Ok(words)
-}
-
 /// The words of a text. `Err` only where memory runs out.
 pub fn read_words<'a>(alloc: Global, text: &'a [u8]) -> Result<Words<'a>, AllocError>
     requires { length text.now < 2 ^ 32 }
-    ensures tokens { IfOk result (λ read. Lexes 0 text.now read.tokens.items read.bad) }
-    ensures words { IfOk result
-        (λ read. map spec.word_of read.words.items ≡ spec.words_of text.now read.tokens.items) }
-    ensures places { IfOk result (λ read. length read.tokens.items ≡ length read.words.items) }
-    ensures within { IfOk result (λ read. All (IsWithin text.now) read.tokens.items) }
+    ensures tokens { IfOk result (λ read. Lexes 0 text.now (all_tokens read) read.bad) }
+    ensures words { IfOk result (λ read. all_words read ≡ spec.words_of text.now (all_tokens read)) }
+    ensures within { IfOk result (λ read. All (IsWithin text.now) (all_tokens read)) }
 {
-    let Lexed { tokens, bad } = lex(alloc, text)?;
-    let words = words_of(alloc, text, tokens.as_slice())?;
-    Ok(Words { words, tokens, bad })
+    // A word has a byte or more, so none is moved for want of room.
+    let mut placed = Vec::with_capacity(alloc, text.len())?;
+    let mut operators = BTreeSet::new(alloc);
+    let mut naming = Naming::Nothing;
+    let mut at = 0;
+    while at < text.len() {
+        let start = at + blank_len(rest_at(text, at));
+        if start == text.len() {
+            return Ok(Words {
+                text,
+                placed,
+                bad: None,
+            });
+        }
+        let Some((kind, len)) = front(rest_at(text, start)) else {
+            return Ok(Words {
+                text,
+                placed,
+                bad: Some(start as u32),
+            });
+        };
+        let end = start + len;
+        let word = kind_word(&operators, kind, &text[start..end]);
+        add_operator(&mut operators, defined_by(naming, word))?;
+        naming = naming_after(naming, word);
+        placed.push(Placed {
+            class: word.class(),
+            start: start as u32,
+            end: end as u32,
+        })?;
+        at = end;
+    }
+    Ok(Words {
+        text,
+        placed,
+        bad: None,
+    })
 }
 
 /// A text is one list of words at most.
