@@ -1,12 +1,10 @@
 -- The loop over words, and what its answer means.
-use Rattle.std.proofs.Common.{◌≡◌, ℕ, ◌+◌, ◌<◌, List, [], ◌∷◌, ◌++◌, length, take, drop, map, get_or, Option, Some, None, option_and_then, Bool, true, false, refl, sym, ap, ◌∙◌, arith}
-use Rattle.std.specs.List.{take-map}
+use Rattle.std.proofs.Common.{◌≡◌, ℕ, ◌+◌, ◌<◌, List, [], ◌∷◌, ◌++◌, length, take, drop, map, Option, Some, None, option_and_then, Bool, true, false, refl, sym, ap, ◌∙◌, arith}
 use Rattle.std.proofs.Math.Seq.{take-length}
-use Rattle.std.proofs.lemmas.List.{take_more, take-append-drop, map-append, length_push}
+use Rattle.std.proofs.lemmas.List.{take-append-drop, map-append, length_push}
 use Rattle.script_words.specs.declared.class.Class.{Class}
-use Rattle.script_words.specs.declared.words.Word.{Word as CodeWord}
-use Rattle.script_words.specs.Words.{Word, class_of}
-use Rattle.script_words.specs.Named.{word_of}
+use Rattle.script_words.specs.declared.class.Sign.TheVariants as s
+use Rattle.script_words.specs.Words.{Word, sign, class_of}
 use Rattle.script_shape.specs.declared.due.Due.{Due}
 use Rattle.script_shape.specs.Table.{takes, may_skip, role_of}
 use Rattle.script_shape.specs.Shape.{after_top, step, role_at_top, role_next, run, start, may_end}
@@ -15,10 +13,9 @@ use Rattle.script_shape.specs.ShapeLaw.{IsShapeOf, Steps, AreRolesOf, grown, rol
 use Rattle.script_shape.proofs.ShapeLaws.{run_on, refused_all, shape_is_exact}
 use Rattle.script_shape.proofs.RoleLaws.{roles_unique}
 
--- the words up to the next one
-pub front_more : (xs : List CodeWord) (i : ℕ) (d : CodeWord) → i < length xs → take (i + 1) (map word_of xs) ≡ take i (map word_of xs) ++ (word_of (get_or xs i d) ∷ [])
-front_more xs i d h =
-    take-map word_of (i + 1) xs ∙ ap (map word_of) (take_more xs i d h) ∙ map-append word_of (take i xs) (get_or xs i d ∷ []) ∙ ap (λ l. l ++ (word_of (get_or xs i d) ∷ [])) (sym (take-map word_of i xs))
+-- what a number past the end of words would be read as
+abbrev pub any_word : Word
+any_word = sign s.In
 
 pub single : (w : Word) (left : List Due) → run (w ∷ []) left ≡ step (class_of w) left
 unfolding run

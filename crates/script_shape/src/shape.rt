@@ -1,17 +1,17 @@
 //! Where a list of words leaves the grammar of scripts.
 
-ghost use Rattle.std.specs.Prelude.{◌≡◌, List, length, map, reverse, IfOk};
+ghost use Rattle.std.specs.Prelude.{◌≡◌, length, reverse, IfOk};
 ghost use Rattle.script_shape.specs.Shape as spec;
 ghost use Rattle.script_shape.specs.ShapeLaw.{ShapeIsExact, ShapeIsUnique, ShapesExist, RolesAreUnique, Steps, IsShapeOf, AreRolesOf};
 ghost use Rattle.script_shape.specs.Roles.{LeavesSpell, LeavesAreOfTrees};
 ghost use Rattle.script_shape.specs.Next as spec_next;
 ghost use Rattle.script_shape.specs.Next.{NextIsExact};
-ghost use Rattle.script_words.specs.Named.{word_of};
+ghost use Rattle.script_words.specs.Kept.{words_in};
 
 use crate::due::Due;
 use crate::table::{may_skip, role_of, takes};
 use script_words::class::Class;
-use script_words::words::Word;
+use script_words::list::WordList;
 use std::alloc::{AllocError, Global};
 
 /// Takes one more token, where it has a place, and answers its role. The last thing on the stack is due first.
@@ -52,16 +52,26 @@ pub struct Shape {
     pub whole: bool,
 }
 
-/// How far words go with the grammar. `Err` only where memory runs out.
-pub fn shape_of(alloc: Global, words: &[Word<'_>]) -> Result<Shape, AllocError>
-    ensures shape { IfOk result (λ shape. IsShapeOf (map word_of words.now) (length shape.roles.items) shape.whole) }
-    ensures roles { IfOk result (λ shape. AreRolesOf (map word_of words.now) (length shape.roles.items) shape.roles.items) }
+/// A stack on which a script is due, with room for what so many words leave due: `fma` and its `(` leave six things more
+/// than they take, and no other words as many.
+fn script_due(alloc: Global, words: usize) -> Result<Vec<Due>, AllocError>
+    ensures { IfOk result (λ stack. reverse stack.items ≡ spec.start) }
 {
-    let mut stack = Vec::new(alloc);
-    let mut roles = Vec::new(alloc);
+    let room = words.saturating_mul(3).saturating_add(16);
+    let mut stack = Vec::with_capacity(alloc, room)?;
     stack.push(Due::Script)?;
-    for word in words {
-        let Some(role) = step(&mut stack, word.class())? else {
+    Ok(stack)
+}
+
+/// How far words go with the grammar. `Err` only where memory runs out.
+pub fn shape_of(alloc: Global, words: WordList<'_, '_>) -> Result<Shape, AllocError>
+    ensures shape { IfOk result (λ shape. IsShapeOf (words_in words.entry) (length shape.roles.items) shape.whole) }
+    ensures roles { IfOk result (λ shape. AreRolesOf (words_in words.entry) (length shape.roles.items) shape.roles.items) }
+{
+    let mut stack = script_due(alloc, words.len())?;
+    let mut roles = Vec::with_capacity(alloc, words.len())?;
+    for number in 0..words.len() {
+        let Some(role) = step(&mut stack, words.class_at(number))? else {
             return Ok(Shape {
                 roles,
                 whole: false,
@@ -76,13 +86,12 @@ pub fn shape_of(alloc: Global, words: &[Word<'_>]) -> Result<Shape, AllocError>
 }
 
 /// Whether a word of this class may come next. `Err` only where memory runs out.
-pub fn may_follow(alloc: Global, words: &[Word<'_>], next: Class) -> Result<bool, AllocError>
-    ensures { IfOk result (λ may. may ≡ spec_next.may_follow (map word_of words.now) next) }
+pub fn may_follow(alloc: Global, words: WordList<'_, '_>, next: Class) -> Result<bool, AllocError>
+    ensures { IfOk result (λ may. may ≡ spec_next.may_follow (words_in words.entry) next) }
 {
-    let mut stack = Vec::new(alloc);
-    stack.push(Due::Script)?;
-    for word in words {
-        let Some(_) = step(&mut stack, word.class())? else {
+    let mut stack = script_due(alloc, words.len())?;
+    for number in 0..words.len() {
+        let Some(_) = step(&mut stack, words.class_at(number))? else {
             return Ok(false);
         };
     }

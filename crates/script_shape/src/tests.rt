@@ -12,8 +12,9 @@ fn fault(alloc: Global, text: &[u8]) -> Result<Option<usize>, AllocError>
     requires { length text.now < 2 ^ 32 }
 {
     let read = read_words(alloc, text)?;
-    let shape = shape_of(alloc, read.words.as_slice())?;
-    if let Some(token) = read.tokens.get(shape.roles.len()) {
+    let words = read.list();
+    let shape = shape_of(alloc, words)?;
+    if let Some(token) = words.token(shape.roles.len()) {
         return Ok(Some(token.start as usize));
     }
     if let Some(at) = read.bad {
