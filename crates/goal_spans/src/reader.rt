@@ -1,13 +1,15 @@
 //! The spans of goals, read word by word.
 
-ghost use Rattle.std.specs.Prelude.{◌≡◌, ◌+◌, ◌<◌, ◌^◌, map, IfOk, OnOk, OnErr};
+ghost use Rattle.std.specs.Prelude.{◌≡◌, ◌+◌, ◌<◌, ◌^◌, IfOk, OnOk, OnErr};
 ghost use Rattle.script_words.specs.Named.{word_of};
+ghost use Rattle.script_words.specs.Kept.{words_in};
 ghost use Rattle.script_shape.specs.Roles.{leaves_of};
 ghost use Rattle.goal_spans.specs.Reading as spec;
 
 use crate::span::Span;
 use script_shape::due::Due;
 use script_words::class::Sign;
+use script_words::list::WordList;
 use script_words::words::Word;
 use std::alloc::{AllocError, Global};
 use std::marker::Model;
@@ -167,18 +169,22 @@ impl SpanReader {
 /// Which words are the expression part of each goal: of a script's words with their roles, those of `goal_spans` of its tree
 /// (`spans_are_read`). `Err` only where memory runs out.
 #[tactic(auto, unfolding(crate::specs::Reading::read_words))]
-pub fn goal_spans(alloc: Global, words: &[Word<'_>], roles: &[Due]) -> Result<Vec<Span>, AllocError>
+pub fn goal_spans(
+    alloc: Global,
+    words: WordList<'_, '_>,
+    roles: &[Due],
+) -> Result<Vec<Span>, AllocError>
     ensures { IfOk result (λ spans. spans.items
-        ≡ spec.spans_read (leaves_of roles.now (map word_of words.now))) }
+        ≡ spec.spans_read (leaves_of roles.now (words_in words.entry))) }
 {
     let mut reader = SpanReader::new(alloc);
     let mut words = words;
     let mut roles = roles;
     while let [role, later_roles @ ..] = roles {
-        let [word, later_words @ ..] = words else {
+        let Some((word, later_words)) = words.split_first() else {
             return Ok(reader.into_spans());
         };
-        reader.token(*role, *word)?;
+        reader.token(*role, word)?;
         words = later_words;
         roles = later_roles;
     }

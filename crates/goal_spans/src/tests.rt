@@ -14,8 +14,8 @@ fn has_spans(alloc: Global, text: &[u8], spans: &[Span]) -> Result<bool, AllocEr
     requires { length text.now < 2 ^ 32 }
 {
     let read = read_words(alloc, text)?;
-    let shape = shape_of(alloc, read.words.as_slice())?;
-    let found = goal_spans(alloc, read.words.as_slice(), shape.roles.as_slice())?;
+    let shape = shape_of(alloc, read.list())?;
+    let found = goal_spans(alloc, read.list(), shape.roles.as_slice())?;
     Ok(shape.whole && found.as_slice() == spans)
 }
 
@@ -63,7 +63,7 @@ fn goals(rt: HostRuntime) -> Result<(), Fail> {
 #[test]
 fn parts(rt: HostRuntime) -> Result<(), Fail> {
     let read = read_words(rt.alloc(), b"{ x in ? /\\ y in ?")?;
-    let words = read.words.as_slice();
+    let words = read.list();
     let shape = shape_of(rt.alloc(), words)?;
     let found = goal_spans(rt.alloc(), words, shape.roles.as_slice())?;
     assert!(rt; found.as_slice() == [Span { first: 1, end: 2 }].as_slice());
