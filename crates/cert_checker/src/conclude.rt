@@ -144,7 +144,7 @@ fn met_with(given: Option<Fact>, with: Option<Fact>) -> Option<Fact>
     }
 }
 
-// The same of what is given, met with this fact. Where they are alike, what is as strong alone needs no meeting.
+// Whether what is given, met with the cited fact, is as strong as the stated one. The meet is made only where what is given isn't as strong alone.
 fn is_enough(given: Option<Fact>, with: Option<Fact>, fact: &Fact) -> bool
     requires { IsLike fact.now with }
     ensures { IsTrue result ↔ spec.IsEnough (spec.met_with given with) fact.now }
