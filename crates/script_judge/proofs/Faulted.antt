@@ -1,12 +1,8 @@
 -- Where the reading of words ends.
-use Rattle.std.proofs.Common.{◌≡◌, ℕ, zero, suc, ◌+◌, ◌-◌, ◌≤◌, List, [], ◌∷◌, length, take, map, Option, Some, None, Bool, Result, Ok, Err, IfOk, refl, sym, ap, ◌∙◌, subst, arith}
-use Rattle.std.specs.List.{slice_get, take-map}
-use Rattle.std.specs.Option.{option_map}
-use Rattle.std.proofs.lemmas.Option.{slice_get-map}
-use Rattle.script_words.specs.declared.words.Word.{Word as CodeWord}
+use Rattle.std.proofs.Common.{◌≡◌, ℕ, zero, suc, ◌+◌, ◌-◌, ◌≤◌, List, [], ◌∷◌, length, take, Option, Some, None, Bool, Result, Ok, Err, IfOk, refl, sym, ap, ◌∙◌, subst, arith}
+use Rattle.std.specs.List.{slice_get}
 use Rattle.script_words.specs.declared.lex.Token.{Token}
 use Rattle.script_words.specs.Words.{Word}
-use Rattle.script_words.specs.Named.{word_of}
 use Rattle.script_shape.specs.declared.due.Due.{Due}
 use Rattle.script_shape.specs.Roles.{at, leaves_of}
 use Rattle.script_judge.specs.declared.refusal.Refusal.{Refusal}
@@ -36,35 +32,28 @@ earlier text rs ws h =
     ap (has_value text) (leaves_take (length rs - 1) rs ws ∙ ap (λ n. take (n - 1) (leaves_of rs ws)) (sym (leaves_length rs ws h)))
 
 -- the reading of these words, with their roles
-abbrev pub reading : List Token → Option ℕ → List CodeWord → List Due → Bool → Reading
+abbrev pub reading : List Token → Option ℕ → List Word → List Due → Bool → Reading
 reading tokens bad words roles whole = record {
   tokens = tokens;
   bad = bad;
-  words = map word_of words;
+  words = words;
   taken = length roles;
   whole = whole;
-  leaves = leaves_of roles (map word_of words);
+  leaves = leaves_of roles words;
 }
 
-pub ends_at : (len : ℕ) (tokens : List Token) (bad : Option ℕ) (words : List CodeWord) (roles : List Due) (whole : Bool) (word : CodeWord) (next : Option CodeWord) (f : Fault) (answer : Refusal)
-    → slice_get words (length roles) ≡ Some word → next ≡ slice_get words (length roles + 1)
-    → f ≡ fault_of (map word_of (take (length roles) words)) (leaves_of roles (map word_of (take (length roles) words))) (word_of word) (option_map word_of next)
-    → answer ≡ at_word tokens f → Some answer ≡ fault len (reading tokens bad words roles whole)
-ends_at len tokens bad words roles whole word next f answer h n e a =
-    let taken : map word_of (take (length roles) words) ≡ take (length roles) (map word_of words) = sym (take-map word_of (length roles) words) in
-    let leaves : leaves_of roles (map word_of (take (length roles) words)) ≡ leaves_of roles (map word_of words) = ap (leaves_of roles) taken ∙ leaves_front roles (map word_of words) in
-    let later : option_map word_of next ≡ slice_get (map word_of words) (length roles + 1) = ap (option_map word_of) n ∙ sym (slice_get-map word_of words (length roles + 1)) in
-    let found : slice_get (map word_of words) (length roles) ≡ Some (word_of word) = slice_get-map word_of words (length roles) ∙ ap (option_map word_of) h in
-    let same : f ≡ fault_of (take (length roles) (map word_of words)) (leaves_of roles (map word_of words)) (word_of word) (slice_get (map word_of words) (length roles + 1)) =
-    e ∙ ap (λ b. fault_of b (leaves_of roles (map word_of (take (length roles) words))) (word_of word) (option_map word_of next)) taken
-    ∙ ap (λ l. fault_of (take (length roles) (map word_of words)) l (word_of word) (option_map word_of next)) leaves
-    ∙ ap (fault_of (take (length roles) (map word_of words)) (leaves_of roles (map word_of words)) (word_of word)) later in
-    ap Some (a ∙ ap (at_word tokens) same) ∙ sym (ap (fault_at len (reading tokens bad words roles whole)) found)
+module _ (len : ℕ) (tokens : List Token) (bad : Option ℕ) (words : List Word) (roles : List Due) (whole : Bool) where
+  pub ends_at : (before : List Word) (word : Word) (next : Option Word) (f : Fault) (answer : Refusal) → before ≡ take (length roles) words → slice_get words (length roles) ≡ Some word → next ≡ slice_get words (length roles + 1)
+      → f ≡ fault_of before (leaves_of roles before) word next → answer ≡ at_word tokens f → Some answer ≡ fault len (reading tokens bad words roles whole)
+  ends_at before word next f answer b h n e a =
+      let front = take (length roles) words in
+      let leaves : leaves_of roles before ≡ leaves_of roles words = ap (leaves_of roles) b ∙ leaves_front roles words in
+      let same : f ≡ fault_of front (leaves_of roles words) word (slice_get words (length roles + 1)) =
+      e ∙ ap (λ x. fault_of x (leaves_of roles before) word next) b ∙ ap (λ l. fault_of front l word next) leaves ∙ ap (fault_of front (leaves_of roles words) word) n in
+      ap Some (a ∙ ap (at_word tokens) same) ∙ sym (ap (fault_at len (reading tokens bad words roles whole)) h)
 
-pub ends_whole : (len : ℕ) (tokens : List Token) (bad : Option ℕ) (words : List CodeWord) (roles : List Due) (whole : Bool) (answer : Option Refusal)
-    → slice_get words (length roles) ≡ None → answer ≡ fault_at_end len bad whole → answer ≡ fault len (reading tokens bad words roles whole)
-ends_whole len tokens bad words roles whole answer h a =
-    a ∙ sym (ap (fault_at len (reading tokens bad words roles whole)) (slice_get-map word_of words (length roles) ∙ ap (option_map word_of) h))
+  pub ends_whole : (answer : Option Refusal) → slice_get words (length roles) ≡ None → answer ≡ fault_at_end len bad whole → answer ≡ fault len (reading tokens bad words roles whole)
+  ends_whole answer h a = a ∙ sym (ap (fault_at len (reading tokens bad words roles whole)) h)
 
 -- ---- texts
 

@@ -1,10 +1,8 @@
 -- The loop of the judge, a turn at a time.
-use Rattle.std.proofs.Common.{◌≡◌, ℕ, suc, ◌+◌, ◌-◌, ◌≤◌, Bool, true, false, ◌||◌, nat_lt, nat_eq, if◌then◌else◌, List, [], ◌∷◌, length, drop, map, Option, Some, None, refl, sym, ap, ◌∙◌, subst, arith}
+use Rattle.std.proofs.Common.{◌≡◌, ℕ, suc, ◌+◌, ◌-◌, ◌≤◌, Bool, true, false, ◌||◌, nat_lt, nat_eq, if◌then◌else◌, List, [], ◌∷◌, length, drop, Option, Some, None, refl, sym, ap, ◌∙◌, subst, arith}
 use Rattle.std.proofs.lemmas.Bool.{ltb-false}
 use Rattle.std.proofs.Math.ListN.{drop_of_length-le}
-use Rattle.script_words.specs.declared.words.Word.{Word as CodeWord}
 use Rattle.script_words.specs.Words.{Word}
-use Rattle.script_words.specs.Named.{word_of}
 use Rattle.script_shape.specs.declared.due.Due.{Due}
 use Rattle.script_shape.specs.Roles.{Leaf, at, leaves_of}
 use Rattle.script_judge.specs.declared.refusal.RefusalKind.{RefusalKind}
@@ -76,12 +74,11 @@ no_limit opened halved c lsb pieces h =
 
 -- ---- the words that are left
 
-pub split_at : (rs : List Due) (ws : List CodeWord) (n : ℕ) (r : Due) (w : CodeWord) → drop n rs ≡ r ∷ drop (n + 1) rs → drop n ws ≡ w ∷ drop (n + 1) ws
-    → leaves_of (drop n rs) (map word_of (drop n ws)) ≡ at r (word_of w) ∷ leaves_of (drop (n + 1) rs) (map word_of (drop (n + 1) ws))
-split_at rs ws n r w e f = ap (λ l. leaves_of l (map word_of (drop n ws))) e ∙ ap (λ l. leaves_of (r ∷ drop (n + 1) rs) (map word_of l)) f
+pub split_at : (rs : List Due) (ws : List Word) (n : ℕ) (r : Due) (w : Word) → drop n rs ≡ r ∷ drop (n + 1) rs → drop n ws ≡ w ∷ drop (n + 1) ws → leaves_of (drop n rs) (drop n ws) ≡ at r w ∷ leaves_of (drop (n + 1) rs) (drop (n + 1) ws)
+split_at rs ws n r w e f = ap (λ l. leaves_of l (drop n ws)) e ∙ ap (leaves_of (r ∷ drop (n + 1) rs)) f
 
-pub same_rest : (rs later : List Due) (ws words : List CodeWord) (n : ℕ) → later ≡ drop n rs → words ≡ drop n ws → leaves_of later (map word_of words) ≡ leaves_of (drop n rs) (map word_of (drop n ws))
-same_rest rs later ws words n e f = ap (λ l. leaves_of l (map word_of words)) e ∙ ap (λ l. leaves_of (drop n rs) (map word_of l)) f
+pub same_rest : (rs later : List Due) (ws words : List Word) (n : ℕ) → later ≡ drop n rs → words ≡ drop n ws → leaves_of later words ≡ leaves_of (drop n rs) (drop n ws)
+same_rest rs later ws words n e f = ap (λ l. leaves_of l words) e ∙ ap (leaves_of (drop n rs)) f
 
 pub none_left : (rs : List Due) (ws : List Word) (n : ℕ) → length rs ≤ n → leaves_of (drop n rs) ws ≡ []
 none_left rs ws n h = ap (λ l. leaves_of l ws) (drop_of_length-le rs h)

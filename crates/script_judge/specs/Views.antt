@@ -1,7 +1,8 @@
 -- The code's values as those that definitions speak of.
 use Rattle.std.specs.Prelude.{◌≡◌, length, map, reverse}
 use Rattle.std.specs.Option.{option_copied}
-use Rattle.script_words.specs.Named.{word_of, HasNames}
+use Rattle.script_words.specs.Named.{HasNames}
+use Rattle.script_words.specs.Kept.{all_words, all_tokens}
 use Rattle.script_judge.specs.declared.names.Names.{Names}
 use Rattle.script_judge.specs.declared.judge.Seen.{Seen as CodeSeen}
 use Rattle.script_judge.specs.declared.reading.ReadText.{ReadText}
@@ -16,12 +17,12 @@ use Rattle.script_judge.specs.SplitViews.{splits_seen}
 -- what the code has read
 abbrev pub reading_of : ReadText → Reading
 reading_of r = record {
-  tokens = r.tokens.items;
-  bad = r.bad;
-  words = map word_of r.words.items;
+  tokens = all_tokens r.words;
+  bad = r.words.bad;
+  words = all_words r.words;
   taken = length r.shape.roles.items;
   whole = r.shape.whole;
-  leaves = leaves_of r.shape.roles.items (map word_of r.words.items);
+  leaves = leaves_of r.shape.roles.items (all_words r.words);
 }
 
 -- the code's names are these

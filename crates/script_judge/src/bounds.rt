@@ -1,9 +1,10 @@
 //! The bounds of ranges.
 
-ghost use Rattle.std.specs.Prelude.{◌≡◌, ◌↔◌, Some, map};
+ghost use Rattle.std.specs.Prelude.{◌≡◌, ◌↔◌, Some};
 ghost use Rattle.std.specs.Option.{option_map};
 ghost use Rattle.fx_model.specs.Fraction.{Fraction};
 ghost use Rattle.script_words.specs.Named.{word_of};
+ghost use Rattle.script_words.specs.Kept.{words_in};
 ghost use Rattle.script_judge.specs.Bounds as spec;
 ghost use Rattle.script_shape.specs.Roles.{leaves_of};
 ghost use Rattle.literal_order.specs.Values.{written_value, IsWritten};
@@ -13,6 +14,7 @@ use bound_order::{is_too_low, read_number};
 use literal_order::Written;
 use script_shape::due::Due;
 use script_words::class::Sign;
+use script_words::list::WordList;
 use script_words::words::Word;
 
 fn word_number(negative: bool, word: Word<'_>) -> Option<Written>
@@ -27,24 +29,24 @@ fn word_number(negative: bool, word: Word<'_>) -> Option<Written>
 }
 
 /// The number of the next word.
-fn magnitude(negative: bool, words: &[Word<'_>], roles: &[Due]) -> Option<Written>
+fn magnitude(negative: bool, words: WordList<'_, '_>, roles: &[Due]) -> Option<Written>
     ensures normal { IsWritten result }
     ensures value { (x : Fraction) → (option_map written_value result ≡ Some x)
-        ↔ spec.IsMagnitude negative (leaves_of roles.now (map word_of words.now)) x }
+        ↔ spec.IsMagnitude negative (leaves_of roles.now (words_in words.entry)) x }
 {
     let [_role, _later_roles @ ..] = roles else {
         return None;
     };
-    let [word, _later_words @ ..] = words else {
+    let Some((word, _later_words)) = words.split_first() else {
         return None;
     };
-    word_number(negative, *word)
+    word_number(negative, word)
 }
 
-fn bound_text(word: Word<'_>, words: &[Word<'_>], roles: &[Due]) -> Option<Written>
+fn bound_text(word: Word<'_>, words: WordList<'_, '_>, roles: &[Due]) -> Option<Written>
     ensures normal { IsWritten result }
     ensures value { (x : Fraction) → (option_map written_value result ≡ Some x)
-        ↔ spec.IsBoundText (word_of word.entry) (leaves_of roles.now (map word_of words.now)) x }
+        ↔ spec.IsBoundText (word_of word.entry) (leaves_of roles.now (words_in words.entry)) x }
 {
     match word {
         Word::Literal(_, text) => read_number(false, text),
@@ -55,10 +57,15 @@ fn bound_text(word: Word<'_>, words: &[Word<'_>], roles: &[Due]) -> Option<Writt
 }
 
 /// The number of the bound that begins with a token.
-pub fn bound_number(role: Due, word: Word<'_>, words: &[Word<'_>], roles: &[Due]) -> Option<Written>
+pub fn bound_number(
+    role: Due,
+    word: Word<'_>,
+    words: WordList<'_, '_>,
+    roles: &[Due],
+) -> Option<Written>
     ensures normal { IsWritten result }
     ensures value { (x : Fraction) → (option_map written_value result ≡ Some x)
-        ↔ spec.IsBoundOf role (word_of word.entry) (leaves_of roles.now (map word_of words.now)) x }
+        ↔ spec.IsBoundOf role (word_of word.entry) (leaves_of roles.now (words_in words.entry)) x }
 {
     match role {
         Due::Bound => bound_text(word, words, roles),

@@ -1,8 +1,9 @@
 //! Where the reading of a text ends before its script does.
 
-ghost use Rattle.std.specs.Prelude.{◌≡◌, ◌≤◌, length, map, IfOk};
-ghost use Rattle.std.specs.Option.{option_copied, option_map};
+ghost use Rattle.std.specs.Prelude.{◌≡◌, ◌≤◌, length, IfOk};
+ghost use Rattle.std.specs.Option.{option_map};
 ghost use Rattle.script_words.specs.Named.{word_of};
+ghost use Rattle.script_words.specs.Kept.{words_in};
 ghost use Rattle.script_shape.specs.Roles.{leaves_of};
 ghost use Rattle.script_judge.specs.Fault as spec;
 
@@ -10,6 +11,7 @@ use crate::refusal::RefusalKind;
 use script_shape::due::Due;
 use script_shape::shape::may_follow;
 use script_words::class::{Class, Sign, Spelled};
+use script_words::list::WordList;
 use script_words::words::Word;
 use std::alloc::{AllocError, Global};
 
@@ -42,9 +44,9 @@ fn is_foreign(word: Word<'_>) -> bool
 }
 
 /// Whether a name that isn't an operator's stands before `(`.
-fn is_unknown_call(word: Option<&Word<'_>>, next: Option<&Word<'_>>) -> bool
-    ensures { result ≡ spec.is_unknown_call (option_map word_of (option_copied word.entry))
-        (option_map word_of (option_copied next.entry)) }
+fn is_unknown_call(word: Option<Word<'_>>, next: Option<Word<'_>>) -> bool
+    ensures { result ≡ spec.is_unknown_call (option_map word_of word.entry)
+        (option_map word_of next.entry) }
 {
     matches!(
         (word, next),
@@ -52,8 +54,8 @@ fn is_unknown_call(word: Option<&Word<'_>>, next: Option<&Word<'_>>) -> bool
     )
 }
 
-fn is_equal(word: Option<&Word<'_>>) -> bool
-    ensures { result ≡ spec.is_equal (option_map word_of (option_copied word.entry)) }
+fn is_equal(word: Option<Word<'_>>) -> bool
+    ensures { result ≡ spec.is_equal (option_map word_of word.entry) }
 {
     matches!(word, Some(Word::Sign(Sign::Equal)))
 }
@@ -69,16 +71,16 @@ fn gives_value(role: Due, word: Word<'_>, name: &[u8]) -> bool
 }
 
 /// Whether a definition among these words gives the name a value.
-fn has_value(words: &[Word<'_>], roles: &[Due], name: &[u8]) -> bool
-    ensures { result ≡ spec.has_value name.now (leaves_of roles.now (map word_of words.now)) }
+fn has_value(words: WordList<'_, '_>, roles: &[Due], name: &[u8]) -> bool
+    ensures { result ≡ spec.has_value name.now (leaves_of roles.now (words_in words.entry)) }
 {
     let mut words = words;
     let mut roles = roles;
     while let [role, later_roles @ ..] = roles {
-        let [word, later_words @ ..] = words else {
+        let Some((word, later_words)) = words.split_first() else {
             return false;
         };
-        if gives_value(*role, *word, name) {
+        if gives_value(*role, word, name) {
             return true;
         }
         words = later_words;
@@ -88,8 +90,8 @@ fn has_value(words: &[Word<'_>], roles: &[Due], name: &[u8]) -> bool
 }
 
 /// Whether only the name of a direction may come next.
-fn is_direction_due(alloc: Global, before: &[Word<'_>]) -> Result<bool, AllocError>
-    ensures { IfOk result (λ due. due ≡ spec.is_direction_due (map word_of before.now)) }
+fn is_direction_due(alloc: Global, before: WordList<'_, '_>) -> Result<bool, AllocError>
+    ensures { IfOk result (λ due. due ≡ spec.is_direction_due (words_in before.entry)) }
 {
     let direction = may_follow(alloc, before, Class::Name(Spelled::Direction))?;
     let any_name = may_follow(alloc, before, Class::Name(Spelled::Plain))?;
@@ -97,8 +99,8 @@ fn is_direction_due(alloc: Global, before: &[Word<'_>]) -> Result<bool, AllocErr
 }
 
 /// Whether `=` or an operator may come next, as behind the name that a definition begins with.
-fn is_definition_due(alloc: Global, before: &[Word<'_>]) -> Result<bool, AllocError>
-    ensures { IfOk result (λ due. due ≡ spec.is_definition_due (map word_of before.now)) }
+fn is_definition_due(alloc: Global, before: WordList<'_, '_>) -> Result<bool, AllocError>
+    ensures { IfOk result (λ due. due ≡ spec.is_definition_due (words_in before.entry)) }
 {
     let equal = may_follow(alloc, before, Class::Sign(Sign::Equal))?;
     let operator = may_follow(alloc, before, Class::Sign(Sign::Fixed))?;
@@ -106,8 +108,8 @@ fn is_definition_due(alloc: Global, before: &[Word<'_>]) -> Result<bool, AllocEr
 }
 
 /// Whether nothing but a written operator may come next, as behind `@ name =`.
-fn is_operator_due(alloc: Global, before: &[Word<'_>]) -> Result<bool, AllocError>
-    ensures { IfOk result (λ due. due ≡ spec.is_operator_due (map word_of before.now)) }
+fn is_operator_due(alloc: Global, before: WordList<'_, '_>) -> Result<bool, AllocError>
+    ensures { IfOk result (λ due. due ≡ spec.is_operator_due (words_in before.entry)) }
 {
     let operator = may_follow(alloc, before, Class::Sign(Sign::Fixed))?;
     let equal = may_follow(alloc, before, Class::Sign(Sign::Equal))?;
@@ -116,8 +118,8 @@ fn is_operator_due(alloc: Global, before: &[Word<'_>]) -> Result<bool, AllocErro
 }
 
 /// Whether a proposition may begin next.
-fn is_proposition_due(alloc: Global, before: &[Word<'_>]) -> Result<bool, AllocError>
-    ensures { IfOk result (λ due. due ≡ spec.is_proposition_due (map word_of before.now)) }
+fn is_proposition_due(alloc: Global, before: WordList<'_, '_>) -> Result<bool, AllocError>
+    ensures { IfOk result (λ due. due ≡ spec.is_proposition_due (words_in before.entry)) }
 {
     let fix = may_follow(alloc, before, Class::Sign(Sign::At))?;
     let operand = may_follow(alloc, before, Class::Sign(Sign::OpenParen))?;
@@ -125,9 +127,9 @@ fn is_proposition_due(alloc: Global, before: &[Word<'_>]) -> Result<bool, AllocE
 }
 
 /// Whether a definition before the one that these words end with gives the name a value.
-fn has_earlier_value(words: &[Word<'_>], roles: &[Due], name: &[u8]) -> bool
-    requires { length roles.now ≤ length words.now }
-    ensures { result ≡ spec.has_earlier_value name.now (leaves_of roles.now (map word_of words.now)) }
+fn has_earlier_value(words: WordList<'_, '_>, roles: &[Due], name: &[u8]) -> bool
+    requires { length roles.now ≤ length (words_in words) }
+    ensures { result ≡ spec.has_earlier_value name.now (leaves_of roles.now (words_in words.entry)) }
 {
     has_value(words, &roles[..roles.len().saturating_sub(1)], name)
 }
@@ -135,15 +137,15 @@ fn has_earlier_value(words: &[Word<'_>], roles: &[Due], name: &[u8]) -> bool
 /// Whether it is a name with no meaning so far, in the place of an operator before `=`.
 fn is_unknown_op(
     alloc: Global,
-    before: &[Word<'_>],
+    before: WordList<'_, '_>,
     roles: &[Due],
     word: Word<'_>,
-    next: Option<&Word<'_>>,
+    next: Option<Word<'_>>,
 ) -> Result<bool, AllocError>
-    requires { length roles.now ≤ length before.now }
-    ensures { IfOk result (λ unknown. unknown ≡ spec.is_unknown_op (map word_of before.now)
-        (leaves_of roles.now (map word_of before.now)) (word_of word.entry)
-        (option_map word_of (option_copied next.entry))) }
+    requires { length roles.now ≤ length (words_in before) }
+    ensures { IfOk result (λ unknown. unknown ≡ spec.is_unknown_op (words_in before.entry)
+        (leaves_of roles.now (words_in before.entry)) (word_of word.entry)
+        (option_map word_of next.entry)) }
 {
     let Word::Name(_, name) = word else {
         return Ok(false);
@@ -157,17 +159,17 @@ fn is_unknown_op(
 /// Whether a word is in the place of an operator or a direction that it isn't.
 fn is_unknown(
     alloc: Global,
-    before: &[Word<'_>],
+    before: WordList<'_, '_>,
     roles: &[Due],
     word: Word<'_>,
-    next: Option<&Word<'_>>,
+    next: Option<Word<'_>>,
 ) -> Result<bool, AllocError>
-    requires { length roles.now ≤ length before.now }
-    ensures { IfOk result (λ unknown. unknown ≡ spec.is_unknown (map word_of before.now)
-        (leaves_of roles.now (map word_of before.now)) (word_of word.entry)
-        (option_map word_of (option_copied next.entry))) }
+    requires { length roles.now ≤ length (words_in before) }
+    ensures { IfOk result (λ unknown. unknown ≡ spec.is_unknown (words_in before.entry)
+        (leaves_of roles.now (words_in before.entry)) (word_of word.entry)
+        (option_map word_of next.entry)) }
 {
-    if is_foreign(word) || is_unknown_call(Some(&word), next) {
+    if is_foreign(word) || is_unknown_call(Some(word), next) {
         return Ok(true);
     }
     if is_spelled(word) && (is_operator_due(alloc, before)? || is_direction_due(alloc, before)?) {
@@ -177,8 +179,12 @@ fn is_unknown(
 }
 
 /// Whether it is a sign of formulas that no script has yet.
-fn is_later_form(alloc: Global, before: &[Word<'_>], word: Word<'_>) -> Result<bool, AllocError>
-    ensures { IfOk result (λ later. later ≡ spec.is_later_form (map word_of before.now) (word_of word.entry)) }
+fn is_later_form(
+    alloc: Global,
+    before: WordList<'_, '_>,
+    word: Word<'_>,
+) -> Result<bool, AllocError>
+    ensures { IfOk result (λ later. later ≡ spec.is_later_form (words_in before.entry) (word_of word.entry)) }
 {
     match word {
         Word::Sign(Sign::Not) => is_proposition_due(alloc, before),
@@ -190,22 +196,23 @@ fn is_later_form(alloc: Global, before: &[Word<'_>], word: Word<'_>) -> Result<b
 /// Why the first word that has no place is refused, and where.
 pub fn fault_of(
     alloc: Global,
-    before: &[Word<'_>],
+    before: WordList<'_, '_>,
     roles: &[Due],
     word: Word<'_>,
-    next: Option<&Word<'_>>,
+    next: Option<Word<'_>>,
 ) -> Result<Fault, AllocError>
-    requires { length roles.now ≤ length before.now }
-    ensures fault { IfOk result (λ fault. fault ≡ spec.fault_of (map word_of before.now)
-        (leaves_of roles.now (map word_of before.now)) (word_of word.entry)
-        (option_map word_of (option_copied next.entry))) }
-    ensures within { IfOk result (λ fault. fault.word ≤ length before.now) }
+    requires { length roles.now ≤ length (words_in before) }
+    ensures fault { IfOk result (λ fault. fault ≡ spec.fault_of (words_in before.entry)
+        (leaves_of roles.now (words_in before.entry)) (word_of word.entry)
+        (option_map word_of next.entry)) }
+    ensures within { IfOk result (λ fault. fault.word ≤ length (words_in before.entry)) }
 {
     let at = before.len();
-    if !is_foreign(word) && is_unknown_call(before.last(), Some(&word)) {
+    let last = at.saturating_sub(1);
+    if !is_foreign(word) && is_unknown_call(before.get(last), Some(word)) {
         return Ok(Fault {
             kind: RefusalKind::UnsupportedOperator,
-            word: at.saturating_sub(1),
+            word: last,
         });
     }
     let kind = if is_unknown(alloc, before, roles, word, next)? {

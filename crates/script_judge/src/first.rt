@@ -1,6 +1,7 @@
 //! The first refusal of a text.
 
 ghost use Rattle.std.specs.Prelude.{◌≡◌, ◌≤◌, length, Option, IfOk};
+ghost use Rattle.script_words.specs.Kept.{all_words};
 ghost use Rattle.script_judge.specs.declared.fault.Fault.{Fault};
 ghost use Rattle.script_judge.specs.First as spec;
 ghost use Rattle.script_judge.specs.First.{FaultsAreUnique, FirstsAreUnique};
@@ -57,18 +58,16 @@ fn first_of(one: Option<Refusal>, other: Option<Refusal>) -> Option<Refusal>
 
 /// The first refusal that is judged on the words before the reading ends.
 fn judged(alloc: Global, read: &ReadText<'_>) -> Result<Option<Refusal>, AllocError>
-    requires taken { length read.now.shape.roles.items ≤ length read.now.words.items }
-    requires places { length read.now.tokens.items ≡ length read.now.words.items }
+    requires { length read.now.shape.roles.items ≤ length (all_words read.now.words) }
     ensures { IfOk result (λ answer. (found : Option Fault)
         × Judged 0 nothing_seen (reading_of read.now).leaves found
         × (answer ≡ spec.refusal_of (reading_of read.now) found)) }
 {
-    let words = read.words.as_slice();
+    let words = read.words.list();
     let roles = read.shape.roles.as_slice();
-    let tokens = read.tokens.as_slice();
     let found = judge(alloc, words, roles)?;
     match found {
-        Some(fault) => Ok(Some(at_word(tokens, fault))),
+        Some(fault) => Ok(Some(at_word(words, fault))),
         None => Ok(None),
     }
 }
@@ -81,8 +80,7 @@ fn refusal_of(
 ) -> Result<Option<Refusal>, AllocError>
     requires readable { IsReadable text.now }
     requires reading { IsReadingOf text.now (reading_of read.now) }
-    requires taken { length read.now.shape.roles.items ≤ length read.now.words.items }
-    requires places { length read.now.tokens.items ≡ length read.now.words.items }
+    requires taken { length read.now.shape.roles.items ≤ length (all_words read.now.words) }
     ensures { IfOk result (spec.IsFirstRefusal text.now) }
 {
     let fault = fault(alloc, text.len() as u32, read)?;

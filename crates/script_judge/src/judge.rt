@@ -1,7 +1,8 @@
 //! The refusals that are judged on the words before the reading ends.
 
-ghost use Rattle.std.specs.Prelude.{◌≡◌, ◌≤◌, ◌<◌, ◌+◌, ◌∷◌, length, drop, map, IfOk, IfSome, OnOk};
+ghost use Rattle.std.specs.Prelude.{◌≡◌, ◌≤◌, ◌<◌, ◌+◌, ◌∷◌, length, drop, IfOk, IfSome, OnOk};
 ghost use Rattle.script_words.specs.Named.{word_of};
+ghost use Rattle.script_words.specs.Kept.{words_in};
 ghost use Rattle.script_shape.specs.Roles.{leaves_of};
 ghost use Rattle.script_judge.specs.Judge as spec;
 ghost use Rattle.script_judge.specs.Judge.{Judged};
@@ -21,6 +22,7 @@ use crate::refusal::RefusalKind;
 use crate::sides::{arrow_count, is_arrow, is_on_wrong_side, without};
 use crate::splits::{Splits, Told, ends_between};
 use script_shape::due::Due;
+use script_words::list::WordList;
 use script_words::words::Word;
 use std::alloc::{AllocError, Global};
 
@@ -40,15 +42,15 @@ fn form_refusal<'a>(
     leaf: (Due, Word<'a>),
     verdict: Verdict,
     arrow_behind: bool,
-    words: &[Word<'a>],
+    words: WordList<'_, 'a>,
     roles: &[Due],
 ) -> Option<RefusalKind>
-    requires words { length roles.now ≤ length words.now }
+    requires words { length roles.now ≤ length (words_in words) }
     requires lower { IsWritten seen.now.bounds.lower }
     requires number { IsWritten verdict.number }
     ensures { (stands : spec.Seen) → IsSeen seen.now stands → result
         ≡ spec.form_refusal (verdict_of verdict) stands leaf.entry.0 (word_of leaf.entry.1) arrow_behind
-        (leaves_of roles.now (map word_of words.now)) }
+        (leaves_of roles.now (words_in words.entry)) }
 {
     let (role, word) = leaf;
     let wrong_side = is_on_wrong_side(role, word, arrow_behind, roles.is_empty());
@@ -141,13 +143,6 @@ fn role_at(roles: &[Due], number: usize) -> Due
     roles[number]
 }
 
-fn word_at<'a>(words: &[Word<'a>], number: usize) -> Word<'a>
-    requires { number < length words.now }
-    ensures { drop number words.now ≡ result ∷ drop (number + 1) words.now }
-{
-    words[number]
-}
-
 fn roles_from(roles: &[Due], number: usize) -> &[Due]
     requires { number ≤ length roles.now }
     ensures { result.now ≡ drop number roles.now }
@@ -155,30 +150,23 @@ fn roles_from(roles: &[Due], number: usize) -> &[Due]
     &roles[number..]
 }
 
-fn words_from<'w, 'a>(words: &'w [Word<'a>], number: usize) -> &'w [Word<'a>]
-    requires { number ≤ length words.now }
-    ensures { result.now ≡ drop number words.now }
-{
-    &words[number..]
-}
-
 /// The first refused word, or none. `Err` only where memory runs out.
 pub fn judge<'a>(
     alloc: Global,
-    words: &[Word<'a>],
+    words: WordList<'_, 'a>,
     roles: &[Due],
 ) -> Result<Option<Fault>, AllocError>
-    requires { length roles.now ≤ length words.now }
+    requires { length roles.now ≤ length (words_in words) }
     ensures judged { IfOk result
-        (Judged 0 spec.nothing_seen (leaves_of roles.now (map word_of words.now))) }
+        (Judged 0 spec.nothing_seen (leaves_of roles.now (words_in words.entry))) }
     ensures within { IfOk result (λ found. IfSome found (λ f. f.word < length roles.now)) }
 {
     let mut seen = Seen::new(alloc);
     let mut arrows = arrow_count(words, roles);
     for number in 0..roles.len() {
         let role = role_at(roles, number);
-        let word = word_at(words, number);
-        let later_words = words_from(words, number + 1);
+        let word = words.at(number);
+        let later_words = words.from(number + 1);
         let later_roles = roles_from(roles, number + 1);
         let later_arrows = without(arrows, is_arrow(role, word));
         let verdict = verdict_on(role, word, later_words, later_roles, later_arrows > 0);

@@ -1,8 +1,9 @@
 //! Names that were defined, used and split on.
 
-ghost use Rattle.std.specs.Prelude.{◌≡◌, length, map, OnOk};
+ghost use Rattle.std.specs.Prelude.{◌≡◌, length, OnOk};
 ghost use Rattle.std.specs.Option.{option_copied};
 ghost use Rattle.script_words.specs.Named.{word_of};
+ghost use Rattle.script_words.specs.Kept.{words_in};
 ghost use Rattle.script_shape.specs.Roles.{leaves_of};
 ghost use Rattle.script_judge.specs.Names as spec;
 ghost use Rattle.script_judge.specs.Names.{NamesSeen};
@@ -10,6 +11,7 @@ ghost use Rattle.script_judge.specs.Views.{AreNames};
 
 use crate::sets::{add_some, halve, has, has_some, lacks_some};
 use script_shape::due::Due;
+use script_words::list::WordList;
 use script_words::words::Word;
 use std::alloc::{AllocError, Global};
 use std::collections::BTreeSet;
@@ -89,19 +91,19 @@ fn is_text(name: &[u8], found: Option<&[u8]>) -> bool
 }
 
 /// Whether the name is an operand before the next `;`.
-fn is_used_before_end(name: &[u8], words: &[Word<'_>], roles: &[Due]) -> bool
-    ensures { result ≡ spec.is_used_before_end name.now (leaves_of roles.now (map word_of words.now)) }
+fn is_used_before_end(name: &[u8], words: WordList<'_, '_>, roles: &[Due]) -> bool
+    ensures { result ≡ spec.is_used_before_end name.now (leaves_of roles.now (words_in words.entry)) }
 {
     let mut words = words;
     let mut roles = roles;
     while let [role, later_roles @ ..] = roles {
-        let [word, later_words @ ..] = words else {
+        let Some((word, later_words)) = words.split_first() else {
             return false;
         };
         if is_end(*role) {
             return false;
         }
-        if is_text(name, operand_name(*role, *word)) {
+        if is_text(name, operand_name(*role, word)) {
             return true;
         }
         words = later_words;
@@ -167,10 +169,10 @@ impl<'a> Names<'a> {
     }
 
     /// Whether the token is a definition's name that was used before, or is used in its own definition.
-    pub fn is_used(&self, role: Due, word: Word<'a>, words: &[Word<'a>], roles: &[Due]) -> bool
+    pub fn is_used(&self, role: Due, word: Word<'a>, words: WordList<'_, 'a>, roles: &[Due]) -> bool
         ensures { (names : NamesSeen) → AreNames self.now names
             → result ≡ spec.is_used names (spec.defines role (word_of word.entry))
-            (leaves_of roles.now (map word_of words.now)) }
+            (leaves_of roles.now (words_in words.entry)) }
     {
         match defines(role, word) {
             Some(name) => has(&self.known, name) || is_used_before_end(name, words, roles),

@@ -1,9 +1,10 @@
 //! What the digits of a token tell.
 
-ghost use Rattle.std.specs.Prelude.{◌≡◌, ◌<◌, ◌==◌, nat_lt, IsTrue, ◌↔◌, map};
+ghost use Rattle.std.specs.Prelude.{◌≡◌, ◌<◌, ◌==◌, nat_lt, IsTrue, ◌↔◌};
 ghost use Rattle.std.specs.Str.Parse.{digits_value};
 ghost use Rattle.literal.specs.Normal.{IsPastLimits};
 ghost use Rattle.script_words.specs.Named.{word_of};
+ghost use Rattle.script_words.specs.Kept.{words_in};
 ghost use Rattle.script_judge.specs.BoundViews.{verdict_of};
 ghost use Rattle.script_shape.specs.Roles.{leaves_of};
 ghost use Rattle.literal_order.specs.Values.{IsWritten};
@@ -15,6 +16,7 @@ use literal::{LiteralFault, read_bytes};
 use literal_order::Written;
 use script_shape::due::Due;
 use script_words::digits::number_below;
+use script_words::list::WordList;
 use script_words::words::Word;
 
 /// Whether digits write a number above a limit.
@@ -112,13 +114,13 @@ pub struct Verdict {
 pub fn verdict_on(
     role: Due,
     word: Word<'_>,
-    words: &[Word<'_>],
+    words: WordList<'_, '_>,
     roles: &[Due],
     arrow_behind: bool,
 ) -> Verdict
-    requires { arrow_behind ≡ has_arrow (leaves_of roles.now (map word_of words.now)) }
+    requires { arrow_behind ≡ has_arrow (leaves_of roles.now (words_in words)) }
     ensures tells { spec.Tells (verdict_of result) role (word_of word.entry)
-        (leaves_of roles.now (map word_of words.now)) }
+        (leaves_of roles.now (words_in words.entry)) }
     ensures within { IsWritten result.number }
     ensures arrow { result.arrow_behind ≡ arrow_behind }
 {

@@ -1,8 +1,7 @@
 //! Reads a text as far as the grammar goes.
 
-ghost use Rattle.std.specs.Prelude.{◌≡◌, ◌≤◌, ◌<◌, ◌^◌, All, length, map, slice_get, IfOk};
-ghost use Rattle.std.specs.Option.{option_copied};
-ghost use Rattle.script_words.specs.Lex.{IsWithin};
+ghost use Rattle.std.specs.Prelude.{◌≡◌, ◌≤◌, ◌<◌, ◌^◌, length, IfOk};
+ghost use Rattle.script_words.specs.Kept.{words_in, tokens_in, all_words};
 ghost use Rattle.script_judge.specs.Reading as spec;
 ghost use Rattle.script_judge.specs.Reading.{IsReadingOf, IsFaultOf, ReadsScripts};
 ghost use Rattle.script_judge.specs.Views.{reading_of};
@@ -10,8 +9,8 @@ ghost use Rattle.script_judge.specs.Views.{reading_of};
 use crate::fault::{Fault, fault_of};
 use crate::refusal::{LimitKind, Refusal, RefusalKind};
 use script_shape::shape::{Shape, roles_are_unique, shape_of};
-use script_words::lex::Token;
-use script_words::words::{Word, Words, read_words};
+use script_words::list::{WordList, Words};
+use script_words::words::read_words;
 use std::alloc::{AllocError, Global};
 
 /// The greatest number of bytes of a text.
@@ -20,11 +19,7 @@ pub const MOST_BYTES: usize = 1 << 20;
 /// The words of a text, and how far they go with the grammar.
 #[derive(Drop)]
 pub struct ReadText<'a> {
-    pub words: Vec<Word<'a>>,
-    /// The place of each word.
-    pub tokens: Vec<Token>,
-    /// The first byte that begins no token.
-    pub bad: Option<u32>,
+    pub words: Words<'a>,
     pub shape: Shape,
 }
 
@@ -51,29 +46,26 @@ pub fn text_refusal(text: &[u8]) -> Option<Refusal>
 pub fn read_text<'a>(alloc: Global, text: &'a [u8]) -> Result<ReadText<'a>, AllocError>
     requires { length text.now ≤ 2 ^ 20 }
     ensures reading { IfOk result (λ read. IsReadingOf text.now (reading_of read)) }
-    ensures taken { IfOk result (λ read. length read.shape.roles.items ≤ length read.words.items) }
-    ensures places { IfOk result (λ read. length read.tokens.items ≡ length read.words.items) }
+    ensures taken { IfOk result (λ read. length read.shape.roles.items ≤ length (all_words read.words)) }
 {
     // Words have one list of roles.
     roles_are_unique();
-    let Words { words, tokens, bad } = read_words(alloc, text)?;
-    let shape = shape_of(alloc, words.as_slice())?;
-    Ok(ReadText {
-        words,
-        tokens,
-        bad,
-        shape,
-    })
+    let words = read_words(alloc, text)?;
+    let shape = shape_of(alloc, words.list())?;
+    Ok(ReadText { words, shape })
 }
 
 /// The refusal of a word.
-pub fn at_word(tokens: &[Token], fault: Fault) -> Refusal
-    requires { fault.word < length tokens.now }
-    ensures { result ≡ spec.at_word tokens.now fault }
+pub fn at_word(words: WordList<'_, '_>, fault: Fault) -> Refusal
+    requires { fault.word < length (words_in words) }
+    ensures { result ≡ spec.at_word (tokens_in words.entry) fault }
 {
-    Refusal {
-        kind: fault.kind,
-        at: tokens[fault.word].start,
+    match words.token(fault.word) {
+        Some(token) => Refusal {
+            kind: fault.kind,
+            at: token.start,
+        },
+        None => unreachable!(),
     }
 }
 
@@ -96,28 +88,20 @@ fn end_fault(len: u32, bad: Option<u32>, whole: bool) -> Option<Refusal>
     })
 }
 
-/// The word of a number, where there is one.
-fn word_at<'w, 'a>(words: &'w [Word<'a>], number: usize) -> Option<&'w Word<'a>>
-    ensures { option_copied result ≡ slice_get words.now number }
-{
-    words.get(number)
-}
-
 /// The refusal at which the reading of a text ends, or none where all of it is a script.
 pub fn fault(alloc: Global, len: u32, read: &ReadText<'_>) -> Result<Option<Refusal>, AllocError>
-    requires taken { length read.now.shape.roles.items ≤ length read.now.words.items }
-    requires places { length read.now.tokens.items ≡ length read.now.words.items }
+    requires { length read.now.shape.roles.items ≤ length (all_words read.now.words) }
     ensures { IfOk result (λ fault. fault ≡ spec.fault len (reading_of read.now)) }
 {
-    let words = read.words.as_slice();
+    let words = read.words.list();
     let roles = read.shape.roles.as_slice();
     let taken = roles.len();
-    let Some(word) = word_at(words, taken) else {
-        return Ok(end_fault(len, read.bad, read.shape.whole));
+    let Some(word) = words.get(taken) else {
+        return Ok(end_fault(len, read.words.bad, read.shape.whole));
     };
-    let next = word_at(words, taken + 1);
-    let fault = fault_of(alloc, &words[..taken], roles, *word, next)?;
-    Ok(Some(at_word(read.tokens.as_slice(), fault)))
+    let next = words.get(taken + 1);
+    let fault = fault_of(alloc, words.front(taken), roles, word, next)?;
+    Ok(Some(at_word(words, fault)))
 }
 
 /// The first place at which the reading of a text ends before its script does, the text's own faults before it. None

@@ -1,13 +1,15 @@
 //! Which propositions are hypotheses: those with a `->` of the formula behind them.
 
-ghost use Rattle.std.specs.Prelude.{◌≡◌, ◌-◌, map};
+ghost use Rattle.std.specs.Prelude.{◌≡◌, ◌-◌};
 ghost use Rattle.script_words.specs.Named.{word_of};
+ghost use Rattle.script_words.specs.Kept.{words_in};
 ghost use Rattle.script_judge.specs.Counts.{one_if};
 ghost use Rattle.script_judge.specs.Judge as spec;
 ghost use Rattle.script_shape.specs.Roles.{leaves_of};
 
 use script_shape::due::Due;
 use script_words::class::Sign;
+use script_words::list::WordList;
 use script_words::words::Word;
 
 /// Whether it is a `->` of the formula.
@@ -18,17 +20,17 @@ pub fn is_arrow(role: Due, word: Word<'_>) -> bool
 }
 
 /// How many tokens are a `->` of the formula.
-pub fn arrow_count(words: &[Word<'_>], roles: &[Due]) -> usize
-    ensures { result ≡ spec.arrow_count (leaves_of roles.now (map word_of words.now)) }
+pub fn arrow_count(words: WordList<'_, '_>, roles: &[Due]) -> usize
+    ensures { result ≡ spec.arrow_count (leaves_of roles.now (words_in words.entry)) }
 {
     let mut words = words;
     let mut roles = roles;
     let mut count = 0;
     while let [role, later_roles @ ..] = roles {
-        let [word, later_words @ ..] = words else {
+        let Some((word, later_words)) = words.split_first() else {
             return count;
         };
-        if is_arrow(*role, *word) {
+        if is_arrow(*role, word) {
             count += 1;
         }
         words = later_words;

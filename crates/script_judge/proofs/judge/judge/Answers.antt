@@ -1,5 +1,6 @@
-use Rattle.std.proofs.Common.{◌≡◌, ◌+◌, ◌-◌, ◌∷◌, drop, map, None, sym, ap, ◌∙◌, subst, arith}
+use Rattle.std.proofs.Common.{◌≡◌, ◌+◌, ◌-◌, ◌∷◌, drop, None, sym, ap, ◌∙◌, subst, arith}
 use Rattle.script_words.specs.Named.{word_of}
+use Rattle.script_words.specs.Kept.{words_in}
 use Rattle.script_shape.specs.Roles.{at, leaves_of}
 use Rattle.script_judge.specs.Counts.{one_if}
 use Rattle.script_judge.specs.Judge.{Judged, none_refused, is_arrow}
@@ -16,13 +17,13 @@ verdict_on-verdict-requires c =
     let seen = c.loop-number.seen in
     let arrows = c.loop-number.arrows in
     let r = c.role_at-role.result in
-    let w = word_of c.word_at-word.result in
-    let all = leaves_of c.args.roles.now (map word_of c.args.words.now) in
-    let behind = leaves_of c.roles_from-later_roles.result.now (map word_of c.words_from-later_words.result.now) in
-    let same : behind ≡ leaves_of (drop (n + 1) c.args.roles.now) (map word_of (drop (n + 1) c.args.words.now)) =
-    same_rest c.args.roles.now _ c.args.words.now _ (n + 1) c.roles_from-later_roles.ensures c.words_from-later_words.ensures in
-    let left : leaves_of (drop n c.args.roles.now) (map word_of (drop n c.args.words.now)) ≡ at r w ∷ behind =
-    split_at c.args.roles.now c.args.words.now n r c.word_at-word.result c.role_at-role.ensures c.word_at-word.ensures ∙ ap (λ l. at r w ∷ l) (sym same) in
+    let w = word_of c.at-word.result in
+    let all = leaves_of c.args.roles.now (words_in c.args.words) in
+    let behind = leaves_of c.roles_from-later_roles.result.now (words_in c.from-later_words.result) in
+    let same : behind ≡ leaves_of (drop (n + 1) c.args.roles.now) (drop (n + 1) (words_in c.args.words)) =
+    same_rest c.args.roles.now _ (words_in c.args.words) _ (n + 1) c.roles_from-later_roles.ensures c.from-later_words.ensures in
+    let left : leaves_of (drop n c.args.roles.now) (drop n (words_in c.args.words)) ≡ at r w ∷ behind =
+    split_at c.args.roles.now (words_in c.args.words) n r w c.role_at-role.ensures c.at-word.ensures ∙ ap (λ l. at r w ∷ l) (sym same) in
     let m : JudgedTo all n seen (at r w ∷ behind) arrows = subst (λ ls. JudgedTo all n seen ls arrows) left c.loop-number.invariant in
     let later : c.without-later_arrows.result ≡ arrows - one_if (is_arrow r w) = c.without-later_arrows.ensures ∙ ap (λ b. arrows - one_if b) c.is_arrow.ensures in
     told_arrow behind c.without-later_arrows.result (behind_arrow r w behind arrows c.without-later_arrows.result m.arrows_left later)
@@ -34,13 +35,13 @@ returns-in-Some-clause-judged c =
     let arrows = c.loop-number.arrows in
     let r = c.role_at-role.result in
     let v = verdict_of c.verdict_on-verdict.result in
-    let w = word_of c.word_at-word.result in
-    let all = leaves_of c.args.roles.now (map word_of c.args.words.now) in
-    let behind = leaves_of c.roles_from-later_roles.result.now (map word_of c.words_from-later_words.result.now) in
-    let same : behind ≡ leaves_of (drop (n + 1) c.args.roles.now) (map word_of (drop (n + 1) c.args.words.now)) =
-    same_rest c.args.roles.now _ c.args.words.now _ (n + 1) c.roles_from-later_roles.ensures c.words_from-later_words.ensures in
-    let left : leaves_of (drop n c.args.roles.now) (map word_of (drop n c.args.words.now)) ≡ at r w ∷ behind =
-    split_at c.args.roles.now c.args.words.now n r c.word_at-word.result c.role_at-role.ensures c.word_at-word.ensures ∙ ap (λ l. at r w ∷ l) (sym same) in
+    let w = word_of c.at-word.result in
+    let all = leaves_of c.args.roles.now (words_in c.args.words) in
+    let behind = leaves_of c.roles_from-later_roles.result.now (words_in c.from-later_words.result) in
+    let same : behind ≡ leaves_of (drop (n + 1) c.args.roles.now) (drop (n + 1) (words_in c.args.words)) =
+    same_rest c.args.roles.now _ (words_in c.args.words) _ (n + 1) c.roles_from-later_roles.ensures c.from-later_words.ensures in
+    let left : leaves_of (drop n c.args.roles.now) (drop n (words_in c.args.words)) ≡ at r w ∷ behind =
+    split_at c.args.roles.now (words_in c.args.words) n r w c.role_at-role.ensures c.at-word.ensures ∙ ap (λ l. at r w ∷ l) (sym same) in
     let m : JudgedTo all n seen (at r w ∷ behind) arrows = subst (λ ls. JudgedTo all n seen ls arrows) left c.loop-number.invariant in
     let f = told seen v r w behind c.form_refusal-form.result arrows c.without-later_arrows.result c.is_arrow.result m.arrows_left c.without-later_arrows.ensures c.is_arrow.ensures c.verdict_on-verdict.ensures.tells c.form_refusal-form.ensures in
     ends_by_form all n seen r w behind arrows m v _ c.form_refusal-form.result f c.in-Some.kind c.in-Some.is
@@ -52,13 +53,13 @@ returns-in-Some-limit_refusal-clause-judged c =
     let arrows = c.loop-number.arrows in
     let r = c.role_at-role.result in
     let v = verdict_of c.verdict_on-verdict.result in
-    let w = word_of c.word_at-word.result in
-    let all = leaves_of c.args.roles.now (map word_of c.args.words.now) in
-    let behind = leaves_of c.roles_from-later_roles.result.now (map word_of c.words_from-later_words.result.now) in
-    let same : behind ≡ leaves_of (drop (n + 1) c.args.roles.now) (map word_of (drop (n + 1) c.args.words.now)) =
-    same_rest c.args.roles.now _ c.args.words.now _ (n + 1) c.roles_from-later_roles.ensures c.words_from-later_words.ensures in
-    let left : leaves_of (drop n c.args.roles.now) (map word_of (drop n c.args.words.now)) ≡ at r w ∷ behind =
-    split_at c.args.roles.now c.args.words.now n r c.word_at-word.result c.role_at-role.ensures c.word_at-word.ensures ∙ ap (λ l. at r w ∷ l) (sym same) in
+    let w = word_of c.at-word.result in
+    let all = leaves_of c.args.roles.now (words_in c.args.words) in
+    let behind = leaves_of c.roles_from-later_roles.result.now (words_in c.from-later_words.result) in
+    let same : behind ≡ leaves_of (drop (n + 1) c.args.roles.now) (drop (n + 1) (words_in c.args.words)) =
+    same_rest c.args.roles.now _ (words_in c.args.words) _ (n + 1) c.roles_from-later_roles.ensures c.from-later_words.ensures in
+    let left : leaves_of (drop n c.args.roles.now) (drop n (words_in c.args.words)) ≡ at r w ∷ behind =
+    split_at c.args.roles.now (words_in c.args.words) n r w c.role_at-role.ensures c.at-word.ensures ∙ ap (λ l. at r w ∷ l) (sym same) in
     let m : JudgedTo all n seen (at r w ∷ behind) arrows = subst (λ ls. JudgedTo all n seen ls arrows) left c.loop-number.invariant in
     let f = told seen v r w behind c.form_refusal-form.result arrows c.without-later_arrows.result c.is_arrow.result m.arrows_left c.without-later_arrows.ensures c.is_arrow.ensures c.verdict_on-verdict.ensures.tells c.form_refusal-form.ensures in
     ends_by_limit all n seen r w behind arrows m v _ c.form_refusal-form.result f c.in_default.is c.take.new.self c.in_ok-take.ensures c.limit_refusal.result c.limit_refusal.ensures
@@ -71,13 +72,13 @@ loop-number-preserved c =
     let arrows = c.loop-number.arrows in
     let r = c.role_at-role.result in
     let v = verdict_of c.verdict_on-verdict.result in
-    let w = word_of c.word_at-word.result in
-    let all = leaves_of c.args.roles.now (map word_of c.args.words.now) in
-    let behind = leaves_of c.roles_from-later_roles.result.now (map word_of c.words_from-later_words.result.now) in
-    let same : behind ≡ leaves_of (drop (n + 1) c.args.roles.now) (map word_of (drop (n + 1) c.args.words.now)) =
-    same_rest c.args.roles.now _ c.args.words.now _ (n + 1) c.roles_from-later_roles.ensures c.words_from-later_words.ensures in
-    let left : leaves_of (drop n c.args.roles.now) (map word_of (drop n c.args.words.now)) ≡ at r w ∷ behind =
-    split_at c.args.roles.now c.args.words.now n r c.word_at-word.result c.role_at-role.ensures c.word_at-word.ensures ∙ ap (λ l. at r w ∷ l) (sym same) in
+    let w = word_of c.at-word.result in
+    let all = leaves_of c.args.roles.now (words_in c.args.words) in
+    let behind = leaves_of c.roles_from-later_roles.result.now (words_in c.from-later_words.result) in
+    let same : behind ≡ leaves_of (drop (n + 1) c.args.roles.now) (drop (n + 1) (words_in c.args.words)) =
+    same_rest c.args.roles.now _ (words_in c.args.words) _ (n + 1) c.roles_from-later_roles.ensures c.from-later_words.ensures in
+    let left : leaves_of (drop n c.args.roles.now) (drop n (words_in c.args.words)) ≡ at r w ∷ behind =
+    split_at c.args.roles.now (words_in c.args.words) n r w c.role_at-role.ensures c.at-word.ensures ∙ ap (λ l. at r w ∷ l) (sym same) in
     let m : JudgedTo all n seen (at r w ∷ behind) arrows = subst (λ ls. JudgedTo all n seen ls arrows) left c.loop-number.invariant in
     let f = told seen v r w behind c.form_refusal-form.result arrows c.without-later_arrows.result c.is_arrow.result m.arrows_left c.without-later_arrows.ensures c.is_arrow.ensures c.verdict_on-verdict.ensures.tells c.form_refusal-form.ensures in
     let later : c.without-later_arrows.result ≡ arrows - one_if (is_arrow r w) = c.without-later_arrows.ensures ∙ ap (λ b. arrows - one_if b) c.is_arrow.ensures in
@@ -88,5 +89,5 @@ loop-number-preserved c =
 pub returns-clause-judged : goal.returns-clause-judged
 returns-clause-judged c =
     let n = c.loop-number.number in
-    let ends = none_left c.args.roles.now (map word_of (drop n c.args.words.now)) n (omega arith) in
+    let ends = none_left c.args.roles.now (drop n (words_in c.args.words)) n (omega arith) in
     c.loop-number.invariant.rest None (subst (λ ls. Judged n c.loop-number.invariant.seen ls None) (sym ends) none_refused)

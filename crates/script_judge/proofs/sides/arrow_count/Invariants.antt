@@ -1,12 +1,12 @@
-use Rattle.std.proofs.Common.{◌≡◌, ◌+◌, ◌≤◌, length, map}
-use Rattle.script_words.specs.Named.{word_of}
+use Rattle.std.proofs.Common.{◌≡◌, ◌+◌, ◌≤◌, length}
+use Rattle.script_words.specs.Kept.{words_in}
 use Rattle.script_shape.specs.Roles.{leaves_of}
 use Rattle.script_judge.specs.Judge as spec
 use Rattle.script_judge.proofs.sides.arrow_count.Given as goal
 
 abbrev pub invariant-loop-roles : goal.invariant-loop-roles
 invariant-loop-roles l = record {
-  counted : spec.arrow_count (leaves_of l.fn.roles (map word_of l.fn.words)) ≡ l.count + spec.arrow_count (leaves_of l.roles (map word_of l.words));
+  counted : spec.arrow_count (leaves_of l.fn.roles (words_in l.fn.words)) ≡ l.count + spec.arrow_count (leaves_of l.roles (words_in l.words));
   room : l.count + length l.roles ≤ length l.fn.roles;
 }
 
