@@ -1,5 +1,5 @@
 -- Nodes never go while words are read.
-use Rattle.std.proofs.Common.{◌≡◌, ℕ, ◌<◌, ◌≤◌, List, [], ◌∷◌, length, Option, Some, None, IfSome, Bool, true, false, if◌then◌else◌, map, get_or, ◌∙◌, ap, arith, le_refl, le_trans}
+use Rattle.std.proofs.Common.{◌≡◌, ℕ, ◌<◌, ◌≤◌, List, [], ◌∷◌, length, Option, Some, None, IfSome, Bool, true, false, if◌then◌else◌, get_or, ◌∙◌, ap, arith, le_refl, le_trans}
 use Rattle.fx_model.specs.declared.Rounding.{Rounding}
 use Rattle.fx_model.specs.declared.ExprId.{ExprId}
 use Rattle.fx_model.specs.declared.Node.TheVariants.{Lit, Add, Sub}
@@ -8,8 +8,6 @@ use Rattle.script_words.specs.declared.class.Sign.TheVariants as s
 use Rattle.script_words.specs.Words.{Word, name, rounding, literal, sign}
 use Rattle.script_shape.specs.declared.due.Due.{Due}
 use Rattle.script_shape.specs.declared.due.Due.TheVariants as d
-use Rattle.script_words.specs.declared.words.Word.{Word as CodeWord}
-use Rattle.script_words.specs.Named.{word_of}
 use Rattle.script_shape.specs.Roles.{Leaf, leaves_of}
 use Rattle.script_nodes.specs.declared.waits.Waits.{Waits}
 use Rattle.script_nodes.specs.declared.waits.Waits.TheVariants as wait
@@ -150,13 +148,12 @@ all_grow (l ∷ ls) p = by_test (opens_formula l.role l.word) (le_trans (word_gr
     by_test false h = h
 
 -- a list that is full at the first of some words
-pub word_past : (rs : List Due) (ws : List CodeWord) (r : Due) (w : CodeWord) (p whole : Defining) → 1 ≤ length rs → 1 ≤ length ws → opens_formula (get_or rs 0 r) (word_of (get_or ws 0 w)) ≡ false
-    → whole ≡ define_all (leaves_of rs (map word_of ws)) p → 1024 < counted (define_word (get_or rs 0 r) (word_of (get_or ws 0 w)) p) → 1024 < counted whole
+pub word_past : (rs : List Due) (ws behind : List Word) (r : Due) (w : Word) (p whole : Defining) → 1 ≤ length rs → ws ≡ w ∷ behind → opens_formula (get_or rs 0 r) w ≡ false
+    → whole ≡ define_all (leaves_of rs ws) p → 1024 < counted (define_word (get_or rs 0 r) w p) → 1024 < counted whole
 unfolding define_all
-word_past [] ws r w p whole h k t e f = absurd (omega arith)
-word_past (x ∷ rs) [] r w p whole h k t e f = absurd (omega arith)
-word_past (x ∷ rs) (v ∷ ws) r w p whole h k t e f =
-    let later = define_all (leaves_of rs (map word_of ws)) (define_word x (word_of v) p) in
-    let g = all_grow (leaves_of rs (map word_of ws)) (define_word x (word_of v) p) in
-    let same : whole ≡ later = e ∙ ap (λ b. if b then p else later) t in
+word_past [] ws behind r w p whole h k t e f = absurd (omega arith)
+word_past (x ∷ rs) ws behind r w p whole h k t e f =
+    let later = define_all (leaves_of rs behind) (define_word x w p) in
+    let g = all_grow (leaves_of rs behind) (define_word x w p) in
+    let same : whole ≡ later = e ∙ ap (λ l. define_all (leaves_of (x ∷ rs) l) p) k ∙ ap (λ b. if b then p else later) t in
     omega (arith, ap counted same)

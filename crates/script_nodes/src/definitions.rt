@@ -1,8 +1,9 @@
 //! Words of definitions, by their roles.
 
-ghost use Rattle.std.specs.Prelude.{◌≡◌, ◌<◌, length, map, Err, IfOk, IfErr, OnOk};
+ghost use Rattle.std.specs.Prelude.{◌≡◌, ◌<◌, length, Err, IfOk, IfErr, OnOk};
 ghost use Rattle.std.specs.Option.{option_copied};
 ghost use Rattle.script_words.specs.Named.{word_of};
+ghost use Rattle.script_words.specs.Kept.{words_in};
 ghost use Rattle.script_shape.specs.Tree.{Script, script_words};
 ghost use Rattle.script_shape.specs.Roles.{HasRoles, leaves_of};
 ghost use Rattle.script_nodes.specs.Known as spec_known;
@@ -17,6 +18,7 @@ use expr_dag::{DagFault, Rounding};
 use script_shape::due::Due;
 use script_shape::shape::leaves_are_of_trees;
 use script_words::class::Sign;
+use script_words::list::WordList;
 use script_words::words::Word;
 use std::alloc::Global;
 use std::marker::Model;
@@ -182,25 +184,25 @@ fn opens_formula(role: Due, word: Word<'_>) -> bool
 #[tactic(auto, unfolding(crate::specs::Defining::define_all))]
 fn read_words<'a>(
     alloc: Global,
-    words: &[Word<'a>],
+    words: WordList<'_, 'a>,
     roles: &[Due],
 ) -> Result<Definitions<'a>, DagFault>
     ensures read { IfOk result (λ read. read
-        ≡ spec.read_from_start (leaves_of roles.now (map word_of words.now))) }
+        ≡ spec.read_from_start (leaves_of roles.now (words_in words.entry))) }
     ensures full { result ≡ Err DagFault.Full → 1024
-        < length (spec.read_from_start (leaves_of roles.now (map word_of words.now))).reading.known.nodes }
+        < length (spec.read_from_start (leaves_of roles.now (words_in words.entry))).reading.known.nodes }
 {
     let mut read = Definitions::new(alloc);
     let mut words = words;
     let mut roles = roles;
     while let [role, later_roles @ ..] = roles {
-        let [word, later_words @ ..] = words else {
+        let Some((word, later_words)) = words.split_first() else {
             return Ok(read);
         };
-        if opens_formula(*role, *word) {
+        if opens_formula(*role, word) {
             return Ok(read);
         }
-        read.token(*role, *word)?;
+        read.token(*role, word)?;
         words = later_words;
         roles = later_roles;
     }
@@ -211,17 +213,17 @@ fn read_words<'a>(
 /// they have more than 1,024 nodes, and else an `Err` only where memory runs out.
 pub fn definitions_of<'a>(
     alloc: Global,
-    words: &[Word<'a>],
+    words: WordList<'_, 'a>,
     roles: &[Due],
 ) -> Result<Definitions<'a>, DagFault>
     ensures read { IfOk result (λ read. read
-        ≡ spec.read_from_start (leaves_of roles.now (map word_of words.now))) }
+        ≡ spec.read_from_start (leaves_of roles.now (words_in words.entry))) }
     // Where the words are a script, what its tree means.
-    ensures means { IfOk result (λ read. (tree : Script) → script_words tree ≡ map word_of words.now
-        → HasRoles (map word_of words.now) (leaves_of roles.now (map word_of words.now))
+    ensures means { IfOk result (λ read. (tree : Script) → script_words tree ≡ words_in words.entry
+        → HasRoles (words_in words.entry) (leaves_of roles.now (words_in words.entry))
         → read ≡ spec.between (definitions_value tree spec_known.nothing_known)) }
     ensures full { result ≡ Err DagFault.Full → 1024
-        < length (spec.read_from_start (leaves_of roles.now (map word_of words.now))).reading.known.nodes }
+        < length (spec.read_from_start (leaves_of roles.now (words_in words.entry))).reading.known.nodes }
 {
     // Words of a script with roles are the leaves of its tree.
     leaves_are_of_trees();

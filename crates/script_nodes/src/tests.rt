@@ -13,8 +13,8 @@ fn read<'a>(alloc: Global, text: &'a [u8]) -> Result<Definitions<'a>, Fail>
     requires { length text.now < 2 ^ 32 }
 {
     let read = read_words(alloc, text)?;
-    let shape = shape_of(alloc, read.words.as_slice())?;
-    let definitions = definitions_of(alloc, read.words.as_slice(), shape.roles.as_slice())?;
+    let shape = shape_of(alloc, read.list())?;
+    let definitions = definitions_of(alloc, read.list(), shape.roles.as_slice())?;
     Ok(definitions)
 }
 
