@@ -27,7 +27,7 @@ fn measure_one(
     }
     let start = Instant::now(rt)?;
     let read = read_words(rt.alloc(), text.as_slice())?;
-    let shape = shape_of(rt.alloc(), read.words.as_slice())?;
+    let shape = shape_of(rt.alloc(), read.list())?;
     let took = start.elapsed(rt)?.as_micros();
     let rate = (text.len() as u128).saturating_mul(1000) / took.max(1);
     let taken = shape.roles.len();

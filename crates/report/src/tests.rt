@@ -15,7 +15,7 @@ use goal_spans::Span;
 use goals::Line;
 use interval::Interval;
 use script_judge::refusal::{LimitKind, Refusal, RefusalKind};
-use script_words::lex::lex;
+use script_words::words::read_words;
 use std::alloc::{AllocError, Global};
 use std::process::Abort;
 use std::test::Fail;
@@ -38,12 +38,13 @@ fn goal_line(
 ) -> Result<Vec<u8>, AllocError>
     requires { length text.now < 2 ^ 32 }
 {
-    let read = lex(alloc, text)?;
+    let read = read_words(alloc, text)?;
+    let tokens = read.list().tokens(alloc)?;
     let mut line = "before\n".as_bytes().to_vec(alloc)?;
     put_goal_line(
         &mut line,
         text,
-        part(read.tokens.as_slice(), first, end),
+        part(tokens.as_slice(), first, end),
         Line::In(range),
     )?;
     Ok(line)
@@ -96,7 +97,8 @@ fn goals(rt: HostRuntime) -> Result<(), Fail> {
 fn answers(rt: HostRuntime) -> Result<(), Fail> {
     let text: &[u8] = b"{ x*y in ? /\\ x-/y in ? /\\ x in ? }";
     assert!(rt; text.len() < 1000);
-    let read = lex(rt.alloc(), text)?;
+    let read = read_words(rt.alloc(), text)?;
+    let tokens = read.list().tokens(rt.alloc())?;
     let spans = [
         Span { first: 1, end: 4 },
         Span { first: 7, end: 10 },
@@ -106,7 +108,7 @@ fn answers(rt: HostRuntime) -> Result<(), Fail> {
     let answer = answer_text(
         rt.alloc(),
         text,
-        read.tokens.as_slice(),
+        tokens.as_slice(),
         &spans,
         &[Line::In(product), Line::None, Line::Empty],
         &[HintMark::Assumed, HintMark::Checked, HintMark::Assumed],

@@ -116,11 +116,13 @@ fn claimed<'a>(alloc: Global, text: &'a [u8]) -> Result<ClaimReader<'a>, Fail>
     requires { length text.now < 1000 }
 {
     let read = read_words(alloc, text)?;
-    let shape = shape_of(alloc, read.words.as_slice())?;
+    let words = read.list();
+    let shape = shape_of(alloc, words)?;
     let mut reader = ClaimReader::new(alloc, Reader::new(alloc));
-    let words = read.words.iter().zip(shape.roles.iter());
-    for (word, role) in words.skip(1) {
-        reader.token(*role, *word)?;
+    for (number, role) in shape.roles.iter().enumerate().skip(1) {
+        if let Some(word) = words.get(number) {
+            reader.token(*role, word)?;
+        }
     }
     Ok(reader)
 }

@@ -21,11 +21,13 @@ fn said(alloc: Global, text: &[u8]) -> Result<HintList, Fail>
     requires { length text.now < 1000 }
 {
     let read = read_words(alloc, text)?;
-    let shape = shape_of(alloc, read.words.as_slice())?;
+    let words = read.list();
+    let shape = shape_of(alloc, words)?;
     let mut reader = HintReader::new(alloc, Reader::new(alloc));
-    let words = read.words.iter().zip(shape.roles.iter());
-    for (word, role) in words.skip(5) {
-        reader.token(*role, *word)?;
+    for (number, role) in shape.roles.iter().enumerate().skip(5) {
+        if let Some(word) = words.get(number) {
+            reader.token(*role, word)?;
+        }
     }
     let (_, list) = reader.into_parts();
     Ok(list)
