@@ -1,11 +1,9 @@
 -- Nodes never go while the words of a script are read.
-use Rattle.std.proofs.Common.{◌≡◌, ℕ, ◌<◌, ◌≤◌, List, [], ◌∷◌, length, map, get_or, Bool, true, false, if◌then◌else◌, Result, Ok, Err, sym, ap, ◌∙◌, arith, le_refl, le_trans}
+use Rattle.std.proofs.Common.{◌≡◌, ℕ, ◌<◌, ◌≤◌, List, [], ◌∷◌, length, get_or, Bool, true, false, if◌then◌else◌, Result, Ok, Err, sym, ap, ◌∙◌, arith, le_refl, le_trans}
 use Rattle.std.specs.Result.{IsErrAnd}
 use Rattle.expr_dag.specs.declared.dag.DagFault.{DagFault}
 use Rattle.expr_dag.specs.declared.dag.DagFault.TheVariants.{Full}
-use Rattle.script_words.specs.declared.words.Word.{Word as CodeWord}
 use Rattle.script_words.specs.Words.{Word}
-use Rattle.script_words.specs.Named.{word_of}
 use Rattle.script_shape.specs.declared.due.Due.{Due}
 use Rattle.script_shape.specs.Roles.{Leaf, leaves_of}
 use Rattle.script_nodes.specs.Defining.{opens_formula}
@@ -48,11 +46,11 @@ module _ (definitions : DefiningGrows) (formulas : ClaimsGrow) (hints : HintsGro
   words_grow (l ∷ ls) st = le_trans (word_grows l.role l.word st) (words_grow ls (read_word l.role l.word st))
 
   -- a list that is full at the first of some words
-  pub word_past : (rs : List Due) (ws : List CodeWord) (r : Due) (w : CodeWord) (st whole : Step) → 1 ≤ length rs → 1 ≤ length ws
-      → whole ≡ read_words (leaves_of rs (map word_of ws)) st → 1024 < count (read_word (get_or rs 0 r) (word_of (get_or ws 0 w)) st) → 1024 < count whole
+  pub word_past : (rs : List Due) (ws behind : List Word) (r : Due) (w : Word) (st whole : Step) → 1 ≤ length rs → ws ≡ w ∷ behind
+      → whole ≡ read_words (leaves_of rs ws) st → 1024 < count (read_word (get_or rs 0 r) w st) → 1024 < count whole
   unfolding read_words
-  word_past [] ws r w st whole h k e f = absurd (omega arith)
-  word_past (x ∷ rs) [] r w st whole h k e f = absurd (omega arith)
-  word_past (x ∷ rs) (v ∷ ws) r w st whole h k e f =
-      let g = words_grow (leaves_of rs (map word_of ws)) (read_word x (word_of v) st) in
-      omega (arith, ap count e)
+  word_past [] ws behind r w st whole h k e f = absurd (omega arith)
+  word_past (x ∷ rs) ws behind r w st whole h k e f =
+      let g = words_grow (leaves_of rs behind) (read_word x w st) in
+      let same : whole ≡ read_words (leaves_of rs behind) (read_word x w st) = e ∙ ap (λ l. read_words (leaves_of (x ∷ rs) l) st) k in
+      omega (arith, ap count same)

@@ -55,14 +55,12 @@ fn accepted<'a>(alloc: Global, text: &'a [u8], read: ReadText<'a>) -> Result<Scr
     spelled_are_short();
     lexed_once();
     leaves_are_of_trees();
-    let ReadText {
-        words,
-        tokens,
-        shape,
-        ..
-    } = read;
-    let words = words.as_slice();
+    let ReadText { words, shape } = read;
+    let words = words.list();
     let roles = shape.roles.as_slice();
+    let Ok(tokens) = words.tokens(alloc) else {
+        return Err(ParseStop::OutOfMemory);
+    };
     let Ok(spans) = goal_spans(alloc, words, roles) else {
         return Err(ParseStop::OutOfMemory);
     };

@@ -1,6 +1,7 @@
 // A script's words, read from the left.
-ghost use Rattle.std.specs.Prelude.{◌≡◌, ◌<◌, length, map, false, Err, IfOk, OnOk};
+ghost use Rattle.std.specs.Prelude.{◌≡◌, ◌<◌, length, false, Err, IfOk, OnOk};
 ghost use Rattle.script_words.specs.Named.{word_of};
+ghost use Rattle.script_words.specs.Kept.{words_in};
 ghost use Rattle.script_shape.specs.Roles.{leaves_of};
 ghost use Rattle.script_nodes.specs.Defining.{opens_formula};
 ghost use Rattle.script_grammar.specs.Steps as spec;
@@ -14,6 +15,7 @@ use script_nodes::definitions::Definitions;
 use script_nodes::laws::nodes_only_grow;
 use script_shape::due::Due;
 use script_words::class::Sign;
+use script_words::list::WordList;
 use script_words::words::Word;
 use std::alloc::Global;
 
@@ -93,12 +95,12 @@ impl<'a> Stage<'a> {
 #[tactic(auto, unfolding(crate::specs::Steps::read_words))]
 pub fn read_words<'a>(
     alloc: Global,
-    words: &[Word<'a>],
+    words: WordList<'_, 'a>,
     roles: &[Due],
 ) -> Result<Stage<'a>, DagFault>
-    ensures read { IfOk result (λ stage. step_of stage ≡ spec.read_words (leaves_of roles.now (map word_of words.now)) spec.start) }
+    ensures read { IfOk result (λ stage. step_of stage ≡ spec.read_words (leaves_of roles.now (words_in words.entry)) spec.start) }
     ensures full { result ≡ Err DagFault.Full → 1024
-        < length (spec.nodes_at (spec.read_words (leaves_of roles.now (map word_of words.now)) spec.start)) }
+        < length (spec.nodes_at (spec.read_words (leaves_of roles.now (words_in words.entry)) spec.start)) }
 {
     nodes_only_grow();
     claims_only_grow();
@@ -107,13 +109,13 @@ pub fn read_words<'a>(
     let mut words = words;
     let mut roles = roles;
     while let [role, later_roles @ ..] = roles {
-        let [word, later_words @ ..] = words else {
+        let Some((word, later_words)) = words.split_first() else {
             return Ok(stage);
         };
-        if opens_formula(*role, *word) || closes_formula(*role) {
-            stage = stage.read(alloc, *role, *word)?;
+        if opens_formula(*role, word) || closes_formula(*role) {
+            stage = stage.read(alloc, *role, word)?;
         } else {
-            stage.stay(*role, *word)?;
+            stage.stay(*role, word)?;
         }
         words = later_words;
         roles = later_roles;

@@ -1,12 +1,12 @@
-use Rattle.std.proofs.Common.{◌≡◌, length, map}
-use Rattle.script_words.specs.Named.{word_of}
+use Rattle.std.proofs.Common.{◌≡◌, length}
+use Rattle.script_words.specs.Kept.{words_in}
 use Rattle.script_shape.specs.Roles.{leaves_of}
 use Rattle.script_grammar.specs.Steps as spec
 use Rattle.script_grammar.specs.Views.{step_of}
 use Rattle.script_grammar.proofs.stage.read_words.Given as goal
 
 abbrev pub invariant-loop-roles : goal.invariant-loop-roles
-invariant-loop-roles l = spec.read_words (leaves_of l.fn.roles (map word_of l.fn.words)) spec.start ≡ spec.read_words (leaves_of l.roles (map word_of l.words)) (step_of l.stage)
+invariant-loop-roles l = spec.read_words (leaves_of l.fn.roles (words_in l.fn.words)) spec.start ≡ spec.read_words (leaves_of l.roles (words_in l.words)) (step_of l.stage)
 
 abbrev pub decreases-loop-roles : goal.decreases-loop-roles
 decreases-loop-roles l = length l.roles
