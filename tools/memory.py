@@ -11,8 +11,10 @@ Ends with 1 where one took more than TIMES times its text (20 where none is name
 import itertools
 import os
 import string
+import subprocess
 import sys
 import tempfile
+import time
 
 SIZE = 1 << 20
 
@@ -67,19 +69,47 @@ TEXTS = {
 }
 
 
+def sleeps(child):
+    """Whether all threads of a process sleep."""
+    states = []
+    for thread in os.listdir(f"/proc/{child}/task"):
+        with open(f"/proc/{child}/task/{thread}/stat") as file:
+            states.append(file.read().rpartition(")")[2].split()[0])
+    return all(state in "SZ" for state in states)
+
+
+def greatest(child):
+    """The greatest resident memory of a process that sleeps before it ends."""
+    while not (sleeps(child) and (time.sleep(0.02) or sleeps(child))):
+        time.sleep(0.002)
+    with open(f"/proc/{child}/status") as file:
+        status = dict(line.split(":", 1) for line in file)
+    return int(status.get("VmHWM", "0 kB").split()[0]) * 1024
+
+
 def run(program, text):
-    """Status, resident memory in bytes and the first line of a run of `prove` on the text."""
-    with tempfile.NamedTemporaryFile(suffix=".fx") as script, tempfile.TemporaryFile() as lines:
+    """Status, resident memory in bytes and the first line of a run of `prove` on the text.
+
+    What a process took can't be asked for when it has ended, and what its parent had counts as its own. So its lines go to a pipe that
+    is full: it sleeps when it is to put them, and is looked at then.
+    """
+    with tempfile.NamedTemporaryFile(suffix=".fx") as script:
         script.write(text)
         script.flush()
-        child = os.fork()
-        if child == 0:
-            os.dup2(lines.fileno(), 1)
-            os.dup2(lines.fileno(), 2)
-            os.execv(program, [program, "prove", script.name])
-        _, status, used = os.wait4(child, 0)
-        lines.seek(0)
-        return os.WEXITSTATUS(status) if os.WIFEXITED(status) else -1, used.ru_maxrss * 1024, lines.readline().decode(errors="replace").strip()
+        out, into = os.pipe()
+        os.set_blocking(into, False)
+        filling = 0
+        try:
+            while True:
+                filling += os.write(into, b" " * 4096)
+        except BlockingIOError:
+            os.set_blocking(into, True)
+        child = subprocess.Popen([program, "prove", script.name], stdout=into, stderr=into)
+        os.close(into)
+        memory = greatest(child.pid)
+        with open(out, "rb") as lines:
+            told = lines.read()[filling:]
+        return child.wait(), memory, told.decode(errors="replace").split("\n")[0]
 
 
 def main():
