@@ -73,8 +73,12 @@ def sleeps(child):
     """Whether all threads of a process sleep."""
     states = []
     for thread in os.listdir(f"/proc/{child}/task"):
-        with open(f"/proc/{child}/task/{thread}/stat") as file:
-            states.append(file.read().rpartition(")")[2].split()[0])
+        try:
+            with open(f"/proc/{child}/task/{thread}/stat") as file:
+                states.append(file.read().rpartition(")")[2].split()[0])
+        except OSError:
+            # (it has ended meanwhile)
+            return False
     return all(state in "SZ" for state in states)
 
 
