@@ -1,4 +1,5 @@
 pub mod CutLemmas
+pub mod FloorLemmas
 pub mod GridLemmas
 pub mod MiddleLemmas
 pub mod NumberLemmas

@@ -3,6 +3,7 @@ pub mod Compared
 pub mod Cut
 pub mod Ends
 pub mod Extremes
+pub mod Floors
 pub mod Made
 pub mod Middle
 pub mod Odd

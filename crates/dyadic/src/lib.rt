@@ -2,6 +2,7 @@
 #![tactic(auto)]
 
 mod cut;
+mod floor;
 mod middle;
 mod number;
 mod order;

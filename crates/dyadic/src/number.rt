@@ -6,7 +6,7 @@ ghost use Rattle.dyadic.specs.Canonical.{IsCanonical, IsCanonical-prop};
 
 mod form;
 
-pub use form::canonical;
+pub use form::{canonical, reduced};
 
 /// A number of the grid, mantissa * 2^exponent, with an odd mantissa or 0 * 2^0.
 #[derive(Clone, Copy, Debug)]

@@ -9,6 +9,7 @@ ghost use Rattle.dyadic.specs.Ends.{bound_of};
 ghost use Rattle.dyadic.specs.Values.{value_of};
 
 use crate::cut::Cut;
+use crate::floor::Floor;
 use crate::number::{Dyadic, End};
 use crate::rounding::{down, up};
 
@@ -65,7 +66,10 @@ fn quotient(a: Dyadic, b: Dyadic) -> Signed
 pub fn mul_down(a: Dyadic, b: Dyadic) -> End
     ensures { IsDown (value_of a *ℚ value_of b) (bound_of result) }
 {
-    down(product(a, b))
+    match Floor::product(a, b) {
+        Some(floor) => End::At(floor.rounded()),
+        None => down(product(a, b)),
+    }
 }
 
 /// The least grid number that is at least the product.
@@ -73,7 +77,11 @@ pub fn mul_down(a: Dyadic, b: Dyadic) -> End
 pub fn mul_up(a: Dyadic, b: Dyadic) -> End
     ensures { IsUp (value_of a *ℚ value_of b) (bound_of result) }
 {
-    up(product(a, b))
+    let opposite = a.neg();
+    match Floor::product(opposite, b) {
+        Some(floor) => End::At(floor.rounded().neg()),
+        None => up(product(a, b)),
+    }
 }
 
 /// The greatest grid number that is at most the quotient.

@@ -1,6 +1,7 @@
 // Shifts of signed numbers.
-ghost use Rattle.std.specs.Prelude.{◌≡◌, ◌≤◌, ◌<◌, ◌^◌, ◌*ℤ◌, pos};
+ghost use Rattle.std.specs.Prelude.{◌≡◌, ◌≤◌, ◌<◌, ◌*◌, ◌^◌, ◌*ℤ◌, pos};
 ghost use Rattle.std.specs.Int.RustNames.{unsigned_abs};
+ghost use Rattle.std.specs.Int.Signed.{shr_z};
 
 // number * 2^places
 pub fn shifted(number: i128, places: u32) -> i128
@@ -17,4 +18,31 @@ fn power_of_two(places: u32) -> i128
     ensures { result ≡ pos (2 ^ places) }
 {
     1i128 << places
+}
+
+// mantissa * 2^places, of up to 62 bits
+#[inline(always)]
+pub fn raised(mantissa: i64, places: u32) -> i64
+    requires small { unsigned_abs mantissa * 2 ^ places < 4611686018427387904 }
+    requires few { places ≤ 61 }
+    ensures { result ≡ mantissa *ℤ pos (2 ^ places) }
+{
+    mantissa * long_power_of_two(places)
+}
+
+fn long_power_of_two(places: u32) -> i64
+    requires { places ≤ 61 }
+    ensures { result ≡ pos (2 ^ places) }
+{
+    1i64 << places
+}
+
+// The number without its last places, rounded down.
+#[inline(always)]
+pub fn lowered(number: i64, places: u32) -> i64
+    requires { places ≤ 63 }
+    ensures value { result ≡ shr_z number (2 ^ places) }
+    ensures size { unsigned_abs result ≤ unsigned_abs number }
+{
+    number >> places
 }

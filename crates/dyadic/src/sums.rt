@@ -9,6 +9,7 @@ ghost use Rattle.dyadic.specs.Ends.{bound_of};
 ghost use Rattle.dyadic.specs.Values.{value_of};
 
 use crate::cut::{Cut, split};
+use crate::floor::Floor;
 use crate::number::{Dyadic, End};
 use crate::products::Signed;
 use crate::rounding::{down, up};
@@ -229,7 +230,10 @@ pub fn term_of(a: Dyadic) -> Term
 pub fn add_down(a: Dyadic, b: Dyadic) -> End
     ensures { IsDown (value_of a +ℚ value_of b) (bound_of result) }
 {
-    down(sum(term_of(a), term_of(b)))
+    match Floor::sum(a, b) {
+        Some(floor) => End::At(floor.rounded()),
+        None => down(sum(term_of(a), term_of(b))),
+    }
 }
 
 /// The least grid number that is at least the sum.
@@ -237,5 +241,10 @@ pub fn add_down(a: Dyadic, b: Dyadic) -> End
 pub fn add_up(a: Dyadic, b: Dyadic) -> End
     ensures { IsUp (value_of a +ℚ value_of b) (bound_of result) }
 {
-    up(sum(term_of(a), term_of(b)))
+    let left = a.neg();
+    let right = b.neg();
+    match Floor::sum(left, right) {
+        Some(floor) => End::At(floor.rounded().neg()),
+        None => up(sum(term_of(a), term_of(b))),
+    }
 }

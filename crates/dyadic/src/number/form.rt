@@ -6,6 +6,7 @@ ghost use Rattle.fx_model.specs.Grid.{IsOnGrid};
 ghost use Rattle.dyadic.specs.Values.{value_of, zero_number};
 
 use super::{Dyadic, odd_part};
+use crate::shift::lowered;
 
 impl Dyadic {
     /// The number 0.
@@ -41,6 +42,22 @@ pub fn canonical(digits: u64, two: i32) -> Dyadic
     let part = odd_part(digits);
     Dyadic {
         mantissa: part.odd as i64,
+        exponent: two + part.shift as i32,
+    }
+}
+
+// The number digits * 2^two, of either sign, in its canonical form.
+#[inline(always)]
+pub fn reduced(digits: i64, two: i32) -> Dyadic
+    requires { IsOnGrid (scaled digits two) }
+    ensures { value_of result ≡ scaled digits two }
+{
+    if digits == 0 {
+        return Dyadic::zero();
+    }
+    let part = odd_part(digits.unsigned_abs());
+    Dyadic {
+        mantissa: lowered(digits, part.shift),
         exponent: two + part.shift as i32,
     }
 }

@@ -6,8 +6,11 @@ use Rattle.fx_model.specs.Cut.{Cuts}
 use Rattle.dyadic.proofs.SumLemmas.{terms_are}
 use Rattle.dyadic.proofs.sums.add_down.Goals as goal
 
-pub returns : goal.returns
-returns c =
-    let size = c.sum.result.size in
+pub returns-in-Some : goal.returns-in-Some
+returns-in-Some c = c.rounded.ensures (value_of c.args.a +ℚ value_of c.args.b) c.in-Some.ensures
+
+pub returns-in-None : goal.returns-in-None
+returns-in-None c =
+    let size = c.sum-in-None.result.size in
     c.down.ensures (value_of c.args.a +ℚ value_of c.args.b)
-    (subst (λ (x : Fraction). Cuts (signed c.sum.result.negative x) size.digits size.two size.inexact) (terms_are c.args.a c.args.b _ _ _ _ c.term_of.ensures.mantissa c.term_of.ensures.exponent c.term_of-2.ensures.mantissa c.term_of-2.ensures.exponent) c.sum.ensures.cuts)
+    (subst (λ (x : Fraction). Cuts (signed c.sum-in-None.result.negative x) size.digits size.two size.inexact) (terms_are c.args.a c.args.b _ _ _ _ c.term_of.ensures.mantissa c.term_of.ensures.exponent c.term_of-in-None.ensures.mantissa c.term_of-in-None.ensures.exponent) c.sum-in-None.ensures.cuts)
