@@ -10,7 +10,7 @@ use Rattle.std.proofs.lemmas.Nat.{div-add-mod', leading_top, mod_below, mul-le, 
 use lib.Count.{count_leading_zeros}
 use lib.IntN.{neg_ℤ}
 use mir.Syntax.{w128}
-use Rattle.fx_model.specs.Fraction.{Fraction, ◌+ℚ◌, ◌*ℚ◌, ◌≤ℚ◌, ◌<ℚ◌, neg_ℚ, neg-neg, neg-le, le_refl, le_trans, lt_le, lt_by, lt_not, le_lt_trans, le_or_lt, add_comm, add_assoc, add-neg, zero-add, add-le, mul_comm, zero-mul}
+use Rattle.fx_model.specs.Fraction.{Fraction, ◌+ℚ◌, ◌*ℚ◌, ◌≤ℚ◌, ◌<ℚ◌, neg_ℚ, neg-neg, neg-le, le_refl, le_trans, lt_by, lt_not, le_lt_trans, le_or_lt, add_comm, add_assoc, add-neg, zero-add, add-le, mul_comm, zero-mul}
 use Rattle.fx_model.specs.Powers.{scaled, scaled-le, scaled-le_out, scaled-lt, scaled-lt_out, scaled-shift, scaled-zero}
 use Rattle.fx_model.specs.Grid.{IsOnGrid, IsOnGrid-neg, IsDown, At, scaled-neg, scaled-mul}
 use Rattle.fx_model.specs.Cut.{on_grid, next_grid, up_least}

@@ -1,6 +1,6 @@
 use Rattle.std.specs.Int.Signed.{shr_z}
 use Rattle.std.specs.Int.RustNames.{unsigned_abs}
-use Rattle.std.proofs.Common.{◌≡◌, ◌≤◌, ◌*◌, ◌-◌, ◌^◌, ℤ, pos, ◌*ℤ◌, ◌+ℤ◌, arith, ap, sym, subst, ◌∙◌, inl, inr, ⊎_elim, to_z, of_z, w32, w64}
+use Rattle.std.proofs.Common.{◌≡◌, ◌≤◌, ◌*◌, ◌-◌, ◌^◌, ℤ, pos, ◌*ℤ◌, ◌+ℤ◌, arith, ap, sym, subst, ◌∙◌, inl, inr, ⊎_elim, to_z, of_z, w64}
 use Rattle.std.proofs.lemmas.Bool.{cases_lt}
 use Rattle.std.proofs.lemmas.Int.{ints, to_z-of_z}
 use Rattle.dyadic.specs.Values.{value_of}

@@ -4,7 +4,6 @@ use Rattle.std.specs.Int.RustNames.{unsigned_abs}
 use Rattle.std.proofs.lemmas.Int.{ints}
 use Rattle.fx_model.specs.Grid.{IsOnGrid}
 use Rattle.fx_model.specs.Powers.{scaled, scaled-shift}
-use Rattle.dyadic.specs.Values.{value_of}
 use Rattle.dyadic.specs.Canonical.{IsCanonical, odd_canonical}
 use Rattle.dyadic.proofs.GridLemmas.{same_scaled, same_canonical, zero_in}
 use Rattle.dyadic.proofs.ShiftLemmas.{odd_shift}
