@@ -6,6 +6,7 @@ pub mod NumberLemmas
 pub mod OrderLemmas
 pub mod ProductLemmas
 pub mod QuotientLemmas
+pub mod RatioLemmas
 pub mod RisingLemmas
 pub mod ShiftLemmas
 pub mod SumLemmas

@@ -1,14 +1,17 @@
 // Values rounded down to whole numbers of 64 bits, at places that aren't near the upper end of the grid.
-ghost use Rattle.std.specs.Prelude.{◌≡◌, ◌⊎◌, ◌≤◌, ◌<◌, ◌*◌, ◌^◌, ◌≤ℤ◌, ◌+ℤ◌, ◌*ℤ◌, pos, negsuc, IfSome};
+ghost use Rattle.std.specs.Prelude.{◌≡◌, ◌≢◌, ◌⊎◌, ◌≤◌, ◌<◌, ◌*◌, ◌^◌, ◌≤ℤ◌, ◌+ℤ◌, ◌*ℤ◌, pos, negsuc, IfSome};
 ghost use Rattle.std.specs.Int.RustNames.{unsigned_abs};
 ghost use Rattle.std.specs.Int.Signed.{shr_z};
-ghost use Rattle.fx_model.specs.Fraction.{Fraction, ◌+ℚ◌, ◌*ℚ◌};
-ghost use Rattle.fx_model.specs.Grid.{IsDown};
+ghost use Rattle.fx_model.specs.Fraction.{Fraction, ◌+ℚ◌, ◌*ℚ◌, ◌/ℚ◌, zero_ℚ};
+ghost use Rattle.fx_model.specs.Powers.{whole, scaled};
+ghost use Rattle.fx_model.specs.Grid.{IsDown, signed};
 ghost use Rattle.fx_model.specs.Grid as grid;
 ghost use Rattle.dyadic.specs.Floors.{IsFloor};
 ghost use Rattle.dyadic.specs.Values.{value_of};
 
 use crate::number::{Dyadic, reduced};
+use crate::products::is_negative;
+use crate::reciprocal::{Lifted, divided};
 use crate::shift::{lowered, raised};
 
 // digits * 2^two, or something between that and the next, where there are more digits than the grid has.
@@ -141,6 +144,59 @@ impl Floor {
         Some(Floor {
             digits: high_product(raised(first, left), raised(second, right)),
             two,
+        })
+    }
+
+    // The quotient of two numbers, unless its place is too low or too high.
+    #[inline(always)]
+    pub fn quotient(a: Dyadic, b: Dyadic) -> Option<Floor>
+        requires { value_of b ≢ zero_ℚ }
+        ensures { IfSome result (IsFloor (value_of a /ℚ value_of b)) }
+    {
+        Floor::short_ratio(
+            is_negative(a) ^ is_negative(b),
+            a.mantissa().unsigned_abs(),
+            b.mantissa().unsigned_abs(),
+            a.exponent() - b.exponent(),
+        )
+    }
+
+    // n * 2^two / d, unless a number has more than 64 bits or the place is too low or too high.
+    #[inline(always)]
+    pub fn ratio(n: i128, d: u128, two: i32) -> Option<Floor>
+        requires not_zero { 0 < d }
+        requires low { negsuc 2999 ≤ℤ two }
+        requires high { two ≤ℤ pos 3000 }
+        ensures { (x : Fraction) → whole (pos d) *ℚ x ≡ scaled n two → IfSome result (IsFloor x) }
+    {
+        let size = n.unsigned_abs();
+        if 18446744073709551615 < size || 18446744073709551615 < d {
+            return None;
+        }
+        Floor::short_ratio(n < 0, size as u64, d as u64, two)
+    }
+
+    // n * 2^two / d or its negative, unless its place is too low or too high.
+    #[inline(always)]
+    fn short_ratio(negative: bool, n: u64, d: u64, two: i32) -> Option<Floor>
+        requires not_zero { 0 < d }
+        requires low { negsuc 2999 ≤ℤ two }
+        requires high { two ≤ℤ pos 3000 }
+        ensures { (x : Fraction) → whole (pos d) *ℚ signed negative x ≡ scaled (pos n) two → IfSome result (IsFloor x) }
+    {
+        if n == 0 {
+            return Some(Floor { digits: 0, two: 0 });
+        }
+        let top = Lifted::of(n);
+        let bottom = Lifted::of(d);
+        let place = two + bottom.places as i32 - top.places as i32 - 61;
+        if place < -512 || 400 < place {
+            return None;
+        }
+        let parts = divided(top.digits, bottom.digits);
+        Some(Floor {
+            digits: parts.floor(negative),
+            two: place,
         })
     }
 }

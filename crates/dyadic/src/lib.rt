@@ -8,6 +8,7 @@ mod number;
 mod order;
 mod points;
 mod products;
+mod reciprocal;
 mod rounding;
 mod shift;
 mod sums;

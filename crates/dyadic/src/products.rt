@@ -20,7 +20,7 @@ pub struct Signed {
     pub size: Cut,
 }
 
-fn is_negative(a: Dyadic) -> bool
+pub fn is_negative(a: Dyadic) -> bool
     ensures { result ≡ int_lt a.mantissa (pos 0) }
 {
     a.mantissa() < 0
@@ -90,7 +90,10 @@ pub fn div_down(a: Dyadic, b: Dyadic) -> End
     requires { value_of b ≢ zero_ℚ }
     ensures { IsDown (value_of a /ℚ value_of b) (bound_of result) }
 {
-    down(quotient(a, b))
+    match Floor::quotient(a, b) {
+        Some(floor) => End::At(floor.rounded()),
+        None => down(quotient(a, b)),
+    }
 }
 
 /// The least grid number that is at least the quotient.
@@ -99,7 +102,11 @@ pub fn div_up(a: Dyadic, b: Dyadic) -> End
     requires { value_of b ≢ zero_ℚ }
     ensures { IsUp (value_of a /ℚ value_of b) (bound_of result) }
 {
-    up(quotient(a, b))
+    let opposite = a.neg();
+    match Floor::quotient(opposite, b) {
+        Some(floor) => End::At(floor.rounded().neg()),
+        None => up(quotient(a, b)),
+    }
 }
 
 // n * 2^two / d, with enough digits to be rounded.
@@ -131,7 +138,10 @@ pub fn ratio_down(n: i128, d: u128, two: i32) -> End
     requires high { two ≤ℤ pos 612 }
     ensures { (x : Fraction) → whole (pos d) *ℚ x ≡ scaled n two → IsDown x (bound_of result) }
 {
-    down(ratio(n, d, two))
+    match Floor::ratio(n, d, two) {
+        Some(floor) => End::At(floor.rounded()),
+        None => down(ratio(n, d, two)),
+    }
 }
 
 /// The least grid number that is at least `n * 2^two / d`.
@@ -144,5 +154,8 @@ pub fn ratio_up(n: i128, d: u128, two: i32) -> End
     requires high { two ≤ℤ pos 612 }
     ensures { (x : Fraction) → whole (pos d) *ℚ x ≡ scaled n two → IsUp x (bound_of result) }
 {
-    up(ratio(n, d, two))
+    match Floor::ratio(-n, d, two) {
+        Some(floor) => End::At(floor.rounded().neg()),
+        None => up(ratio(n, d, two)),
+    }
 }

@@ -2,5 +2,8 @@ use Rattle.fx_model.specs.Fraction.{◌/ℚ◌}
 use Rattle.dyadic.specs.Values.{value_of}
 use Rattle.dyadic.proofs.products.div_down.Goals as goal
 
-pub returns : goal.returns
-returns c = c.down.ensures (value_of c.args.a /ℚ value_of c.args.b) c.quotient.ensures.cuts
+pub returns-in-Some : goal.returns-in-Some
+returns-in-Some c = c.rounded.ensures (value_of c.args.a /ℚ value_of c.args.b) c.in-Some.ensures
+
+pub returns-in-None : goal.returns-in-None
+returns-in-None c = c.down.ensures (value_of c.args.a /ℚ value_of c.args.b) c.quotient-in-None.ensures.cuts

@@ -1,6 +1,15 @@
-use Rattle.fx_model.specs.Fraction.{◌/ℚ◌}
+use Rattle.std.proofs.Common.{◌≡◌, subst, ◌∙◌, ap, refl, true}
+use Rattle.fx_model.specs.Fraction.{◌/ℚ◌, neg_ℚ, neg-mul, inverse_ℚ}
+use Rattle.fx_model.specs.Grid.{IsDown, At}
 use Rattle.dyadic.specs.Values.{value_of}
+use Rattle.dyadic.proofs.NumberLemmas.{up_signed}
 use Rattle.dyadic.proofs.products.div_up.Goals as goal
 
-pub returns : goal.returns
-returns c = c.up.ensures (value_of c.args.a /ℚ value_of c.args.b) c.quotient.ensures.cuts
+pub returns-in-Some : goal.returns-in-Some
+returns-in-Some c =
+    let opposite : value_of c.neg-opposite.result /ℚ value_of c.args.b ≡ neg_ℚ (value_of c.args.a /ℚ value_of c.args.b) = ap (λ x. x /ℚ value_of c.args.b) c.neg-opposite.ensures ∙ neg-mul (value_of c.args.a) (inverse_ℚ (value_of c.args.b)) in
+    up_signed true (value_of c.args.a /ℚ value_of c.args.b) (value_of c.rounded.result) (value_of c.neg.result) refl
+    (subst (λ x. IsDown x (At (value_of c.rounded.result))) opposite (c.rounded.ensures (value_of c.neg-opposite.result /ℚ value_of c.args.b) c.in-Some.ensures)) c.neg.ensures
+
+pub returns-in-None : goal.returns-in-None
+returns-in-None c = c.up.ensures (value_of c.args.a /ℚ value_of c.args.b) c.quotient-in-None.ensures.cuts
