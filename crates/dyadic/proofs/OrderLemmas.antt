@@ -1,5 +1,5 @@
 -- How numbers compare, by their mantissas at one place.
-use Rattle.std.proofs.Common.{◌≡◌, ◌⊎◌, ℕ, ℤ, pos, negsuc, ◌+ℤ◌, ◌*ℤ◌, ◌<ℤ◌, ◌≤ℤ◌, ◌<◌, ◌≤◌, ◌*◌, ◌+◌, ◌^◌, min, Bool, true, false, cond, arith, ap, sym, subst, ◌∙◌, refl, ⊎_elim, inl, inr, lit≤}
+use Rattle.std.proofs.Common.{◌≡◌, ℕ, ℤ, pos, negsuc, ◌+ℤ◌, ◌*ℤ◌, ◌<ℤ◌, ◌≤ℤ◌, ◌<◌, ◌≤◌, ◌*◌, ◌+◌, ◌^◌, min, Bool, true, false, arith, ap, sym, subst, ◌∙◌, refl, ⊎_elim, lit≤}
 use Rattle.std.specs.Int.RustNames.{unsigned_abs, int_lt}
 use Rattle.std.proofs.lemmas.Int.{ints, by_lt_z}
 use Rattle.std.proofs.lemmas.Bool.{cases_lt}
@@ -7,19 +7,15 @@ use Rattle.std.proofs.lemmas.Nat.{pow_pos}
 use Rattle.std.proofs.Math.Nat.{pow-le-pow_right, mul-le-mul_right}
 use Rattle.std.specs.declared.cmp.Ordering.{Ordering}
 use Rattle.std.specs.declared.cmp.Ordering.TheVariants.{Less, Equal, Greater}
-use Rattle.std.specs.Ordering.{int_cmp, is_eq, is_lt, is_le, ordering_reverse, eq_by_cmp}
+use Rattle.std.specs.Ordering.{int_cmp, is_eq, eq_by_cmp}
 use Rattle.std.specs.Bool.{Decides, one_answer}
-use Rattle.std.specs.Cmp.{tied_itself}
 use borrow.Author.Differences.{product_is}
 use Rattle.fx_model.specs.Fraction.{Fraction, le_ℚ, ◌≤ℚ◌, ◌<ℚ◌, le_refl, zero_ℚ}
 use Rattle.fx_model.specs.Powers.{scaled, scaled-le, scaled-lt, scaled-shift, scaled-zero, scaled-le_out}
 use Rattle.dyadic.specs.declared.number.Dyadic.{Dyadic}
 use Rattle.dyadic.specs.Values.{value_of}
-use Rattle.fx_model.specs.Enclosure.{BoundLe}
-use Rattle.dyadic.specs.declared.number.End.{End}
-use Rattle.dyadic.specs.Ends.{bound_of}
-use Rattle.dyadic.specs.Compared.{value_cmp-equal, end_cmp-le}
-use Rattle.dyadic.specs.Order.{cmp_by, value_cmp, end_cmp, end_cmp_total}
+use Rattle.dyadic.specs.Compared.{value_cmp-equal}
+use Rattle.dyadic.specs.Order.{cmp_by, value_cmp}
 
 pub int_less : (m n : ℤ) → m <ℤ n → int_cmp m n ≡ Less
 int_less m n h = let e : int_lt m n ≡ true = grind (arith, ints) in rw e
@@ -115,32 +111,3 @@ compared a b h l gap r p q e f = f ∙ ap (λ h. int_cmp (h *ℤ pos (2 ^ gap)) 
 pub compared_far : (h h' x l l' : ℤ) (gap k : ℕ) (r : Ordering) → x ≡ (h' *ℤ pos (2 ^ k)) → h' ≡ h → k ≡ min gap 60 → l' ≡ l → unsigned_abs l < 1152921504606846976 → r ≡ int_cmp x l' → r ≡ int_cmp (h *ℤ pos (2 ^ gap)) l
 compared_far h h' x l l' gap k r e a d f small g =
     g ∙ ap (λ x. int_cmp x l') (e ∙ (λ i. a i *ℤ pos (2 ^ d i))) ∙ ap (int_cmp (h *ℤ pos (2 ^ min gap 60))) f ∙ compare_far h l gap small
-
--- ---- the lesser and the greater of two ends
-lt_le_test : (r : Ordering) → is_lt r ≡ true → is_le r ≡ true
-lt_le_test Less e = refl
-lt_le_test Equal e = cc
-lt_le_test Greater e = cc
-
-not_lt_test : (r : Ordering) → is_lt (ordering_reverse r) ≡ false → is_le r ≡ true
-not_lt_test Less e = refl
-not_lt_test Equal e = refl
-not_lt_test Greater e = cc
-
-module _ (a b : End) where
-  below : is_lt (end_cmp b a) ≡ true → BoundLe (bound_of b) (bound_of a)
-  below e = end_cmp-le b a (lt_le_test (end_cmp b a) e)
-
-  above : is_lt (end_cmp b a) ≡ false → BoundLe (bound_of a) (bound_of b)
-  above e = end_cmp-le a b (not_lt_test (end_cmp a b) (ap is_lt (sym (end_cmp_total.antisymm b a)) ∙ e))
-
-  itself : (c : End) → BoundLe (bound_of c) (bound_of c)
-  itself c = end_cmp-le c c (ap is_le (tied_itself end_cmp_total c))
-
-  pub lesser_by : (s : Bool) → is_lt (end_cmp b a) ≡ s → ((cond s b a ≡ a) ⊎ (cond s b a ≡ b)) × BoundLe (bound_of (cond s b a)) (bound_of a) × BoundLe (bound_of (cond s b a)) (bound_of b)
-  lesser_by true e = (inr refl, below e, itself b)
-  lesser_by false e = (inl refl, itself a, above e)
-
-  pub greater_by : (s : Bool) → is_lt (end_cmp b a) ≡ s → ((cond s a b ≡ a) ⊎ (cond s a b ≡ b)) × BoundLe (bound_of a) (bound_of (cond s a b)) × BoundLe (bound_of b) (bound_of (cond s a b))
-  greater_by true e = (inl refl, itself a, below e)
-  greater_by false e = (inr refl, above e, itself b)

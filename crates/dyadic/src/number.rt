@@ -24,6 +24,18 @@ pub enum End {
     High,
 }
 
+// The same end, taken apart and made anew: one that a call returned by memory then lies in registers, as one that was made here.
+#[inline(always)]
+pub fn again(end: End) -> End
+    ensures { result ≡ end }
+{
+    match end {
+        End::Low => End::Low,
+        End::At(number) => End::At(number),
+        End::High => End::High,
+    }
+}
+
 fn is_negative(m: i64) -> bool
     ensures { result ≡ int_lt m (pos 0) }
 {
@@ -98,6 +110,7 @@ impl Dyadic {
     }
 
     /// Odd, or 0; below 2^60 in size.
+    #[inline(always)]
     pub fn mantissa(self) -> i64
         ensures value { result ≡ self.mantissa }
         ensures size { unsigned_abs result < 1152921504606846976 }
@@ -106,6 +119,7 @@ impl Dyadic {
     }
 
     /// From -512 to 571; 0 where the mantissa is 0.
+    #[inline(always)]
     pub fn exponent(self) -> i32
         ensures value { result ≡ self.exponent }
         ensures low { negsuc 511 ≤ℤ result }
@@ -122,6 +136,7 @@ impl Dyadic {
     }
 
     /// Whether the number is 0.
+    #[inline(always)]
     pub fn is_zero(self) -> bool
         ensures { IsTrue result ↔ (value_of self ≡ zero_ℚ) }
     {
@@ -129,6 +144,7 @@ impl Dyadic {
     }
 
     /// The number with the other sign.
+    #[inline(always)]
     pub fn neg(self) -> Dyadic
         ensures { value_of result ≡ neg_ℚ (value_of self) }
     {

@@ -18,6 +18,7 @@ use crate::shift::shifted;
 use std::cmp::Ordering;
 
 // How high * 2^gap compares with low.
+#[inline(always)]
 fn compare_at(high: i64, gap: u32, low: i64) -> Ordering
     requires high_small { unsigned_abs high < 1152921504606846976 }
     requires low_small { unsigned_abs low < 1152921504606846976 }
@@ -37,6 +38,7 @@ fn compare_at(high: i64, gap: u32, low: i64) -> Ordering
 }
 
 // How much the first place is above the second.
+#[inline(always)]
 fn places_above(high: i32, low: i32) -> u32
     requires low { negsuc 511 ≤ℤ low }
     requires high { high ≤ℤ pos 571 }
@@ -46,6 +48,7 @@ fn places_above(high: i32, low: i32) -> u32
     (high - low) as u32
 }
 
+#[inline(always)]
 fn compare(a: Dyadic, b: Dyadic) -> Ordering
     ensures { result ≡ value_cmp a b }
 {
@@ -67,13 +70,18 @@ fn compare(a: Dyadic, b: Dyadic) -> Ordering
 
 impl Dyadic {
     /// Whether the number is at most the other.
+    #[inline(always)]
     pub fn is_at_most(self, other: Dyadic) -> bool
         ensures { IsTrue result ↔ value_of self ≤ℚ value_of other }
     {
-        self <= other
+        match compare(self, other) {
+            Ordering::Greater => false,
+            _ => true,
+        }
     }
 
     /// Whether the number is 0 or above.
+    #[inline(always)]
     pub fn is_from_zero(self) -> bool
         ensures { IsTrue result ↔ zero_ℚ ≤ℚ value_of self }
     {
@@ -81,6 +89,7 @@ impl Dyadic {
     }
 
     /// Whether the number is 0 or below.
+    #[inline(always)]
     pub fn is_up_to_zero(self) -> bool
         ensures { IsTrue result ↔ value_of self ≤ℚ zero_ℚ }
     {
@@ -88,10 +97,11 @@ impl Dyadic {
     }
 
     /// Whether the number is below the other.
+    #[inline(always)]
     pub fn is_below(self, other: Dyadic) -> bool
         ensures { IsTrue result ↔ value_of self <ℚ value_of other }
     {
-        self < other
+        !other.is_at_most(self)
     }
 }
 
@@ -118,6 +128,7 @@ impl Ord for Dyadic {
 
     ghost matches_eq = { Prim.search (comparing, rules) };
 
+    #[inline(always)]
     fn cmp(&self, other: &Dyadic) -> Ordering {
         compare(*self, *other)
     }
@@ -129,6 +140,7 @@ impl PartialOrd for Dyadic {
     ghost laws = { partial_order_from_own_ties (Prim.search (comparing, value_cmp_total, rules))
         (Prim.search (comparing, rules)) };
 
+    #[inline(always)]
     fn partial_cmp(&self, other: &Dyadic) -> Option<Ordering> {
         Some(self.cmp(other))
     }
@@ -136,14 +148,27 @@ impl PartialOrd for Dyadic {
 
 impl End {
     /// Whether the end is at most the other.
+    #[inline(always)]
     pub fn is_at_most(self, other: End) -> bool
         ensures at_most { IsTrue result ↔ BoundLe (bound_of self) (bound_of other) }
         ensures is { result ≡ le_bound (bound_of self) (bound_of other) }
     {
-        self <= other
+        match self {
+            End::Low => true,
+            End::At(a) => match other {
+                End::Low => false,
+                End::At(b) => a.is_at_most(b),
+                End::High => true,
+            },
+            End::High => match other {
+                End::High => true,
+                _ => false,
+            },
+        }
     }
 
     /// Whether the end is 0 or above.
+    #[inline(always)]
     pub fn is_from_zero(self) -> bool
         ensures from { IsTrue result ↔ BoundLe (grid.At zero_ℚ) (bound_of self) }
         ensures is { result ≡ le_bound (grid.At zero_ℚ) (bound_of self) }
@@ -156,6 +181,7 @@ impl End {
     }
 
     /// Whether the end is 0 or below.
+    #[inline(always)]
     pub fn is_up_to_zero(self) -> bool
         ensures up_to { IsTrue result ↔ BoundLe (bound_of self) (grid.At zero_ℚ) }
         ensures is { result ≡ le_bound (bound_of self) (grid.At zero_ℚ) }
@@ -196,6 +222,7 @@ impl Ord for End {
 
     ghost matches_eq = { Prim.search (comparing, rules) };
 
+    #[inline(always)]
     fn cmp(&self, other: &End) -> Ordering {
         match self {
             End::Low => match other {
@@ -221,27 +248,30 @@ impl PartialOrd for End {
     ghost laws = { partial_order_from_own_ties (Prim.search (comparing, end_cmp_total, rules))
         (Prim.search (comparing, rules)) };
 
+    #[inline(always)]
     fn partial_cmp(&self, other: &End) -> Option<Ordering> {
         Some(self.cmp(other))
     }
 }
 
 /// The lesser of two ends.
+#[inline(always)]
 pub fn lesser(a: End, b: End) -> End
     ensures one { (result ≡ a) ⊎ (result ≡ b) }
     ensures first { BoundLe (bound_of result) (bound_of a) }
     ensures second { BoundLe (bound_of result) (bound_of b) }
     ensures is { result ≡ lesser_end a b }
 {
-    a.min(b)
+    if a.is_at_most(b) { a } else { b }
 }
 
 /// The greater of two ends.
+#[inline(always)]
 pub fn greater(a: End, b: End) -> End
     ensures one { (result ≡ a) ⊎ (result ≡ b) }
     ensures first { BoundLe (bound_of a) (bound_of result) }
     ensures second { BoundLe (bound_of b) (bound_of result) }
     ensures is { result ≡ greater_end a b }
 {
-    a.max(b)
+    if a.is_at_most(b) { b } else { a }
 }

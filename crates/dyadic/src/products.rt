@@ -10,7 +10,7 @@ ghost use Rattle.dyadic.specs.Values.{value_of};
 
 use crate::cut::Cut;
 use crate::floor::Floor;
-use crate::number::{Dyadic, End};
+use crate::number::{Dyadic, End, again};
 use crate::rounding::{down, up};
 
 // A value as its sign and its size.
@@ -61,6 +61,22 @@ fn quotient(a: Dyadic, b: Dyadic) -> Signed
     }
 }
 
+// The product rounded down, whatever its place is. It stands apart, as it is long and seldom needed.
+#[inline(never)]
+fn long_product_down(a: Dyadic, b: Dyadic) -> End
+    ensures { IsDown (value_of a *ℚ value_of b) (bound_of result) }
+{
+    down(product(a, b))
+}
+
+// The product rounded up.
+#[inline(never)]
+fn long_product_up(a: Dyadic, b: Dyadic) -> End
+    ensures { IsUp (value_of a *ℚ value_of b) (bound_of result) }
+{
+    up(product(a, b))
+}
+
 /// The greatest grid number that is at most the product.
 #[inline(always)]
 pub fn mul_down(a: Dyadic, b: Dyadic) -> End
@@ -68,7 +84,7 @@ pub fn mul_down(a: Dyadic, b: Dyadic) -> End
 {
     match Floor::product(a, b) {
         Some(floor) => End::At(floor.rounded()),
-        None => down(product(a, b)),
+        None => again(long_product_down(a, b)),
     }
 }
 
@@ -80,8 +96,26 @@ pub fn mul_up(a: Dyadic, b: Dyadic) -> End
     let opposite = a.neg();
     match Floor::product(opposite, b) {
         Some(floor) => End::At(floor.rounded().neg()),
-        None => up(product(a, b)),
+        None => again(long_product_up(a, b)),
     }
+}
+
+// The quotient rounded down, whatever its place is.
+#[inline(never)]
+fn long_quotient_down(a: Dyadic, b: Dyadic) -> End
+    requires { value_of b ≢ zero_ℚ }
+    ensures { IsDown (value_of a /ℚ value_of b) (bound_of result) }
+{
+    down(quotient(a, b))
+}
+
+// The quotient rounded up.
+#[inline(never)]
+fn long_quotient_up(a: Dyadic, b: Dyadic) -> End
+    requires { value_of b ≢ zero_ℚ }
+    ensures { IsUp (value_of a /ℚ value_of b) (bound_of result) }
+{
+    up(quotient(a, b))
 }
 
 /// The greatest grid number that is at most the quotient.
@@ -92,7 +126,7 @@ pub fn div_down(a: Dyadic, b: Dyadic) -> End
 {
     match Floor::quotient(a, b) {
         Some(floor) => End::At(floor.rounded()),
-        None => down(quotient(a, b)),
+        None => again(long_quotient_down(a, b)),
     }
 }
 
@@ -105,7 +139,7 @@ pub fn div_up(a: Dyadic, b: Dyadic) -> End
     let opposite = a.neg();
     match Floor::quotient(opposite, b) {
         Some(floor) => End::At(floor.rounded().neg()),
-        None => up(quotient(a, b)),
+        None => again(long_quotient_up(a, b)),
     }
 }
 
@@ -128,6 +162,32 @@ fn ratio(n: i128, d: u128, two: i32) -> Signed
     }
 }
 
+// The ratio rounded down, whatever its numbers are.
+#[inline(never)]
+fn long_ratio_down(n: i128, d: u128, two: i32) -> End
+    requires numerator { unsigned_abs n ≤ 100000000000000000000000000000000000000 }
+    requires not_zero { 0 < d }
+    requires divisor { d ≤ 1000000000000000000000000000000 }
+    requires low { negsuc 611 ≤ℤ two }
+    requires high { two ≤ℤ pos 612 }
+    ensures { (x : Fraction) → whole (pos d) *ℚ x ≡ scaled n two → IsDown x (bound_of result) }
+{
+    down(ratio(n, d, two))
+}
+
+// The ratio rounded up.
+#[inline(never)]
+fn long_ratio_up(n: i128, d: u128, two: i32) -> End
+    requires numerator { unsigned_abs n ≤ 100000000000000000000000000000000000000 }
+    requires not_zero { 0 < d }
+    requires divisor { d ≤ 1000000000000000000000000000000 }
+    requires low { negsuc 611 ≤ℤ two }
+    requires high { two ≤ℤ pos 612 }
+    ensures { (x : Fraction) → whole (pos d) *ℚ x ≡ scaled n two → IsUp x (bound_of result) }
+{
+    up(ratio(n, d, two))
+}
+
 /// The greatest grid number that is at most `n * 2^two / d`.
 #[inline(always)]
 pub fn ratio_down(n: i128, d: u128, two: i32) -> End
@@ -140,7 +200,7 @@ pub fn ratio_down(n: i128, d: u128, two: i32) -> End
 {
     match Floor::ratio(n, d, two) {
         Some(floor) => End::At(floor.rounded()),
-        None => down(ratio(n, d, two)),
+        None => again(long_ratio_down(n, d, two)),
     }
 }
 
@@ -156,6 +216,6 @@ pub fn ratio_up(n: i128, d: u128, two: i32) -> End
 {
     match Floor::ratio(-n, d, two) {
         Some(floor) => End::At(floor.rounded().neg()),
-        None => up(ratio(n, d, two)),
+        None => again(long_ratio_up(n, d, two)),
     }
 }

@@ -10,7 +10,7 @@ ghost use Rattle.dyadic.specs.Values.{value_of};
 
 use crate::cut::{Cut, split};
 use crate::floor::Floor;
-use crate::number::{Dyadic, End};
+use crate::number::{Dyadic, End, again};
 use crate::products::Signed;
 use crate::rounding::{down, up};
 use crate::shift::shifted;
@@ -225,6 +225,22 @@ pub fn term_of(a: Dyadic) -> Term
     }
 }
 
+// The sum rounded down, whatever its places are. It stands apart, as it is long and seldom needed.
+#[inline(never)]
+fn long_sum_down(a: Dyadic, b: Dyadic) -> End
+    ensures { IsDown (value_of a +ℚ value_of b) (bound_of result) }
+{
+    down(sum(term_of(a), term_of(b)))
+}
+
+// The sum rounded up.
+#[inline(never)]
+fn long_sum_up(a: Dyadic, b: Dyadic) -> End
+    ensures { IsUp (value_of a +ℚ value_of b) (bound_of result) }
+{
+    up(sum(term_of(a), term_of(b)))
+}
+
 /// The greatest grid number that is at most the sum.
 #[inline(always)]
 pub fn add_down(a: Dyadic, b: Dyadic) -> End
@@ -232,7 +248,7 @@ pub fn add_down(a: Dyadic, b: Dyadic) -> End
 {
     match Floor::sum(a, b) {
         Some(floor) => End::At(floor.rounded()),
-        None => down(sum(term_of(a), term_of(b))),
+        None => again(long_sum_down(a, b)),
     }
 }
 
@@ -245,6 +261,6 @@ pub fn add_up(a: Dyadic, b: Dyadic) -> End
     let right = b.neg();
     match Floor::sum(left, right) {
         Some(floor) => End::At(floor.rounded().neg()),
-        None => up(sum(term_of(a), term_of(b))),
+        None => again(long_sum_up(a, b)),
     }
 }

@@ -10,6 +10,7 @@ use crate::shift::lowered;
 
 impl Dyadic {
     /// The number 0.
+    #[inline(always)]
     pub fn zero() -> Dyadic
         ensures is { result ≡ zero_number }
         ensures value { value_of result ≡ zero_ℚ }
@@ -21,6 +22,7 @@ impl Dyadic {
     }
 
     /// The number 1.
+    #[inline(always)]
     pub fn one() -> Dyadic
         ensures { value_of result ≡ one_ℚ }
     {
@@ -32,6 +34,7 @@ impl Dyadic {
 }
 
 // The number digits * 2^two in its canonical form.
+#[inline(always)]
 pub fn canonical(digits: u64, two: i32) -> Dyadic
     requires { IsOnGrid (scaled (pos digits) two) }
     ensures { value_of result ≡ scaled (pos digits) two }

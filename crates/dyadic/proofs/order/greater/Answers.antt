@@ -1,16 +1,37 @@
-use Rattle.std.proofs.Common.{◌≡◌, ◌⊎◌, subst, sym, refl}
-use Rattle.std.specs.Ordering.{is_lt}
+use Rattle.std.specs.Prelude.{◌≡◌, Bool, true, false, if◌then◌else◌}
+use Rattle.std.proofs.Common.{subst, sym, ◌∙◌, refl, inl, inr}
 use Rattle.fx_model.specs.Enclosure.{BoundLe}
 use Rattle.dyadic.specs.Ends.{bound_of}
-use Rattle.dyadic.specs.Extremes.{greater_only}
-use Rattle.dyadic.specs.Order.{end_cmp}
+use Rattle.dyadic.specs.Extremes.{greater_end, greater_above}
 use Rattle.dyadic.specs.declared.number.End.{End}
-use Rattle.dyadic.proofs.OrderLemmas.{greater_by}
 use Rattle.dyadic.proofs.order.greater.Goals as goal
 
-pub returns : goal.returns
-returns c = let a = c.args.a in let b = c.args.b in let l = greater_by a b (is_lt (end_cmp b a)) refl in
-    let one = subst (λ (r : End). (r ≡ a) ⊎ (r ≡ b)) (sym c.max.ensures) l.0 in
-    let first = subst (λ (r : End). BoundLe (bound_of a) (bound_of r)) (sym c.max.ensures) l.1 in
-    let second = subst (λ (r : End). BoundLe (bound_of b) (bound_of r)) (sym c.max.ensures) l.2 in
-    record { one = one; first = first; second = second; is = greater_only a b c.max.result one first second }
+chosen : (s : Bool) (a b : End) → s ≡ true → b ≡ (if s then b else a)
+chosen true a b e = refl
+chosen false a b e = cc
+
+other : (s : Bool) (a b : End) → s ≡ false → a ≡ (if s then b else a)
+other true a b e = cc
+other false a b e = refl
+
+pub returns-then-is_at_most : goal.returns-then-is_at_most
+returns-then-is_at_most c = let a = c.args.a in let b = c.args.b in
+    let is : b ≡ greater_end a b = chosen _ a b (sym c.is_at_most.ensures.is ∙ c.if-is_at_most.true) in
+    let above = greater_above a b in
+    record {
+      one = inr refl;
+      first = subst (λ (r : End). BoundLe (bound_of a) (bound_of r)) (sym is) above.0;
+      second = subst (λ (r : End). BoundLe (bound_of b) (bound_of r)) (sym is) above.1;
+      is = is;
+    }
+
+pub returns-else-is_at_most : goal.returns-else-is_at_most
+returns-else-is_at_most c = let a = c.args.a in let b = c.args.b in
+    let is : a ≡ greater_end a b = other _ a b (sym c.is_at_most.ensures.is ∙ c.if-is_at_most.false) in
+    let above = greater_above a b in
+    record {
+      one = inl refl;
+      first = subst (λ (r : End). BoundLe (bound_of a) (bound_of r)) (sym is) above.0;
+      second = subst (λ (r : End). BoundLe (bound_of b) (bound_of r)) (sym is) above.1;
+      is = is;
+    }

@@ -1,16 +1,37 @@
-use Rattle.std.proofs.Common.{◌≡◌, ◌⊎◌, subst, sym, refl}
-use Rattle.std.specs.Ordering.{is_lt}
+use Rattle.std.specs.Prelude.{◌≡◌, Bool, true, false, if◌then◌else◌}
+use Rattle.std.proofs.Common.{subst, sym, ◌∙◌, refl, inl, inr}
 use Rattle.fx_model.specs.Enclosure.{BoundLe}
 use Rattle.dyadic.specs.Ends.{bound_of}
-use Rattle.dyadic.specs.Extremes.{lesser_only}
-use Rattle.dyadic.specs.Order.{end_cmp}
+use Rattle.dyadic.specs.Extremes.{lesser_end, lesser_below}
 use Rattle.dyadic.specs.declared.number.End.{End}
-use Rattle.dyadic.proofs.OrderLemmas.{lesser_by}
 use Rattle.dyadic.proofs.order.lesser.Goals as goal
 
-pub returns : goal.returns
-returns c = let a = c.args.a in let b = c.args.b in let l = lesser_by a b (is_lt (end_cmp b a)) refl in
-    let one = subst (λ (r : End). (r ≡ a) ⊎ (r ≡ b)) (sym c.min.ensures) l.0 in
-    let first = subst (λ (r : End). BoundLe (bound_of r) (bound_of a)) (sym c.min.ensures) l.1 in
-    let second = subst (λ (r : End). BoundLe (bound_of r) (bound_of b)) (sym c.min.ensures) l.2 in
-    record { one = one; first = first; second = second; is = lesser_only a b c.min.result one first second }
+chosen : (s : Bool) (a b : End) → s ≡ true → a ≡ (if s then a else b)
+chosen true a b e = refl
+chosen false a b e = cc
+
+other : (s : Bool) (a b : End) → s ≡ false → b ≡ (if s then a else b)
+other true a b e = cc
+other false a b e = refl
+
+pub returns-then-is_at_most : goal.returns-then-is_at_most
+returns-then-is_at_most c = let a = c.args.a in let b = c.args.b in
+    let is : a ≡ lesser_end a b = chosen _ a b (sym c.is_at_most.ensures.is ∙ c.if-is_at_most.true) in
+    let below = lesser_below a b in
+    record {
+      one = inl refl;
+      first = subst (λ (r : End). BoundLe (bound_of r) (bound_of a)) (sym is) below.0;
+      second = subst (λ (r : End). BoundLe (bound_of r) (bound_of b)) (sym is) below.1;
+      is = is;
+    }
+
+pub returns-else-is_at_most : goal.returns-else-is_at_most
+returns-else-is_at_most c = let a = c.args.a in let b = c.args.b in
+    let is : b ≡ lesser_end a b = other _ a b (sym c.is_at_most.ensures.is ∙ c.if-is_at_most.false) in
+    let below = lesser_below a b in
+    record {
+      one = inr refl;
+      first = subst (λ (r : End). BoundLe (bound_of r) (bound_of a)) (sym is) below.0;
+      second = subst (λ (r : End). BoundLe (bound_of r) (bound_of b)) (sym is) below.1;
+      is = is;
+    }

@@ -1,6 +1,7 @@
-use Rattle.std.proofs.Common.{◌≡◌, subst, ◌∙◌, ap, refl, true}
+use Rattle.std.proofs.Common.{◌≡◌, subst, sym, ◌∙◌, ap, refl, true}
 use Rattle.fx_model.specs.Fraction.{◌/ℚ◌, neg_ℚ, neg-mul, inverse_ℚ}
-use Rattle.fx_model.specs.Grid.{IsDown, At}
+use Rattle.fx_model.specs.Grid.{IsDown, IsUp, At}
+use Rattle.dyadic.specs.Ends.{bound_of}
 use Rattle.dyadic.specs.Values.{value_of}
 use Rattle.dyadic.proofs.NumberLemmas.{up_signed}
 use Rattle.dyadic.proofs.products.div_up.Goals as goal
@@ -12,4 +13,4 @@ returns-in-Some c =
     (subst (λ x. IsDown x (At (value_of c.rounded.result))) opposite (c.rounded.ensures (value_of c.neg-opposite.result /ℚ value_of c.args.b) c.in-Some.ensures)) c.neg.ensures
 
 pub returns-in-None : goal.returns-in-None
-returns-in-None c = c.up.ensures (value_of c.args.a /ℚ value_of c.args.b) c.quotient-in-None.ensures.cuts
+returns-in-None c = subst (λ e. IsUp (value_of c.args.a /ℚ value_of c.args.b) (bound_of e)) (sym c.again.ensures) c.long_quotient_up.ensures

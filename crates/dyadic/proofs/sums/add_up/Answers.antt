@@ -1,9 +1,8 @@
 use Rattle.std.proofs.Common.{◌≡◌, subst, sym, ◌∙◌, refl, true}
-use Rattle.fx_model.specs.Fraction.{◌+ℚ◌, Fraction, neg_ℚ, neg-add}
-use Rattle.fx_model.specs.Grid.{signed, IsDown, At}
+use Rattle.fx_model.specs.Fraction.{◌+ℚ◌, neg_ℚ, neg-add}
+use Rattle.fx_model.specs.Grid.{IsDown, IsUp, At}
 use Rattle.dyadic.specs.Values.{value_of}
-use Rattle.fx_model.specs.Cut.{Cuts}
-use Rattle.dyadic.proofs.SumLemmas.{terms_are}
+use Rattle.dyadic.specs.Ends.{bound_of}
 use Rattle.dyadic.proofs.NumberLemmas.{up_signed}
 use Rattle.dyadic.proofs.sums.add_up.Goals as goal
 
@@ -14,7 +13,4 @@ returns-in-Some c =
     (subst (λ x. IsDown x (At (value_of c.rounded.result))) opposite (c.rounded.ensures (value_of c.neg-left.result +ℚ value_of c.neg-right.result) c.in-Some.ensures)) c.neg.ensures
 
 pub returns-in-None : goal.returns-in-None
-returns-in-None c =
-    let size = c.sum-in-None.result.size in
-    c.up.ensures (value_of c.args.a +ℚ value_of c.args.b)
-    (subst (λ (x : Fraction). Cuts (signed c.sum-in-None.result.negative x) size.digits size.two size.inexact) (terms_are c.args.a c.args.b _ _ _ _ c.term_of.ensures.mantissa c.term_of.ensures.exponent c.term_of-in-None.ensures.mantissa c.term_of-in-None.ensures.exponent) c.sum-in-None.ensures.cuts)
+returns-in-None c = subst (λ e. IsUp (value_of c.args.a +ℚ value_of c.args.b) (bound_of e)) (sym c.again.ensures) c.long_sum_up.ensures
