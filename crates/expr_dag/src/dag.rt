@@ -118,6 +118,7 @@ impl Dag {
     }
 
     /// Whether the expression with this number is this node.
+    #[inline(always)]
     pub fn is_at(&self, id: ExprId, node: Node) -> bool
         ensures { result ≡ is_at self.now id node }
     {
@@ -128,6 +129,7 @@ impl Dag {
     }
 
     /// Whether an expression has this number.
+    #[inline(always)]
     pub fn knows(&self, id: ExprId) -> bool
         ensures { result ≡ is_known self.now id }
     {
@@ -135,6 +137,7 @@ impl Dag {
     }
 
     /// Whether expressions have both numbers.
+    #[inline(always)]
     pub fn know_both(&self, x: ExprId, y: ExprId) -> bool
         ensures { result ≡ are_known self.now x y }
     {

@@ -12,6 +12,7 @@ use interval::Interval;
 
 impl Fact {
     /// A bound of the expression, where there is an interval.
+    #[inline(always)]
     pub fn bnd(x: ExprId, interval: Option<Interval>) -> Option<Fact>
         ensures { result ≡ bnd_of x interval }
     {
@@ -22,6 +23,7 @@ impl Fact {
     }
 
     /// A bound of the expression's absolute value, where there is one.
+    #[inline(always)]
     pub fn abs(x: ExprId, size: Option<Size>) -> Option<Fact>
         ensures { result ≡ abs_of x size }
     {
@@ -42,6 +44,7 @@ impl Fact {
     }
 
     /// A relative error of the first over the second, where there is one.
+    #[inline(always)]
     pub fn rel(x: ExprId, y: ExprId, error: Option<RelativeError>) -> Option<Fact>
         ensures { result ≡ rel_of x y error }
     {

@@ -25,6 +25,7 @@ pub fn slot(f: &Fact) -> Slot
 }
 
 /// Whether the first fact is stronger than the second, or they are equal.
+#[inline(always)]
 pub fn stronger(a: &Fact, b: &Fact) -> bool
     ensures { IsTrue result ↔ IsStronger a.now b.now }
 {
@@ -51,6 +52,7 @@ fn is_within_error(d: Option<RelativeError>, e: Option<RelativeError>) -> bool
 }
 
 /// The meet of two facts. None exactly where neither is VOID and the slots differ.
+#[inline(always)]
 pub fn meet(a: &Fact, b: &Fact) -> Option<Fact>
     ensures is { result ≡ meet_of a.now b.now }
     ensures none { IsNone result ↔ AreUnlike a.now b.now }

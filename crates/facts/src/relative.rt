@@ -19,6 +19,7 @@ impl RelativeError {
     ghost use Rattle.facts.specs.Parts.{error_from};
 
     /// The interval as one of relative errors. None exactly where its lower end isn't above -1.
+    #[inline(always)]
     pub fn new(interval: Interval) -> Option<RelativeError>
         ensures refused { IsNone result ↔ (¬ IsAboveMinusOne (range_of interval)) }
         ensures made { IfSome result (λ error. error.interval ≡ interval) }
@@ -32,6 +33,7 @@ impl RelativeError {
     }
 
     /// The interval.
+    #[inline(always)]
     pub fn interval(self) -> Interval
         ensures { result ≡ self.interval }
     {
@@ -40,6 +42,7 @@ impl RelativeError {
 }
 
 // Whether an end is above -1.
+#[inline(always)]
 fn is_above_minus_one(end: End) -> bool
     ensures { IsTrue result ↔ IsBelow (neg_ℚ one_ℚ) (bound_of end) }
 {
@@ -50,11 +53,9 @@ fn is_above_minus_one(end: End) -> bool
     }
 }
 
+#[inline(always)]
 fn exceeds_minus_one(number: Dyadic) -> bool
     ensures { IsTrue result ↔ neg_ℚ one_ℚ <ℚ value_of number }
 {
-    match Dyadic::new(-1, 0) {
-        Some(minus_one) => minus_one.is_below(number),
-        None => false,
-    }
+    Dyadic::one().neg().is_below(number)
 }

@@ -15,6 +15,7 @@ impl Size {
     ghost use Rattle.facts.specs.Parts.{size_from, size_within};
 
     /// The interval as one of absolute values. None exactly where its lower end is below 0.
+    #[inline(always)]
     pub fn new(interval: Interval) -> Option<Size>
         ensures refused { IsNone result ↔ (¬ IsFromZero (range_of interval)) }
         ensures made { IfSome result (λ size. size.interval ≡ interval) }
@@ -28,6 +29,7 @@ impl Size {
     }
 
     /// What of the interval is at least 0. None exactly where the interval lies below 0.
+    #[inline(always)]
     pub fn within(interval: Interval) -> Option<Size>
         ensures { result ≡ size_within interval }
     {
@@ -38,6 +40,7 @@ impl Size {
     }
 
     /// The interval.
+    #[inline(always)]
     pub fn interval(self) -> Interval
         ensures { result ≡ self.interval }
     {

@@ -4,7 +4,7 @@ ghost use Rattle.fx_model.specs.Fraction.{zero_ℚ, one_ℚ};
 ghost use Rattle.fx_model.specs.Grid as grid;
 ghost use Rattle.dyadic.specs.Order.{le_bound};
 
-use crate::ends::{one, zero};
+use crate::ends::one;
 use crate::interval::Interval;
 
 impl Interval {
@@ -14,11 +14,12 @@ impl Interval {
     ghost use Rattle.interval.specs.Members.{has_one};
 
     /// Whether 0 lies in the interval.
+    #[inline(always)]
     pub fn has_zero(self) -> bool
         ensures is { result ≡ has_zero (range_of self) }
         ensures lies { IsTrue result ↔ Lies (range_of self) zero_ℚ }
     {
-        self.lo.is_at_most(zero()) && zero().is_at_most(self.hi)
+        self.lo.is_up_to_zero() && self.hi.is_from_zero()
     }
 
     /// Whether 1 lies in the interval.
@@ -30,23 +31,25 @@ impl Interval {
     }
 
     /// Whether nothing below 0 lies in the interval.
+    #[inline(always)]
     pub fn is_not_negative(self) -> bool
         ensures { result ≡ le_bound (grid.At zero_ℚ) (range_of self).low }
     {
-        zero().is_at_most(self.lo)
+        self.lo.is_from_zero()
     }
 
     /// Whether nothing above 0 lies in the interval.
+    #[inline(always)]
     pub fn is_not_positive(self) -> bool
         ensures { result ≡ le_bound (range_of self).high (grid.At zero_ℚ) }
     {
-        self.hi.is_at_most(zero())
+        self.hi.is_up_to_zero()
     }
 
     /// Whether all that lies in the interval is above 0.
     pub fn is_positive(self) -> bool
         ensures { result ≡ not (le_bound (range_of self).low (grid.At zero_ℚ)) }
     {
-        !self.lo.is_at_most(zero())
+        !self.lo.is_up_to_zero()
     }
 }

@@ -11,6 +11,7 @@ ghost use Rattle.interval.specs.Ends.{IsNumberOf};
 use dyadic::{Dyadic, End, add_down, add_up, mul_down, mul_up};
 
 // The number at a finite end.
+#[inline(always)]
 pub fn finite(end: End) -> Option<Dyadic>
     ensures { IsNumberOf (bound_of end) result }
 {
@@ -21,6 +22,7 @@ pub fn finite(end: End) -> Option<Dyadic>
 }
 
 /// The end on the other side of 0.
+#[inline(always)]
 pub fn opposite(end: End) -> End
     ensures { bound_of result ≡ neg_bound (bound_of end) }
 {
@@ -80,6 +82,7 @@ pub fn high_square(a: End) -> End
 }
 
 // The end 0.
+#[inline(always)]
 pub fn zero() -> End
     ensures { bound_of result ≡ grid.At zero_ℚ }
 {
@@ -87,6 +90,7 @@ pub fn zero() -> End
 }
 
 // The end 1.
+#[inline(always)]
 pub fn one() -> End
     ensures { bound_of result ≡ grid.At one_ℚ }
 {

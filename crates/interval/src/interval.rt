@@ -29,6 +29,7 @@ impl Interval {
 
     /// The interval with these ends. None where the lower end is plus infinity, the upper is
     /// minus infinity, or they are out of order.
+    #[inline(always)]
     pub fn new(lo: End, hi: End) -> Option<Interval>
         ensures refused { IsNone result ↔ (¬ AreEnds lo hi) }
         ensures ends { IfSome result (λ made. (made.lo ≡ lo) × (made.hi ≡ hi)) }
@@ -42,6 +43,7 @@ impl Interval {
     }
 
     /// The lower end, a number or minus infinity.
+    #[inline(always)]
     pub fn lo(self) -> End
         ensures { result ≡ self.lo }
     {
@@ -49,6 +51,7 @@ impl Interval {
     }
 
     /// The upper end, a number or plus infinity.
+    #[inline(always)]
     pub fn hi(self) -> End
         ensures { result ≡ self.hi }
     {
@@ -79,6 +82,7 @@ impl Interval {
     }
 
     /// The absolute values.
+    #[inline(always)]
     pub fn abs(self) -> Interval
         ensures exact { IsExact (Sizes (range_of self)) (range_of result) }
         ensures best { IsSize (range_of self) (range_of result) }
@@ -87,6 +91,7 @@ impl Interval {
         self.sizes()
     }
 
+    #[inline(always)]
     fn sizes(self) -> Interval
         ensures exact { IsExact (Sizes (range_of self)) (range_of result) }
         ensures best { IsSize (range_of self) (range_of result) }
@@ -104,6 +109,7 @@ impl Interval {
     }
 
     /// The least interval that holds the square of each number.
+    #[inline(always)]
     pub fn square(self) -> Interval
         ensures { IsSquare (range_of self) (range_of result) }
     {
@@ -164,6 +170,7 @@ impl Interval {
     }
 
     /// Whether each number of this interval lies in the other.
+    #[inline(always)]
     pub fn inside(self, other: Interval) -> bool
         ensures { IsTrue result ↔ Within (range_of self) (range_of other) }
     {
@@ -171,6 +178,7 @@ impl Interval {
     }
 
     /// Whether the number lies in the interval.
+    #[inline(always)]
     pub fn has(self, x: Dyadic) -> bool
         ensures { IsTrue result ↔ Lies (range_of self) (value_of x) }
     {
@@ -178,6 +186,7 @@ impl Interval {
     }
 
     /// What lies in both. None where nothing does.
+    #[inline(always)]
     pub fn meet(self, other: Interval) -> Option<Interval>
         ensures apart { IsNone result ↔ AreApart (range_of self) (range_of other) }
         ensures common { IfSome result (λ both. IsCommon (range_of self) (range_of other) (range_of both)) }
@@ -187,6 +196,7 @@ impl Interval {
     }
 
     /// The least interval that holds both.
+    #[inline(always)]
     pub fn hull(self, other: Interval) -> Interval
         ensures best { IsHull (range_of self) (range_of other) (range_of result) }
         ensures is { result ≡ hull_of self other }

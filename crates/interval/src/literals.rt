@@ -17,6 +17,7 @@ use dyadic::{ratio_down, ratio_up};
 use fx_model::Literal;
 
 /// The least interval that holds the literal's value, or its negative.
+#[inline(always)]
 pub fn enclose(lit: &Literal, negative: bool) -> Interval
     requires { IsNormal lit.now }
     ensures best { IsEnclosure (Alone (signed negative (literal_value lit.now))) (range_of result) }
@@ -25,6 +26,7 @@ pub fn enclose(lit: &Literal, negative: bool) -> Interval
     around_literal(lit, negative)
 }
 
+#[inline(always)]
 fn around_literal(lit: &Literal, negative: bool) -> Interval
     requires { IsNormal lit.now }
     ensures { IsEnclosure (Alone (signed negative (literal_value lit.now))) (range_of result) }
@@ -38,6 +40,7 @@ fn around_literal(lit: &Literal, negative: bool) -> Interval
 }
 
 // A size with its sign.
+#[inline(always)]
 fn with_sign(negative: bool, size: u128) -> i128
     requires { size ≤ 100000000000000000000000000000000000000 }
     ensures plus { negative ≡ false → result ≡ pos size }
@@ -49,6 +52,7 @@ fn with_sign(negative: bool, size: u128) -> i128
 }
 
 // The least interval that holds number * 2^two / divisor.
+#[inline(always)]
 fn around(number: i128, divisor: u128, two: i32) -> Interval
     requires number { unsigned_abs number ≤ 100000000000000000000000000000000000000 }
     requires not_zero { 0 < divisor }

@@ -10,6 +10,7 @@ ghost use Rattle.interval.specs.Ends.{AreEnds};
 use dyadic::{Dyadic, End};
 
 // Whether a number is 0 or above.
+#[inline(always)]
 pub fn not_negative(a: Dyadic) -> bool
     ensures { IsTrue result ↔ zero_ℚ ≤ℚ value_of a }
 {
@@ -17,6 +18,7 @@ pub fn not_negative(a: Dyadic) -> bool
 }
 
 // Whether a number is 0 or below.
+#[inline(always)]
 pub fn not_positive(a: Dyadic) -> bool
     ensures { IsTrue result ↔ value_of a ≤ℚ zero_ℚ }
 {
@@ -24,6 +26,7 @@ pub fn not_positive(a: Dyadic) -> bool
 }
 
 // Whether an end is 0 or above.
+#[inline(always)]
 pub fn from_zero(end: &End) -> bool
     ensures { IsTrue result ↔ BoundLe (grid.At zero_ℚ) (bound_of end.now) }
 {
@@ -35,6 +38,7 @@ pub fn from_zero(end: &End) -> bool
 }
 
 // Whether an end is 0 or below.
+#[inline(always)]
 pub fn up_to_zero(end: &End) -> bool
     ensures { IsTrue result ↔ BoundLe (bound_of end.now) (grid.At zero_ℚ) }
 {
@@ -46,6 +50,7 @@ pub fn up_to_zero(end: &End) -> bool
 }
 
 // Whether two ends make an interval.
+#[inline(always)]
 pub fn in_order(lo: &End, hi: &End) -> bool
     ensures { IsTrue result ↔ AreEnds lo.now hi.now }
 {

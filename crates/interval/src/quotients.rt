@@ -16,11 +16,8 @@ pub fn low_quotient(x: &Span, y: &Span) -> End
     requires { zero_ℚ <ℚ value_of y.now.low }
     ensures { IsInfimum (Quotients (span_of x.now) (span_of y.now)) (bound_of result) }
 {
-    if not_negative(x.low) {
-        div_down(x.low, y.high)
-    } else {
-        div_down(x.low, y.low)
-    }
+    let divisor = if not_negative(x.low) { y.high } else { y.low };
+    div_down(x.low, divisor)
 }
 
 // The upper end: the lower end of the quotients of the negatives, on the other side of 0.

@@ -25,6 +25,7 @@ impl Interval {
     }
 
     /// The number alone.
+    #[inline(always)]
     pub fn point(number: Dyadic) -> Interval
         ensures best { IsEnclosure (Alone (value_of number)) (range_of result) }
         ensures is { result ≡ point_of (value_of number) }
@@ -43,6 +44,7 @@ impl Interval {
     }
 
     /// 1 alone.
+    #[inline(always)]
     pub fn one() -> Interval
         ensures { result ≡ point_of one_ℚ }
     {

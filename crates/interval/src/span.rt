@@ -17,6 +17,7 @@ impl Span {
     ghost use Rattle.interval.specs.Ends.{mirror};
 
     // The negatives of its numbers.
+    #[inline(always)]
     pub fn neg(self) -> Span
         ensures range { span_of result ≡ mirror (span_of self) }
         ensures low { value_of result.low ≡ neg_ℚ (value_of self.high) }

@@ -8,6 +8,7 @@ use facts::{Fact, RelativeError, Slot};
 use interval::Interval;
 
 /// From BND(x, [0, 0]), NZR(x): VOID.
+#[inline(always)]
 pub fn rule_91(dag: &Dag, premises: &[Fact], target: Slot) -> Option<Fact>
     ensures concludes { result ≡ zero_and_not_rule dag.now premises.now target }
 {
@@ -34,6 +35,7 @@ fn is_zero(range: Interval) -> bool
 }
 
 /// From REL(x, y) that says that both are 0, NZR(y): VOID.
+#[inline(always)]
 pub fn rule_92(dag: &Dag, premises: &[Fact], target: Slot) -> Option<Fact>
     ensures concludes { result ≡ both_zero_and_not_rule dag.now premises.now target }
 {

@@ -8,6 +8,7 @@ use facts::{Fact, Slot};
 use interval::{Interval, enclose};
 
 /// For a literal c: BND(c, [down c, up c]).
+#[inline(always)]
 pub fn rule_1(dag: &Dag, premises: &[Fact], target: Slot) -> Option<Fact>
     ensures concludes { result ≡ literal_rule dag.now premises.now target }
 {
@@ -28,6 +29,7 @@ fn literal(dag: &Dag, e: ExprId) -> Option<Fact>
 }
 
 /// From BND(a, I): BND(-a, -I) (Gappa: `neg`).
+#[inline(always)]
 pub fn rule_2(dag: &Dag, premises: &[Fact], target: Slot) -> Option<Fact>
     ensures concludes { result ≡ negation_rule dag.now premises.now target }
 {
@@ -47,6 +49,7 @@ pub fn rule_2(dag: &Dag, premises: &[Fact], target: Slot) -> Option<Fact>
 }
 
 /// From BND(a, I), BND(b, J): BND(a + b, I + J) (Gappa: `add`).
+#[inline(always)]
 pub fn rule_3(dag: &Dag, premises: &[Fact], target: Slot) -> Option<Fact>
     ensures concludes { result ≡ sum_rule dag.now premises.now target }
 {
@@ -66,6 +69,7 @@ pub fn rule_3(dag: &Dag, premises: &[Fact], target: Slot) -> Option<Fact>
 }
 
 /// From BND(a, I), BND(b, J): BND(a - b, I - J) (Gappa: `sub`).
+#[inline(always)]
 pub fn rule_4(dag: &Dag, premises: &[Fact], target: Slot) -> Option<Fact>
     ensures concludes { result ≡ difference_rule dag.now premises.now target }
 {
@@ -85,6 +89,7 @@ pub fn rule_4(dag: &Dag, premises: &[Fact], target: Slot) -> Option<Fact>
 }
 
 /// From BND(x): BND(x - x, [0, 0]) (Gappa: `sub_refl`).
+#[inline(always)]
 pub fn rule_5(dag: &Dag, premises: &[Fact], target: Slot) -> Option<Fact>
     ensures concludes { result ≡ difference_with_itself_rule dag.now premises.now target }
 {
@@ -104,6 +109,7 @@ pub fn rule_5(dag: &Dag, premises: &[Fact], target: Slot) -> Option<Fact>
 }
 
 /// From BND(a, I), BND(b, J): BND(a * b, I * J) (Gappa: `mul`).
+#[inline(always)]
 pub fn rule_6(dag: &Dag, premises: &[Fact], target: Slot) -> Option<Fact>
     ensures concludes { result ≡ product_rule dag.now premises.now target }
 {
@@ -123,6 +129,7 @@ pub fn rule_6(dag: &Dag, premises: &[Fact], target: Slot) -> Option<Fact>
 }
 
 /// From ABS(x, I): BND(x * x, I * I) (Gappa: `square`).
+#[inline(always)]
 pub fn rule_7(dag: &Dag, premises: &[Fact], target: Slot) -> Option<Fact>
     ensures concludes { result ≡ square_rule dag.now premises.now target }
 {

@@ -7,6 +7,7 @@ use facts::{Fact, Slot};
 use interval::Interval;
 
 /// From BND(a, I), BND(b, J), where 0 isn't in J: BND(a / b, I / J) (Gappa: `div`).
+#[inline(always)]
 pub fn rule_8(dag: &Dag, premises: &[Fact], target: Slot) -> Option<Fact>
     ensures concludes { result ≡ quotient_rule dag.now premises.now target }
 {
@@ -26,6 +27,7 @@ pub fn rule_8(dag: &Dag, premises: &[Fact], target: Slot) -> Option<Fact>
 }
 
 /// From BND(a), NZR(b): a / b has a value, BND(a / b, whole line).
+#[inline(always)]
 pub fn rule_9(dag: &Dag, premises: &[Fact], target: Slot) -> Option<Fact>
     ensures concludes { result ≡ quotient_by_nonzero_rule dag.now premises.now target }
 {
@@ -45,6 +47,7 @@ pub fn rule_9(dag: &Dag, premises: &[Fact], target: Slot) -> Option<Fact>
 }
 
 /// From NZR(x): BND(x / x, [1, 1]) (Gappa: `div_refl`).
+#[inline(always)]
 pub fn rule_10(dag: &Dag, premises: &[Fact], target: Slot) -> Option<Fact>
     ensures concludes { result ≡ quotient_by_itself_rule dag.now premises.now target }
 {

@@ -8,6 +8,7 @@ use facts::{Fact, Size, Slot};
 use interval::Interval;
 
 /// From ABS(a, I): ABS(-a, I) (Gappa: `neg_a`).
+#[inline(always)]
 pub fn rule_16(dag: &Dag, premises: &[Fact], target: Slot) -> Option<Fact>
     ensures concludes { result ≡ size_of_negation_rule dag.now premises.now target }
 {
@@ -27,6 +28,7 @@ pub fn rule_16(dag: &Dag, premises: &[Fact], target: Slot) -> Option<Fact>
 }
 
 /// From ABS(a, I), ABS(b, J): ABS(a * b, I * J) (Gappa: `mul_aa`).
+#[inline(always)]
 pub fn rule_17(dag: &Dag, premises: &[Fact], target: Slot) -> Option<Fact>
     ensures concludes { result ≡ size_of_product_rule dag.now premises.now target }
 {
@@ -46,6 +48,7 @@ pub fn rule_17(dag: &Dag, premises: &[Fact], target: Slot) -> Option<Fact>
 }
 
 /// From ABS(a, I), ABS(b, J), where 0 isn't in J: ABS(a / b, I / J) (Gappa: `div_aa`).
+#[inline(always)]
 pub fn rule_18(dag: &Dag, premises: &[Fact], target: Slot) -> Option<Fact>
     ensures concludes { result ≡ size_of_quotient_rule dag.now premises.now target }
 {
@@ -65,6 +68,7 @@ pub fn rule_18(dag: &Dag, premises: &[Fact], target: Slot) -> Option<Fact>
 }
 
 /// From ABS(a, [p, q]), ABS(b, [r, s]): ABS of a + b and of a - b in [max(0, p - s, r - q), q + s] (Gappa: `add_aa`, `sub_aa`).
+#[inline(always)]
 pub fn rule_19(dag: &Dag, premises: &[Fact], target: Slot) -> Option<Fact>
     ensures concludes { result ≡ size_of_sum_rule dag.now premises.now target }
 {
@@ -83,6 +87,7 @@ pub fn rule_19(dag: &Dag, premises: &[Fact], target: Slot) -> Option<Fact>
     }
 }
 
+#[inline(always)]
 fn size_of_part(part: Option<Interval>) -> Option<Size>
     ensures { result ≡ size_within_part part }
 {
@@ -93,12 +98,14 @@ fn size_of_part(part: Option<Interval>) -> Option<Size>
 }
 
 // [max(0, p - s, r - q), q + s], rounded outward.
+#[inline(always)]
 fn sum_of_sizes(i: Interval, j: Interval) -> Option<Size>
     ensures { result ≡ size_of_sum i j }
 {
     size_of_part(Interval::new(least(i, j), i.add(j).hi()))
 }
 
+#[inline(always)]
 fn least(i: Interval, j: Interval) -> End
     ensures { result ≡ least_size i j }
 {

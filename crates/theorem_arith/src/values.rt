@@ -10,6 +10,7 @@ use facts::{Fact, Size, Slot};
 use interval::{Interval, opposite};
 
 /// From BND(x, I): ABS(x, abs I) (Gappa: `abs_of_bnd`).
+#[inline(always)]
 pub fn rule_11(dag: &Dag, premises: &[Fact], target: Slot) -> Option<Fact>
     ensures concludes { result ≡ size_rule dag.now premises.now target }
 {
@@ -29,6 +30,7 @@ pub fn rule_11(dag: &Dag, premises: &[Fact], target: Slot) -> Option<Fact>
 }
 
 /// From ABS(x, [p, q]): BND(x, [-q, q]) (Gappa: `bnd_of_abs`).
+#[inline(always)]
 pub fn rule_12(dag: &Dag, premises: &[Fact], target: Slot) -> Option<Fact>
     ensures concludes { result ≡ value_rule dag.now premises.now target }
 {
@@ -56,6 +58,7 @@ fn both_signs(size: Size) -> Option<Interval>
 
 /// From BND(x, I), ABS(x, [p, q]): BND(x, [p, q]) where the lower end of I is above -p; BND(x, [-q, -p]) where the
 /// upper end is below p; VOID where both (Gappa: `bnd_of_bnd_abs`).
+#[inline(always)]
 pub fn rule_13(dag: &Dag, premises: &[Fact], target: Slot) -> Option<Fact>
     ensures concludes { result ≡ sign_rule dag.now premises.now target }
 {
@@ -114,6 +117,7 @@ fn falls_short(range: Interval, size: Size) -> bool
 }
 
 /// From ABS(x, I): BND(|x|, I).
+#[inline(always)]
 pub fn rule_14(dag: &Dag, premises: &[Fact], target: Slot) -> Option<Fact>
     ensures concludes { result ≡ absolute_value_rule dag.now premises.now target }
 {
@@ -133,6 +137,7 @@ pub fn rule_14(dag: &Dag, premises: &[Fact], target: Slot) -> Option<Fact>
 }
 
 /// From BND(|x|, I): ABS(x, I); VOID where I lies below 0.
+#[inline(always)]
 pub fn rule_15(dag: &Dag, premises: &[Fact], target: Slot) -> Option<Fact>
     ensures concludes { result ≡ size_of_value_rule dag.now premises.now target }
 {

@@ -13,6 +13,7 @@ use facts::{Fact, Place, Slot};
 use literal::fix_of;
 
 /// For a literal c: FIX(c, k), where k is the greatest of which it is a multiple.
+#[inline(always)]
 pub fn rule_21(dag: &Dag, premises: &[Fact], target: Slot) -> Option<Fact>
     ensures concludes { result ≡ literal_multiple_rule dag.now premises.now target }
 {
@@ -43,6 +44,7 @@ fn of_literal(literal: &Literal) -> Option<Place>
 }
 
 /// From FIX(a, k): FIX(-a, k) (Gappa: `neg_fix`).
+#[inline(always)]
 pub fn rule_22(dag: &Dag, premises: &[Fact], target: Slot) -> Option<Fact>
     ensures concludes { result ≡ multiple_of_negation_rule dag.now premises.now target }
 {
@@ -62,6 +64,7 @@ pub fn rule_22(dag: &Dag, premises: &[Fact], target: Slot) -> Option<Fact>
 }
 
 /// From FIX(a, k), FIX(b, n): FIX(a + b) and FIX(a - b) with the lesser of k and n (Gappa: `add_fix`, `sub_fix`).
+#[inline(always)]
 pub fn rule_23(dag: &Dag, premises: &[Fact], target: Slot) -> Option<Fact>
     ensures concludes { result ≡ multiple_of_sum_rule dag.now premises.now target }
 {
@@ -81,6 +84,7 @@ pub fn rule_23(dag: &Dag, premises: &[Fact], target: Slot) -> Option<Fact>
 }
 
 /// From FIX(a, k), FIX(b, n): FIX(a * b, k + n) (Gappa: `mul_fix`).
+#[inline(always)]
 pub fn rule_24(dag: &Dag, premises: &[Fact], target: Slot) -> Option<Fact>
     ensures concludes { result ≡ multiple_of_product_rule dag.now premises.now target }
 {
@@ -100,6 +104,7 @@ pub fn rule_24(dag: &Dag, premises: &[Fact], target: Slot) -> Option<Fact>
 }
 
 /// From BND(x): FIX(R(x), l), where l is the lsb of the rounding R.
+#[inline(always)]
 pub fn rule_25(dag: &Dag, premises: &[Fact], target: Slot) -> Option<Fact>
     ensures concludes { result ≡ rounded_multiple_rule dag.now premises.now target }
 {
@@ -122,6 +127,7 @@ fn lsb(rounding: Option<Rounding>) -> Option<Place>
 }
 
 /// From FIX(x, k), k at least l: FIX(R(x), k).
+#[inline(always)]
 pub fn rule_26(dag: &Dag, premises: &[Fact], target: Slot) -> Option<Fact>
     ensures concludes { result ≡ untouched_multiple_rule dag.now premises.now target }
 {
@@ -144,6 +150,7 @@ fn left_as_it_is(k: Place, rounding: Option<Rounding>) -> Option<Place>
 }
 
 /// From BND(x, [p, p]): FIX(x, the exponent of p in its canonical form, 512 for 0).
+#[inline(always)]
 pub fn rule_27(dag: &Dag, premises: &[Fact], target: Slot) -> Option<Fact>
     ensures concludes { result ≡ number_multiple_rule dag.now premises.now target }
 {

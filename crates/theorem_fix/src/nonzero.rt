@@ -10,6 +10,7 @@ use facts::{Fact, RelativeError, Slot};
 use interval::Interval;
 
 /// From BND(x, I), where 0 isn't in I: NZR(x) (Gappa: `nzr_of_bnd`).
+#[inline(always)]
 pub fn rule_31(dag: &Dag, premises: &[Fact], target: Slot) -> Option<Fact>
     ensures concludes { result ≡ nonzero_bound_rule dag.now premises.now target }
 {
@@ -29,6 +30,7 @@ pub fn rule_31(dag: &Dag, premises: &[Fact], target: Slot) -> Option<Fact>
 }
 
 /// From ABS(x, I), the lower end above 0: NZR(x) (Gappa: `nzr_of_abs`).
+#[inline(always)]
 pub fn rule_32(dag: &Dag, premises: &[Fact], target: Slot) -> Option<Fact>
     ensures concludes { result ≡ nonzero_size_rule dag.now premises.now target }
 {
@@ -55,6 +57,7 @@ fn is_positive(range: Interval) -> bool
 }
 
 /// From NZR(a), NZR(b): NZR(a * b) (Gappa: `mul_nzr`).
+#[inline(always)]
 pub fn rule_33(dag: &Dag, premises: &[Fact], target: Slot) -> Option<Fact>
     ensures concludes { result ≡ nonzero_product_rule dag.now premises.now target }
 {
@@ -74,6 +77,7 @@ pub fn rule_33(dag: &Dag, premises: &[Fact], target: Slot) -> Option<Fact>
 }
 
 /// From NZR(a), NZR(b): NZR(a / b) (Gappa: `div_nzr`).
+#[inline(always)]
 pub fn rule_34(dag: &Dag, premises: &[Fact], target: Slot) -> Option<Fact>
     ensures concludes { result ≡ nonzero_quotient_rule dag.now premises.now target }
 {
@@ -93,6 +97,7 @@ pub fn rule_34(dag: &Dag, premises: &[Fact], target: Slot) -> Option<Fact>
 }
 
 /// From NZR(a): NZR(-a) (Gappa: `neg_nzr`).
+#[inline(always)]
 pub fn rule_35(dag: &Dag, premises: &[Fact], target: Slot) -> Option<Fact>
     ensures concludes { result ≡ nonzero_negation_rule dag.now premises.now target }
 {
@@ -112,6 +117,7 @@ pub fn rule_35(dag: &Dag, premises: &[Fact], target: Slot) -> Option<Fact>
 }
 
 /// From REL(x, y, I), NZR of one of x, y: NZR of the other; VOID where I is `none` (Gappa: `nzr_of_nzr_rel`, `nzr_of_nzr_rel_rev`).
+#[inline(always)]
 pub fn rule_36(dag: &Dag, premises: &[Fact], target: Slot) -> Option<Fact>
     ensures concludes { result ≡ nonzero_side_rule dag.now premises.now target }
 {

@@ -13,6 +13,7 @@ use interval::Interval;
 use rounding::{Sign, error_interval, round_grid};
 
 /// From BND(x, [p, q]): BND(R(x), [R(p), R(q)]); infinite ends stay.
+#[inline(always)]
 pub fn rule_41(dag: &Dag, premises: &[Fact], target: Slot) -> Option<Fact>
     ensures concludes { result ≡ rounded_bound_rule dag.now premises.now target }
 {
@@ -50,6 +51,7 @@ fn end(r: Rounding, end: End) -> End
 }
 
 /// From BND(x): BND(R(x) - x, E), where E is what R's direction may be off, rounded outward.
+#[inline(always)]
 pub fn rule_42(dag: &Dag, premises: &[Fact], target: Slot) -> Option<Fact>
     ensures concludes { result ≡ error_rule dag.now premises.now target }
 {
@@ -75,6 +77,7 @@ fn errors(rounding: Option<Rounding>, sign: Sign, fix: Option<i16>) -> Option<In
 }
 
 /// From BND(x, I), where R is toward or away from zero and I tells the sign of x: BND(R(x) - x, E), where E goes to one side alone.
+#[inline(always)]
 pub fn rule_43(dag: &Dag, premises: &[Fact], target: Slot) -> Option<Fact>
     ensures concludes { result ≡ signed_error_rule dag.now premises.now target }
 {
@@ -124,6 +127,7 @@ fn signed_errors(rounding: Option<Rounding>, sign: Sign) -> Option<Interval>
 }
 
 /// From FIX(x, k): BND(R(x) - x, E), where E is [0, 0] for k at least l, and else that of rule 42 with 2^l - 2^k for each 2^l.
+#[inline(always)]
 pub fn rule_44(dag: &Dag, premises: &[Fact], target: Slot) -> Option<Fact>
     ensures concludes { result ≡ multiple_error_rule dag.now premises.now target }
 {

@@ -7,6 +7,7 @@ use facts::{Fact, Place, Slot};
 use interval::Interval;
 
 /// From BND(x, I), FIX(x, k): BND(x, I shrunk to its multiples of 2^k), where it has one.
+#[inline(always)]
 pub fn rule_28(dag: &Dag, premises: &[Fact], target: Slot) -> Option<Fact>
     ensures concludes { result ≡ shrinking_rule dag.now premises.now target }
 {
@@ -26,6 +27,7 @@ pub fn rule_28(dag: &Dag, premises: &[Fact], target: Slot) -> Option<Fact>
 }
 
 /// From BND(x, I), FIX(x, k), where I has no multiple of 2^k: VOID.
+#[inline(always)]
 pub fn rule_90(dag: &Dag, premises: &[Fact], target: Slot) -> Option<Fact>
     ensures concludes { result ≡ no_multiple_rule dag.now premises.now target }
 {

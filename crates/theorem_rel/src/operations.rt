@@ -1,5 +1,9 @@
 // Relative errors of operations.
 ghost use Rattle.std.specs.Prelude.{◌≡◌, slice_get};
+ghost use Rattle.facts.specs.Conclusions.{only_if};
+ghost use Rattle.facts.specs.RelativeConclusions.{void_only};
+ghost use Rattle.facts.specs.declared.fact.Fact.TheVariants as fact;
+ghost use Rattle.facts.specs.declared.fact.Slot.TheVariants as slot;
 ghost use Rattle.theorem_rel.specs.Operations.{joint, joint_fact, relative_product_rule, relative_chain_rule, less_one, over_one, ratio_fact, relative_quotient_rule, turned_fact, relative_turned_rule, relative_negation_rule, weighted, rel_or_void, sum_fact, is_share, relative_sum_rule};
 
 use crate::parts::error_within;
@@ -8,6 +12,7 @@ use facts::{Fact, RelativeError, Slot};
 use interval::Interval;
 
 /// From REL(a, c, I), REL(b, d, K): REL(a * b, c * d, (I + K) + I * K); both are 0 where those of a premise are (Gappa: `mul_rr`).
+#[inline(always)]
 pub fn rule_56(dag: &Dag, premises: &[Fact], target: Slot) -> Option<Fact>
     ensures concludes { result ≡ relative_product_rule dag.now premises.now target }
 {
@@ -27,12 +32,14 @@ pub fn rule_56(dag: &Dag, premises: &[Fact], target: Slot) -> Option<Fact>
 }
 
 // (I + K) + I * K.
+#[inline(always)]
 fn joint(i: Interval, k: Interval) -> Interval
     ensures { result ≡ joint i k }
 {
     i.add(k).add(i.mul(k))
 }
 
+#[inline(always)]
 fn jointly(
     x: ExprId,
     y: ExprId,
@@ -52,6 +59,7 @@ fn jointly(
 }
 
 /// From REL(a, b, I), REL(b, c, K): REL(a, c, (I + K) + I * K); both are 0 where those of a premise are (Gappa: `compose`).
+#[inline(always)]
 pub fn rule_58(dag: &Dag, premises: &[Fact], target: Slot) -> Option<Fact>
     ensures concludes { result ≡ relative_chain_rule dag.now premises.now target }
 {
@@ -71,35 +79,67 @@ pub fn rule_58(dag: &Dag, premises: &[Fact], target: Slot) -> Option<Fact>
     }
 }
 
+// VOID, where it is concluded.
+#[inline(always)]
+fn void_if(concluded: bool) -> Option<Fact>
+    ensures { result ≡ only_if concluded fact.Void }
+{
+    if concluded { Some(Fact::Void) } else { None }
+}
+
+// Whether the conclusion is VOID.
+fn is_void(conclusion: Option<Fact>) -> bool
+    ensures { only_if result fact.Void ≡ void_only conclusion }
+{
+    match conclusion {
+        Some(Fact::Void) => true,
+        _ => false,
+    }
+}
+
 /// From REL(a, c, I), REL(b, d, K), NZR(d): REL(a / b, c / d, ([1, 1] + I) / ([1, 1] + K) - [1, 1]), where 0 isn't in
 /// [1, 1] + K; VOID where b and d are both 0, else both are 0 where a and c are (Gappa: `div_rr`).
+#[inline(always)]
 pub fn rule_57(dag: &Dag, premises: &[Fact], target: Slot) -> Option<Fact>
     ensures concludes { result ≡ relative_quotient_rule dag.now premises.now target }
 {
     let [first, second, third] = premises else {
         return None;
     };
-    match (*first, *second, *third, target) {
+    match (first, second, third, target) {
         (Fact::Rel(a, c, i), Fact::Rel(b, d, k), Fact::Nzr(z), Slot::Rel(x, y)) => {
-            let made = dag.is_at(x, Node::Div(a, b)) && dag.is_at(y, Node::Div(c, d));
-            if made && z == d {
-                ratio(x, y, i, k)
-            } else {
-                None
-            }
+            let made = dag.is_at(x, Node::Div(*a, *b))
+                & dag.is_at(y, Node::Div(*c, *d))
+                & (*z == *d);
+            if made { ratio(x, y, *i, *k) } else { None }
         }
-        (Fact::Rel(a, c, i), Fact::Rel(b, d, k), Fact::Nzr(z), Slot::Void) => {
-            let known = dag.know_both(a, c) && dag.know_both(b, d);
-            if known && z == d {
-                Fact::void_only(ratio(a, c, i, k))
-            } else {
-                None
-            }
-        }
+        (_, _, _, Slot::Void) => void_if(is_void_by_quotient(dag, premises)),
         _ => None,
     }
 }
 
+// Whether rule 57 concludes VOID. It stands apart and gives no fact, so that the other conclusion's numbers need not lie in memory.
+#[inline(never)]
+fn is_void_by_quotient(dag: &Dag, premises: &[Fact]) -> bool
+    ensures { only_if result fact.Void ≡ relative_quotient_rule dag.now premises.now slot.Void }
+{
+    let [first, second, third] = premises else {
+        return false;
+    };
+    match (*first, *second, *third) {
+        (Fact::Rel(a, c, i), Fact::Rel(b, d, k), Fact::Nzr(z)) => {
+            let known = dag.know_both(a, c) && dag.know_both(b, d);
+            if known && z == d {
+                is_void(ratio(a, c, i, k))
+            } else {
+                false
+            }
+        }
+        _ => false,
+    }
+}
+
+#[inline(always)]
 fn less_one(quotient: Option<Interval>) -> Option<Interval>
     ensures { result ≡ less_one quotient }
 {
@@ -110,12 +150,14 @@ fn less_one(quotient: Option<Interval>) -> Option<Interval>
 }
 
 // I / ([1, 1] + K) - [1, 1].
+#[inline(always)]
 fn over_one(i: Interval, k: RelativeError) -> Option<Interval>
     ensures { result ≡ over_one i k }
 {
     less_one(i.div(Interval::one().add(k.interval())))
 }
 
+#[inline(always)]
 fn ratio(
     x: ExprId,
     y: ExprId,
@@ -136,6 +178,7 @@ fn ratio(
 }
 
 /// From REL(x, y, I): REL(y, x, [1, 1] / ([1, 1] + I) - [1, 1]), where 0 isn't in [1, 1] + I; both are 0 where they are.
+#[inline(always)]
 pub fn rule_59(dag: &Dag, premises: &[Fact], target: Slot) -> Option<Fact>
     ensures concludes { result ≡ relative_turned_rule dag.now premises.now target }
 {
@@ -154,6 +197,7 @@ pub fn rule_59(dag: &Dag, premises: &[Fact], target: Slot) -> Option<Fact>
     }
 }
 
+#[inline(always)]
 fn turned(x: ExprId, y: ExprId, error: Option<RelativeError>) -> Option<Fact>
     ensures { result ≡ turned_fact x y error }
 {
@@ -164,6 +208,7 @@ fn turned(x: ExprId, y: ExprId, error: Option<RelativeError>) -> Option<Fact>
 }
 
 /// From REL(a, b, I): REL(-a, -b, I); both are 0 where they are.
+#[inline(always)]
 pub fn rule_60(dag: &Dag, premises: &[Fact], target: Slot) -> Option<Fact>
     ensures concludes { result ≡ relative_negation_rule dag.now premises.now target }
 {
@@ -185,30 +230,43 @@ pub fn rule_60(dag: &Dag, premises: &[Fact], target: Slot) -> Option<Fact>
 /// From REL(a, c, I), REL(b, d, K), BND(c / (c + d), L): REL(a + b, c + d, I * L + K * ([1, 1] - L)). Where a and c alone are
 /// both 0: REL with K if 0 is in L, else VOID. Where b and d alone are: REL with I if 1 is in L, else VOID. VOID where all are
 /// (Gappa: `add_rr`).
+#[inline(always)]
 pub fn rule_61(dag: &Dag, premises: &[Fact], target: Slot) -> Option<Fact>
     ensures concludes { result ≡ relative_sum_rule dag.now premises.now target }
 {
     let [first, second, third] = premises else {
         return None;
     };
-    match (*first, *second, *third, target) {
+    match (first, second, third, target) {
         (Fact::Rel(a, c, i), Fact::Rel(b, d, k), Fact::Bnd(q, l), Slot::Rel(x, y)) => {
-            let made = dag.is_at(x, Node::Add(a, b)) && dag.is_at(y, Node::Add(c, d));
-            if made && dag.is_at(q, Node::Div(c, y)) {
-                sum(x, y, i, k, l)
-            } else {
-                None
-            }
+            let made = dag.is_at(x, Node::Add(*a, *b))
+                & dag.is_at(y, Node::Add(*c, *d))
+                & dag.is_at(*q, Node::Div(*c, y));
+            if made { sum(x, y, *i, *k, *l) } else { None }
         }
-        (Fact::Rel(a, c, i), Fact::Rel(b, d, k), Fact::Bnd(q, l), Slot::Void) => {
+        (_, _, _, Slot::Void) => void_if(is_void_by_sum(dag, premises)),
+        _ => None,
+    }
+}
+
+// Whether rule 61 concludes VOID.
+#[inline(never)]
+fn is_void_by_sum(dag: &Dag, premises: &[Fact]) -> bool
+    ensures { only_if result fact.Void ≡ relative_sum_rule dag.now premises.now slot.Void }
+{
+    let [first, second, third] = premises else {
+        return false;
+    };
+    match (*first, *second, *third) {
+        (Fact::Rel(a, c, i), Fact::Rel(b, d, k), Fact::Bnd(q, l)) => {
             let known = dag.know_both(a, c) && dag.know_both(b, d);
             if known && is_share(dag, q, c, d) {
-                Fact::void_only(sum(a, c, i, k, l))
+                is_void(sum(a, c, i, k, l))
             } else {
-                None
+                false
             }
         }
-        _ => None,
+        _ => false,
     }
 }
 
@@ -223,6 +281,7 @@ fn is_share(dag: &Dag, q: ExprId, c: ExprId, d: ExprId) -> bool
 }
 
 // I * L + K * ([1, 1] - L).
+#[inline(always)]
 fn weighted(i: Interval, k: Interval, l: Interval) -> Interval
     ensures { result ≡ weighted i k l }
 {
@@ -239,6 +298,7 @@ fn rel_or_void(there: bool, x: ExprId, y: ExprId, error: RelativeError) -> Fact
     }
 }
 
+#[inline(always)]
 fn sum(
     x: ExprId,
     y: ExprId,

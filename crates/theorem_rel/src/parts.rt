@@ -6,6 +6,7 @@ use facts::RelativeError;
 use interval::Interval;
 
 // The interval, where there is one, as relative errors.
+#[inline(always)]
 pub fn error_within(part: Option<Interval>) -> Option<RelativeError>
     ensures { result ≡ error_of_part part }
 {

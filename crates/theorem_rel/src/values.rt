@@ -8,6 +8,7 @@ use facts::{Fact, RelativeError, Slot};
 use interval::Interval;
 
 /// From BND(x): REL(x, x, [0, 0]) (Gappa: `rel_refl`).
+#[inline(always)]
 pub fn rule_51(dag: &Dag, premises: &[Fact], target: Slot) -> Option<Fact>
     ensures concludes { result ≡ relative_to_itself_rule dag.now premises.now target }
 {
@@ -27,6 +28,7 @@ pub fn rule_51(dag: &Dag, premises: &[Fact], target: Slot) -> Option<Fact>
 }
 
 /// From BND(x - y, I), BND(y, J), where 0 isn't in J: REL(x, y, I / J).
+#[inline(always)]
 pub fn rule_52(dag: &Dag, premises: &[Fact], target: Slot) -> Option<Fact>
     ensures concludes { result ≡ relative_difference_rule dag.now premises.now target }
 {
@@ -46,6 +48,7 @@ pub fn rule_52(dag: &Dag, premises: &[Fact], target: Slot) -> Option<Fact>
 }
 
 /// From REL(x, y, I), BND(y, J): BND(x - y, J * I); where both are 0, BND(x - y, [0, 0]), or VOID where 0 isn't in J.
+#[inline(always)]
 pub fn rule_53(dag: &Dag, premises: &[Fact], target: Slot) -> Option<Fact>
     ensures concludes { result ≡ difference_by_error_rule dag.now premises.now target }
 {
@@ -71,6 +74,7 @@ pub fn rule_53(dag: &Dag, premises: &[Fact], target: Slot) -> Option<Fact>
     }
 }
 
+#[inline(always)]
 fn difference(e: ExprId, error: Option<RelativeError>, j: Interval) -> Fact
     ensures { result ≡ difference_fact e error j }
 {
@@ -80,6 +84,7 @@ fn difference(e: ExprId, error: Option<RelativeError>, j: Interval) -> Fact
     }
 }
 
+#[inline(always)]
 fn zero_or_void(e: ExprId, j: Interval) -> Fact
     ensures { result ≡ zero_or_void e j }
 {
@@ -91,6 +96,7 @@ fn zero_or_void(e: ExprId, j: Interval) -> Fact
 }
 
 /// From REL(x, y, I), BND(y, J): BND(x, J * ([1, 1] + I)); where both are 0, BND(x, [0, 0]), or VOID where 0 isn't in J.
+#[inline(always)]
 pub fn rule_54(dag: &Dag, premises: &[Fact], target: Slot) -> Option<Fact>
     ensures concludes { result ≡ value_by_error_rule dag.now premises.now target }
 {
@@ -116,6 +122,7 @@ pub fn rule_54(dag: &Dag, premises: &[Fact], target: Slot) -> Option<Fact>
     }
 }
 
+#[inline(always)]
 fn value(e: ExprId, error: Option<RelativeError>, j: Interval) -> Fact
     ensures { result ≡ value_fact e error j }
 {
@@ -126,6 +133,7 @@ fn value(e: ExprId, error: Option<RelativeError>, j: Interval) -> Fact
 }
 
 /// From REL(x, y, I), NZR(y): BND(x / y, [1, 1] + I); VOID where both are 0.
+#[inline(always)]
 pub fn rule_55(dag: &Dag, premises: &[Fact], target: Slot) -> Option<Fact>
     ensures concludes { result ≡ quotient_by_error_rule dag.now premises.now target }
 {
@@ -151,6 +159,7 @@ pub fn rule_55(dag: &Dag, premises: &[Fact], target: Slot) -> Option<Fact>
     }
 }
 
+#[inline(always)]
 fn quotient(e: ExprId, error: Option<RelativeError>) -> Fact
     ensures { result ≡ quotient_fact e error }
 {
