@@ -1,5 +1,5 @@
 -- What stands on the right side of the end stands there of the written bound.
-use Rattle.std.specs.Prelude.{◌≡◌, ◌&&◌, Bool, true, false, refl}
+use Rattle.std.specs.Prelude.{◌≡◌, Bool, true, false, refl}
 use Rattle.std.proofs.Common.{sym}
 use Rattle.fx_model.specs.Fraction.{Fraction, ◌≤ℚ◌, ◌<ℚ◌, le_trans, lt_le_trans, le_lt_trans}
 use Rattle.fx_model.specs.Grid.{Bound, Below, At, Above, IsDown, IsUp}

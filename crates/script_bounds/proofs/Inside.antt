@@ -1,6 +1,6 @@
 -- An interval lies between written bounds exactly where it lies in the one rounded inward.
-use Rattle.std.specs.Prelude.{◌≡◌, Some, refl}
-use Rattle.std.proofs.Common.{sym, subst, ⊎_elim}
+use Rattle.std.specs.Prelude.{◌≡◌, Some}
+use Rattle.std.proofs.Common.{subst, ⊎_elim}
 use Rattle.fx_model.specs.Fraction.{Fraction, ◌≤ℚ◌, ◌+ℚ◌, ◌-ℚ◌, one_ℚ, le_refl, le_trans, lt_le, lt_not, le_or_lt, minus_one, plus_one}
 use Rattle.fx_model.specs.Grid.{Bound, Below, At, Above, IsOnGrid, IsDown, IsUp}
 use Rattle.fx_model.specs.Enclosure.{Range, IsFrom, IsUpTo, Lies, IsOrdered, BoundLe, Within, within_in, member_of, ordered_by}

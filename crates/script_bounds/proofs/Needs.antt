@@ -1,17 +1,17 @@
 -- A number of the grid is below the end exactly where it is below the written bound.
-use Rattle.std.specs.Prelude.{◌≡◌, ◌↔◌, ◌&&◌, Bool, true, false, refl}
+use Rattle.std.specs.Prelude.{◌≡◌, ◌↔◌, Bool, true, false, refl}
 use Rattle.std.proofs.Common.{sym, subst}
-use Rattle.fx_model.specs.Fraction.{Fraction, ◌≤ℚ◌, ◌<ℚ◌, le_refl, le_trans, le_antisymm, lt_by, lt_le, lt_not, le_lt_trans, lt_le_trans}
+use Rattle.fx_model.specs.Fraction.{Fraction, ◌≤ℚ◌, ◌<ℚ◌, le_refl, le_trans, le_antisymm, lt_by, lt_le}
 use Rattle.fx_model.specs.Grid.{Bound, Below, At, Above, IsOnGrid, IsDown, IsUp}
 use Rattle.fx_model.specs.Enclosure.{BoundLe}
 use Rattle.dyadic.specs.Ends.{bound_of}
 use Rattle.dyadic.specs.Order.{le_bound}
-use Rattle.dyadic.specs.Compared.{BoundLe_in, BoundLe_out}
+use Rattle.dyadic.specs.Compared.{BoundLe_out}
 use Rattle.interval.specs.Results.{point_of}
 use Rattle.literal_order.specs.declared.written.Written.{Written}
 use Rattle.literal_order.specs.Values.{written_value}
 use Rattle.facts.specs.Rows.{IsUnder, IsOver}
-use Rattle.script_bounds.specs.Needs.{is_point, below_of, above_of}
+use Rattle.script_bounds.specs.Needs.{below_of, above_of}
 use Rattle.script_bounds.proofs.Rounded.{down_at, up_at}
 
 -- v lies from b to c, the nearest of the grid

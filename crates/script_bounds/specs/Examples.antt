@@ -1,6 +1,6 @@
 -- Worked rows: a range that is open on both sides, and one that has nothing in it.
 use Rattle.std.specs.Prelude.{◌≡◌, Some, None}
-use Rattle.fx_model.specs.Grid.{Below, Above}
+use Rattle.fx_model.specs.Grid.{Above}
 use Rattle.interval.specs.Results.{whole_interval}
 use Rattle.interval.specs.Meets.{interval_from-some, interval_from-none}
 use Rattle.dyadic.specs.declared.number.End.TheVariants as end

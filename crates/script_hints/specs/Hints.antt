@@ -8,11 +8,11 @@ use Rattle.dyadic.specs.declared.number.End.TheVariants as end
 use Rattle.interval.specs.Results.{point_of}
 use Rattle.script_hints.specs.declared.hint.Constraint.{Constraint}
 use Rattle.script_hints.specs.declared.hint.Constraint.TheVariants as constraint
-use Rattle.script_shape.specs.Tree.{AnyName, Bound, Need, nonzero, below, not_above, above, not_below, NeedList, last_need, more_needs, Needs, always, provided, Points, last_point, more_points, Cut, in_four, pieces, at_points, Names, last_name, more_names, Halving, halved_by, with_goal, Hint, rewrite, like, split, halving, Hints, no_hint, hint}
+use Rattle.script_shape.specs.Tree.{AnyName, Need, nonzero, below, not_above, above, not_below, NeedList, last_need, more_needs, Needs, always, provided, Points, last_point, more_points, Cut, in_four, pieces, at_points, Names, last_name, more_names, Halving, halved_by, with_goal, Hint, rewrite, like, split, halving, Hints, no_hint, hint}
 use Rattle.script_nodes.specs.Written.{bound_written}
 use Rattle.script_nodes.specs.Definitions.{name_text}
 use Rattle.script_nodes.specs.Operators.{digits_text, number_of}
-use Rattle.script_nodes.specs.Known.{Known, Placed, Name, named}
+use Rattle.script_nodes.specs.Known.{Known, Placed, named}
 use Rattle.script_nodes.specs.Values.{expr_value}
 use Rattle.literal_order.specs.declared.written.Written.{Written}
 use Rattle.literal_order.specs.Values.{written_value}

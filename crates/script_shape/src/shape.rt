@@ -53,7 +53,7 @@ pub struct Shape {
 }
 
 /// A stack on which a script is due, with room for what so many words leave due: `fma` and its `(` leave six things more
-/// than they take, and no other words as many.
+/// than they take, which is three a word, and no words leave more, a few aside.
 fn script_due(alloc: Global, words: usize) -> Result<Vec<Due>, AllocError>
     ensures { IfOk result (λ stack. reverse stack.items ≡ spec.start) }
 {

@@ -1,6 +1,6 @@
 //! The words of a text, kept by class and place. Each is made when it is asked for.
 
-ghost use Rattle.std.specs.Prelude.{◌≡◌, ◌≤◌, ◌<◌, ◌+◌, List, [], ◌∷◌, All, length, take, drop, slice_get, slice_index_or, MatchOption, IfOk};
+ghost use Rattle.std.specs.Prelude.{◌≡◌, ◌≤◌, ◌<◌, ◌+◌, [], ◌∷◌, All, length, take, drop, slice_get, slice_index_or, MatchOption, IfSome, IfOk};
 ghost use Rattle.std.specs.Option.{option_map};
 ghost use Rattle.script_words.specs.Placed as spec;
 ghost use Rattle.script_words.specs.Placed.{IsPlacedIn};
@@ -124,8 +124,9 @@ impl<'w, 'a> WordList<'w, 'a> {
     /// The first word, and those behind it.
     #[inline]
     pub fn split_first(self) -> Option<(Word<'a>, WordList<'w, 'a>)>
-        ensures { MatchOption result (words_in self.entry ≡ [])
+        ensures words { MatchOption result (words_in self.entry ≡ [])
             (λ p. words_in self.entry ≡ word_of p.0 ∷ words_in p.1) }
+        ensures tokens { IfSome result (λ p. tokens_in p.1 ≡ drop 1 (tokens_in self.entry)) }
     {
         let [first, placed @ ..] = self.placed else {
             return None;
@@ -143,7 +144,8 @@ impl<'w, 'a> WordList<'w, 'a> {
     #[inline]
     pub fn front(self, count: usize) -> WordList<'w, 'a>
         requires { count ≤ length (words_in self) }
-        ensures { words_in result ≡ take count (words_in self.entry) }
+        ensures words { words_in result ≡ take count (words_in self.entry) }
+        ensures tokens { tokens_in result ≡ take count (tokens_in self.entry) }
     {
         WordList {
             text: self.text,
@@ -155,7 +157,8 @@ impl<'w, 'a> WordList<'w, 'a> {
     #[inline]
     pub fn from(self, number: usize) -> WordList<'w, 'a>
         requires { number ≤ length (words_in self) }
-        ensures { words_in result ≡ drop number (words_in self.entry) }
+        ensures words { words_in result ≡ drop number (words_in self.entry) }
+        ensures tokens { tokens_in result ≡ drop number (tokens_in self.entry) }
     {
         WordList {
             text: self.text,

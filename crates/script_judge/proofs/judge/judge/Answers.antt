@@ -21,7 +21,7 @@ verdict_on-verdict-requires c =
     let all = leaves_of c.args.roles.now (words_in c.args.words) in
     let behind = leaves_of c.roles_from-later_roles.result.now (words_in c.from-later_words.result) in
     let same : behind ≡ leaves_of (drop (n + 1) c.args.roles.now) (drop (n + 1) (words_in c.args.words)) =
-    same_rest c.args.roles.now _ (words_in c.args.words) _ (n + 1) c.roles_from-later_roles.ensures c.from-later_words.ensures in
+    same_rest c.args.roles.now _ (words_in c.args.words) _ (n + 1) c.roles_from-later_roles.ensures c.from-later_words.ensures.words in
     let left : leaves_of (drop n c.args.roles.now) (drop n (words_in c.args.words)) ≡ at r w ∷ behind =
     split_at c.args.roles.now (words_in c.args.words) n r w c.role_at-role.ensures c.at-word.ensures ∙ ap (λ l. at r w ∷ l) (sym same) in
     let m : JudgedTo all n seen (at r w ∷ behind) arrows = subst (λ ls. JudgedTo all n seen ls arrows) left c.loop-number.invariant in
@@ -39,7 +39,7 @@ returns-in-Some-clause-judged c =
     let all = leaves_of c.args.roles.now (words_in c.args.words) in
     let behind = leaves_of c.roles_from-later_roles.result.now (words_in c.from-later_words.result) in
     let same : behind ≡ leaves_of (drop (n + 1) c.args.roles.now) (drop (n + 1) (words_in c.args.words)) =
-    same_rest c.args.roles.now _ (words_in c.args.words) _ (n + 1) c.roles_from-later_roles.ensures c.from-later_words.ensures in
+    same_rest c.args.roles.now _ (words_in c.args.words) _ (n + 1) c.roles_from-later_roles.ensures c.from-later_words.ensures.words in
     let left : leaves_of (drop n c.args.roles.now) (drop n (words_in c.args.words)) ≡ at r w ∷ behind =
     split_at c.args.roles.now (words_in c.args.words) n r w c.role_at-role.ensures c.at-word.ensures ∙ ap (λ l. at r w ∷ l) (sym same) in
     let m : JudgedTo all n seen (at r w ∷ behind) arrows = subst (λ ls. JudgedTo all n seen ls arrows) left c.loop-number.invariant in
@@ -57,7 +57,7 @@ returns-in-Some-limit_refusal-clause-judged c =
     let all = leaves_of c.args.roles.now (words_in c.args.words) in
     let behind = leaves_of c.roles_from-later_roles.result.now (words_in c.from-later_words.result) in
     let same : behind ≡ leaves_of (drop (n + 1) c.args.roles.now) (drop (n + 1) (words_in c.args.words)) =
-    same_rest c.args.roles.now _ (words_in c.args.words) _ (n + 1) c.roles_from-later_roles.ensures c.from-later_words.ensures in
+    same_rest c.args.roles.now _ (words_in c.args.words) _ (n + 1) c.roles_from-later_roles.ensures c.from-later_words.ensures.words in
     let left : leaves_of (drop n c.args.roles.now) (drop n (words_in c.args.words)) ≡ at r w ∷ behind =
     split_at c.args.roles.now (words_in c.args.words) n r w c.role_at-role.ensures c.at-word.ensures ∙ ap (λ l. at r w ∷ l) (sym same) in
     let m : JudgedTo all n seen (at r w ∷ behind) arrows = subst (λ ls. JudgedTo all n seen ls arrows) left c.loop-number.invariant in
@@ -76,7 +76,7 @@ loop-number-preserved c =
     let all = leaves_of c.args.roles.now (words_in c.args.words) in
     let behind = leaves_of c.roles_from-later_roles.result.now (words_in c.from-later_words.result) in
     let same : behind ≡ leaves_of (drop (n + 1) c.args.roles.now) (drop (n + 1) (words_in c.args.words)) =
-    same_rest c.args.roles.now _ (words_in c.args.words) _ (n + 1) c.roles_from-later_roles.ensures c.from-later_words.ensures in
+    same_rest c.args.roles.now _ (words_in c.args.words) _ (n + 1) c.roles_from-later_roles.ensures c.from-later_words.ensures.words in
     let left : leaves_of (drop n c.args.roles.now) (drop n (words_in c.args.words)) ≡ at r w ∷ behind =
     split_at c.args.roles.now (words_in c.args.words) n r w c.role_at-role.ensures c.at-word.ensures ∙ ap (λ l. at r w ∷ l) (sym same) in
     let m : JudgedTo all n seen (at r w ∷ behind) arrows = subst (λ ls. JudgedTo all n seen ls arrows) left c.loop-number.invariant in
