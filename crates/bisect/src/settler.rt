@@ -42,6 +42,7 @@ pub struct Verdict<E: Drop> {
 
 /// Settles boxes, each from the entry of the box that it is a piece of.
 pub trait Settler: Sync {
+    /// What is posted of a box that is settled.
     type Entry: Posted;
 
     /// Settles the box at the path, which is one of the plan. The parent is the entry of the path without its last number;

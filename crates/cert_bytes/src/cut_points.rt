@@ -22,7 +22,7 @@ impl Model for CutPoints {
 }
 
 impl CutPoints {
-    /// These points. It takes memory for them.
+    /// These points. It takes memory for them: `Err` only where memory runs out.
     pub fn new(alloc: Global, points: Points) -> Result<CutPoints, AllocError>
         ensures { IfOk result (λ cut. cut ≡ points) }
     {

@@ -12,7 +12,7 @@ use Rattle.goals.specs.declared.goal.Goal.{Goal}
 use Rattle.derivation.specs.Derivations.{Setting, At}
 use Rattle.derivation.specs.Known.{Piece, Known, IsTableAt}
 use Rattle.derivation.specs.Settled.{IsMet}
-use Rattle.derivation.specs.Parts.{void_is, none_some, at_option}
+use Rattle.derivation.specs.Parts.{none_some}
 use Rattle.box_tree.specs.declared.cut.Cut.{Cut}
 use Rattle.box_tree.specs.declared.cut.Cut.TheVariants.{Forced, Half, Bottom}
 use Rattle.box_tree.specs.Plans.{cut_at, piece_at, pieces_at}
@@ -29,6 +29,7 @@ use Rattle.answer_certificates.specs.Boxes.{range_of_piece, variable_of, pieces_
 use Rattle.answer_certificates.specs.Laws.{PiecesAreOfCuts}
 use Rattle.cert_writer.specs.Boxes.{KnowsVoid, CutsAt}
 use Rattle.cert_writer.specs.Courses.{Course, IsCourse, setting, below}
+use Rattle.cert_writer.proofs.Own.{nothing_there}
 
 -- ---- one box
 -- In this state the cut goes at these points.
@@ -50,12 +51,9 @@ module _ (u : Setting) (goals : List Goal) (height : ℕ) (pieces : List Piece) 
   known_void : KnowsVoid at → Known u height pieces fact.Void
   known_void e = (best.reached slot.Void fact.Void e).1
 
-  no_void : ¬ KnowsVoid at → at slot.Void ≡ None
-  no_void n = at_option (at slot.Void) (λ o. at slot.Void ≡ None) (λ e. e) (λ v e. absurd (n (e ∙ ap Some (void_is v (best.reached slot.Void v e).0))))
-
   -- Where VOID is known, the table has it.
   knows_void : Known u height pieces fact.Void → ¬ ¬ KnowsVoid at
-  knows_void k n = let none = no_void n in let y = best.least none fact.Void k in none_some y.0 (at slot.Void) none y.1
+  knows_void k n = let none = nothing_there u height pieces at best n in let y = best.least none fact.Void k in none_some y.0 (at slot.Void) none y.1
 
   -- Where each goal is settled by the table's fact, it is met,
   met : (gs : List Goal) → AllSettled at gs → (k : ℕ) (g : Goal) → slice_get gs k ≡ Some g → IsMet u height pieces g
@@ -100,7 +98,7 @@ module _ (u : Setting) (goals : List Goal) (height : ℕ) (pieces : List Piece) 
   is_cut (Forced x points) (state.Open k) w p h =
       subst (IsSplitAt (Forced x points) (state.Open k)) (sym h.1) (record { variable = refl; count = refl; made = refl; tree = into_points x points })
   is_cut (Half x m) state.Void w p h = absurd (knows_void w h.0)
-  is_cut (Half x m) (state.Settled facts) w p h = absurd (h.1 (settled (no_void h.0) goals facts w.1))
+  is_cut (Half x m) (state.Settled facts) w p h = absurd (h.1 (settled (nothing_there u height pieces at best h.0) goals facts w.1))
   is_cut (Half x m) (state.Open k) w p h =
       subst (IsSplitAt (Half x m) (state.Open k)) (sym h.2) (record { variable = refl; count = refl; made = refl; tree = λ trees. refl })
   is_cut Bottom s w p h = absurd h

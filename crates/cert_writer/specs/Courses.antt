@@ -56,11 +56,11 @@ setting c = setting_of c.aim.world
 abbrev pub below : Course → ℕ → List ℕ → Tree
 below c cuts path = boxes_below c.plan c.states cuts path
 
--- the best facts at the box with these pieces
+-- the table of what is known at the box with these pieces
 abbrev pub best_at : Course → List Piece → At
 best_at c pieces = table_at (setting c) c.aim.height pieces
 
--- They are the best.
+-- Whatever the pieces are, it has the best facts that are known there.
 abbrev pub HasBest : Course → Type 0
 HasBest c = (pieces : List Piece) → IsTableAt (setting c) c.aim.height pieces (best_at c pieces)
 

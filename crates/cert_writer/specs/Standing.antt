@@ -43,7 +43,8 @@ pub record IsAim (t : Aim) : Type 0 where
   pub writable : IsWritable (setting_of t.world) t.world.hints
   pub subject : trees.IsSubjectOf t.subject (setting_of t.world) t.world.hints t.world.goals
 
--- so many steps at most for each box
+-- How many steps a box may have: no fewer than the laws of box_traces have of it (in each round a step for each instance at most), and more
+-- than box_trace makes of it (in each round 8,192 at most).
 abbrev pub most_for : Aim → ℕ
 most_for t = length t.world.hypotheses + length t.world.nodes + 2 + t.height * length t.world.instances + t.height * 8192
 

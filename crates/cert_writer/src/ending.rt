@@ -50,8 +50,8 @@ fn one_point(m: Dyadic) -> Points
     }
 }
 
-/// At what the box is cut, if it is: a forced cut is made unless VOID is known, and a halving where moreover a goal isn't settled.
-pub fn cut_of(uni: &Universe, cut: Cut, known: &Known) -> Option<(ExprId, Points)>
+// At what the box is cut, if it is: a forced cut is made unless VOID is known, and a halving where moreover a goal isn't settled.
+pub(crate) fn cut_of(uni: &Universe, cut: Cut, known: &Known) -> Option<(ExprId, Points)>
     requires slots { HasSlots uni.now uni.now.goals }
     requires rows { HasRows uni.now known.now }
     ensures { CutsAt (known_at uni.now known.now) uni.now.goals cut result }
@@ -72,8 +72,8 @@ pub fn cut_of(uni: &Universe, cut: Cut, known: &Known) -> Option<(ExprId, Points
     }
 }
 
-/// The leaf or the dead end of a box that isn't cut.
-pub fn end_of(alloc: Global, uni: &Universe, known: &Known) -> Result<Item, AllocError>
+// The leaf or the dead end of a box that isn't cut. `Err` only where memory runs out.
+pub(crate) fn end_of(alloc: Global, uni: &Universe, known: &Known) -> Result<Item, AllocError>
     requires rows { HasRows uni.now known.now }
     requires closed { IsClosed (known_at uni.now known.now) uni.now.goals }
     ensures { IfOk result (IsEnd uni.now known.now) }

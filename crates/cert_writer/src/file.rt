@@ -6,8 +6,8 @@ ghost use Rattle.cert_writer.specs.Files.{AppendsFront};
 
 use fx_edge::{Failed, Folder};
 
-/// Adds all of the bytes to the file, in as many pieces as the folder takes. After a failure it has taken a front of them.
-pub fn append_all<F: Folder>(folder: &mut F, name: &str, bytes: &[u8]) -> Result<(), Failed>
+// Adds all of the bytes to the file, in as many pieces as the folder takes. After a failure it has taken a front of them.
+pub(crate) fn append_all<F: Folder>(folder: &mut F, name: &str, bytes: &[u8]) -> Result<(), Failed>
     ensures ok { OnOk result (Appends (F.told folder.old name.now) (F.told folder.new name.now) bytes.now) }
     ensures err { OnErr result (AppendsFront (F.told folder.old name.now) (F.told folder.new name.now) bytes.now) }
     ensures others { (other : List ℕ) → other ≢ name.now → F.told folder.new other ≡ F.told folder.old other }

@@ -10,7 +10,7 @@ use facts::HintMark;
 use fx_model::ExprId;
 use std::alloc::AllocError;
 
-// The nodes behind their count.
+// Appends the nodes.
 fn spell_nodes(nodes: &Dag, out: &mut Vec<u8>) -> Result<(), AllocError>
     ensures { OnOk result (out.new.items ≡ out.old.items ++ certificate_of (map item.Node nodes.now)) }
 {
@@ -21,7 +21,7 @@ fn spell_nodes(nodes: &Dag, out: &mut Vec<u8>) -> Result<(), AllocError>
     Ok(())
 }
 
-// The marks behind their count.
+// Appends the marks.
 fn spell_marks(marks: &[HintMark], out: &mut Vec<u8>) -> Result<(), AllocError>
     ensures { OnOk result (out.new.items ≡ out.old.items ++ certificate_of (map item.Mark marks.now)) }
 {
@@ -31,8 +31,13 @@ fn spell_marks(marks: &[HintMark], out: &mut Vec<u8>) -> Result<(), AllocError>
     Ok(())
 }
 
-/// Appends what stands before the root section: the nodes and the marks, each behind their count.
-pub fn spell_head(nodes: &Dag, marks: &[HintMark], out: &mut Vec<u8>) -> Result<(), AllocError>
+// Appends what stands before the root section: the nodes and the marks, each behind their count. `Err` only where memory runs out; a front
+// of that may then be there.
+pub(crate) fn spell_head(
+    nodes: &Dag,
+    marks: &[HintMark],
+    out: &mut Vec<u8>,
+) -> Result<(), AllocError>
     requires few { length marks.now ≤ 65535 }
     ensures { OnOk result (out.new.items ≡ out.old.items ++ certificate_of (head_items nodes.now marks.now)) }
 {

@@ -9,10 +9,6 @@ mod spell;
 mod walk;
 mod whole;
 
-pub use ending::{cut_of, end_of};
-pub use file::append_all;
-pub use head::spell_head;
 pub use laws::writing_goes_on;
-pub use spell::{refs_of, spell_steps};
 pub use walk::WriteStop;
 pub use whole::write_cert;

@@ -23,8 +23,9 @@ fn has_ranges(row: &StepRow)
     let _arg = row.arg;
 }
 
-/// Appends the steps as items. Their numbers of rules and arguments have room in steps, since their types keep that.
-pub fn spell_steps(rows: Vec<StepRow>, out: &mut Vec<u8>) -> Result<(), AllocError>
+// Appends the steps as items. The numbers of their rules and their arguments have room in the steps' fields, since their types keep that.
+// `Err` only where memory runs out; a front of the items may then be there.
+pub(crate) fn spell_steps(rows: Vec<StepRow>, out: &mut Vec<u8>) -> Result<(), AllocError>
     requires { AllByRecursion HasShortList rows.items }
     ensures spelled { OnOk result (out.new.items ≡ out.old.items ++ certificate_of (map item.Step rows.items)) }
     ensures fields { OnOk result (HaveFields rows.items) }
@@ -36,8 +37,8 @@ pub fn spell_steps(rows: Vec<StepRow>, out: &mut Vec<u8>) -> Result<(), AllocErr
     Ok(())
 }
 
-/// The step of each goal's fact.
-pub fn refs_of(
+// The step of each goal's fact. `Err` only where memory runs out.
+pub(crate) fn refs_of(
     alloc: Global,
     uni: &Universe,
     known: &Known,
@@ -58,8 +59,12 @@ pub fn refs_of(
     Ok(refs)
 }
 
-/// The bytes of a box's own items: its steps, and the last.
-pub fn spell_box(alloc: Global, steps: Vec<StepRow>, last: &Item) -> Result<Vec<u8>, AllocError>
+// The bytes of a box's own items: its steps, and the last. `Err` only where memory runs out.
+pub(crate) fn spell_box(
+    alloc: Global,
+    steps: Vec<StepRow>,
+    last: &Item,
+) -> Result<Vec<u8>, AllocError>
     requires steps { AllByRecursion HasShortList steps.items }
     requires last { HasSpelling last.now }
     ensures spelled { IfOk result (λ bytes. bytes.items ≡ certificate_of (own_items steps.items last.now)) }

@@ -17,7 +17,8 @@ use universe::universes_are_one;
 
 /// Makes the file new and writes to it the certificate of a script that is proved with these options: its universe, what its
 /// certificates are judged against, how its boxes are cut, and how many rounds settle a box. `Failed` comes only where a write of the
-/// folder failed in this call. After a stop the file holds what it held, where making it new failed, or a front of such a certificate.
+/// folder failed in this call, `OutOfMemory` only where memory runs out. After a stop the file holds what it held, where making it new
+/// failed, or a front of such a certificate.
 pub fn write_cert<F: Folder>(
     alloc: Global,
     uni: &Universe,

@@ -155,8 +155,8 @@ fn neither_workers_nor_pieces_change_a_byte(rt: HostRuntime) -> Result<(), Fail>
     Ok(())
 }
 
-// Runs that write nothing: of a script that is refused, that isn't there, that stays unproved, that has too many boxes; and of a
-// certificate whose name isn't there.
+// Runs that write nothing: of a script that is refused, that isn't there, that stays unproved, that has too many boxes; by words that name
+// one file as script and certificate; and of a certificate whose name isn't there.
 const UNWRITTEN: [(&[&str], &str, Status, &str); 8] = [
     (WRITE, "!", Status::Script, "script: BadToken at 0\n"),
     (

@@ -16,10 +16,11 @@ use Rattle.report.specs.Lines.{Bytes}
 use Rattle.command_line.specs.Check.{AskedCheck}
 use Rattle.command_line.specs.Reading.{Asked}
 use Rattle.settler.specs.Answers.{Options}
+use Rattle.cert_writer.specs.Files.{AppendsFront}
 use Rattle.fx_top.specs.Checked.{CheckPrints}
 use Rattle.fx_top.specs.Command.{Command, reading}
 use Rattle.fx_top.specs.Command.Command.{Prove, Check, Gen}
-use Rattle.fx_top.specs.Outside.{AppendsFront, IsText}
+use Rattle.fx_top.specs.Outside.{IsText}
 use Rattle.made_script.specs.Script.{script_text}
 use Rattle.fx_top.specs.Answers.{ProvePrints, MadePrints, made_options, options_of}
 use Rattle.fx_top.specs.Run.{Outside, IsTold, IsScript, Reads, Prints, CheckedPrints, IsCutShort, EndsAs, IsLine, StopPrints}
@@ -105,8 +106,8 @@ put_whole P before after status.Script line p took = (line, p, took)
 put_whole P before after Limit line p took = (line, p, took)
 put_whole P before after Certificate line p took = (line, p, took)
 put_whole P before after ReadFault line p took = (line, p, took)
-put_whole P before after WriteFault line p took = inr (WriteFault, line, p, (line, [], sym (append-nil line), took))
-put_whole P before after OutOfMemory line p took = inr (OutOfMemory, line, p, (line, [], sym (append-nil line), took))
+put_whole P before after WriteFault line p took = inr (WriteFault, line, p, (line, ([], sym (append-nil line)), took))
+put_whole P before after OutOfMemory line p took = inr (OutOfMemory, line, p, (line, ([], sym (append-nil line)), took))
 
 pub ends_whole : (before after : Option Bytes) (s : Status) (line : Bytes) → Appends before after line → EndsAs (IsLine s line) before after s
 ends_whole before after s line took = put_whole (IsLine s line) before after s line (refl, refl) took

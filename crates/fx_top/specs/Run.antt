@@ -6,11 +6,11 @@ use Rattle.fx_edge.specs.Outside.{Rose}
 use Rattle.script_grammar.specs.Spells.{View, Spells}
 use Rattle.command_line.specs.Check.{AskedCheck}
 use Rattle.report.specs.Lines.{Bytes, read_fault_line, usage_line}
+use Rattle.cert_writer.specs.Files.{AppendsFront}
 use Rattle.fx_top.specs.Answers.{ProvePrints, MadePrints, options_of}
 use Rattle.fx_top.specs.Checked.{CheckPrints, IsAcceptable}
 use Rattle.fx_top.specs.Command.{Command, reading}
 use Rattle.fx_top.specs.Command.Command.{Prove, Check, Gen}
-use Rattle.fx_top.specs.Outside.{AppendsFront}
 use Rattle.fx_top.specs.declared.outside.ReadStop.{ReadStop}
 use Rattle.fx_top.specs.declared.outside.ReadStop.TheVariants as stop
 use Rattle.fx_top.specs.declared.run.Status.{Status}

@@ -40,12 +40,13 @@ IsProvable o text = (s : View) × (boxes : ℕ) × (shown : List Line) × IsProv
 
 -- ---- what a run leaves under the certificate's name
 
--- The script is proved with these lines, and a run ended so. At `Answered` the file holds a certificate that is accepted for the script with
--- the lines, and after a write fault too, where no read and no write of the folder failed: then it was the sink that failed. After any write
--- fault, and where memory ran out, it holds a front of such a certificate, or what it held.
+-- The script is proved with these lines, and a run ended so. At `Answered` the file holds a certificate that is accepted for the script
+-- with the lines, and after a write fault too, where no read and no write of the folder failed: then it was the sink that failed. After any
+-- write fault, and where memory ran out, it holds a front of such a certificate, or what it held.
 abbrev pub HoldsAfter : Status → Faults → Faults → View → List Line → Option Bytes → Option Bytes → Type 0
 HoldsAfter status.Answered before after s shown old new = HoldsCertificate s shown old new
-HoldsAfter status.WriteFault before after s shown old new = (AreQuiet before after → HoldsCertificate s shown old new) × HoldsFront s shown old new
+HoldsAfter status.WriteFault before after s shown old new =
+    (AreQuiet before after → HoldsCertificate s shown old new) × HoldsFront s shown old new
 HoldsAfter status.OutOfMemory before after s shown old new = HoldsFront s shown old new
 HoldsAfter _ before after s shown old new = new ≡ old
 
@@ -57,18 +58,21 @@ pub record IsCertified (o : Options) (text : Bytes) (before after : Faults) (res
 
 -- The words ask for a script to be proved, whose text the folder tells, and name a file for the certificate.
 abbrev pub Certifies : List Bytes → Told → Told → Faults → Faults → Status → Type 0
-Certifies words told_old told_new before after result = (a : Asked) (name text : Bytes) → reading words ≡ Some (Prove a) → a.cert ≡ Some name → told_old a.script ≡ Some text →
+Certifies words told_old told_new before after result =
+    (a : Asked) (name text : Bytes) → reading words ≡ Some (Prove a) → a.cert ≡ Some name → told_old a.script ≡ Some text →
     IsCertified (options_of a) text before after result (told_old name) (told_new name)
 
 -- ---- what is put behind it
 
 -- The script that proves the text has a certificate in the file, whole and with its lines; or the sink took nothing.
 abbrev pub IsPutBehind : Options → Bytes → Option Bytes → Option Bytes → Option Bytes → Option Bytes → Type 0
-IsPutBehind o text taken_old taken_new old new = WhereProved o text (λ s shown. Keeps taken_old taken_new ⊎ HoldsCertificate s shown old new)
+IsPutBehind o text taken_old taken_new old new =
+    WhereProved o text (λ s shown. Keeps taken_old taken_new ⊎ HoldsCertificate s shown old new)
 
 -- So it is however the run ended, if no read failed, where the words ask for a certificate of a script whose text the folder tells.
 abbrev pub PutsBehind : List Bytes → Told → Told → Faults → Faults → Option Bytes → Option Bytes → Type 0
-PutsBehind words told_old told_new before after taken_old taken_new = (a : Asked) (name text : Bytes) → reading words ≡ Some (Prove a) → a.cert ≡ Some name → told_old a.script ≡ Some text →
+PutsBehind words told_old told_new before after taken_old taken_new =
+    (a : Asked) (name text : Bytes) → reading words ≡ Some (Prove a) → a.cert ≡ Some name → told_old a.script ≡ Some text →
     ¬ Rose before.reads after.reads → IsPutBehind (options_of a) text taken_old taken_new (told_old name) (told_new name)
 
 -- ---- before the lines are put

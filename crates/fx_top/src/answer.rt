@@ -19,7 +19,7 @@ use std::sync::Wait;
 use std::thread::Threads;
 use universe::classify;
 
-/// The status and the lines for what was found of the script.
+/// The status and the lines for what was found of the script. `Err` only where memory runs out.
 pub fn lines_for(
     alloc: Global,
     script: &Script<'_>,

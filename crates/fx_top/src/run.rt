@@ -100,13 +100,23 @@ fn run_prove<F: Folder, O: Sink, G: Gate, R: Threads + Wait + Sync>(
 ) -> Status
     requires { AreInRange request }
     ensures ends { (words : List (List ℕ)) → reading words ≡ Some (Prove (asked_of request.entry))
-        → EndsAs (Prints words (seen (F.told folder.old) (F.read_faults folder.old) (F.read_faults folder.new))) (O.taken out.old) (O.taken out.new) result }
-    ensures certificate { (name text : List ℕ) → (asked_of request.entry).cert ≡ Some name → F.told folder.old request.entry.script.now ≡ Some text
-        → IsCertified (options_of (asked_of request.entry)) text (faults (F.read_faults folder.old) (F.write_faults folder.old)) (faults (F.read_faults folder.new) (F.write_faults folder.new)) result (F.told folder.old name) (F.told folder.new name) }
-    ensures order { (name text : List ℕ) → (asked_of request.entry).cert ≡ Some name → F.told folder.old request.entry.script.now ≡ Some text → ¬ Rose (F.read_faults folder.old) (F.read_faults folder.new)
-        → IsPutBehind (options_of (asked_of request.entry)) text (O.taken out.old) (O.taken out.new) (F.told folder.old name) (F.told folder.new name) }
-    ensures unchanged { result ≢ Status.Answered → result ≢ Status.WriteFault → result ≢ Status.OutOfMemory → (name : List ℕ) → F.told folder.new name ≡ F.told folder.old name }
-    ensures write_fault { result ≡ Status.WriteFault → Rose (O.faults out.old) (O.faults out.new) ⊎ (((name : List ℕ) × ((asked_of request.entry).cert ≡ Some name)) × Rose (F.write_faults folder.old) (F.write_faults folder.new)) }
+        → EndsAs (Prints words (seen (F.told folder.old) (F.read_faults folder.old) (F.read_faults folder.new)))
+        (O.taken out.old) (O.taken out.new) result }
+    ensures certificate { (name text : List ℕ) → (asked_of request.entry).cert ≡ Some name
+        → F.told folder.old request.entry.script.now ≡ Some text
+        → IsCertified (options_of (asked_of request.entry)) text
+        (faults (F.read_faults folder.old) (F.write_faults folder.old))
+        (faults (F.read_faults folder.new) (F.write_faults folder.new)) result
+        (F.told folder.old name) (F.told folder.new name) }
+    ensures order { (name text : List ℕ) → (asked_of request.entry).cert ≡ Some name
+        → F.told folder.old request.entry.script.now ≡ Some text → ¬ Rose (F.read_faults folder.old) (F.read_faults folder.new)
+        → IsPutBehind (options_of (asked_of request.entry)) text (O.taken out.old) (O.taken out.new)
+        (F.told folder.old name) (F.told folder.new name) }
+    ensures unchanged { result ≢ Status.Answered → result ≢ Status.WriteFault → result ≢ Status.OutOfMemory
+        → (name : List ℕ) → F.told folder.new name ≡ F.told folder.old name }
+    ensures write_fault { result ≡ Status.WriteFault
+        → Rose (O.faults out.old) (O.faults out.new)
+        ⊎ (((name : List ℕ) × ((asked_of request.entry).cert ≡ Some name)) × Rose (F.write_faults folder.old) (F.write_faults folder.new)) }
     ensures files { (name : List ℕ) → is_name (asked_of request.entry).cert name ≡ false → F.told folder.new name ≡ F.told folder.old name }
 {
     match read_text(alloc, folder, request.script) {
@@ -135,8 +145,10 @@ fn run_check<F: Folder, O: Sink>(
     out: &mut O,
 ) -> Status
     ensures ends { (words : List (List ℕ)) → reading words ≡ Some (Check (check_of request.entry))
-        → EndsAs (Prints words (seen (F.told folder.old) (F.read_faults folder.old) (F.read_faults folder.new))) (O.taken out.old) (O.taken out.new) result }
-    ensures accepted { (text all : List ℕ) → F.told folder.old request.entry.script.now ≡ Some text → F.told folder.old request.entry.cert.now ≡ Some all → IsAcceptable text all → Comes Status.Answered result }
+        → EndsAs (Prints words (seen (F.told folder.old) (F.read_faults folder.old) (F.read_faults folder.new)))
+        (O.taken out.old) (O.taken out.new) result }
+    ensures accepted { (text all : List ℕ) → F.told folder.old request.entry.script.now ≡ Some text
+        → F.told folder.old request.entry.cert.now ≡ Some all → IsAcceptable text all → Comes Status.Answered result }
     ensures write_fault { result ≡ Status.WriteFault → Rose (O.faults out.old) (O.faults out.new) }
     ensures files { (name : List ℕ) → F.told folder.new name ≡ F.told folder.old name }
 {
@@ -170,13 +182,25 @@ fn run_words<F: Folder, O: Sink, G: Gate, R: Threads + Wait + Sync>(
     out: &mut O,
     gate: &G,
 ) -> Status
-    ensures ends { EndsAs (Prints (map string_bytes words.now) (seen (F.told folder.old) (F.read_faults folder.old) (F.read_faults folder.new))) (O.taken out.old) (O.taken out.new) result }
+    ensures ends { EndsAs
+        (Prints (map string_bytes words.now) (seen (F.told folder.old) (F.read_faults folder.old) (F.read_faults folder.new)))
+        (O.taken out.old) (O.taken out.new) result }
     ensures accepted { IsComplete (map string_bytes words.now) (F.told folder.old) result }
-    ensures certificate { Certifies (map string_bytes words.now) (F.told folder.old) (F.told folder.new) (faults (F.read_faults folder.old) (F.write_faults folder.old)) (faults (F.read_faults folder.new) (F.write_faults folder.new)) result }
-    ensures order { PutsBehind (map string_bytes words.now) (F.told folder.old) (F.told folder.new) (faults (F.read_faults folder.old) (F.write_faults folder.old)) (faults (F.read_faults folder.new) (F.write_faults folder.new)) (O.taken out.old) (O.taken out.new) }
-    ensures unchanged { result ≢ Status.Answered → result ≢ Status.WriteFault → result ≢ Status.OutOfMemory → (name : List ℕ) → F.told folder.new name ≡ F.told folder.old name }
-    ensures write_fault { result ≡ Status.WriteFault → Rose (O.faults out.old) (O.faults out.new) ⊎ IsWriteBroken (map string_bytes words.now) (faults (F.read_faults folder.old) (F.write_faults folder.old)) (faults (F.read_faults folder.new) (F.write_faults folder.new)) }
-    ensures files { (name : List ℕ) → is_written (map string_bytes words.now) name ≡ false → F.told folder.new name ≡ F.told folder.old name }
+    ensures certificate { Certifies (map string_bytes words.now) (F.told folder.old) (F.told folder.new)
+        (faults (F.read_faults folder.old) (F.write_faults folder.old))
+        (faults (F.read_faults folder.new) (F.write_faults folder.new)) result }
+    ensures order { PutsBehind (map string_bytes words.now) (F.told folder.old) (F.told folder.new)
+        (faults (F.read_faults folder.old) (F.write_faults folder.old))
+        (faults (F.read_faults folder.new) (F.write_faults folder.new)) (O.taken out.old) (O.taken out.new) }
+    ensures unchanged { result ≢ Status.Answered → result ≢ Status.WriteFault → result ≢ Status.OutOfMemory
+        → (name : List ℕ) → F.told folder.new name ≡ F.told folder.old name }
+    ensures write_fault { result ≡ Status.WriteFault
+        → Rose (O.faults out.old) (O.faults out.new)
+        ⊎ IsWriteBroken (map string_bytes words.now)
+        (faults (F.read_faults folder.old) (F.write_faults folder.old))
+        (faults (F.read_faults folder.new) (F.write_faults folder.new)) }
+    ensures files { (name : List ℕ) → is_written (map string_bytes words.now) name ≡ false
+        → F.told folder.new name ≡ F.told folder.old name }
 {
     match command_of(alloc, words) {
         Ok(Wanted::Prove(request)) => run_prove(rt, alloc, request, folder, out, gate),
@@ -196,24 +220,37 @@ fn run_exactly<F: Folder, O: Sink, G: Gate, R: Threads + Wait + Sync>(
     out: &mut O,
     gate: &G,
 ) -> Status
-    ensures ends { EndsAs (Prints (map string_bytes words.now) (seen (F.told folder.old) (F.read_faults folder.old) (F.read_faults folder.new))) (O.taken out.old) (O.taken out.new) result }
-    ensures exact { IsExact (map string_bytes words.now) (seen (F.told folder.old) (F.read_faults folder.old) (F.read_faults folder.new)) result }
+    ensures ends { EndsAs
+        (Prints (map string_bytes words.now) (seen (F.told folder.old) (F.read_faults folder.old) (F.read_faults folder.new)))
+        (O.taken out.old) (O.taken out.new) result }
+    ensures exact { IsExact (map string_bytes words.now)
+        (seen (F.told folder.old) (F.read_faults folder.old) (F.read_faults folder.new)) result }
     ensures accepted { IsComplete (map string_bytes words.now) (F.told folder.old) result }
-    ensures certificate { Certifies (map string_bytes words.now) (F.told folder.old) (F.told folder.new) (faults (F.read_faults folder.old) (F.write_faults folder.old)) (faults (F.read_faults folder.new) (F.write_faults folder.new)) result }
-    ensures order { PutsBehind (map string_bytes words.now) (F.told folder.old) (F.told folder.new) (faults (F.read_faults folder.old) (F.write_faults folder.old)) (faults (F.read_faults folder.new) (F.write_faults folder.new)) (O.taken out.old) (O.taken out.new) }
-    ensures unchanged { result ≢ Status.Answered → result ≢ Status.WriteFault → result ≢ Status.OutOfMemory → (name : List ℕ) → F.told folder.new name ≡ F.told folder.old name }
-    ensures write_fault { result ≡ Status.WriteFault → Rose (O.faults out.old) (O.faults out.new) ⊎ IsWriteBroken (map string_bytes words.now) (faults (F.read_faults folder.old) (F.write_faults folder.old)) (faults (F.read_faults folder.new) (F.write_faults folder.new)) }
-    ensures files { (name : List ℕ) → is_written (map string_bytes words.now) name ≡ false → F.told folder.new name ≡ F.told folder.old name }
+    ensures certificate { Certifies (map string_bytes words.now) (F.told folder.old) (F.told folder.new)
+        (faults (F.read_faults folder.old) (F.write_faults folder.old))
+        (faults (F.read_faults folder.new) (F.write_faults folder.new)) result }
+    ensures order { PutsBehind (map string_bytes words.now) (F.told folder.old) (F.told folder.new)
+        (faults (F.read_faults folder.old) (F.write_faults folder.old))
+        (faults (F.read_faults folder.new) (F.write_faults folder.new)) (O.taken out.old) (O.taken out.new) }
+    ensures unchanged { result ≢ Status.Answered → result ≢ Status.WriteFault → result ≢ Status.OutOfMemory
+        → (name : List ℕ) → F.told folder.new name ≡ F.told folder.old name }
+    ensures write_fault { result ≡ Status.WriteFault
+        → Rose (O.faults out.old) (O.faults out.new)
+        ⊎ IsWriteBroken (map string_bytes words.now)
+        (faults (F.read_faults folder.old) (F.write_faults folder.old))
+        (faults (F.read_faults folder.new) (F.write_faults folder.new)) }
+    ensures files { (name : List ℕ) → is_written (map string_bytes words.now) name ≡ false
+        → F.told folder.new name ≡ F.told folder.old name }
 {
     defined_status_comes();
     run_words(rt, alloc, words, folder, out, gate)
 }
 
 /// Runs the program on the words of its command line, without the program's name: `prove SCRIPT` reads the script's text
-/// from the folder, proves its goals, and puts the answer's lines; with `--cert FILE`, where all goals are proved, it first makes the file new
-/// and writes to it a certificate of the answer. `gen N` proves the made script of degree N. Workers, as many as the words say, settle the
-/// boxes; each calls the gate before and after a box. `check SCRIPT CERT` reads the script's text and then the certificate, and puts the
-/// lines that it shows, where it is accepted. It may wait.
+/// from the folder, proves its goals, and puts the answer's lines; with `--cert FILE`, where all goals are proved, it first makes the file
+/// new and writes to it a certificate of the answer. `gen N` proves the made script of degree N. Workers, as many as the words say, settle
+/// the boxes; each calls the gate before and after a box. `check SCRIPT CERT` reads the script's text and then the certificate, and puts
+/// the lines that it shows, where it is accepted. It may wait.
 pub fn fx_run<R: Threads + Wait + Sync, F: Folder, O: Sink, G: Gate>(
     rt: &R,
     alloc: Global,
@@ -222,36 +259,50 @@ pub fn fx_run<R: Threads + Wait + Sync, F: Folder, O: Sink, G: Gate>(
     out: &mut O,
     gate: &G,
 ) -> Status
-    // Whatever the workers' schedule is, of which no clause speaks: each status comes only with its defined lines, which the sink took whole; after a write fault and want of memory it took a front of
-    // defined lines. At `Answered` they have an interval for each goal of one script: the hull, over the boxes that aren't cut further, of the
-    // strongest facts that derivations of the given height conclude there; or what an accepted certificate shows, whoever wrote it. Under each
-    // assignment of fractions that meets the script, each goal's value lies in its interval, and each goal is true. `Certificate` comes with the
-    // first fault of a certificate that isn't accepted. A read fault comes only where reads failed in this call.
-    ensures ends { EndsAs (Prints (map string_bytes words.now) (seen (F.told folder.old) (F.read_faults folder.old) (F.read_faults folder.new))) (O.taken out.old) (O.taken out.new) result }
+    // Whatever the workers' schedule is, of which no clause speaks: each status comes only with its defined lines, which the sink took
+    // whole; after a write fault and want of memory it took a front of defined lines. At `Answered` they have an interval for each goal of
+    // one script: the hull, over the boxes that aren't cut further, of the strongest facts that derivations of the given height conclude
+    // there; or what an accepted certificate shows, whoever wrote it. Under each assignment of fractions that meets the script, each goal's
+    // value lies in its interval, and each goal is true. `Certificate` comes with the first fault of a certificate that isn't accepted. A
+    // read fault comes only where reads failed in this call.
+    ensures ends { EndsAs
+        (Prints (map string_bytes words.now) (seen (F.told folder.old) (F.read_faults folder.old) (F.read_faults folder.new)))
+        (O.taken out.old) (O.taken out.new) result }
 
     // Where the folder tells what is read, the defined status comes, or else a fault of the outside or want of memory.
-    ensures exact { IsExact (map string_bytes words.now) (seen (F.told folder.old) (F.read_faults folder.old) (F.read_faults folder.new)) result }
+    ensures exact { IsExact (map string_bytes words.now)
+        (seen (F.told folder.old) (F.read_faults folder.old) (F.read_faults folder.new)) result }
 
     // A certificate that is accepted for the script is answered by its lines, or else a fault of the outside or want of memory.
     ensures accepted { IsComplete (map string_bytes words.now) (F.told folder.old) result }
 
-    // The words ask for a certificate, and the folder tells the script's text. At `Answered` the certificate's file holds one that is accepted for the
-    // script with the answer's lines. After a write fault too, where no read and no write of the folder failed.
-    // After any write fault, and where memory ran out, the file holds a front of such a certificate, or what it held; and what it held, where the script
-    // isn't proved.
-    ensures certificate { Certifies (map string_bytes words.now) (F.told folder.old) (F.told folder.new) (faults (F.read_faults folder.old) (F.write_faults folder.old)) (faults (F.read_faults folder.new) (F.write_faults folder.new)) result }
+    // The words ask for a certificate, and the folder tells the script's text. At `Answered` the certificate's file holds one that is
+    // accepted for the script with the answer's lines. After a write fault too, where no read and no write of the folder failed.
+    // After any write fault, and where memory ran out, the file holds a front of such a certificate, or what it held; and what it held,
+    // where the script isn't proved.
+    ensures certificate { Certifies (map string_bytes words.now) (F.told folder.old) (F.told folder.new)
+        (faults (F.read_faults folder.old) (F.write_faults folder.old))
+        (faults (F.read_faults folder.new) (F.write_faults folder.new)) result }
 
     // However it ends, lines of a proved script are put only behind its whole certificate, unless a read failed.
-    ensures order { PutsBehind (map string_bytes words.now) (F.told folder.old) (F.told folder.new) (faults (F.read_faults folder.old) (F.write_faults folder.old)) (faults (F.read_faults folder.new) (F.write_faults folder.new)) (O.taken out.old) (O.taken out.new) }
+    ensures order { PutsBehind (map string_bytes words.now) (F.told folder.old) (F.told folder.new)
+        (faults (F.read_faults folder.old) (F.write_faults folder.old))
+        (faults (F.read_faults folder.new) (F.write_faults folder.new)) (O.taken out.old) (O.taken out.new) }
 
     // Where the run ends in another way, no name's bytes change.
-    ensures unchanged { result ≢ Status.Answered → result ≢ Status.WriteFault → result ≢ Status.OutOfMemory → (name : List ℕ) → F.told folder.new name ≡ F.told folder.old name }
+    ensures unchanged { result ≢ Status.Answered → result ≢ Status.WriteFault → result ≢ Status.OutOfMemory
+        → (name : List ℕ) → F.told folder.new name ≡ F.told folder.old name }
 
     // A write fault comes only where in this call the sink failed or, where the words name a file to be written, a write of the folder.
-    ensures write_fault { result ≡ Status.WriteFault → Rose (O.faults out.old) (O.faults out.new) ⊎ IsWriteBroken (map string_bytes words.now) (faults (F.read_faults folder.old) (F.write_faults folder.old)) (faults (F.read_faults folder.new) (F.write_faults folder.new)) }
+    ensures write_fault { result ≡ Status.WriteFault
+        → Rose (O.faults out.old) (O.faults out.new)
+        ⊎ IsWriteBroken (map string_bytes words.now)
+        (faults (F.read_faults folder.old) (F.write_faults folder.old))
+        (faults (F.read_faults folder.new) (F.write_faults folder.new)) }
 
     // No name's bytes change but those of a file that the words name to be written.
-    ensures files { (name : List ℕ) → is_written (map string_bytes words.now) name ≡ false → F.told folder.new name ≡ F.told folder.old name }
+    ensures files { (name : List ℕ) → is_written (map string_bytes words.now) name ≡ false
+        → F.told folder.new name ≡ F.told folder.old name }
 {
     run_exactly(rt, alloc, words, folder, out, gate)
 }
@@ -260,7 +311,8 @@ pub fn fx_run<R: Threads + Wait + Sync, F: Folder, O: Sink, G: Gate>(
 /// text of lines. Nothing is done.
 pub fn answer_besides_read_faults_is_defined_once()
     ensures { (words : List (List ℕ)) (outside : Outside) (s t : Status) (lines others : List ℕ) → IsTelling words outside.told
-        → s ≢ Status.ReadFault → t ≢ Status.ReadFault → Prints words outside s lines → Prints words outside t others → (s ≡ t) × (lines ≡ others) }
+        → s ≢ Status.ReadFault → t ≢ Status.ReadFault → Prints words outside s lines → Prints words outside t others
+        → (s ≡ t) × (lines ≡ others) }
 {
     script_or_refusal();
     firsts_are_unique();
