@@ -148,8 +148,14 @@ def made(r, found, kind, through):
 
 
 def need(r, count):
+    """As scripts have them: a bound is rounded away from what it excludes, so none is the infinite end that every number meets."""
     kind = r.randrange(3)
-    return (kind, r.randrange(count)) + ((some_end(r) if kind else (0, 0, 0)) + (r.randrange(2) if kind else 0,))
+    if kind == 0:
+        return (kind, r.randrange(count), 0, 0, 0, 0)
+    end = some_end(r)
+    while end == (HIGH if kind == 1 else LOW):
+        end = some_end(r)
+    return (kind, r.randrange(count)) + end + (r.randrange(2),)
 
 
 def hint(r, count):
