@@ -1,6 +1,6 @@
 -- Rounding a value down that lies just above a whole number.
 use Rattle.std.specs.Prelude.{◌<ℤ◌}
-use Rattle.std.proofs.Common.{◌≡◌, ◌⊎◌, ℕ, zero, suc, ℤ, pos, negsuc, ◌+ℤ◌, ◌*ℤ◌, ◌≤ℤ◌, ◌<◌, ◌≤◌, ◌*◌, ◌+◌, ◌-◌, ◌/◌, ◌^◌, arith, ap, sym, subst, ◌∙◌, refl, inl, inr, ⊎_elim, lit≤, lit<, w64, to_z, of_z}
+use Rattle.std.proofs.Common.{◌≡◌, ◌⊎◌, ℕ, zero, suc, ℤ, pos, negsuc, ◌+ℤ◌, ◌*ℤ◌, ◌≤ℤ◌, ◌<◌, ◌≤◌, ◌*◌, ◌+◌, ◌-◌, ◌/◌, ◌^◌, arith, ap, sym, subst, ◌∙◌, refl, inl, inr, ⊎_elim, lit≤, lit<, w64, to_z, of_z, min, Bool, true, false}
 use Rattle.std.specs.Int.RustNames.{unsigned_abs, FitsSigned}
 use Rattle.std.specs.Int.Signed.{shr_z}
 use Rattle.std.proofs.Math.Nat.{pow-le-pow_right, mul-le-mul_right, mul-le-mul_left}
@@ -14,7 +14,7 @@ use Rattle.fx_model.specs.Fraction.{Fraction, ◌+ℚ◌, ◌*ℚ◌, ◌≤ℚ�
 use Rattle.fx_model.specs.Powers.{scaled, scaled-le, scaled-le_out, scaled-lt, scaled-lt_out, scaled-shift, scaled-zero}
 use Rattle.fx_model.specs.Grid.{IsOnGrid, IsOnGrid-neg, IsDown, At, scaled-neg, scaled-mul}
 use Rattle.fx_model.specs.Cut.{on_grid, next_grid, up_least}
-use Rattle.dyadic.specs.Floors.{Floored}
+use Rattle.dyadic.specs.Floors.{Floored, IsLong}
 use Rattle.dyadic.proofs.GridLemmas.{zero_in}
 use Rattle.dyadic.proofs.SumLemmas.{scaled-add}
 
@@ -76,6 +76,29 @@ shift_high (negsuc a) e f s p = let d = div-add-mod' a (2 ^ s) in
 pub surplus_facts : (n m r : ℕ) → n < 2 ^ m → 2 ^ m ≤ 2 * n + 1 → r ≡ m - 60 → (n < 1152921504606846976 * 2 ^ r) × ((r ≡ 0) ⊎ (576460752303423488 * 2 ^ r ≤ n))
 surplus_facts n m r h k e = ⊎_elim (λ l. let p : 2 ^ m ≡ 2 ^ 60 * 2 ^ r = (let f : m ≡ 60 + r = omega arith in ap (λ i. 2 ^ i) f ∙ pow-add 2 60 r) in (omega arith, inr (omega arith)))
     (λ l. let z : r ≡ 0 = omega arith in let p : 2 ^ m ≤ 2 ^ 60 = pow-le-pow_right {n = 2} (lit≤ tt) {i = m} {j = 60} l in let q = pow_pos r in (omega arith, inl z)) (cases_lt 60 m)
+
+-- of a long number's size the digits past 60
+long_by : (n q : ℕ) → q ≤ 2 → 2305843009213693952 * q ≤ n → n < 2305843009213693952 * (q + 1) → n ≤ 4611686018427387904 → 1152921504606846976 ≤ n → (n < 1152921504606846976 * 2 ^ (1 + q)) × (576460752303423488 * 2 ^ (1 + q) ≤ n)
+long_by n zero l h k m s = let e : 2 ^ (1 + 0) ≡ 2 = refl in (omega (arith, e), omega (arith, e))
+long_by n (suc zero) l h k m s = let e : 2 ^ (1 + 1) ≡ 4 = refl in (omega (arith, e), omega (arith, e))
+long_by n (suc (suc zero)) l h k m s = let e : 2 ^ (1 + 2) ≡ 8 = refl in (omega (arith, e), omega (arith, e))
+long_by n (suc (suc (suc q))) l h k m s = absurd (omega arith)
+
+pub long_facts : (n r : ℕ) → (n ≡ 0) ⊎ ((1152921504606846976 ≤ n) × (n ≤ 4611686018427387904)) → r ≡ min (n / 1152921504606846976) 1 + n / 2305843009213693952
+    → (n < 1152921504606846976 * 2 ^ r) × ((r ≡ 0) ⊎ (576460752303423488 * 2 ^ r ≤ n))
+long_facts n r (inl z) e = let f : r ≡ 0 = e ∙ ap (λ n. min (n / 1152921504606846976) 1 + n / 2305843009213693952) z in let p : 2 ^ r ≡ 1 = ap (λ r. 2 ^ r) f in (omega (arith, p), inl f)
+long_facts n r (inr (l, h)) e =
+    let c = div-add-mod' n 1152921504606846976 in let i = mod_below n 1152921504606846976 (lit< tt) in
+    let d = div-add-mod' n 2305843009213693952 in let m = mod_below n 2305843009213693952 (lit< tt) in
+    let one : min (n / 1152921504606846976) 1 ≡ 1 = omega arith in
+    let f : r ≡ 1 + n / 2305843009213693952 = e ∙ ap (λ k. k + n / 2305843009213693952) one in
+    let b = long_by n (n / 2305843009213693952) (omega arith) (omega arith) (omega arith) h l in
+    (subst (λ r. n < 1152921504606846976 * 2 ^ r) (sym f) b.0, inr (subst (λ r. 576460752303423488 * 2 ^ r ≤ n) (sym f) b.1))
+
+pub long_signed : (s : Bool) (q r : ℕ) (k : ℤ) → 1152921504606846976 ≤ q → q < 4611686018427387904 → (s ≡ false → k ≡ pos q) → (s ≡ true → r ≡ 0 → k ≡ neg_ℤ (pos q)) → (s ≡ true → 0 < r → k ≡ neg_ℤ (pos (q + 1))) → IsLong k
+long_signed false q r k l h plain exact below = let p = plain refl in inr (omega (arith, ints, p), omega (arith, ints, p))
+long_signed true q zero k l h plain exact below = let p = exact refl refl in inr (omega (arith, ints, p), omega (arith, ints, p))
+long_signed true q (suc r) k l h plain exact below = let p = below refl (omega arith) in inr (omega (arith, ints, p), omega (arith, ints, p))
 
 -- a number in a row of those that have 60 bits, at a place well inside the grid
 floor_grid : (q e : ℤ) → q <ℤ pos 1152921504606846976 → negsuc 1152921504606846975 ≤ℤ q → negsuc 511 ≤ℤ e → e <ℤ pos 512 → IsOnGrid (scaled q e)
@@ -245,3 +268,6 @@ module _ (am ae bm be a b k two : ℤ) (l r : ℕ) (is_a : a ≡ (am *ℤ pos (2
         subst (λ m. scaled m two ≤ℚ scaled am ae *ℚ scaled bm be) (sym is_high) (subst (λ x. scaled (shr_z (a *ℤ b) (2 ^ 62)) two ≤ℚ x) (sym by_parts) (shift_low (a *ℤ b) (two +ℤ negsuc 61) two 62 place)),
         subst (λ m. scaled am ae *ℚ scaled bm be <ℚ scaled (m +ℤ pos 1) two) (sym is_high) (subst (λ x. x <ℚ scaled (shr_z (a *ℤ b) (2 ^ 62) +ℤ pos 1) two) (sym by_parts) (shift_high (a *ℤ b) (two +ℤ negsuc 61) two 62 place)),
       )
+
+  pub product_is_long : unsigned_abs a < 4611686018427387904 → unsigned_abs b < 4611686018427387904 → IsLong k
+  product_is_long s t = subst IsLong (sym is_high) (inr (high_long (a *ℤ b) product_long, high_size (a *ℤ b) (product_few a b s t)))

@@ -10,8 +10,8 @@ use Rattle.std.specs.declared.cmp.Ordering.TheVariants.{Less, Equal, Greater}
 use Rattle.std.specs.Ordering.{int_cmp, is_eq, eq_by_cmp}
 use Rattle.std.specs.Bool.{Decides, one_answer}
 use borrow.Author.Differences.{product_is}
-use Rattle.fx_model.specs.Fraction.{Fraction, le_ℚ, ◌≤ℚ◌, ◌<ℚ◌, le_refl, zero_ℚ}
-use Rattle.fx_model.specs.Powers.{scaled, scaled-le, scaled-lt, scaled-shift, scaled-zero, scaled-le_out}
+use Rattle.fx_model.specs.Fraction.{Fraction, le_ℚ, ◌≤ℚ◌, ◌<ℚ◌, ◌*ℚ◌, le_refl, zero_ℚ, one_ℚ, neg_ℚ, mul_comm, one-mul}
+use Rattle.fx_model.specs.Powers.{whole, scaled, scaled-le, scaled-lt, scaled-shift, scaled-zero, scaled-le_out, scaled-lt_out, whole-neg, one-whole, two_to-pos}
 use Rattle.dyadic.specs.declared.number.Dyadic.{Dyadic}
 use Rattle.dyadic.specs.Values.{value_of}
 use Rattle.dyadic.specs.Compared.{value_cmp-equal}
@@ -111,3 +111,47 @@ compared a b h l gap r p q e f = f ∙ ap (λ h. int_cmp (h *ℤ pos (2 ^ gap)) 
 pub compared_far : (h h' x l l' : ℤ) (gap k : ℕ) (r : Ordering) → x ≡ (h' *ℤ pos (2 ^ k)) → h' ≡ h → k ≡ min gap 60 → l' ≡ l → unsigned_abs l < 1152921504606846976 → r ≡ int_cmp x l' → r ≡ int_cmp (h *ℤ pos (2 ^ gap)) l
 compared_far h h' x l l' gap k r e a d f small g =
     g ∙ ap (λ x. int_cmp x l') (e ∙ (λ i. a i *ℤ pos (2 ^ d i))) ∙ ap (int_cmp (h *ℤ pos (2 ^ min gap 60))) f ∙ compare_far h l gap small
+
+-- ---- against -1
+minus_one : neg_ℚ one_ℚ ≡ scaled (negsuc 0) (pos 0)
+minus_one = ap neg_ℚ one-whole ∙ sym (whole-neg (pos 1)) ∙ sym (ap (λ y. whole (negsuc 0) *ℚ y) (two_to-pos 0 ∙ sym one-whole) ∙ mul_comm (whole (negsuc 0)) one_ℚ ∙ one-mul (whole (negsuc 0)))
+
+high_up : (m : ℤ) (p : ℕ) → pos 0 ≤ℤ m → negsuc 0 <ℤ (m *ℤ pos p)
+high_up (pos a) p h = omega (arith, ints)
+high_up (negsuc a) p h = absurd (omega (arith, ints))
+
+high_out : (m : ℤ) (p : ℕ) → 0 < p → negsuc 0 <ℤ (m *ℤ pos p) → pos 0 ≤ℤ m
+high_out (pos a) p s h = omega (arith, ints)
+high_out (negsuc a) p s h = let q : 1 * p ≤ (a + 1) * p = mul-le-mul_right {m = 1} p (omega arith) in absurd (omega (arith, ints, product_is (negsuc a) (pos p)))
+
+at_whole : (m : ℤ) (n : ℕ) → scaled m (pos n) ≡ scaled (m *ℤ pos (2 ^ n)) (pos 0)
+at_whole m n = let e : pos n ≡ (pos 0 +ℤ pos n) = omega (arith, ints) in ap (scaled m) e ∙ scaled-shift m (pos 0) n
+
+-- at a place that isn't below 0, a number is above -1 where it isn't negative
+pub above_whole : (m e : ℤ) → pos 0 ≤ℤ e → pos 0 ≤ℤ m → neg_ℚ one_ℚ <ℚ scaled m e
+above_whole m (pos n) k h = subst (λ x. x <ℚ scaled m (pos n)) (sym minus_one)
+    (subst (λ x. scaled (negsuc 0) (pos 0) <ℚ x) (sym (at_whole m n)) (scaled-lt (negsuc 0) (m *ℤ pos (2 ^ n)) (pos 0) (high_up m (2 ^ n) h)))
+above_whole m (negsuc n) k h = absurd (omega (arith, ints))
+
+pub above_whole_out : (m e : ℤ) → pos 0 ≤ℤ e → neg_ℚ one_ℚ <ℚ scaled m e → pos 0 ≤ℤ m
+above_whole_out m (pos n) k h = high_out m (2 ^ n) (pow_pos n) (scaled-lt_out (negsuc 0) (m *ℤ pos (2 ^ n)) (pos 0)
+    (subst (λ x. scaled (negsuc 0) (pos 0) <ℚ x) (at_whole m n) (subst (λ x. x <ℚ scaled m (pos n)) minus_one h)))
+above_whole_out m (negsuc n) k h = absurd (omega (arith, ints))
+
+-- -1 at a place below 0
+at_place : (e : ℤ) (k : ℕ) → e +ℤ pos k ≡ pos 0 → neg_ℚ one_ℚ ≡ scaled (negsuc 0 *ℤ pos (2 ^ k)) e
+at_place e k h = minus_one ∙ ap (scaled (negsuc 0)) (sym h) ∙ scaled-shift (negsuc 0) e k
+
+less_by : (x y z : ℤ) → int_cmp x z ≡ int_cmp y z → x <ℤ z → y <ℤ z
+less_by x y z e l = by_lt_z y z (λ k. k) (λ k. let s : int_cmp y z ≡ Less = sym e ∙ int_less x z l in by_lt_z z y
+    (λ g. let t : Less ≡ Greater = sym s ∙ int_greater y z g in cc)
+    (λ g. let t : Less ≡ Equal = sym s ∙ int_equal y z (omega (arith, ints)) in cc))
+
+-- and there 60 places are as good as more
+pub above_part : (m e : ℤ) (k : ℕ) → e +ℤ pos k ≡ pos 0 → unsigned_abs m < 1152921504606846976 → (negsuc 0 *ℤ pos (2 ^ min k 60)) <ℤ m → neg_ℚ one_ℚ <ℚ scaled m e
+above_part m e k h f l = subst (λ x. x <ℚ scaled m e) (sym (at_place e k h))
+    (scaled-lt (negsuc 0 *ℤ pos (2 ^ k)) m e (less_by (negsuc 0 *ℤ pos (2 ^ min k 60)) (negsuc 0 *ℤ pos (2 ^ k)) m (compare_far (negsuc 0) m k f) l))
+
+pub above_part_out : (m e : ℤ) (k : ℕ) → e +ℤ pos k ≡ pos 0 → unsigned_abs m < 1152921504606846976 → neg_ℚ one_ℚ <ℚ scaled m e → (negsuc 0 *ℤ pos (2 ^ min k 60)) <ℤ m
+above_part_out m e k h f l = less_by (negsuc 0 *ℤ pos (2 ^ k)) (negsuc 0 *ℤ pos (2 ^ min k 60)) m (sym (compare_far (negsuc 0) m k f))
+    (scaled-lt_out (negsuc 0 *ℤ pos (2 ^ k)) m e (subst (λ x. x <ℚ scaled m e) (at_place e k h) l))

@@ -6,7 +6,7 @@ ghost use Rattle.fx_model.specs.Fraction.{Fraction, ◌+ℚ◌, ◌*ℚ◌, ◌/
 ghost use Rattle.fx_model.specs.Powers.{whole, scaled};
 ghost use Rattle.fx_model.specs.Grid.{IsDown, signed};
 ghost use Rattle.fx_model.specs.Grid as grid;
-ghost use Rattle.dyadic.specs.Floors.{IsFloor};
+ghost use Rattle.dyadic.specs.Floors.{IsFloor, IsLong};
 ghost use Rattle.dyadic.specs.Values.{value_of};
 
 use crate::number::{Dyadic, reduced};
@@ -29,6 +29,18 @@ fn surplus(digits: i64) -> u32
     ensures above { (result ≡ 0) ⊎ (576460752303423488 * 2 ^ result ≤ unsigned_abs digits) }
 {
     4u32.saturating_sub(digits.unsigned_abs().leading_zeros())
+}
+
+// How many binary digits a number that is 0 or long has past the 60 of the grid.
+#[inline(always)]
+fn long_surplus(digits: i64) -> u32
+    requires { IsLong digits }
+    ensures few { result ≤ 4 }
+    ensures below { unsigned_abs digits < 1152921504606846976 * 2 ^ result }
+    ensures above { (result ≡ 0) ⊎ (576460752303423488 * 2 ^ result ≤ unsigned_abs digits) }
+{
+    let size = digits.unsigned_abs();
+    (size >> 60).min(1) as u32 + (size >> 61) as u32
 }
 
 // How far a mantissa can be shifted to have 62 bits.
@@ -80,7 +92,30 @@ impl Floor {
         requires high { self.two ≤ℤ pos 400 }
         ensures { (x : Fraction) → IsFloor x self → IsDown x (grid.At (value_of result)) }
     {
-        let lost = surplus(self.digits);
+        self.without(surplus(self.digits))
+    }
+
+    // The same, of a number that is 0 or long.
+    #[inline(always)]
+    pub fn long_rounded(self) -> Dyadic
+        requires long { IsLong self.digits }
+        requires low { negsuc 511 ≤ℤ self.two }
+        requires high { self.two ≤ℤ pos 400 }
+        ensures { (x : Fraction) → IsFloor x self → IsDown x (grid.At (value_of result)) }
+    {
+        self.without(long_surplus(self.digits))
+    }
+
+    // The same, by how many digits there are past 60.
+    #[inline(always)]
+    fn without(self, lost: u32) -> Dyadic
+        requires few { lost ≤ 4 }
+        requires below { unsigned_abs self.digits < 1152921504606846976 * 2 ^ lost }
+        requires above { (lost ≡ 0) ⊎ (576460752303423488 * 2 ^ lost ≤ unsigned_abs self.digits) }
+        requires low { negsuc 511 ≤ℤ self.two }
+        requires high { self.two ≤ℤ pos 400 }
+        ensures { (x : Fraction) → IsFloor x self → IsDown x (grid.At (value_of result)) }
+    {
         reduced(lowered(self.digits, lost), self.two + lost as i32)
     }
 
@@ -128,7 +163,8 @@ impl Floor {
     // The product of two numbers, unless its place is too low or too high.
     #[inline(always)]
     pub fn product(a: Dyadic, b: Dyadic) -> Option<Floor>
-        ensures { IfSome result (IsFloor (value_of a *ℚ value_of b)) }
+        ensures floor { IfSome result (IsFloor (value_of a *ℚ value_of b)) }
+        ensures long { IfSome result (λ f. IsLong f.digits) }
     {
         let first = a.mantissa();
         let second = b.mantissa();
@@ -151,7 +187,8 @@ impl Floor {
     #[inline(always)]
     pub fn quotient(a: Dyadic, b: Dyadic) -> Option<Floor>
         requires { value_of b ≢ zero_ℚ }
-        ensures { IfSome result (IsFloor (value_of a /ℚ value_of b)) }
+        ensures floor { IfSome result (IsFloor (value_of a /ℚ value_of b)) }
+        ensures long { IfSome result (λ f. IsLong f.digits) }
     {
         Floor::short_ratio(
             is_negative(a) ^ is_negative(b),
@@ -167,7 +204,8 @@ impl Floor {
         requires not_zero { 0 < d }
         requires low { negsuc 2999 ≤ℤ two }
         requires high { two ≤ℤ pos 3000 }
-        ensures { (x : Fraction) → whole (pos d) *ℚ x ≡ scaled n two → IfSome result (IsFloor x) }
+        ensures floor { (x : Fraction) → whole (pos d) *ℚ x ≡ scaled n two → IfSome result (IsFloor x) }
+        ensures long { IfSome result (λ f. IsLong f.digits) }
     {
         let size = n.unsigned_abs();
         if 18446744073709551615 < size || 18446744073709551615 < d {
@@ -182,7 +220,8 @@ impl Floor {
         requires not_zero { 0 < d }
         requires low { negsuc 2999 ≤ℤ two }
         requires high { two ≤ℤ pos 3000 }
-        ensures { (x : Fraction) → whole (pos d) *ℚ signed negative x ≡ scaled (pos n) two → IfSome result (IsFloor x) }
+        ensures floor { (x : Fraction) → whole (pos d) *ℚ signed negative x ≡ scaled (pos n) two → IfSome result (IsFloor x) }
+        ensures long { IfSome result (λ f. IsLong f.digits) }
     {
         if n == 0 {
             return Some(Floor { digits: 0, two: 0 });

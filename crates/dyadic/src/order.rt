@@ -5,7 +5,7 @@ ghost use Rattle.std.proofs.Common.{rules};
 ghost use Rattle.std.specs.Cmp.{partial_order_from_own_ties, eq_by_cmp_equiv, on_total};
 ghost use Rattle.std.specs.Cmp.Rules.{comparing};
 ghost use Rattle.std.specs.Ordering.{as_partial_cmp, eq_by_cmp, int_cmp, on};
-ghost use Rattle.fx_model.specs.Fraction.{◌≤ℚ◌, ◌<ℚ◌, zero_ℚ};
+ghost use Rattle.fx_model.specs.Fraction.{◌≤ℚ◌, ◌<ℚ◌, zero_ℚ, one_ℚ, neg_ℚ};
 ghost use Rattle.fx_model.specs.Grid as grid;
 ghost use Rattle.fx_model.specs.Enclosure.{BoundLe};
 ghost use Rattle.dyadic.specs.Ends.{bound_of};
@@ -14,7 +14,7 @@ ghost use Rattle.dyadic.specs.Order.{value_cmp, value_cmp_total, end_cmp, end_cm
 ghost use Rattle.dyadic.specs.Values.{value_of};
 
 use crate::number::{Dyadic, End};
-use crate::shift::shifted;
+use crate::shift::{raised, shifted};
 use std::cmp::Ordering;
 
 // How high * 2^gap compares with low.
@@ -46,6 +46,16 @@ fn places_above(high: i32, low: i32) -> u32
     ensures { high ≡ low +ℤ pos result }
 {
     (high - low) as u32
+}
+
+// How far a place is below 0.
+#[inline(always)]
+fn places_below(place: i32) -> u32
+    requires low { negsuc 511 ≤ℤ place }
+    requires high { place ≤ℤ pos 0 }
+    ensures { place +ℤ pos result ≡ pos 0 }
+{
+    (-place) as u32
 }
 
 #[inline(always)]
@@ -94,6 +104,18 @@ impl Dyadic {
         ensures { IsTrue result ↔ value_of self ≤ℚ zero_ℚ }
     {
         self.mantissa() <= 0
+    }
+
+    /// Whether the number is above -1.
+    #[inline(always)]
+    pub fn is_above_minus_one(self) -> bool
+        ensures { IsTrue result ↔ neg_ℚ one_ℚ <ℚ value_of self }
+    {
+        let exponent = self.exponent();
+        if exponent >= 0 {
+            return self.mantissa() >= 0;
+        }
+        raised(-1, places_below(exponent).min(60)) < self.mantissa()
     }
 
     /// Whether the number is below the other.

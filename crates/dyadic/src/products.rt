@@ -83,7 +83,7 @@ pub fn mul_down(a: Dyadic, b: Dyadic) -> End
     ensures { IsDown (value_of a *ℚ value_of b) (bound_of result) }
 {
     match Floor::product(a, b) {
-        Some(floor) => End::At(floor.rounded()),
+        Some(floor) => End::At(floor.long_rounded()),
         None => again(long_product_down(a, b)),
     }
 }
@@ -95,7 +95,7 @@ pub fn mul_up(a: Dyadic, b: Dyadic) -> End
 {
     let opposite = a.neg();
     match Floor::product(opposite, b) {
-        Some(floor) => End::At(floor.rounded().neg()),
+        Some(floor) => End::At(floor.long_rounded().neg()),
         None => again(long_product_up(a, b)),
     }
 }
@@ -125,7 +125,7 @@ pub fn div_down(a: Dyadic, b: Dyadic) -> End
     ensures { IsDown (value_of a /ℚ value_of b) (bound_of result) }
 {
     match Floor::quotient(a, b) {
-        Some(floor) => End::At(floor.rounded()),
+        Some(floor) => End::At(floor.long_rounded()),
         None => again(long_quotient_down(a, b)),
     }
 }
@@ -138,7 +138,7 @@ pub fn div_up(a: Dyadic, b: Dyadic) -> End
 {
     let opposite = a.neg();
     match Floor::quotient(opposite, b) {
-        Some(floor) => End::At(floor.rounded().neg()),
+        Some(floor) => End::At(floor.long_rounded().neg()),
         None => again(long_quotient_up(a, b)),
     }
 }
@@ -199,7 +199,7 @@ pub fn ratio_down(n: i128, d: u128, two: i32) -> End
     ensures { (x : Fraction) → whole (pos d) *ℚ x ≡ scaled n two → IsDown x (bound_of result) }
 {
     match Floor::ratio(n, d, two) {
-        Some(floor) => End::At(floor.rounded()),
+        Some(floor) => End::At(floor.long_rounded()),
         None => again(long_ratio_down(n, d, two)),
     }
 }
@@ -215,7 +215,7 @@ pub fn ratio_up(n: i128, d: u128, two: i32) -> End
     ensures { (x : Fraction) → whole (pos d) *ℚ x ≡ scaled n two → IsUp x (bound_of result) }
 {
     match Floor::ratio(-n, d, two) {
-        Some(floor) => End::At(floor.rounded().neg()),
+        Some(floor) => End::At(floor.long_rounded().neg()),
         None => again(long_ratio_up(n, d, two)),
     }
 }

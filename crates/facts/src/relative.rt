@@ -5,7 +5,7 @@ ghost use Rattle.dyadic.specs.Ends.{bound_of};
 ghost use Rattle.interval.specs.Intervals.{range_of};
 ghost use Rattle.facts.specs.Ranges.{IsBelow, IsAboveMinusOne, IsAboveMinusOne-prop};
 
-use dyadic::{Dyadic, End};
+use dyadic::End;
 use interval::Interval;
 
 /// An interval of relative errors: its lower end is above -1.
@@ -48,14 +48,7 @@ fn is_above_minus_one(end: End) -> bool
 {
     match end {
         End::Low => false,
-        End::At(number) => exceeds_minus_one(number),
+        End::At(number) => number.is_above_minus_one(),
         End::High => true,
     }
-}
-
-#[inline(always)]
-fn exceeds_minus_one(number: Dyadic) -> bool
-    ensures { IsTrue result ↔ neg_ℚ one_ℚ <ℚ value_of number }
-{
-    Dyadic::one().neg().is_below(number)
 }

@@ -2,9 +2,9 @@ ghost use Rattle.std.specs.Prelude.{◌≡◌, ◌↔◌, IsTrue, IsNone, IfSome
 ghost use Rattle.interval.specs.Ends.{AreEnds, AreEnds-prop};
 
 use crate::ends::{finite, high_square, high_sum, low_square, low_sum, opposite, zero};
-use crate::order::{from_zero, in_order, not_positive, up_to_zero};
+use crate::order::{from_zero, in_order, up_to_zero};
 use crate::products::{high_product, low_product};
-use crate::quotients::{high_quotient, low_quotient};
+use crate::quotients::{high_quotient, low_quotient, rising};
 use crate::span::Span;
 use dyadic::{Dyadic, End, greater, lesser};
 
@@ -242,11 +242,8 @@ impl Interval {
         requires { ¬ Lies (span_of y.now) zero_ℚ }
         ensures { IsEnclosure (Quotients (span_of x.now) (span_of y.now)) (range_of result) }
     {
-        if not_positive(y.low) {
-            Interval::rising_quotient(&x.neg(), &y.neg())
-        } else {
-            Interval::rising_quotient(x, y)
-        }
+        let (dividends, divisors) = rising(x, y);
+        Interval::rising_quotient(&dividends, &divisors)
     }
 
     // The quotient by numbers above 0.

@@ -1,14 +1,29 @@
-// The ends of a quotient by numbers above 0.
+// Quotients by numbers of one sign, and the ends of those by numbers above 0.
 ghost use Rattle.fx_model.specs.Fraction.{zero_ℚ, ◌<ℚ◌};
-ghost use Rattle.fx_model.specs.Enclosure.{Quotients, IsInfimum, IsSupremum};
+ghost use Rattle.fx_model.specs.Enclosure.{Range, Lies, Quotients, IsInfimum, IsSupremum, IsEnclosure};
 ghost use Rattle.dyadic.specs.Values.{value_of};
 ghost use Rattle.dyadic.specs.Ends.{bound_of};
 ghost use Rattle.interval.specs.Spans.{span_of};
 
 use crate::ends::opposite;
-use crate::order::not_negative;
+use crate::order::{not_negative, not_positive};
 use crate::span::Span;
 use dyadic::{End, div_down};
+
+// Two intervals with the same quotients, the second of numbers above 0.
+#[inline(always)]
+pub fn rising(x: &Span, y: &Span) -> (Span, Span)
+    requires { ¬ Lies (span_of y.now) zero_ℚ }
+    ensures above { zero_ℚ <ℚ value_of result.1.low }
+    ensures same { (r : Range) → IsEnclosure (Quotients (span_of result.0) (span_of result.1)) r
+        → IsEnclosure (Quotients (span_of x.now) (span_of y.now)) r }
+{
+    if not_positive(y.low) {
+        (x.neg(), y.neg())
+    } else {
+        (*x, *y)
+    }
+}
 
 // The lower end of the quotient.
 #[inline(always)]

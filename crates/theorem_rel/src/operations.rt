@@ -1,9 +1,12 @@
 // Relative errors of operations.
 ghost use Rattle.std.specs.Prelude.{◌≡◌, slice_get};
+ghost use Rattle.interval.specs.Results.{sum_of};
 ghost use Rattle.facts.specs.Conclusions.{only_if};
+ghost use Rattle.facts.specs.Parts.{error_from, error_of_part};
 ghost use Rattle.facts.specs.RelativeConclusions.{void_only};
 ghost use Rattle.facts.specs.declared.fact.Fact.TheVariants as fact;
 ghost use Rattle.facts.specs.declared.fact.Slot.TheVariants as slot;
+ghost use Rattle.theorem_rel.specs.Values.{unit};
 ghost use Rattle.theorem_rel.specs.Operations.{joint, joint_fact, relative_product_rule, relative_chain_rule, less_one, over_one, ratio_fact, relative_quotient_rule, turned_fact, relative_turned_rule, relative_negation_rule, weighted, rel_or_void, sum_fact, is_share, relative_sum_rule};
 
 use crate::parts::error_within;
@@ -111,29 +114,24 @@ pub fn rule_57(dag: &Dag, premises: &[Fact], target: Slot) -> Option<Fact>
             let made = dag.is_at(x, Node::Div(*a, *b))
                 & dag.is_at(y, Node::Div(*c, *d))
                 & (*z == *d);
-            if made { ratio(x, y, *i, *k) } else { None }
+            if made { ratio(x, y, i, k) } else { None }
         }
         (_, _, _, Slot::Void) => void_if(is_void_by_quotient(dag, premises)),
         _ => None,
     }
 }
 
-// Whether rule 57 concludes VOID. It stands apart and gives no fact, so that the other conclusion's numbers need not lie in memory.
-#[inline(never)]
+// Whether rule 57 concludes VOID: where the divisors are both 0.
 fn is_void_by_quotient(dag: &Dag, premises: &[Fact]) -> bool
     ensures { only_if result fact.Void ≡ relative_quotient_rule dag.now premises.now slot.Void }
 {
     let [first, second, third] = premises else {
         return false;
     };
-    match (*first, *second, *third) {
-        (Fact::Rel(a, c, i), Fact::Rel(b, d, k), Fact::Nzr(z)) => {
-            let known = dag.know_both(a, c) && dag.know_both(b, d);
-            if known && z == d {
-                is_void(ratio(a, c, i, k))
-            } else {
-                false
-            }
+    match (first, second, third) {
+        (Fact::Rel(a, c, _), Fact::Rel(b, d, k), Fact::Nzr(z)) => {
+            let known = dag.know_both(*a, *c) && dag.know_both(*b, *d);
+            known && *z == *d && k.is_none()
         }
         _ => false,
     }
@@ -149,31 +147,30 @@ fn less_one(quotient: Option<Interval>) -> Option<Interval>
     }
 }
 
-// I / ([1, 1] + K) - [1, 1].
-#[inline(always)]
-fn over_one(i: Interval, k: RelativeError) -> Option<Interval>
-    ensures { result ≡ over_one i k }
+// ([1, 1] + I) / ([1, 1] + K) - [1, 1]. It stands apart and takes no copies, being long: written out, it would keep what calls it
+// from being written out in turn.
+#[inline(never)]
+fn ratio_error(i: &RelativeError, k: &RelativeError) -> Option<RelativeError>
+    ensures { result ≡ error_of_part (over_one (sum_of unit i.now.interval) k.now) }
 {
-    less_one(i.div(Interval::one().add(k.interval())))
+    let dividends = Interval::one().add(i.interval());
+    let divisors = Interval::one().add(k.interval());
+    error_within(less_one(dividends.div(divisors)))
 }
 
 #[inline(always)]
 fn ratio(
     x: ExprId,
     y: ExprId,
-    dividends: Option<RelativeError>,
-    divisors: Option<RelativeError>,
+    dividends: &Option<RelativeError>,
+    divisors: &Option<RelativeError>,
 ) -> Option<Fact>
-    ensures { result ≡ ratio_fact x y dividends divisors }
+    ensures { result ≡ ratio_fact x y dividends.now divisors.now }
 {
     match (dividends, divisors) {
         (_, None) => Some(Fact::Void),
         (None, Some(_)) => Some(Fact::Rel(x, y, None)),
-        (Some(i), Some(k)) => Fact::rel(
-            x,
-            y,
-            error_within(over_one(Interval::one().add(i.interval()), k)),
-        ),
+        (Some(i), Some(k)) => Fact::rel(x, y, ratio_error(i, k)),
     }
 }
 
@@ -185,9 +182,9 @@ pub fn rule_59(dag: &Dag, premises: &[Fact], target: Slot) -> Option<Fact>
     let [first] = premises else {
         return None;
     };
-    match (*first, target) {
+    match (first, target) {
         (Fact::Rel(x, y, i), Slot::Rel(z, w)) => {
-            if dag.know_both(x, y) && y == z && x == w {
+            if dag.know_both(*x, *y) && *y == z && *x == w {
                 turned(z, w, i)
             } else {
                 None
@@ -197,12 +194,20 @@ pub fn rule_59(dag: &Dag, premises: &[Fact], target: Slot) -> Option<Fact>
     }
 }
 
+// [1, 1] / ([1, 1] + I) - [1, 1].
+#[inline(never)]
+fn turned_error(i: &RelativeError) -> Option<RelativeError>
+    ensures { result ≡ error_of_part (over_one unit i.now) }
+{
+    error_within(less_one(Interval::one().div(Interval::one().add(i.interval()))))
+}
+
 #[inline(always)]
-fn turned(x: ExprId, y: ExprId, error: Option<RelativeError>) -> Option<Fact>
-    ensures { result ≡ turned_fact x y error }
+fn turned(x: ExprId, y: ExprId, error: &Option<RelativeError>) -> Option<Fact>
+    ensures { result ≡ turned_fact x y error.now }
 {
     match error {
-        Some(i) => Fact::rel(x, y, error_within(over_one(Interval::one(), i))),
+        Some(i) => Fact::rel(x, y, turned_error(i)),
         None => Some(Fact::Rel(x, y, None)),
     }
 }
@@ -242,7 +247,7 @@ pub fn rule_61(dag: &Dag, premises: &[Fact], target: Slot) -> Option<Fact>
             let made = dag.is_at(x, Node::Add(*a, *b))
                 & dag.is_at(y, Node::Add(*c, *d))
                 & dag.is_at(*q, Node::Div(*c, y));
-            if made { sum(x, y, *i, *k, *l) } else { None }
+            if made { sum(x, y, i, k, l) } else { None }
         }
         (_, _, _, Slot::Void) => void_if(is_void_by_sum(dag, premises)),
         _ => None,
@@ -257,11 +262,11 @@ fn is_void_by_sum(dag: &Dag, premises: &[Fact]) -> bool
     let [first, second, third] = premises else {
         return false;
     };
-    match (*first, *second, *third) {
+    match (first, second, third) {
         (Fact::Rel(a, c, i), Fact::Rel(b, d, k), Fact::Bnd(q, l)) => {
-            let known = dag.know_both(a, c) && dag.know_both(b, d);
-            if known && is_share(dag, q, c, d) {
-                is_void(sum(a, c, i, k, l))
+            let known = dag.know_both(*a, *c) && dag.know_both(*b, *d);
+            if known && is_share(dag, *q, *c, *d) {
+                is_void(sum(*a, *c, i, k, l))
             } else {
                 false
             }
@@ -298,24 +303,28 @@ fn rel_or_void(there: bool, x: ExprId, y: ExprId, error: RelativeError) -> Fact
     }
 }
 
+// I * L + K * ([1, 1] - L), as relative errors.
+#[inline(never)]
+fn sum_error(i: &RelativeError, k: &RelativeError, l: &Interval) -> Option<RelativeError>
+    ensures { result ≡ error_from (weighted i.now.interval k.now.interval l.now) }
+{
+    RelativeError::new(weighted(i.interval(), k.interval(), *l))
+}
+
 #[inline(always)]
 fn sum(
     x: ExprId,
     y: ExprId,
-    first: Option<RelativeError>,
-    second: Option<RelativeError>,
-    share: Interval,
+    first: &Option<RelativeError>,
+    second: &Option<RelativeError>,
+    share: &Interval,
 ) -> Option<Fact>
-    ensures { result ≡ sum_fact x y first second share }
+    ensures { result ≡ sum_fact x y first.now second.now share.now }
 {
     match (first, second) {
-        (Some(i), Some(k)) => Fact::rel(
-            x,
-            y,
-            RelativeError::new(weighted(i.interval(), k.interval(), share)),
-        ),
-        (None, Some(k)) => Some(rel_or_void(share.has_zero(), x, y, k)),
-        (Some(i), None) => Some(rel_or_void(share.has_one(), x, y, i)),
+        (Some(i), Some(k)) => Fact::rel(x, y, sum_error(i, k, share)),
+        (None, Some(k)) => Some(rel_or_void(share.has_zero(), x, y, *k)),
+        (Some(i), None) => Some(rel_or_void(share.has_one(), x, y, *i)),
         (None, None) => Some(Fact::Void),
     }
 }
