@@ -3,7 +3,7 @@ use Rattle.std.specs.Prelude.{◌<ℤ◌}
 use Rattle.std.proofs.Common.{◌≡◌, ◌⊎◌, ℕ, zero, suc, ℤ, pos, negsuc, ◌+ℤ◌, ◌*ℤ◌, ◌≤ℤ◌, ◌<◌, ◌≤◌, ◌*◌, ◌+◌, ◌-◌, ◌/◌, ◌^◌, arith, ap, sym, subst, ◌∙◌, refl, inl, inr, ⊎_elim, lit≤, lit<, w64, to_z, of_z, min, Bool, true, false}
 use Rattle.std.specs.Int.RustNames.{unsigned_abs, FitsSigned}
 use Rattle.std.specs.Int.Signed.{shr_z}
-use Rattle.std.proofs.Math.Nat.{pow-le-pow_right, mul-le-mul_right, mul-le-mul_left}
+use Rattle.std.proofs.Math.Nat.{pow-le-pow_right, mul-le-mul_left}
 use Rattle.std.proofs.lemmas.Bool.{cases_lt}
 use Rattle.std.proofs.lemmas.Int.{ints, by_lt_z, to_z-of_z, unsigned_abs-mul, fits_signed_mul, fits_signed_from_abs}
 use Rattle.std.proofs.lemmas.Nat.{div-add-mod', leading_top, mod_below, mul-le, pow_pos, pow-add}
@@ -16,7 +16,7 @@ use Rattle.fx_model.specs.Grid.{IsOnGrid, IsOnGrid-neg, IsDown, At, scaled-neg, 
 use Rattle.fx_model.specs.Cut.{on_grid, next_grid, up_least}
 use Rattle.dyadic.specs.Floors.{Floored, IsLong}
 use Rattle.dyadic.proofs.GridLemmas.{zero_in}
-use Rattle.dyadic.proofs.SumLemmas.{scaled-add}
+use Rattle.dyadic.proofs.SumLemmas.{scaled-add, shifted_to}
 
 -- ---- no number of the grid lies strictly between two numbers in a row that have as many digits
 above_none : (n : ℕ) (e : ℤ) → 576460752303423488 ≤ n → (h : Fraction) → IsOnGrid h → scaled (pos n) e <ℚ h → h <ℚ scaled (pos (n + 1)) e → ⊥
@@ -162,12 +162,7 @@ add-lt z x y h = lt_by (z +ℚ x) (z +ℚ y) (λ k. lt_not x y h (subst (λ w. w
 room_facts_64 : (size lz j : ℕ) → lz + suc j ≡ 64 → 2 ^ j ≤ size → size < 2 ^ suc j → size < 1152921504606846976 → (2 ≤ lz) × (2305843009213693952 ≤ size * 2 ^ (lz - 2)) × (size * 2 ^ (lz - 2) < 4611686018427387904)
 room_facts_64 size lz j e h k l =
     let b : j < 60 = ⊎_elim (λ t. t) (λ t. let p : 2 ^ 60 ≤ 2 ^ j = pow-le-pow_right {n = 2} (lit≤ tt) {i = 60} {j = j} t in absurd (omega arith)) (cases_lt j 60) in
-    let at_low : j + (lz - 2) ≡ 61 = omega arith in
-    let at_high : suc j + (lz - 2) ≡ 62 = omega arith in
-    let low : 2 ^ j * 2 ^ (lz - 2) ≡ 2 ^ 61 = sym (pow-add 2 j (lz - 2)) ∙ ap (λ n. 2 ^ n) at_low in
-    let high : 2 ^ suc j * 2 ^ (lz - 2) ≡ 2 ^ 62 = sym (pow-add 2 (suc j) (lz - 2)) ∙ ap (λ n. 2 ^ n) at_high in
-    let p = mul-le-mul_right (2 ^ (lz - 2)) h in let q = mul-le-mul_right (2 ^ (lz - 2)) k in let r = pow_pos (lz - 2) in
-    (omega arith, omega arith, omega arith)
+    let s = shifted_to 61 size (lz - 2) j (omega arith) h k in (omega arith, s.0, s.1)
 
 -- how far a mantissa can be shifted up
 pub room_64 : (m : ℤ) (n : ℕ) → n ≡ unsigned_abs m → 0 < unsigned_abs m → unsigned_abs m < 1152921504606846976 → (2 ≤ count_leading_zeros 64 n) × (2305843009213693952 ≤ unsigned_abs m * 2 ^ (count_leading_zeros 64 n - 2)) × (unsigned_abs m * 2 ^ (count_leading_zeros 64 n - 2) < 4611686018427387904)

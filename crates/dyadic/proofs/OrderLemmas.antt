@@ -1,4 +1,6 @@
 -- How numbers compare, by their mantissas at one place.
+use Rattle.std.specs.Prelude.{if◌then◌else◌}
+use Rattle.dyadic.specs.declared.number.End.{End}
 use Rattle.std.proofs.Common.{◌≡◌, ℕ, ℤ, pos, negsuc, ◌+ℤ◌, ◌*ℤ◌, ◌<ℤ◌, ◌≤ℤ◌, ◌<◌, ◌≤◌, ◌*◌, ◌+◌, ◌^◌, min, Bool, true, false, arith, ap, sym, subst, ◌∙◌, refl, ⊎_elim, lit≤}
 use Rattle.std.specs.Int.RustNames.{unsigned_abs, int_lt}
 use Rattle.std.proofs.lemmas.Int.{ints, by_lt_z}
@@ -155,3 +157,12 @@ above_part m e k h f l = subst (λ x. x <ℚ scaled m e) (sym (at_place e k h))
 pub above_part_out : (m e : ℤ) (k : ℕ) → e +ℤ pos k ≡ pos 0 → unsigned_abs m < 1152921504606846976 → neg_ℚ one_ℚ <ℚ scaled m e → (negsuc 0 *ℤ pos (2 ^ min k 60)) <ℤ m
 above_part_out m e k h f l = less_by (negsuc 0 *ℤ pos (2 ^ k)) (negsuc 0 *ℤ pos (2 ^ min k 60)) m (sym (compare_far (negsuc 0) m k f))
     (scaled-lt_out (negsuc 0 *ℤ pos (2 ^ k)) m e (subst (λ x. x <ℚ scaled m e) (at_place e k h) l))
+
+-- ---- which of two was taken
+pub taken_then : (s : Bool) (x y : End) → s ≡ true → x ≡ (if s then x else y)
+taken_then true x y e = refl
+taken_then false x y e = cc
+
+pub taken_else : (s : Bool) (x y : End) → s ≡ false → y ≡ (if s then x else y)
+taken_else true x y e = cc
+taken_else false x y e = refl

@@ -88,15 +88,16 @@ module _ (am ae bm be : ℤ) (s t : Bool) (gap : ℕ) (p : s ≡ int_lt am (pos 
 below_66 : (j size : ℕ) → 2 ^ j ≤ size → size < 2 ^ 66 → j < 66
 below_66 j size h k = ⊎_elim (λ l. l) (λ l. let p : 2 ^ 66 ≤ 2 ^ j = pow-le-pow_right {n = 2} (lit≤ tt) {i = 66} {j = j} l in absurd (omega arith)) (cases_lt j 66)
 
+-- a number whose first digit is at place j, shifted so far that it is at the place top
+pub shifted_to : (top size room j : ℕ) → j + room ≡ top → 2 ^ j ≤ size → size < 2 ^ suc j → (2 ^ top ≤ size * 2 ^ room) × (size * 2 ^ room < 2 ^ suc top)
+shifted_to top size room j e h k =
+    let low : 2 ^ j * 2 ^ room ≡ 2 ^ top = sym (pow-add 2 j room) ∙ ap (λ n. 2 ^ n) e in
+    let high : 2 ^ suc j * 2 ^ room ≡ 2 ^ suc top = sym (pow-add 2 (suc j) room) ∙ ap (λ n. 2 ^ n) (let f : suc j + room ≡ suc top = omega arith in f) in
+    let p = mul-le-mul_right (2 ^ room) h in let q = mul-le-mul_right (2 ^ room) k in let r = pow_pos room in
+    (omega arith, omega arith)
+
 pub room_facts : (size lz j : ℕ) → lz + suc j ≡ 128 → 2 ^ j ≤ size → size < 2 ^ suc j → size < 2 ^ 66 → (2 ≤ lz) × (2 ^ 125 ≤ size * 2 ^ (lz - 2)) × (size * 2 ^ (lz - 2) < 2 ^ 126)
-room_facts size lz j e h k l =
-    let b = below_66 j size h l in
-    let at_low : j + (lz - 2) ≡ 125 = omega arith in
-    let at_high : suc j + (lz - 2) ≡ 126 = omega arith in
-    let low : 2 ^ j * 2 ^ (lz - 2) ≡ 2 ^ 125 = sym (pow-add 2 j (lz - 2)) ∙ ap (λ n. 2 ^ n) at_low in
-    let high : 2 ^ suc j * 2 ^ (lz - 2) ≡ 2 ^ 126 = sym (pow-add 2 (suc j) (lz - 2)) ∙ ap (λ n. 2 ^ n) at_high in
-    let p = mul-le-mul_right (2 ^ (lz - 2)) h in let q = mul-le-mul_right (2 ^ (lz - 2)) k in let r = pow_pos (lz - 2) in
-    (omega arith, omega arith, omega arith)
+room_facts size lz j e h k l = let b = below_66 j size h l in let s = shifted_to 125 size (lz - 2) j (omega arith) h k in (omega arith, s.0, s.1)
 
 pub shift_small : (size gap room : ℕ) → gap ≤ room → size * 2 ^ room < 2 ^ 126 → (size * 2 ^ gap < 2 ^ 126) × ((size * 2 ^ gap) % 2 ^ 128 ≡ size * 2 ^ gap)
 shift_small size gap room h k = let p : 2 ^ gap ≤ 2 ^ room = pow-le-pow_right {n = 2} (lit≤ tt) {i = gap} {j = room} h in let q = mul-le-mul_left size p in
