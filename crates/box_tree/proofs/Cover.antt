@@ -32,6 +32,7 @@ use Rattle.box_tree.proofs.Near.{at_bool, lt_in}
 use Rattle.box_tree.proofs.Put.{range_ordered, put_ordered}
 use Rattle.box_tree.proofs.Within.{forced_step, piece_ordered, forced_within, half_within}
 use Rattle.facts.specs.CommonParts.{at_option, expr_same}
+use Rattle.facts.specs.Held.{some-and}
 
 -- ---- one range
 -- some piece of a range has each of its values
@@ -44,10 +45,6 @@ cover low high (p ∷ ps) v a b = elim (le_or_lt v (value_of p)) [
 ]
 
 -- ---- the ranges of a box
-pub some-and : (o : Option Fraction) (P Q : Fraction → Type 0) → ((w : Fraction) → P w → Q w) → IsSomeAnd o P → IsSomeAnd o Q
-some-and None P Q h p = p
-some-and (Some w) P Q h p = h w p
-
 itself : (a : ExprId) → is_same a a ≡ true
 itself a = eq-eqb a.0 a.0 refl
 

@@ -26,7 +26,8 @@ use Rattle.box_tree.specs.Root.{finite_range, range_by, or_later, split_range, w
 use Rattle.box_tree.specs.Covers.{Has, LiesInRange, LieIn, LieInBox}
 use Rattle.box_tree.proofs.Near.{at_bool}
 use Rattle.facts.specs.CommonParts.{expr_same}
-use Rattle.box_tree.proofs.Cover.{root_out, some-and}
+use Rattle.box_tree.proofs.Cover.{root_out}
+use Rattle.facts.specs.Held.{some-and}
 
 -- ---- one hypothesis
 finite_out : (x : ExprId) (lo hi : End) (r : SplitRange) → finite_range x lo hi ≡ Some r → (lo ≡ end.At r.low) × (hi ≡ end.At r.high) × (r.var ≡ x)

@@ -10,7 +10,7 @@ use Rattle.std.proofs.lemmas.Nat.{div-add-mod', leading_top, mod_below, mul-le, 
 use lib.Count.{count_leading_zeros}
 use lib.IntN.{neg_ℤ}
 use mir.Syntax.{w128}
-use Rattle.fx_model.specs.Fraction.{Fraction, ◌+ℚ◌, ◌*ℚ◌, ◌≤ℚ◌, ◌<ℚ◌, neg_ℚ, neg-neg, neg-le, le_refl, le_trans, lt_by, lt_not, le_lt_trans, le_or_lt, add_comm, add_assoc, add-neg, zero-add, add-le, mul_comm, zero-mul}
+use Rattle.fx_model.specs.Fraction.{Fraction, ◌+ℚ◌, ◌*ℚ◌, ◌≤ℚ◌, ◌<ℚ◌, neg_ℚ, neg-neg, neg-lt, le_refl, le_trans, lt_by, lt_not, le_lt_trans, le_or_lt, add_comm, add_assoc, add-neg, zero-add, add-le, add-lt, mul_comm, zero-mul}
 use Rattle.fx_model.specs.Powers.{scaled, scaled-le, scaled-le_out, scaled-lt, scaled-lt_out, scaled-shift, scaled-zero}
 use Rattle.fx_model.specs.Grid.{IsOnGrid, IsOnGrid-neg, IsDown, At, scaled-neg, scaled-mul}
 use Rattle.fx_model.specs.Cut.{on_grid, next_grid, up_least}
@@ -21,9 +21,6 @@ use Rattle.dyadic.proofs.SumLemmas.{scaled-add, shifted_to}
 -- ---- no number of the grid lies strictly between two numbers in a row that have as many digits
 above_none : (n : ℕ) (e : ℤ) → 576460752303423488 ≤ n → (h : Fraction) → IsOnGrid h → scaled (pos n) e <ℚ h → h <ℚ scaled (pos (n + 1)) e → ⊥
 above_none n e l h g a b = lt_not h (scaled (pos (n + 1)) e) b (up_least h n e (a, b) (inl (omega arith)) h g (le_refl h))
-
-pub neg-lt : (x y : Fraction) → x <ℚ y → neg_ℚ y <ℚ neg_ℚ x
-neg-lt x y h = lt_by (neg_ℚ y) (neg_ℚ x) (λ k. lt_not x y h (subst (λ z. z ≤ℚ x) (neg-neg y) (subst (λ z. neg_ℚ (neg_ℚ y) ≤ℚ z) (neg-neg x) (neg-le (neg_ℚ x) (neg_ℚ y) k))))
 
 below_none : (n : ℕ) (e : ℤ) → 576460752303423488 ≤ n → (h : Fraction) → IsOnGrid h → scaled (negsuc n) e <ℚ h → h <ℚ scaled (neg_ℤ (pos n)) e → ⊥
 below_none n e l h g a b = above_none n e l (neg_ℚ h) (IsOnGrid-neg h g)
@@ -153,12 +150,6 @@ module _ (k two q e : ℤ) (s : ℕ) (place : e ≡ two +ℤ pos s) (shifted : q
   whole_down = (whole_grid, low_q, greatest)
 
 -- ---- sums
-cancel : (z y : Fraction) → neg_ℚ z +ℚ (z +ℚ y) ≡ y
-cancel z y = sym (add_assoc (neg_ℚ z) z y) ∙ ap (λ w. w +ℚ y) (add_comm (neg_ℚ z) z ∙ add-neg z) ∙ zero-add y
-
-add-lt : (z x y : Fraction) → x <ℚ y → z +ℚ x <ℚ z +ℚ y
-add-lt z x y h = lt_by (z +ℚ x) (z +ℚ y) (λ k. lt_not x y h (subst (λ w. w ≤ℚ x) (cancel z y) (subst (λ w. neg_ℚ z +ℚ (z +ℚ y) ≤ℚ w) (cancel z x) (add-le (neg_ℚ z) (z +ℚ y) (z +ℚ x) k))))
-
 room_facts_64 : (size lz j : ℕ) → lz + suc j ≡ 64 → 2 ^ j ≤ size → size < 2 ^ suc j → size < 1152921504606846976 → (2 ≤ lz) × (2305843009213693952 ≤ size * 2 ^ (lz - 2)) × (size * 2 ^ (lz - 2) < 4611686018427387904)
 room_facts_64 size lz j e h k l =
     let b : j < 60 = ⊎_elim (λ t. t) (λ t. let p : 2 ^ 60 ≤ 2 ^ j = pow-le-pow_right {n = 2} (lit≤ tt) {i = 60} {j = j} t in absurd (omega arith)) (cases_lt j 60) in

@@ -1,7 +1,7 @@
 -- Points between two numbers.
 use Rattle.std.proofs.Common.{◌≡◌, ℕ, ℤ, pos, negsuc, ◌+ℤ◌, ◌*ℤ◌, ◌+◌, ◌-◌, ◌<◌, Bool, true, false, arith, ap, sym, subst, ◌∙◌, inl, inr, ⊎_elim}
 use Rattle.std.proofs.lemmas.Int.{ints}
-use Rattle.fx_model.specs.Fraction.{Fraction, ◌+ℚ◌, ◌*ℚ◌, ◌≤ℚ◌, ◌<ℚ◌, neg_ℚ, inverse_ℚ, zero_ℚ, one_ℚ, one-mul, mul_comm, mul_assoc, mul-add, mul-inverse, mul-le, mul-le_cancel, add_comm, add_assoc, add-neg, zero-add, add-le, add-le-add, le_refl, le_trans, le_antisymm, lt_by, lt_not, lt_le, le_lt_trans, le_or_lt}
+use Rattle.fx_model.specs.Fraction.{Fraction, ◌+ℚ◌, ◌*ℚ◌, ◌≤ℚ◌, ◌<ℚ◌, neg_ℚ, inverse_ℚ, zero_ℚ, one_ℚ, one-mul, mul_comm, mul_assoc, mul-add, mul-inverse, mul-le, mul-le_cancel, mul-lt, add_comm, add_assoc, add-neg, zero-add, add-le, add-le_out, add-le-add, le_refl, le_trans, le_antisymm, lt_by, lt_not, lt_le, le_lt_trans, le_or_lt}
 use Rattle.fx_model.specs.Powers.{whole, two_to, scaled, two_to-add, two_to-pos, two_to-positive, whole-add, whole-mul, whole-le, whole-lt, zero-whole, one-whole}
 use Rattle.fx_model.specs.Grid.{IsOnGrid, At, IsDown, IsUp, signed}
 use Rattle.fx_model.specs.Cut.{Cuts}
@@ -10,9 +10,6 @@ use Rattle.dyadic.proofs.ProductLemmas.{mul-signed}
 use Rattle.dyadic.proofs.QuotientLemmas.{raised}
 
 -- ---- half of a cut value
-mul-lt : (z x y : Fraction) → zero_ℚ <ℚ z → x <ℚ y → z *ℚ x <ℚ z *ℚ y
-mul-lt z x y p h = lt_by (z *ℚ x) (z *ℚ y) (λ k. lt_not x y h (mul-le_cancel z y x p k))
-
 half_at : (m t t' : ℤ) → t ≡ t' +ℤ pos 1 → two_to (negsuc 0) *ℚ scaled m t ≡ scaled m t'
 half_at m t t' e = raised m t (negsuc 0) ∙ ap (scaled m) (omega (arith, ints))
 
@@ -50,12 +47,6 @@ from_half a b x h = subst (λ y. y ≤ℚ a +ℚ b) (twice x) (subst (λ y. two_
 to_half : (a b x : Fraction) → halfway a b ≤ℚ x → a +ℚ b ≤ℚ x +ℚ x
 to_half a b x h = subst (λ y. y ≤ℚ x +ℚ x) (twice_half a b) (subst (λ y. two_to (pos 1) *ℚ halfway a b ≤ℚ y) (twice x) (mul-le (two_to (pos 1)) (halfway a b) x (lt_le zero_ℚ (two_to (pos 1)) (two_to-positive (pos 1))) h))
 
-cancelled : (z x : Fraction) → neg_ℚ z +ℚ (z +ℚ x) ≡ x
-cancelled z x = sym (add_assoc (neg_ℚ z) z x) ∙ ap (λ y. y +ℚ x) (add_comm (neg_ℚ z) z ∙ add-neg z) ∙ zero-add x
-
-add-le_cancel : (z x y : Fraction) → z +ℚ x ≤ℚ z +ℚ y → x ≤ℚ y
-add-le_cancel z x y h = subst (λ v. v ≤ℚ y) (cancelled z x) (subst (λ v. neg_ℚ z +ℚ (z +ℚ x) ≤ℚ v) (cancelled z y) (add-le (neg_ℚ z) (z +ℚ x) (z +ℚ y) h))
-
 module _ (a b : Fraction) (ordered : a ≤ℚ b) where
   pub low_half : a ≤ℚ halfway a b
   low_half = under_half a b a (add-le a a b ordered)
@@ -65,10 +56,10 @@ module _ (a b : Fraction) (ordered : a ≤ℚ b) where
 
   -- where b isn't above the half, it isn't above a
   low_end : b ≤ℚ halfway a b → b ≤ℚ a
-  low_end h = add-le_cancel b b a (subst (λ y. b +ℚ b ≤ℚ y) (add_comm a b) (from_half a b b h))
+  low_end h = add-le_out b b a (subst (λ y. b +ℚ b ≤ℚ y) (add_comm a b) (from_half a b b h))
 
   high_end : halfway a b ≤ℚ a → b ≤ℚ a
-  high_end h = add-le_cancel a b a (to_half a b a h)
+  high_end h = add-le_out a b a (to_half a b a h)
 
   -- ---- the two candidates
   pub lower_middle : (m : Fraction) → IsDown (halfway a b) (At m) → a <ℚ m → IsBetween a b m × IsMiddle a b m

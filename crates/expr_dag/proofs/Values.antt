@@ -6,19 +6,7 @@ use Rattle.fx_model.specs.Rounded.{rounded}
 use Rattle.fx_model.specs.declared.ExprId.{ExprId}
 use Rattle.fx_model.specs.declared.Node.{Node}
 use Rattle.fx_model.specs.declared.Node.TheVariants.{Var, Lit, Neg, Add, Sub, Mul, Div, Abs, Round}
-use Rattle.fx_model.specs.Expression.{Assignment, ChildrenBelow, IsOrdered, node_value, value, value_step, lift₁, lift₂, quotient}
-
--- a node's value is made of the values of what it is made of
-same_parts : (a : Assignment) (v w : ExprId → Option Fraction) (k : ℕ) (n : Node) → ChildrenBelow k n → ((x : ExprId) → x.0 < k → v x ≡ w x) → node_value a v n ≡ node_value a w n
-same_parts a v w k (Var n) h e = refl
-same_parts a v w k (Lit l) h e = refl
-same_parts a v w k (Neg x) h e = ap (lift₁ neg_ℚ) (e x h)
-same_parts a v w k (Add x y) h e = (λ i. lift₂ ◌+ℚ◌ (e x h.0 i) (e y h.1 i))
-same_parts a v w k (Sub x y) h e = (λ i. lift₂ ◌-ℚ◌ (e x h.0 i) (e y h.1 i))
-same_parts a v w k (Mul x y) h e = (λ i. lift₂ ◌*ℚ◌ (e x h.0 i) (e y h.1 i))
-same_parts a v w k (Div x y) h e = (λ i. quotient (e x h.0 i) (e y h.1 i))
-same_parts a v w k (Abs x) h e = ap (lift₁ abs_ℚ) (e x h)
-same_parts a v w k (Round r x) h e = ap (lift₁ (rounded r.dir r.lsb)) (e x h)
+use Rattle.fx_model.specs.Expression.{Assignment, ChildrenBelow, IsOrdered, node_value, value, value_step, lift₁, lift₂, quotient, same_children}
 
 module _ (nodes more : List Node) (a : Assignment) (o : IsOrdered nodes) (p : IsOrdered (nodes ++ more)) where
   value_below : (k : ℕ) (x : ExprId) → x.0 < k → x.0 < length nodes → value (nodes ++ more) a x ≡ value nodes a x
@@ -29,7 +17,7 @@ module _ (nodes more : List Node) (a : Assignment) (o : IsOrdered nodes) (p : Is
       let n : Node = slice_index_or nodes x.0 d in
       let e : slice_index_or (nodes ++ more) x.0 d ≡ n = get_or_append_left nodes more d x.0 l in
       value_step (nodes ++ more) a x d p m ∙ ap (node_value a (value (nodes ++ more) a)) e
-      ∙ same_parts a (value (nodes ++ more) a) (value nodes a) x.0 n (o x.0 d l) (λ y b. value_below k y (omega arith) (omega arith))
+      ∙ same_children a (value (nodes ++ more) a) (value nodes a) x.0 n (o x.0 d l) (λ y b. value_below k y (omega arith) (omega arith))
       ∙ sym (value_step nodes a x d o l)
 
   pub value_stays : (x : ExprId) → x.0 < length nodes → value (nodes ++ more) a x ≡ value nodes a x

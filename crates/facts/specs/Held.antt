@@ -32,14 +32,14 @@ some-and (Some x) P Q h p = h x p
 pub multiple-lower : (k n : ℤ) (x : Fraction) → n ≤ℤ k → IsMultiple k x → IsMultiple n x
 multiple-lower k n x l m = let g = above k n l in (m.0 *ℤ pos (2 ^ g.0), m.1 ∙ ap (scaled m.0) g.1 ∙ scaled-shift m.0 n g.0)
 
-related-within : (d e : RelativeError) (x y : Fraction) → IsWithin d.interval e.interval → IsRelated d.interval x y → IsRelated e.interval x y
-related-within d e x y w r = ⊎_elim (λ z. inl z) (λ q. inr (q.0, within_in (range_of d.interval) (range_of e.interval) ((x /ℚ y) -ℚ one_ℚ) w q.1)) r
+pub related-wider : (i j : Interval) (x y : Fraction) → IsWithin i j → IsRelated i x y → IsRelated j x y
+related-wider i j x y w r = ⊎_elim (λ z. inl z) (λ q. inr (q.0, within_in (range_of i) (range_of j) ((x /ℚ y) -ℚ one_ℚ) w q.1)) r
 
 related_by-within : (d e : Option RelativeError) (x y : Fraction) → IsWithinError d e → IsRelatedBy d x y → IsRelatedBy e x y
 related_by-within None None x y w r = r
 related_by-within None (Some e) x y w r = inl r
 related_by-within (Some d) None x y w r = absurd w
-related_by-within (Some d) (Some e) x y w r = related-within d e x y w r
+related_by-within (Some d) (Some e) x y w r = related-wider d.interval e.interval x y w r
 
 -- A stronger fact that holds shows that the weaker one does.
 pub IsStronger-Holds : (nodes : List Node) (a : Assignment) (f g : Fact) → IsStronger f g → Holds nodes a f → Holds nodes a g
@@ -59,7 +59,7 @@ IsStronger-Holds nodes a (fact.Nzr x) (fact.Nzr y) s h = subst (λ z. IsSomeAnd 
 IsStronger-Holds nodes a _ _ s h = search rules
 
 -- ---- meets
-both_some : (o : Option Fraction) (P Q R : Fraction → Type 0) → ((x : Fraction) → P x → Q x → R x) → IsSomeAnd o P → IsSomeAnd o Q → IsSomeAnd o R
+pub both_some : (o : Option Fraction) (P Q R : Fraction → Type 0) → ((x : Fraction) → P x → Q x → R x) → IsSomeAnd o P → IsSomeAnd o Q → IsSomeAnd o R
 both_some None P Q R h p q = p
 both_some (Some x) P Q R h p q = h x p q
 

@@ -18,7 +18,7 @@ use Rattle.facts.specs.CommonParts.{some-inj}
 abbrev pub HasValue : List Node → Assignment → ExprId → Fraction → Type 0
 HasValue nodes a x v = value nodes a x ≡ Some v
 
-some_out : (o : Option Fraction) (P : Fraction → Type 0) → IsSomeAnd o P → (v : Fraction) × (o ≡ Some v) × P v
+pub some_out : (o : Option Fraction) (P : Fraction → Type 0) → IsSomeAnd o P → (v : Fraction) × (o ≡ Some v) × P v
 some_out None P p = absurd p
 some_out (Some v) P p = (v, refl, p)
 

@@ -15,11 +15,9 @@ use Rattle.facts.specs.Order.{IsWithin}
 use Rattle.facts.specs.CommonParts.{at_option, some-inj}
 use Rattle.facts.specs.Laws.{IsWithin-trans}
 use Rattle.dyadic.specs.Extremes.{BoundLe-refl}
+use Rattle.facts.specs.Within.{on_half_line}
 
--- a number at least 0 lies on the half line, and what lies there is at least 0
-pub on_half_line : (x : Fraction) → zero_ℚ ≤ℚ x → Lies (range_of half_line) x
-on_half_line x p = (subst (λ z. z ≤ℚ x) (sym zero_value) p, tt)
-
+-- what lies on the half line is at least 0
 pub from_half_line : (x : Fraction) → Lies (range_of half_line) x → zero_ℚ ≤ℚ x
 from_half_line x l = subst (λ z. z ≤ℚ x) zero_value l.0
 

@@ -79,7 +79,8 @@ ChildrenBelow k (Round r x) = x.0 < k
 abbrev pub IsOrdered : List Node → Type 0
 IsOrdered nodes = (i : ℕ) (n : Node) → i < length nodes → ChildrenBelow i (slice_index_or nodes i n)
 
-same_children : (a : Assignment) (v w : ExprId → Option Fraction) (k : ℕ) (n : Node) → ChildrenBelow k n → ((x : ExprId) → x.0 < k → v x ≡ w x) → node_value a v n ≡ node_value a w n
+-- a node's value is made of the values of what it is made of
+pub same_children : (a : Assignment) (v w : ExprId → Option Fraction) (k : ℕ) (n : Node) → ChildrenBelow k n → ((x : ExprId) → x.0 < k → v x ≡ w x) → node_value a v n ≡ node_value a w n
 same_children a v w k (Var n) h e = refl
 same_children a v w k (Lit l) h e = refl
 same_children a v w k (Neg x) h e = ap (lift₁ neg_ℚ) (e x h)

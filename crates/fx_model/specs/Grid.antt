@@ -7,7 +7,7 @@ use Rattle.std.proofs.Common.{arith, sym, subst, ap, ◌∙◌, refl}
 use Rattle.std.proofs.lemmas.Int.{ints}
 use lib.IntN.{neg_ℤ}
 use Rattle.fx_model.specs.Fraction.{Fraction, ◌*ℚ◌, ◌≤ℚ◌, le_antisymm, neg_ℚ, neg-le, neg-neg, neg-mul, mul_comm, mul_assoc}
-use Rattle.fx_model.specs.Powers.{scaled, two_to, whole, whole-neg, whole-mul, two_to-add}
+use Rattle.fx_model.specs.Powers.{scaled, two_to, whole, whole-neg, whole-mul, two_to-add, IsMultiple}
 
 abbrev pub mantissa_limit : ℤ
 mantissa_limit = pos 1152921504606846976
@@ -70,6 +70,9 @@ signed false x = x
 pub scaled-neg : (m e : ℤ) → scaled (neg_ℤ m) e ≡ neg_ℚ (scaled m e)
 scaled-neg m e = ap (λ y. y *ℚ two_to e) (whole-neg m) ∙ neg-mul (whole m) (two_to e)
 
+pub multiple-neg : (k : ℤ) (x : Fraction) → IsMultiple k x → IsMultiple k (neg_ℚ x)
+multiple-neg k x m = (neg_ℤ m.0, ap neg_ℚ m.1 ∙ sym (scaled-neg m.0 k))
+
 pub IsOnGrid-neg : (x : Fraction) → IsOnGrid x → IsOnGrid (neg_ℚ x)
 IsOnGrid-neg x g = let a = g.above in let b = g.below in record {
   mantissa = neg_ℤ g.mantissa;
@@ -81,11 +84,16 @@ IsOnGrid-neg x g = let a = g.above in let b = g.below in record {
   is = ap neg_ℚ g.is ∙ sym (scaled-neg g.mantissa g.exponent);
 }
 
-neg_over : (h x : Fraction) → h ≤ℚ neg_ℚ x → x ≤ℚ neg_ℚ h
+pub neg_over : (h x : Fraction) → h ≤ℚ neg_ℚ x → x ≤ℚ neg_ℚ h
 neg_over h x t = subst (λ y. y ≤ℚ neg_ℚ h) (neg-neg x) (neg-le h (neg_ℚ x) t)
 
-neg_under : (h x : Fraction) → neg_ℚ x ≤ℚ h → neg_ℚ h ≤ℚ x
+pub neg_under : (h x : Fraction) → neg_ℚ x ≤ℚ h → neg_ℚ h ≤ℚ x
 neg_under h x t = subst (λ y. neg_ℚ h ≤ℚ y) (neg-neg x) (neg-le (neg_ℚ x) h t)
+
+pub neg_bound-neg : (b : Bound) → neg_bound (neg_bound b) ≡ b
+neg_bound-neg Below = refl
+neg_bound-neg (At g) = ap At (neg-neg g)
+neg_bound-neg Above = refl
 
 pub IsDown-neg : (x : Fraction) (b : Bound) → IsUp x b → IsDown (neg_ℚ x) (neg_bound b)
 IsDown-neg x (At g) p = (IsOnGrid-neg g p.0, neg-le x g p.1, λ h o t. subst (λ y. y ≤ℚ neg_ℚ g) (neg-neg h) (neg-le g (neg_ℚ h) (p.2 (neg_ℚ h) (IsOnGrid-neg h o) (neg_over h x t))))

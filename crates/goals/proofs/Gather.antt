@@ -21,12 +21,9 @@ use Rattle.goals.specs.declared.line.Line.{Line}
 use Rattle.goals.specs.declared.line.Line.TheVariants as line
 use Rattle.goals.specs.Joined.{with_interval, with_zeros, joined}
 use Rattle.goals.specs.Holds.{LineHolds, IsOfGoal}
+use Rattle.facts.specs.Held.{some-and}
 
 -- ---- slots
-some-and : (o : Option Fraction) (P Q : Fraction → Type 0) → ((x : Fraction) → P x → Q x) → IsSomeAnd o P → IsSomeAnd o Q
-some-and None P Q h p = p
-some-and (Some x) P Q h p = h x p
-
 abbrev Grows : Interval → Interval → Type 0
 Grows i j = (v : Fraction) → Lies (range_of i) v → Lies (range_of j) v
 

@@ -33,7 +33,7 @@ pub abs_le : (x b : Fraction) → neg_ℚ b ≤ℚ x → x ≤ℚ b → abs_ℚ 
 abs_le x b l h = ⊎_elim (λ u. subst (λ y. y ≤ℚ b) (sym u.is) h) (λ d. subst (λ y. y ≤ℚ b) (sym d.is) (subst (λ y. neg_ℚ x ≤ℚ y) (neg-neg b) (neg-le (neg_ℚ b) x l))) (sides x)
 
 -- ---- products and quotients
-product_up : (x y : Fraction) → zero_ℚ ≤ℚ x → zero_ℚ ≤ℚ y → zero_ℚ ≤ℚ (x *ℚ y)
+pub product_up : (x y : Fraction) → zero_ℚ ≤ℚ x → zero_ℚ ≤ℚ y → zero_ℚ ≤ℚ (x *ℚ y)
 product_up x y p q = subst (λ z. z ≤ℚ (x *ℚ y)) (mul_comm x zero_ℚ ∙ zero-mul x) (mul-le x zero_ℚ y p q)
 
 pub abs-mul : (x y : Fraction) → abs_ℚ (x *ℚ y) ≡ abs_ℚ x *ℚ abs_ℚ y

@@ -6,7 +6,7 @@ use Rattle.std.proofs.lemmas.Nat.{div-add-mod', mod_below}
 use Rattle.std.proofs.lemmas.Bool.{ltb-true, ltb-false}
 use Rattle.std.proofs.lemmas.Int.{ints, by_lt_z}
 use lib.Dec.{ltb}
-use Rattle.fx_model.specs.Fraction.{Fraction, ◌*ℚ◌, ◌≤ℚ◌, ◌<ℚ◌, zero_ℚ, one_ℚ, le_ℚ, floor_ℚ, le_trans, le_antisymm, lt_le, lt_not, lt_by, mul-le, mul-le_cancel, mul_comm, mul_assoc, one-mul, zero-mul}
+use Rattle.fx_model.specs.Fraction.{Fraction, ◌*ℚ◌, ◌≤ℚ◌, ◌<ℚ◌, zero_ℚ, one_ℚ, le_ℚ, floor_ℚ, le_trans, le_antisymm, lt_le, lt_not, lt_by, mul-le, mul-le_cancel, mul_comm, mul_assoc, one-mul, zero-mul, times-le, times-lt}
 use Rattle.fx_model.specs.Powers.{whole, two_to, scaled, whole-le, zero-whole, one-whole, two_to-add, two_to-pos, two_to-positive, floor_low, floor_high}
 use Rattle.fx_model.specs.Cut.{Cuts, Full, more, narrow_is}
 
@@ -47,12 +47,6 @@ pub record Begins (x : Fraction) (c : Digits) : Type 0 where
 back : (x : Fraction) (two other : ℤ) → other +ℤ two ≡ pos 0 → (x *ℚ two_to other) *ℚ two_to two ≡ x
 back x two other h = mul_assoc x (two_to other) (two_to two) ∙ ap (λ y. x *ℚ y) (sym (two_to-add other two) ∙ ap two_to h ∙ two_to-pos 0 ∙ sym one-whole) ∙ mul_comm x one_ℚ ∙ one-mul x
 
-right_le : (p x y : Fraction) → zero_ℚ <ℚ p → x ≤ℚ y → (x *ℚ p) ≤ℚ (y *ℚ p)
-right_le p x y h k = rw (mul_comm x p, mul_comm y p) (mul-le p x y (lt_le zero_ℚ p h) k)
-
-right_lt : (p x y : Fraction) → zero_ℚ <ℚ p → x <ℚ y → (x *ℚ p) <ℚ (y *ℚ p)
-right_lt p x y h k = lt_by (x *ℚ p) (y *ℚ p) (λ l. lt_not x y k (mul-le_cancel p y x h (rw (mul_comm p y, mul_comm p x) l)))
-
 of_size : (z : ℤ) → pos 0 ≤ℤ z → z ≡ pos (unsigned_abs z)
 of_size (pos n) h = refl
 of_size (negsuc n) h = absurd (omega (arith, ints))
@@ -64,21 +58,21 @@ not_below y h = by_lt_z (floor_ℚ y) (pos 0)
 
 module _ (x : Fraction) (two other : ℤ) (e : other +ℤ two ≡ pos 0) (up : zero_ℚ ≤ℚ x) where
   from_zero : zero_ℚ ≤ℚ (x *ℚ two_to other)
-  from_zero = subst (λ z. z ≤ℚ (x *ℚ two_to other)) (zero-mul (two_to other)) (right_le (two_to other) zero_ℚ x (two_to-positive other) up)
+  from_zero = subst (λ z. z ≤ℚ (x *ℚ two_to other)) (zero-mul (two_to other)) (times-le (two_to other) zero_ℚ x (two_to-positive other) up)
 
   floor_is : floor_ℚ (x *ℚ two_to other) ≡ pos (times x other)
   floor_is = of_size (floor_ℚ (x *ℚ two_to other)) (not_below (x *ℚ two_to other) from_zero)
 
   low : scaled (pos (times x other)) two ≤ℚ x
   low = let a : whole (pos (times x other)) ≤ℚ (x *ℚ two_to other) = subst (λ z. whole z ≤ℚ (x *ℚ two_to other)) floor_is (floor_low (x *ℚ two_to other)) in
-      subst (λ z. scaled (pos (times x other)) two ≤ℚ z) (back x two other e) (right_le (two_to two) (whole (pos (times x other))) (x *ℚ two_to other) (two_to-positive two) a)
+      subst (λ z. scaled (pos (times x other)) two ≤ℚ z) (back x two other e) (times-le (two_to two) (whole (pos (times x other))) (x *ℚ two_to other) (two_to-positive two) a)
 
   next_is : floor_ℚ (x *ℚ two_to other) +ℤ pos 1 ≡ pos (times x other + 1)
   next_is = let f : floor_ℚ (x *ℚ two_to other) ≡ pos (times x other) = floor_is in omega (arith, ints, f)
 
   high : x <ℚ scaled (pos (times x other + 1)) two
   high = let a : (x *ℚ two_to other) <ℚ whole (pos (times x other + 1)) = subst (λ z. (x *ℚ two_to other) <ℚ whole z) next_is (floor_high (x *ℚ two_to other)) in
-      subst (λ z. z <ℚ scaled (pos (times x other + 1)) two) (back x two other e) (right_lt (two_to two) (x *ℚ two_to other) (whole (pos (times x other + 1))) (two_to-positive two) a)
+      subst (λ z. z <ℚ scaled (pos (times x other + 1)) two) (back x two other e) (times-lt (two_to two) (x *ℚ two_to other) (whole (pos (times x other + 1))) (two_to-positive two) a)
 
   cuts_by : (b : Bool) → le_ℚ x (scaled (pos (times x other)) two) ≡ b → Cuts x (times x other) two (not b)
   cuts_by true h = le_antisymm x (scaled (pos (times x other)) two) (record { le = h }) low

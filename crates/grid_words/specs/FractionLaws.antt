@@ -2,11 +2,9 @@
 use Rattle.std.specs.Prelude.{◌≡◌, ◌≢◌}
 use Rattle.std.proofs.Common.{sym, ap, ◌∙◌}
 use Rattle.fx_model.specs.Fraction.{Fraction, ◌+ℚ◌, ◌-ℚ◌, ◌*ℚ◌, ◌/ℚ◌, inverse_ℚ, neg_ℚ, zero_ℚ, one_ℚ, add_comm, add_assoc, zero-add, add-neg, mul_comm, mul_assoc, one-mul, zero-mul, mul-add, mul-inverse}
+pub use Rattle.fx_model.specs.Fraction.{add-zero, mul-one, mul-zero, add-mul, middle_sums, middle_products}
 
 -- ---- sums
-pub add-zero : (x : Fraction) → x +ℚ zero_ℚ ≡ x
-add-zero x = add_comm x zero_ℚ ∙ zero-add x
-
 neg-add_own : (y : Fraction) → neg_ℚ y +ℚ y ≡ zero_ℚ
 neg-add_own y = add_comm (neg_ℚ y) y ∙ add-neg y
 
@@ -22,28 +20,7 @@ more-less y x = add_comm y (x -ℚ y) ∙ less-more x y
 pub added-less : (y x : Fraction) → (y +ℚ x) -ℚ y ≡ x
 added-less y x = ap (λ u. u -ℚ y) (add_comm y x) ∙ add_assoc x y (neg_ℚ y) ∙ ap (λ u. x +ℚ u) (add-neg y) ∙ add-zero x
 
--- (a + b) + (c + d) = (a + c) + (b + d)
-pub middle_sums : (a b c d : Fraction) → (a +ℚ b) +ℚ (c +ℚ d) ≡ (a +ℚ c) +ℚ (b +ℚ d)
-middle_sums a b c d = add_assoc a b (c +ℚ d) ∙ ap (λ u. a +ℚ u) (sym (add_assoc b c d) ∙ ap (λ u. u +ℚ d) (add_comm b c) ∙ add_assoc c b d) ∙ sym (add_assoc a c (b +ℚ d))
-
 -- ---- products
-pub mul-one : (x : Fraction) → x *ℚ one_ℚ ≡ x
-mul-one x = mul_comm x one_ℚ ∙ one-mul x
-
-pub mul-zero : (x : Fraction) → x *ℚ zero_ℚ ≡ zero_ℚ
-mul-zero x = mul_comm x zero_ℚ ∙ zero-mul x
-
-pub add-mul : (x y z : Fraction) → (x +ℚ y) *ℚ z ≡ (x *ℚ z) +ℚ (y *ℚ z)
-add-mul x y z = mul_comm (x +ℚ y) z ∙ mul-add z x y ∙ ap (λ u. u +ℚ (z *ℚ y)) (mul_comm z x) ∙ ap (λ u. (x *ℚ z) +ℚ u) (mul_comm z y)
-
--- x(yz) = y(xz)
-left_swap : (x y z : Fraction) → x *ℚ (y *ℚ z) ≡ y *ℚ (x *ℚ z)
-left_swap x y z = sym (mul_assoc x y z) ∙ ap (λ u. u *ℚ z) (mul_comm x y) ∙ mul_assoc y x z
-
--- (ab)(cd) = (ac)(bd)
-pub middle_products : (a b c d : Fraction) → (a *ℚ b) *ℚ (c *ℚ d) ≡ (a *ℚ c) *ℚ (b *ℚ d)
-middle_products a b c d = mul_assoc a b (c *ℚ d) ∙ ap (λ u. a *ℚ u) (left_swap b c d) ∙ sym (mul_assoc a c (b *ℚ d))
-
 -- a product is 0 only where a factor is
 pub product_nonzero : (x y : Fraction) → x ≢ zero_ℚ → y ≢ zero_ℚ → (x *ℚ y) ≢ zero_ℚ
 product_nonzero x y p q e = q (sym (one-mul y) ∙ ap (λ u. u *ℚ y) (sym (mul-inverse x p) ∙ mul_comm x (inverse_ℚ x)) ∙ mul_assoc (inverse_ℚ x) x y ∙ ap (λ u. inverse_ℚ x *ℚ u) e ∙ mul-zero (inverse_ℚ x))

@@ -5,9 +5,9 @@ use Rattle.std.proofs.Common.{arith, sym, ap, ◌∙◌, subst, inl, inr}
 use Rattle.std.proofs.lemmas.Bool.{ltb-true, ltb-false}
 use Rattle.std.proofs.lemmas.Int.{ints}
 use lib.Dec.{ltb}
-use Rattle.fx_model.specs.Fraction.{Fraction, ◌≤ℚ◌, zero_ℚ, neg_ℚ, le_ℚ, le_refl, le_total, neg-le, neg-neg, add-neg, zero-add}
+use Rattle.fx_model.specs.Fraction.{Fraction, ◌≤ℚ◌, zero_ℚ, neg_ℚ, le_ℚ, le_refl, le_total, neg-le, neg-neg, add-neg, zero-add, neg_up}
 use Rattle.fx_model.specs.Powers.{scaled}
-use Rattle.fx_model.specs.Grid.{Bound, Below, At, Above, IsOnGrid, IsDown, IsUp, neg_bound, IsDown-neg, IsUp-neg, IsDown-unique}
+use Rattle.fx_model.specs.Grid.{Bound, Below, At, Above, IsOnGrid, IsDown, IsUp, neg_bound, IsDown-neg, IsUp-neg, IsDown-unique, neg_bound-neg}
 use Rattle.fx_model.specs.Cut.{Cuts, Full, up_is_exact, up_top, next_grid, top, down_beyond, up_beyond}
 use Rattle.fx_model.specs.Cut as cut
 use Rattle.grid_words.specs.Digits.{Digits, Begins, first_digits, first_begins}
@@ -69,13 +69,10 @@ size_up : (x : Fraction) (c : Digits) → Begins x c × (c.digits < 115292150460
 size_up x c b = up_by x c.digits c.two b.0.full b.1 b.0.lowest (int_lt (pos 512) c.two) c.inexact b.0.cuts refl
 
 -- ---- both signs
-neg_from : (x : Fraction) → x ≤ℚ zero_ℚ → zero_ℚ ≤ℚ neg_ℚ x
-neg_from x h = subst (λ y. y ≤ℚ neg_ℚ x) (sym (zero-add (neg_ℚ zero_ℚ)) ∙ add-neg zero_ℚ) (neg-le x zero_ℚ h)
-
 down_sign : (x : Fraction) (b : Bool) → le_ℚ zero_ℚ x ≡ b → IsDown x (cond b (down_of (first_digits x)) (neg_bound (up_of (first_digits (neg_ℚ x)))))
 down_sign x true h = size_down x (first_digits x) (first_begins x (record { le = h }))
 down_sign x false h = subst (λ y. IsDown y (neg_bound (up_of (first_digits (neg_ℚ x))))) (neg-neg x)
-    (IsDown-neg (neg_ℚ x) (up_of (first_digits (neg_ℚ x))) (size_up (neg_ℚ x) (first_digits (neg_ℚ x)) (first_begins (neg_ℚ x) (neg_from x (le_total zero_ℚ x h)))))
+    (IsDown-neg (neg_ℚ x) (up_of (first_digits (neg_ℚ x))) (size_up (neg_ℚ x) (first_digits (neg_ℚ x)) (first_begins (neg_ℚ x) (neg_up x (le_total zero_ℚ x h)))))
 
 pub down_is : (x : Fraction) → IsDown x (down x)
 unfolding down
@@ -86,11 +83,6 @@ unfolding up
 up_is x = subst (λ y. IsUp y (neg_bound (down (neg_ℚ x)))) (neg-neg x) (IsUp-neg (neg_ℚ x) (down (neg_ℚ x)) (down_is (neg_ℚ x)))
 
 -- ---- the only ones
-pub neg_bound-neg : (b : Bound) → neg_bound (neg_bound b) ≡ b
-neg_bound-neg Below = refl
-neg_bound-neg (At g) = ap At (neg-neg g)
-neg_bound-neg Above = refl
-
 pub down_only : (x : Fraction) (b : Bound) → IsDown x b → b ≡ down x
 down_only x b d = IsDown-unique x b (down x) d (down_is x)
 

@@ -1,31 +1,17 @@
 -- Products and inverses by their signs.
 use Rattle.std.specs.Prelude.{◌≡◌}
 use Rattle.std.proofs.Common.{sym, subst, ap, ◌∙◌, ⊎_elim}
-use Rattle.fx_model.specs.Fraction.{Fraction, ◌*ℚ◌, ◌≤ℚ◌, ◌<ℚ◌, zero_ℚ, one_ℚ, neg_ℚ, abs_ℚ, inverse_ℚ, abs-from, abs-below, mul-inverse, mul-le, mul-le_cancel, mul_comm, mul_assoc, one-mul, zero-mul, zero-add, add-neg, neg-mul, neg-neg, neg-le, le_refl, le_antisymm, le_or_lt, lt_le, lt_not, lt_le_trans, le_lt_trans, lt_by, plus_one}
+use Rattle.fx_model.specs.Fraction.{Fraction, ◌*ℚ◌, ◌≤ℚ◌, ◌<ℚ◌, zero_ℚ, one_ℚ, neg_ℚ, abs_ℚ, inverse_ℚ, abs-from, abs-below, mul-inverse, mul-le, mul-le_cancel, mul_comm, mul_assoc, one-mul, zero-mul, zero-add, add-neg, neg-mul, neg-neg, neg-le, le_refl, le_antisymm, le_or_lt, lt_le, lt_not, lt_le_trans, le_lt_trans, lt_by, plus_one, neg-le_out}
+pub use Rattle.fx_model.specs.Fraction.{neg_zero, neg_up, neg_down, mul-neg}
 
 pub zero_one : zero_ℚ <ℚ one_ℚ
 zero_one = subst (λ y. zero_ℚ <ℚ y) (zero-add one_ℚ) (plus_one zero_ℚ)
 
 -- ---- negatives
-pub neg_zero : neg_ℚ zero_ℚ ≡ zero_ℚ
-neg_zero = sym (zero-add (neg_ℚ zero_ℚ)) ∙ add-neg zero_ℚ
-
-pub neg_up : (v : Fraction) → v ≤ℚ zero_ℚ → zero_ℚ ≤ℚ neg_ℚ v
-neg_up v h = subst (λ z. z ≤ℚ neg_ℚ v) neg_zero (neg-le v zero_ℚ h)
-
-pub neg_down : (v : Fraction) → zero_ℚ ≤ℚ v → neg_ℚ v ≤ℚ zero_ℚ
-neg_down v h = subst (λ z. neg_ℚ v ≤ℚ z) neg_zero (neg-le zero_ℚ v h)
-
-pub neg-le_out : (x y : Fraction) → neg_ℚ x ≤ℚ neg_ℚ y → y ≤ℚ x
-neg-le_out x y h = subst (λ z. z ≤ℚ x) (neg-neg y) (subst (λ z. neg_ℚ (neg_ℚ y) ≤ℚ z) (neg-neg x) (neg-le (neg_ℚ x) (neg_ℚ y) h))
-
 neg_positive : (x : Fraction) → x <ℚ zero_ℚ → zero_ℚ <ℚ neg_ℚ x
 neg_positive x h = lt_by zero_ℚ (neg_ℚ x) (λ k. lt_not x zero_ℚ h (subst (λ z. zero_ℚ ≤ℚ z) (neg-neg x) (neg_up (neg_ℚ x) k)))
 
 -- ---- factors
-pub mul-neg : (x y : Fraction) → x *ℚ neg_ℚ y ≡ neg_ℚ (x *ℚ y)
-mul-neg x y = mul_comm x (neg_ℚ y) ∙ neg-mul y x ∙ ap neg_ℚ (mul_comm y x)
-
 pub times_up : (x u v : Fraction) → x ≤ℚ u → zero_ℚ ≤ℚ v → (x *ℚ v) ≤ℚ (u *ℚ v)
 times_up x u v h p = rw (mul_comm x v, mul_comm u v) (mul-le v x u p h)
 

@@ -3,9 +3,8 @@ use Rattle.std.specs.Prelude.{◌≡◌, ◌⊎◌, Bool, true, false, cond, ref
 use Rattle.std.proofs.Common.{sym, subst, ◌∙◌, ⊎_elim, inl, inr}
 use Rattle.fx_model.specs.Fraction.{Fraction, zero_ℚ, neg_ℚ, abs_ℚ, abs-from, le_ℚ, le_total, le_or_lt, lt_le, neg-neg}
 use Rattle.fx_model.specs.Grid.{Bound, Below, At, Above, neg_bound}
-use Rattle.fx_model.specs.Enclosure.{Range, IsFrom, IsUpTo, Lies, IsOrdered, Sizes, IsSize, BoundLe, within_in, member_of, ordered_by}
-use Rattle.grid_words.specs.Outward.{outward, outward_exact, enclosure_ordered}
-use Rattle.grid_words.specs.Sums.{mirror, lies_mirror, lies_mirrored}
+use Rattle.fx_model.specs.Enclosure.{Range, IsFrom, IsUpTo, Lies, IsOrdered, Sizes, IsSize, BoundLe, within_in, member_of, ordered_by, enclosure_ordered, mirror, lies_mirror, lies_mirrored, from-le, up_to-le}
+use Rattle.grid_words.specs.Outward.{outward, outward_exact}
 use Rattle.grid_words.specs.Signs.{neg_up, neg_down, abs_down}
 
 -- The first end is at or below the second.
@@ -47,12 +46,6 @@ le_bound_false (At g) Above h = absurd (let e : true ≡ false = h in cc)
 le_bound_false Above Below h = tt
 le_bound_false Above (At k) h = tt
 le_bound_false Above Above h = absurd (let e : true ≡ false = h in cc)
-
-from-le : (b c : Bound) (x : Fraction) → BoundLe b c → IsFrom c x → IsFrom b x
-from-le b c x l f = (within_in (record { low = c; high = Above }) (record { low = b; high = Above }) x (l, tt) (f, tt)).0
-
-up_to-le : (b c : Bound) (x : Fraction) → BoundLe b c → IsUpTo b x → IsUpTo c x
-up_to-le b c x l f = (within_in (record { low = Below; high = b }) (record { low = Below; high = c }) x (tt, l) (tt, f)).1
 
 -- up to either of two ends, and up to the greater, are the same
 up_to_greater : (b c : Bound) (x : Fraction) → IsUpTo b x ⊎ IsUpTo c x → IsUpTo (greater_end b c) x

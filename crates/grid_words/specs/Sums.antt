@@ -3,9 +3,9 @@ use Rattle.std.specs.Prelude.{◌≡◌}
 use Rattle.std.proofs.Common.{refl, sym, subst, ap, ◌∙◌}
 use Rattle.fx_model.specs.Fraction.{Fraction, ◌+ℚ◌, ◌-ℚ◌, neg_ℚ, neg-le, neg-neg}
 use Rattle.fx_model.specs.Grid.{Bound, Below, At, Above, neg_bound}
-use Rattle.fx_model.specs.Enclosure.{Range, IsFrom, IsUpTo, Lies, IsOrdered, Negations, Sums, Differences, IsNegation, IsSum, IsDifference, LowSum, HighSum, sum_is, member_of, ordered_by}
-use Rattle.grid_words.specs.Nearest.{down, up, down_is, up_is, neg_bound-neg}
-use Rattle.grid_words.specs.Outward.{outward, outward_exact, enclosure_ordered, enclosure_same}
+use Rattle.fx_model.specs.Enclosure.{Range, IsFrom, IsUpTo, Lies, IsOrdered, Negations, Sums, Differences, IsNegation, IsSum, IsDifference, LowSum, HighSum, sum_is, member_of, ordered_by, enclosure_ordered, enclosure_same, mirror, lies_mirror, lies_mirrored, mirror_ordered}
+use Rattle.grid_words.specs.Nearest.{down, up, down_is, up_is}
+use Rattle.grid_words.specs.Outward.{outward, outward_exact}
 
 -- The lower end of the sums, and the upper.
 abbrev pub low_sum : Bound → Bound → Bound
@@ -26,10 +26,6 @@ high_sum Above c = Above
 pub sum_range : Range → Range → Range
 sum_range r s = record { low = low_sum r.low s.low; high = high_sum r.high s.high }
 
--- The interval of the negatives, as it is.
-abbrev pub mirror : Range → Range
-mirror r = record { low = neg_bound r.high; high = neg_bound r.low }
-
 -- The best interval of the differences.
 pub difference_range : Range → Range → Range
 difference_range r s = sum_range r (mirror s)
@@ -37,29 +33,6 @@ difference_range r s = sum_range r (mirror s)
 -- The best interval of the negatives.
 pub negation_range : Range → Range
 negation_range r = outward (mirror r)
-
--- ---- the other side of 0
-from_neg : (b : Bound) (x : Fraction) → IsUpTo b x → IsFrom (neg_bound b) (neg_ℚ x)
-from_neg Below x h = h
-from_neg (At g) x h = neg-le x g h
-from_neg Above x h = tt
-
-up_to_neg : (b : Bound) (x : Fraction) → IsFrom b x → IsUpTo (neg_bound b) (neg_ℚ x)
-up_to_neg Below x h = tt
-up_to_neg (At g) x h = neg-le g x h
-up_to_neg Above x h = h
-
-pub lies_mirror : (r : Range) (x : Fraction) → Lies r x → Lies (mirror r) (neg_ℚ x)
-lies_mirror r x l = (from_neg r.high x l.1, up_to_neg r.low x l.0)
-
-pub mirror-mirror : (r : Range) → mirror (mirror r) ≡ r
-mirror-mirror r = λ i. record { low = neg_bound-neg r.low i; high = neg_bound-neg r.high i }
-
-pub lies_mirrored : (r : Range) (x : Fraction) → Lies (mirror r) x → Lies r (neg_ℚ x)
-lies_mirrored r x l = subst (λ s. Lies s (neg_ℚ x)) (mirror-mirror r) (lies_mirror (mirror r) x l)
-
-pub mirror_ordered : (r : Range) → IsOrdered r.low r.high → IsOrdered (neg_bound r.high) (neg_bound r.low)
-mirror_ordered r o = let m = member_of r.low r.high o in let l = lies_mirror r m.0 (m.1, m.2) in ordered_by (neg_bound r.high) (neg_bound r.low) (neg_ℚ m.0) l.0 l.1
 
 -- ---- sums
 low_sum_is : (b c : Bound) → LowSum b c (low_sum b c)

@@ -3,11 +3,10 @@ use Rattle.std.specs.Prelude.{◌≡◌, ◌⊎◌}
 use Rattle.std.proofs.Common.{refl, sym, subst, ap, ◌∙◌, ⊎_elim, inl, inr}
 use Rattle.fx_model.specs.Fraction.{Fraction, ◌*ℚ◌, ◌≤ℚ◌, ◌<ℚ◌, zero_ℚ, neg_ℚ, le_trans, le_refl, le_or_lt, lt_le, mul-le, neg-mul}
 use Rattle.fx_model.specs.Grid.{Bound, At, IsDown, neg_bound}
-use Rattle.fx_model.specs.Enclosure.{Range, Lies, Products, IsInfimum, IsSupremum, IsOrdered, BoundLe, infimum_at, member_of}
-use Rattle.interval.specs.Ends.{mirror}
+use Rattle.fx_model.specs.Enclosure.{Range, Lies, Products, IsInfimum, IsSupremum, IsOrdered, BoundLe, infimum_at, member_of, mirror, lies_mirror, lies_mirrored, enclosure_ordered}
 use Rattle.grid_words.specs.Signs.{times_up, times_down, factor_down}
 use Rattle.interval.proofs.Inequalities.{down-le, bound_antisymm}
-use Rattle.interval.specs.Enclosures.{lies_mirror, lies_mirrored, supremum_neg, enclosure_ordered}
+use Rattle.interval.specs.Enclosures.{supremum_neg}
 
 least_is : (e f g : Bound) → BoundLe f g → BoundLe e f → (e ≡ f) ⊎ (e ≡ g) → e ≡ f
 least_is e f g h s (inl p) = p

@@ -52,12 +52,5 @@ down-le x y Above c l d e = absurd d
 pub below_by : (x y : Fraction) (b : Bool) → (x ≤ℚ y → IsTrue b) → b ≡ false → y ≤ℚ x
 below_by x y b f e = ⊎_elim (λ l. let t = f l in absurd (let n : true ≡ false = sym t ∙ e in cc)) (λ l. lt_le y x l) (le_or_lt x y)
 
--- ---- ends further out hold more
-pub from-le : (b c : Bound) (x : Fraction) → BoundLe b c → IsFrom c x → IsFrom b x
-from-le b c x l f = (within_in (record { low = c; high = Above }) (record { low = b; high = Above }) x (l, tt) (f, tt)).0
-
-pub up_to-le : (b c : Bound) (x : Fraction) → BoundLe b c → IsUpTo b x → IsUpTo c x
-up_to-le b c x l f = (within_in (record { low = Below; high = b }) (record { low = Below; high = c }) x (tt, l) (tt, f)).1
-
 pub bound_by : (b c : Bound) (t : Bool) → (BoundLe b c → IsTrue t) → t ≡ false → BoundLe c b
 bound_by b c t f e = bound_total b c (λ l. let k = f l in let n : true ≡ false = sym k ∙ e in cc)

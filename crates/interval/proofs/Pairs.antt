@@ -3,13 +3,12 @@ use Rattle.std.specs.Prelude.{◌≡◌, ◌⊎◌}
 use Rattle.std.proofs.Common.{sym, subst, ap, ⊎_elim, inl, inr}
 use Rattle.fx_model.specs.Fraction.{Fraction}
 use Rattle.fx_model.specs.Grid.{Bound, Below, At, Above}
-use Rattle.fx_model.specs.Enclosure.{Range, IsFrom, IsUpTo, Lies, IsInfimum, IsSupremum, IsOrdered, BoundLe, member_of, ordered_by}
+use Rattle.fx_model.specs.Enclosure.{Range, IsFrom, IsUpTo, Lies, IsInfimum, IsSupremum, IsOrdered, BoundLe, member_of, ordered_by, enclosure_ordered, from-le, up_to-le}
 use Rattle.dyadic.specs.declared.number.End.{End}
 use Rattle.dyadic.specs.Ends.{bound_of}
 use Rattle.dyadic.specs.Made.{IsGridBound}
 use Rattle.interval.specs.Pairs.{AreApart, IsCommon, Union, IsHull}
-use Rattle.interval.proofs.Inequalities.{from-le, up_to-le}
-use Rattle.interval.specs.Enclosures.{interval_enclosure, enclosure_ordered}
+use Rattle.interval.specs.Enclosures.{interval_enclosure}
 
 -- an end is one of two, at or outside each
 abbrev IsOne : Bound → Bound → Bound → Type 0

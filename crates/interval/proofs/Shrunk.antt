@@ -10,9 +10,8 @@ use Rattle.std.proofs.lemmas.Nat.{div-add-mod', mod_below, pow_pos}
 use lib.IntN.{neg_ℤ}
 use Rattle.fx_model.specs.Fraction.{Fraction, ◌≤ℚ◌, ◌<ℚ◌, neg_ℚ, le_refl, le_lt_trans, neg-le}
 use Rattle.fx_model.specs.Powers.{scaled, IsMultiple, scaled-le, scaled-lt, scaled-lt_out, scaled-shift}
-use Rattle.fx_model.specs.Grid.{Bound, Below, At, Above, IsOnGrid, neg_bound, scaled-neg}
+use Rattle.fx_model.specs.Grid.{Bound, Below, At, Above, IsOnGrid, neg_bound, scaled-neg, neg_over, neg_under, multiple-neg}
 use Rattle.interval.specs.Multiples.{IsMultipleDown, IsMultipleUp, IsEndDown, IsEndUp}
-use Rattle.interval.specs.Enclosures.{neg_over, neg_under}
 
 -- ---- a shift to the right
 shifted_up : (a s : ℕ) (e : ℤ) → (scaled (pos (a / 2 ^ s)) (e +ℤ pos s) ≤ℚ scaled (pos a) e) × (scaled (pos a) e <ℚ scaled (pos (a / 2 ^ s + 1)) (e +ℤ pos s))
@@ -91,9 +90,6 @@ pub multiple_above : (m k e : ℤ) (t : ℕ) → e ≡ k +ℤ pos t → IsMultip
 multiple_above m k e t p = (m *ℤ pos (2 ^ t), ap (λ z. scaled m z) p ∙ scaled-shift m k t)
 
 -- ---- by the negatives
-multiple-neg : (k : ℤ) (x : Fraction) → IsMultiple k x → IsMultiple k (neg_ℚ x)
-multiple-neg k x m = (neg_ℤ m.0, ap neg_ℚ m.1 ∙ sym (scaled-neg m.0 k))
-
 up_by : (k : ℤ) (x m : Fraction) → IsMultipleDown k (neg_ℚ x) m → IsMultipleUp k x (neg_ℚ m)
 up_by k x m d = record {
   multiple = multiple-neg k m d.multiple;

@@ -2,16 +2,13 @@
 use Rattle.std.specs.Prelude.{◌≡◌, ◌⊎◌, Bool, false, IsTrue}
 use Rattle.std.proofs.Common.{refl, sym, subst, ap, ◌∙◌, ⊎_elim}
 use Rattle.fx_model.specs.Fraction.{Fraction, ◌+ℚ◌, ◌*ℚ◌, ◌-ℚ◌, ◌≤ℚ◌, ◌<ℚ◌, zero_ℚ, one_ℚ, neg_ℚ, abs_ℚ, abs-from, abs-below, le_trans, le_refl, le_antisymm, le_or_lt, lt_le, lt_not, neg-neg, neg-mul, mul-le, minus_one, plus_one, zero-add, one-mul, add-le-add, lt_le_trans}
-use Rattle.fx_model.specs.Grid.{Bound, Below, At, Above, neg_bound}
-use Rattle.fx_model.specs.Enclosure.{Range, IsFrom, IsUpTo, Lies, Negations, Sizes, Squares, IsSquare, IsInfimum, IsSupremum, IsEnclosure, IsOrdered, BoundLe, infimum_at, supremum_at, member_of, ordered_by}
+use Rattle.fx_model.specs.Grid.{Bound, Below, At, Above, neg_bound, neg_bound-neg}
+use Rattle.fx_model.specs.Enclosure.{Range, IsFrom, IsUpTo, Lies, Negations, Sizes, Squares, IsSquare, IsInfimum, IsSupremum, IsEnclosure, IsOrdered, BoundLe, infimum_at, supremum_at, member_of, ordered_by, deep, far, low_lies, high_lies, from_neg, up_to_neg, enclosure_same, enclosure_ordered, from-le, up_to-le}
 use Rattle.interval.specs.Exact.{IsExact}
 use Rattle.interval.specs.Squares.{LowSquare, HighSquare}
-use Rattle.grid_words.specs.Signs.{neg_zero, neg_up, neg_down, mul-neg, times_up, zero_one}
-use Rattle.interval.proofs.Inequalities.{from-le, up_to-le, bound_by}
-use Rattle.interval.specs.Enclosures.{deep, far, low_lies, high_lies, from_neg, up_to_neg, neg_bound-neg, enclosure_same, enclosure_ordered}
-
-abs_down : (x : Fraction) → x ≤ℚ zero_ℚ → abs_ℚ x ≡ neg_ℚ x
-abs_down x h = ⊎_elim (λ l. let e : x ≡ zero_ℚ = le_antisymm x zero_ℚ h l in ap abs_ℚ e ∙ abs-from zero_ℚ (le_refl zero_ℚ) ∙ sym neg_zero ∙ ap neg_ℚ (sym e)) (λ l. abs-below x l) (le_or_lt zero_ℚ x)
+use Rattle.grid_words.specs.Signs.{neg_zero, neg_up, neg_down, mul-neg, times_up, zero_one, abs_down}
+use Rattle.interval.proofs.Inequalities.{bound_by}
+use Rattle.grid_words.specs.AbsoluteValues.{abs-square, abs-not_negative}
 
 pub sizes_up : (r : Range) → BoundLe (At zero_ℚ) r.low → IsExact (Sizes r) r
 sizes_up r p z = (λ l. (z, l, sym (abs-from z (from-le (At zero_ℚ) r.low z p l.0))), λ s. subst (λ y. Lies r y) (sym (s.2 ∙ abs-from s.0 (from-le (At zero_ℚ) r.low s.0 p s.1.0))) s.1)
@@ -48,12 +45,6 @@ sizes_ordered r t o e = let m = member_of r.low r.high o in let l = (e (abs_ℚ 
 -- ---- squares
 neg_square : (x : Fraction) → neg_ℚ x *ℚ neg_ℚ x ≡ x *ℚ x
 neg_square x = neg-mul x (neg_ℚ x) ∙ ap neg_ℚ (mul-neg x x) ∙ neg-neg (x *ℚ x)
-
-abs_square : (x : Fraction) → abs_ℚ x *ℚ abs_ℚ x ≡ x *ℚ x
-abs_square x = ⊎_elim (λ h. ap (λ y. y *ℚ y) (abs-from x h)) (λ h. ap (λ y. y *ℚ y) (abs-below x h) ∙ neg_square x) (le_or_lt zero_ℚ x)
-
-abs_up : (x : Fraction) → zero_ℚ ≤ℚ abs_ℚ x
-abs_up x = ⊎_elim (λ h. subst (λ y. zero_ℚ ≤ℚ y) (sym (abs-from x h)) h) (λ h. subst (λ y. zero_ℚ ≤ℚ y) (sym (abs-below x h)) (neg_up x (lt_le x zero_ℚ h))) (le_or_lt zero_ℚ x)
 
 square_le : (x y : Fraction) → zero_ℚ ≤ℚ x → x ≤ℚ y → (x *ℚ x) ≤ℚ (y *ℚ y)
 square_le x y h k = le_trans (x *ℚ x) (x *ℚ y) (y *ℚ y) (mul-le x x y h k) (times_up x y y k (le_trans zero_ℚ x y h k))
@@ -93,9 +84,9 @@ module _ (s : Range) (o : IsOrdered s.low s.high) (up : (y : Fraction) → Lies 
 module _ (r s t : Range) (o : IsOrdered s.low s.high) (e : IsExact (Sizes r) s) where
   pub square_is : LowSquare s.low t.low → HighSquare s.high t.high → IsSquare r t
   square_is l h = enclosure_same (Squares s) (Squares r) t
-      (λ z q. let n = (e q.0).0 q.1 in (n.0, n.1, q.2 ∙ ap (λ y. y *ℚ y) n.2 ∙ abs_square n.0))
-      (λ z q. (abs_ℚ q.0, (e (abs_ℚ q.0)).1 (q.0, q.1, refl), q.2 ∙ sym (abs_square q.0)))
-      (squares_are s o (λ y m. let n = (e y).0 m in subst (λ y. zero_ℚ ≤ℚ y) (sym n.2) (abs_up n.0)) t l h)
+      (λ z q. let n = (e q.0).0 q.1 in (n.0, n.1, q.2 ∙ ap (λ y. y *ℚ y) n.2 ∙ abs-square n.0))
+      (λ z q. (abs_ℚ q.0, (e (abs_ℚ q.0)).1 (q.0, q.1, refl), q.2 ∙ sym (abs-square q.0)))
+      (squares_are s o (λ y m. let n = (e y).0 m in subst (λ y. zero_ℚ ≤ℚ y) (sym n.2) (abs-not_negative n.0)) t l h)
 
   pub square_ordered : IsSquare r t → IsOrdered t.low t.high
   square_ordered q = let m = member_of s.low s.high o in let n = (e m.0).0 (m.1, m.2) in enclosure_ordered (Squares r) t (n.0 *ℚ n.0) (n.0, n.1, refl) q

@@ -18,10 +18,6 @@ AreEnds lo hi = IsOrdered (bound_of lo) (bound_of hi)
 pub AreEnds-prop : (lo hi : End) → IsProp (AreEnds lo hi)
 AreEnds-prop lo hi = IsOrdered-prop (bound_of lo) (bound_of hi)
 
--- The interval of the negatives.
-abbrev pub mirror : Range → Range
-mirror r = record { low = neg_bound r.high; high = neg_bound r.low }
-
 -- The number at a finite end; none where it is infinite.
 abbrev pub IsNumberOf : Bound → Option Dyadic → Type 0
 IsNumberOf b (Some d) = b ≡ At (value_of d)

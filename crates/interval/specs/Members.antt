@@ -2,8 +2,8 @@
 use Rattle.std.specs.Prelude.{◌≡◌, ◌&&◌, Bool, true, false, refl}
 use Rattle.std.proofs.Common.{sym, subst, ⊎_elim}
 use Rattle.fx_model.specs.Fraction.{Fraction, ◌+ℚ◌, ◌-ℚ◌, ◌≤ℚ◌, zero_ℚ, one_ℚ, le_refl, le_trans, lt_le, lt_not, le_or_lt, minus_one, plus_one}
-use Rattle.fx_model.specs.Grid.{Bound, Below, At, Above}
-use Rattle.fx_model.specs.Enclosure.{Range, IsOrdered, IsFrom, IsUpTo, Lies, BoundLe, Within, IsInfimum, IsSupremum, in_enclosure, member_of, within_in}
+use Rattle.fx_model.specs.Grid.{Bound, Below, At, Above, IsDown, IsUp}
+use Rattle.fx_model.specs.Enclosure.{Range, IsOrdered, IsFrom, IsUpTo, Lies, BoundLe, Within, IsInfimum, IsSupremum, in_enclosure, member_of, within_in, lower_up_to, higher_from, end_up_to, end_from}
 use Rattle.dyadic.specs.Order.{le_bound}
 use Rattle.dyadic.specs.Compared.{BoundLe_in, BoundLe_out}
 use Rattle.dyadic.specs.Ends.{bound_of}
@@ -24,27 +24,20 @@ between (At g) (At h) x p q = le_trans g x h p q
 between (At g) Above x p q = tt
 between Above c x p q = absurd p
 
-pub up_to_later : (b c : Bound) (x : Fraction) → BoundLe b c → IsUpTo b x → IsUpTo c x
-up_to_later Below c x l q = absurd q
-up_to_later (At g) Below x l q = l
-up_to_later (At g) (At h) x l q = le_trans x g h q l
-up_to_later (At g) Above x l q = tt
-up_to_later Above Below x l q = l
-up_to_later Above (At h) x l q = absurd l
-up_to_later Above Above x l q = tt
-
-pub from_sooner : (b c : Bound) (x : Fraction) → BoundLe b c → IsFrom c x → IsFrom b x
-from_sooner Below c x l p = tt
-from_sooner (At g) Below x l p = absurd l
-from_sooner (At g) (At h) x l p = le_trans g h x l p
-from_sooner (At g) Above x l p = absurd p
-from_sooner Above Below x l p = l
-from_sooner Above (At h) x l p = l
-from_sooner Above Above x l p = p
-
 -- a number lies in its own interval
 pub alone_lies : (x : Fraction) → Lies (range_of (point_of x)) x
 alone_lies x = in_enclosure (Alone x) (range_of (point_of x)) x (point_of-is x) refl
+
+-- the ends of a number's own interval are its roundings
+pub alone_down : (x : Fraction) (b : Bound) → IsInfimum (Alone x) b → IsDown x b
+alone_down x Below i = λ h o l. i h o (λ y e. subst (λ z. h ≤ℚ z) (sym e) l)
+alone_down x (At g) i = (i.0, i.1 x refl, λ h o l. i.2 h o (λ y e. subst (λ z. h ≤ℚ z) (sym e) l))
+alone_down x Above i = i
+
+pub alone_up : (x : Fraction) (b : Bound) → IsSupremum (Alone x) b → IsUp x b
+alone_up x Below i = i
+alone_up x (At g) i = (i.0, i.1 x refl, λ h o l. i.2 h o (λ y e. subst (λ z. z ≤ℚ h) (sym e) l))
+alone_up x Above i = λ h o l. i h o (λ y e. subst (λ z. z ≤ℚ h) (sym e) l)
 
 -- ---- tests for a number
 from_le : (b : Bound) (x : Fraction) → IsFrom b x → BoundLe b (At x)
@@ -66,26 +59,6 @@ pub number_test : (r : Range) (x : Fraction) → Lies r x → (le_bound r.low (A
 number_test r x l = rw (BoundLe_out r.low (At x) (from_le r.low x l.0)) (BoundLe_out (At x) r.high (to_le r.high x l.1))
 
 -- ---- intervals within intervals, by what lies in them
-lower_up_to : (c : Bound) (x y : Fraction) → x ≤ℚ y → IsUpTo c y → IsUpTo c x
-lower_up_to Below x y l u = u
-lower_up_to (At h) x y l u = le_trans x y h l u
-lower_up_to Above x y l u = tt
-
-higher_from : (c : Bound) (x y : Fraction) → y ≤ℚ x → IsFrom c y → IsFrom c x
-higher_from Below x y l u = tt
-higher_from (At h) x y l u = le_trans h y x u l
-higher_from Above x y l u = u
-
-end_up_to : (g : Fraction) (c : Bound) → IsOrdered (At g) c → IsUpTo c g
-end_up_to g Below o = o
-end_up_to g (At h) o = o
-end_up_to g Above o = tt
-
-end_from : (c : Bound) (g : Fraction) → IsOrdered c (At g) → IsFrom c g
-end_from Below g o = tt
-end_from (At h) g o = o
-end_from Above g o = o
-
 low_by_members : (b c p : Bound) → IsOrdered b c → ((x : Fraction) → IsFrom b x → IsUpTo c x → IsFrom p x) → BoundLe p b
 low_by_members b c Below o f = tt
 low_by_members (At g) c (At h) o f = f g (le_refl g) (end_up_to g c o)

@@ -3,9 +3,9 @@ use Rattle.std.specs.Prelude.{◌≡◌, Option, Some, refl}
 use Rattle.std.proofs.Common.{sym, ap, subst, ◌∙◌}
 use Rattle.fx_model.specs.Fraction.{Fraction}
 use Rattle.fx_model.specs.Grid.{Bound, Below, At, Above, IsDown, IsUp}
-use Rattle.fx_model.specs.Enclosure.{Range, Lies, IsEnclosure, IsOrdered, Within, member_of, ordered_by, in_enclosure, enclosure_isotone, enclosure_unique}
+use Rattle.fx_model.specs.Enclosure.{Range, Lies, IsEnclosure, IsOrdered, Within, member_of, ordered_by, in_enclosure, enclosure_isotone, enclosure_unique, enclosure_ordered}
 use Rattle.grid_words.specs.Nearest.{down, up, down_is, up_is, down_grid, up_grid}
-use Rattle.grid_words.specs.Outward.{down_end, up_end, outward, outward_is, enclosure_ordered}
+use Rattle.grid_words.specs.Outward.{down_end, up_end, outward, outward_is}
 use Rattle.dyadic.specs.declared.number.End.{End}
 use Rattle.dyadic.specs.Ends.{bound_of, same_bound}
 use Rattle.dyadic.specs.Made.{IsGridBound, end_of, end_of-bound, grid_bound}

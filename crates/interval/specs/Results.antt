@@ -3,10 +3,10 @@ use Rattle.std.specs.Prelude.{◌≡◌, ◌⊎◌, Bool, true, false, not, ◌&
 use Rattle.std.proofs.Common.{sym, ap, ◌∙◌, subst, inl, inr, ⊎_elim}
 use Rattle.fx_model.specs.Fraction.{Fraction, zero_ℚ, ◌≤ℚ◌, le_refl, le_antisymm}
 use Rattle.fx_model.specs.Grid.{Bound, Below, At, Above}
-use Rattle.fx_model.specs.Enclosure.{Range, IsOrdered, IsFrom, IsUpTo, Lies, BoundLe, IsEnclosure, IsInfimum, IsSupremum, Sums, Differences, Negations, Sizes, Products, Quotients, IsFinite, whole_line, IsNegation, IsSize, IsSum, IsDifference, IsProduct, IsQuotient, enclosure_unique, product_unique, finite_or}
+use Rattle.fx_model.specs.Enclosure.{Range, IsOrdered, IsFrom, IsUpTo, Lies, BoundLe, IsEnclosure, IsInfimum, IsSupremum, Sums, Differences, Negations, Sizes, Products, Quotients, IsFinite, whole_line, IsNegation, IsSize, IsSum, IsDifference, IsProduct, IsQuotient, enclosure_unique, product_unique, finite_or, enclosure_ordered}
 use Rattle.grid_words.specs.Sums.{sum_range, sum_range_is, sum_range_ordered, difference_range, difference_range_is, difference_range_ordered, negation_range, negation_range_is, negation_range_ordered}
 use Rattle.grid_words.specs.Sizes.{size_range, size_range_is, size_range_ordered}
-use Rattle.grid_words.specs.Outward.{outward, outward_exact, enclosure_ordered}
+use Rattle.grid_words.specs.Outward.{outward, outward_exact}
 use Rattle.grid_words.specs.Products.{product_range, product_range_is, product_range_ordered, quotient_range, quotient_range_is, quotient_range_ordered}
 use Rattle.dyadic.specs.Ends.{bound_of}
 use Rattle.dyadic.specs.Order.{le_bound}

@@ -5,12 +5,11 @@ use Rattle.std.proofs.lemmas.Int.{ints}
 use lib.IntN.{neg_ℤ}
 use Rattle.fx_model.specs.Fraction.{Fraction, ◌*ℚ◌, ◌≤ℚ◌, ◌+ℚ◌, ◌-ℚ◌, zero_ℚ, one_ℚ, neg_ℚ, le_trans, le_refl, lt_le, lt_not, mul_assoc, mul_comm, one-mul, floor_ℚ, minus_one, plus_one}
 use Rattle.fx_model.specs.Powers.{whole, two_to, scaled, IsMultiple, scaled-zero, two_to-add, two_to-pos, two_to-positive, one-whole, floor_low}
-use Rattle.fx_model.specs.Grid.{Bound, Below, At, Above, scaled-neg}
-use Rattle.fx_model.specs.Enclosure.{Range, IsFrom, IsUpTo, Lies, MultiplesIn, IsInfimum, IsSupremum, IsEnclosure, IsOrdered, infimum_at, supremum_at, member_of, ordered_by}
+use Rattle.fx_model.specs.Grid.{Bound, Below, At, Above, scaled-neg, neg_over}
+use Rattle.fx_model.specs.Enclosure.{Range, IsFrom, IsUpTo, Lies, MultiplesIn, IsInfimum, IsSupremum, IsEnclosure, IsOrdered, infimum_at, supremum_at, member_of, ordered_by, deep, far, low_lies, high_lies, lower_up_to, higher_from}
 use Rattle.dyadic.specs.Made.{IsGridBound}
 use Rattle.interval.specs.Multiples.{IsEndDown, IsEndUp}
 use Rattle.grid_words.specs.Signs.{times_up}
-use Rattle.interval.specs.Enclosures.{deep, far, low_lies, high_lies, neg_over}
 
 -- ---- the ends moved to multiples keep the multiples
 from_up : (k : ℤ) (b c : Bound) (x : Fraction) → IsEndUp k b c → IsMultiple k x → IsFrom b x → IsFrom c x
@@ -65,16 +64,6 @@ multiple_below k x = let m = floor_ℚ (x *ℚ two_to (neg_ℤ k)) in (
 multiple_over : (k : ℤ) (x : Fraction) → (m : ℤ) × (x ≤ℚ scaled m k)
 multiple_over k x = let d = multiple_below k (neg_ℚ x) in (neg_ℤ d.0, subst (λ y. x ≤ℚ y) (sym (scaled-neg d.0 k)) (neg_over (scaled d.0 k) x d.1))
 
-up_to_below : (b : Bound) (x y : Fraction) → x ≤ℚ y → IsUpTo b y → IsUpTo b x
-up_to_below Below x y l u = u
-up_to_below (At g) x y l u = le_trans x y g l u
-up_to_below Above x y l u = u
-
-from_over : (b : Bound) (x y : Fraction) → y ≤ℚ x → IsFrom b y → IsFrom b x
-from_over Below x y l u = u
-from_over (At g) x y l u = le_trans g y x u l
-from_over Above x y l u = u
-
 low_open : (k : ℤ) (b : Bound) → IsEndUp k b Below → b ≡ Below
 low_open k Below u = refl
 low_open k (At g) u = absurd u
@@ -110,7 +99,7 @@ module _ (k : ℤ) (r t : Range) (o : IsOrdered r.low r.high) (u : IsEndUp k r.l
   shrink_low Below p g i = λ h q c. let m = member_of r.low r.high o in let e = low_open k r.low (subst (λ e. IsEndUp k r.low e) p u) in
       let d = deep r m.0 (h -ℚ one_ℚ) e (m.1, m.2) in let n = multiple_below k d.0 in
       lt_not (h -ℚ one_ℚ) h (minus_one h) (le_trans h (scaled n.0 k) (h -ℚ one_ℚ)
-      (c (scaled n.0 k) ((subst (λ e. IsFrom e (scaled n.0 k)) (sym e) tt, up_to_below r.high (scaled n.0 k) d.0 n.1 d.1.1), (n.0, refl))) (le_trans (scaled n.0 k) d.0 (h -ℚ one_ℚ) n.1 d.2))
+      (c (scaled n.0 k) ((subst (λ e. IsFrom e (scaled n.0 k)) (sym e) tt, lower_up_to r.high (scaled n.0 k) d.0 n.1 d.1.1), (n.0, refl))) (le_trans (scaled n.0 k) d.0 (h -ℚ one_ℚ) n.1 d.2))
   shrink_low (At m) p g i = infimum_at (MultiplesIn k r) m (At m) (lies_out m (low_lies t m i p), low_multiple k r.low m (subst (λ e. IsEndUp k r.low e) p u))
       (λ x n. subst (λ e. IsFrom e x) p (multiple_in x n).0) (g, le_refl m, λ h q l. l)
   shrink_low Above p g i = subst (λ e. IsOrdered e t.high) p i
@@ -119,7 +108,7 @@ module _ (k : ℤ) (r t : Range) (o : IsOrdered r.low r.high) (u : IsEndUp k r.l
   shrink_high Above p g i = λ h q c. let m = member_of r.low r.high o in let e = high_open k r.high (subst (λ e. IsEndDown k r.high e) p v) in
       let d = far r m.0 (h +ℚ one_ℚ) e (m.1, m.2) in let n = multiple_over k d.0 in
       lt_not h (h +ℚ one_ℚ) (plus_one h) (le_trans (h +ℚ one_ℚ) (scaled n.0 k) h (le_trans (h +ℚ one_ℚ) d.0 (scaled n.0 k) d.2 n.1)
-      (c (scaled n.0 k) ((from_over r.low (scaled n.0 k) d.0 n.1 d.1.0, subst (λ e. IsUpTo e (scaled n.0 k)) (sym e) tt), (n.0, refl))))
+      (c (scaled n.0 k) ((higher_from r.low (scaled n.0 k) d.0 n.1 d.1.0, subst (λ e. IsUpTo e (scaled n.0 k)) (sym e) tt), (n.0, refl))))
   shrink_high (At m) p g i = supremum_at (MultiplesIn k r) m (At m) (lies_out m (high_lies t m i p), high_multiple k r.high m (subst (λ e. IsEndDown k r.high e) p v))
       (λ x n. subst (λ e. IsUpTo e x) p (multiple_in x n).1) (g, le_refl m, λ h q l. l)
   shrink_high Below p g i = let n = member_of t.low t.high i in subst (λ e. IsUpTo e n.0) p n.2

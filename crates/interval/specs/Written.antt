@@ -8,7 +8,7 @@ use lib.IntN.{neg_ℤ}
 use Rattle.fx_model.specs.Fraction.{Fraction, ◌*ℚ◌, ◌≤ℚ◌, zero_ℚ, one_ℚ, neg_ℚ, inverse_ℚ, le_refl, mul_comm, mul_assoc, one-mul, mul-inverse}
 use Rattle.fx_model.specs.Powers.{whole, two_to, scaled, whole-mul, one-whole}
 use Rattle.fx_model.specs.Grid.{Bound, IsDown, IsUp, signed, scaled-neg}
-use Rattle.fx_model.specs.Enclosure.{IsEnclosure, IsOrdered, infimum_at, supremum_at}
+use Rattle.fx_model.specs.Enclosure.{IsEnclosure, IsOrdered, infimum_at, supremum_at, enclosure_ordered}
 use Rattle.fx_model.specs.Expression.{literal_value, ten_to}
 use Rattle.fx_model.specs.declared.Literal.{Literal}
 use Rattle.literal.specs.Normal.{IsNormal}
@@ -16,7 +16,6 @@ use Rattle.literal.specs.Limits.{bounded}
 use Rattle.interval.specs.Literals.{Alone}
 use Rattle.literal.specs.Tens.{whole_positive, pow_positive}
 use Rattle.grid_words.specs.Signs.{mul-neg, not_zero}
-use Rattle.interval.specs.Enclosures.{enclosure_ordered}
 
 -- ---- the value as a quotient
 parts_up : (l : Literal) (k n : ℕ) → l.ten ≡ pos k → n ≡ l.num * 10 ^ k → whole (pos 1) *ℚ literal_value l ≡ scaled (pos n) l.two

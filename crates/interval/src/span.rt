@@ -1,5 +1,6 @@
 ghost use Rattle.std.specs.Prelude.{◌≡◌};
 ghost use Rattle.fx_model.specs.Fraction.{◌≤ℚ◌, Le-prop, neg_ℚ};
+ghost use Rattle.fx_model.specs.Enclosure.{mirror};
 ghost use Rattle.dyadic.specs.Values.{value_of};
 
 use dyadic::Dyadic;
@@ -14,7 +15,6 @@ pub struct Span {
 
 impl Span {
     ghost use Rattle.interval.specs.Spans.{span_of};
-    ghost use Rattle.interval.specs.Ends.{mirror};
 
     // The negatives of its numbers.
     #[inline(always)]

@@ -3,13 +3,13 @@ use Rattle.std.proofs.Common.{◌≡◌, ℕ, zero, suc, ◌+◌, ◌*◌, ◌/�
 use Rattle.std.proofs.lemmas.Int.{ints, by_lt_z}
 use Rattle.std.proofs.Math.Nat.{pow-succ'}
 use Rattle.std.proofs.lemmas.Nat.{pow-add, mul-pow, mul-mod, mod-mul-add}
-use Rattle.fx_model.specs.Fraction.{◌*ℚ◌, ◌≤ℚ◌, ◌<ℚ◌, zero_ℚ, inverse_ℚ, mul-inverse, mul_comm, mul_assoc, mul_cancel, le_refl}
+use Rattle.fx_model.specs.Fraction.{◌*ℚ◌, ◌≤ℚ◌, ◌<ℚ◌, zero_ℚ, inverse_ℚ, mul-inverse, mul_comm, mul_assoc, mul_cancel, mul-one, le_refl}
 use Rattle.fx_model.specs.Powers.{whole, two_to, scaled, scaled-shift, scaled-le_out, whole-mul, IsMultiple}
 use Rattle.fx_model.specs.Expression.{literal_value}
 use Rattle.fx_model.specs.Cut.Gaps.{gap_le}
 use Rattle.fx_model.specs.declared.Literal.{Literal}
 use Rattle.literal.specs.Normal.{IsFix, IsCapped}
-use Rattle.literal.specs.Tens.{whole_positive, pow_positive, not_zero, mul_one}
+use Rattle.literal.specs.Tens.{whole_positive, pow_positive, not_zero}
 
 -- ---- an odd number times 2^k is a multiple of 2^j where j is at most k, and of no other
 scaled_same : (m n e : ℤ) → scaled m e ≡ scaled n e → m ≡ n
@@ -99,7 +99,7 @@ module _ (num d : ℕ) where
 
   pub part_times : whole (pos (10 ^ (d + 1))) *ℚ literal_value part ≡ scaled (pos num) (pos 0)
   part_times = mul_comm (whole (pos (10 ^ (d + 1)))) (literal_value part) ∙ mul_assoc (scaled (pos num) (pos 0)) (inverse_ℚ (whole (pos (10 ^ (d + 1))))) (whole (pos (10 ^ (d + 1))))
-      ∙ ap (λ y. scaled (pos num) (pos 0) *ℚ y) (mul_comm (inverse_ℚ (whole (pos (10 ^ (d + 1))))) (whole (pos (10 ^ (d + 1)))) ∙ mul-inverse (whole (pos (10 ^ (d + 1)))) (not_zero (whole (pos (10 ^ (d + 1)))) power_positive)) ∙ mul_one (scaled (pos num) (pos 0))
+      ∙ ap (λ y. scaled (pos num) (pos 0) *ℚ y) (mul_comm (inverse_ℚ (whole (pos (10 ^ (d + 1))))) (whole (pos (10 ^ (d + 1)))) ∙ mul-inverse (whole (pos (10 ^ (d + 1)))) (not_zero (whole (pos (10 ^ (d + 1)))) power_positive)) ∙ mul-one (scaled (pos num) (pos 0))
 
   times : (m k : ℤ) → whole (pos (10 ^ (d + 1))) *ℚ scaled m k ≡ scaled (pos (10 ^ (d + 1)) *ℤ m) k
   times m k = sym (mul_assoc (whole (pos (10 ^ (d + 1)))) (whole m) (two_to k)) ∙ ap (λ y. y *ℚ two_to k) (sym (whole-mul (pos (10 ^ (d + 1))) m))

@@ -4,7 +4,7 @@ use Rattle.std.proofs.lemmas.Int.{ints}
 use Rattle.std.proofs.Math.Nat.{one-le-pow, pow-succ', pow-le-pow_right}
 use Rattle.std.proofs.lemmas.Int.Digits.{digits_value-lt}
 use Rattle.std.specs.Str.Parse.{AllDigits, digits_value}
-use Rattle.fx_model.specs.Fraction.{Fraction, ◌*ℚ◌, ◌<ℚ◌, zero_ℚ, one_ℚ, ◌≤ℚ◌, inverse_ℚ, mul-inverse, mul_comm, mul_assoc, mul_cancel, one-mul, zero-mul, lt_not, le_refl}
+use Rattle.fx_model.specs.Fraction.{Fraction, ◌*ℚ◌, ◌<ℚ◌, zero_ℚ, one_ℚ, ◌≤ℚ◌, inverse_ℚ, mul-inverse, mul_comm, mul_assoc, mul_cancel, one-mul, mul-one, zero-mul, lt_not, le_refl}
 use Rattle.fx_model.specs.Powers.{whole, two_to, scaled-shift, whole-mul, whole-lt, zero-whole, one-whole}
 use Rattle.fx_model.specs.Expression.{ten_to, literal_value}
 use Rattle.fx_model.specs.declared.Literal.{Literal}
@@ -18,18 +18,15 @@ whole_positive n h = subst (λ z. z <ℚ whole (pos n)) (sym zero-whole) (whole-
 pub not_zero : (x : Fraction) → zero_ℚ <ℚ x → x ≡ zero_ℚ → ⊥
 not_zero x h e = lt_not zero_ℚ x h (subst (λ y. y ≤ℚ zero_ℚ) (sym e) (le_refl zero_ℚ))
 
-pub mul_one : (x : Fraction) → x *ℚ one_ℚ ≡ x
-mul_one x = mul_comm x one_ℚ ∙ one-mul x
-
 -- 1 / b is a * (1 / (a * b))
 inverse_times : (a b c : Fraction) → c ≡ a *ℚ b → zero_ℚ <ℚ b → zero_ℚ <ℚ c → inverse_ℚ b ≡ a *ℚ inverse_ℚ c
 inverse_times a b c e h k = mul_cancel c (inverse_ℚ b) (a *ℚ inverse_ℚ c) k (left ∙ sym right)
   where
     left : c *ℚ inverse_ℚ b ≡ a
-    left = ap (λ y. y *ℚ inverse_ℚ b) e ∙ mul_assoc a b (inverse_ℚ b) ∙ ap (λ y. a *ℚ y) (mul-inverse b (not_zero b h)) ∙ mul_one a
+    left = ap (λ y. y *ℚ inverse_ℚ b) e ∙ mul_assoc a b (inverse_ℚ b) ∙ ap (λ y. a *ℚ y) (mul-inverse b (not_zero b h)) ∙ mul-one a
 
     right : c *ℚ (a *ℚ inverse_ℚ c) ≡ a
-    right = sym (mul_assoc c a (inverse_ℚ c)) ∙ ap (λ y. y *ℚ inverse_ℚ c) (mul_comm c a) ∙ mul_assoc a c (inverse_ℚ c) ∙ ap (λ y. a *ℚ y) (mul-inverse c (not_zero c k)) ∙ mul_one a
+    right = sym (mul_assoc c a (inverse_ℚ c)) ∙ ap (λ y. y *ℚ inverse_ℚ c) (mul_comm c a) ∙ mul_assoc a c (inverse_ℚ c) ∙ ap (λ y. a *ℚ y) (mul-inverse c (not_zero c k)) ∙ mul-one a
 
 pub pow_step : (b k : ℕ) → b ^ (k + 1) ≡ b * b ^ k
 pow_step b k = let e : k + 1 ≡ suc k = omega arith in ap (λ n. b ^ n) e ∙ pow-succ' b k

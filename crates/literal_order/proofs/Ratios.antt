@@ -2,7 +2,7 @@
 use Rattle.std.proofs.Common.{◌≡◌, ℕ, ℤ, pos, ◌+ℤ◌, ◌*◌, ◌^◌, ◌<◌, nat_lt, Bool, IsTrue, ◌↔◌, sym, ap, ◌∙◌, subst, arith}
 use Rattle.std.proofs.lemmas.Int.{ints}
 use Rattle.std.proofs.lemmas.Bool.{ltb-true, lt-ltb}
-use Rattle.fx_model.specs.Fraction.{Fraction, ◌*ℚ◌, ◌≤ℚ◌, ◌<ℚ◌, zero_ℚ, lt_by, lt_not, lt_le, mul-le_cancel, mul-lt_cancel, mul_comm, mul_assoc, zero-mul}
+use Rattle.fx_model.specs.Fraction.{Fraction, ◌*ℚ◌, ◌≤ℚ◌, ◌<ℚ◌, zero_ℚ, lt_by, lt_not, lt_le, mul-le_cancel, mul-lt, mul-lt_cancel, mul_comm, mul_assoc, zero-mul}
 use Rattle.literal.specs.Tens.{whole_positive}
 use Rattle.fx_model.specs.Powers.{whole, two_to, scaled, whole-mul, scaled-lt, scaled-lt_out, scaled-le, scaled-shift, scaled-zero}
 
@@ -14,9 +14,6 @@ pub record IsRatio (v : Fraction) (n d : ℕ) (t : ℤ) : Type 0 where
 times_whole : (n d : ℕ) (t : ℤ) → whole (pos d) *ℚ scaled (pos n) t ≡ scaled (pos (n * d)) t
 times_whole n d t = sym (mul_assoc (whole (pos d)) (whole (pos n)) (two_to t)) ∙ ap (λ x. x *ℚ two_to t) (mul_comm (whole (pos d)) (whole (pos n)) ∙ sym (whole-mul (pos n) (pos d)))
 
-lt_times : (z x y : Fraction) → zero_ℚ <ℚ z → x <ℚ y → z *ℚ x <ℚ z *ℚ y
-lt_times z x y p l = lt_by (z *ℚ x) (z *ℚ y) (λ h. lt_not x y l (mul-le_cancel z y x p h))
-
 -- two of them compare as their numbers across, at their places
 pub across : (x y : Fraction) (n d m e : ℕ) (t u : ℤ) → IsRatio x n d t → IsRatio y m e u → scaled (pos (n * e)) t <ℚ scaled (pos (m * d)) u ↔ x <ℚ y
 across x y n d m e t u a b =
@@ -26,7 +23,7 @@ across x y n d m e t u a b =
     let g : whole (pos e) *ℚ (whole (pos d) *ℚ y) ≡ scaled (pos (m * d)) u =
     sym (mul_assoc (whole (pos e)) (whole (pos d)) y) ∙ ap (λ z. z *ℚ y) (mul_comm (whole (pos e)) (whole (pos d))) ∙ mul_assoc (whole (pos d)) (whole (pos e)) y ∙ ap (λ z. whole (pos d) *ℚ z) b.value ∙ times_whole m d u in (
       λ h. mul-lt_cancel (whole (pos d)) x y (lt_le zero_ℚ (whole (pos d)) p) (mul-lt_cancel (whole (pos e)) (whole (pos d) *ℚ x) (whole (pos d) *ℚ y) (lt_le zero_ℚ (whole (pos e)) q) (subst (λ z. z <ℚ whole (pos e) *ℚ (whole (pos d) *ℚ y)) (sym f) (subst (λ z. scaled (pos (n * e)) t <ℚ z) (sym g) h))),
-      λ h. subst (λ z. z <ℚ scaled (pos (m * d)) u) f (subst (λ z. whole (pos e) *ℚ (whole (pos d) *ℚ x) <ℚ z) g (lt_times (whole (pos e)) (whole (pos d) *ℚ x) (whole (pos d) *ℚ y) q (lt_times (whole (pos d)) x y p h))),
+      λ h. subst (λ z. z <ℚ scaled (pos (m * d)) u) f (subst (λ z. whole (pos e) *ℚ (whole (pos d) *ℚ x) <ℚ z) g (mul-lt (whole (pos e)) (whole (pos d) *ℚ x) (whole (pos d) *ℚ y) q (mul-lt (whole (pos d)) x y p h))),
     )
 
 -- ---- at one place
@@ -60,7 +57,7 @@ some_size x n d t a =
     let p = whole_positive d a.some in
     let s = at_place 0 n t in (
       λ h. mul-lt_cancel (whole (pos d)) zero_ℚ x (lt_le zero_ℚ (whole (pos d)) p) (subst (λ z. z <ℚ whole (pos d) *ℚ x) (sym (times_zero d)) (subst (λ z. zero_ℚ <ℚ z) (sym a.value) (subst (λ z. z <ℚ scaled (pos n) t) (scaled-zero t) (s.0 h)))),
-      λ h. s.1 (subst (λ z. z <ℚ scaled (pos n) t) (sym (scaled-zero t)) (subst (λ z. zero_ℚ <ℚ z) a.value (subst (λ z. z <ℚ whole (pos d) *ℚ x) (times_zero d) (lt_times (whole (pos d)) zero_ℚ x p h)))),
+      λ h. s.1 (subst (λ z. z <ℚ scaled (pos n) t) (sym (scaled-zero t)) (subst (λ z. zero_ℚ <ℚ z) a.value (subst (λ z. z <ℚ whole (pos d) *ℚ x) (times_zero d) (mul-lt (whole (pos d)) zero_ℚ x p h)))),
     )
 
 pub tested : (n : ℕ) (P : Type 0) → 0 < n ↔ P → IsTrue (nat_lt 0 n) ↔ P

@@ -2,29 +2,7 @@
 use Rattle.std.specs.Prelude.{◌≡◌, ℕ, ◌+◌}
 use Rattle.std.proofs.Common.{arith, sym, ap, ◌∙◌, zero, suc}
 use Rattle.fx_model.specs.Fraction.{Fraction, ◌+ℚ◌, ◌-ℚ◌, ◌*ℚ◌, ◌/ℚ◌, inverse_ℚ, neg_ℚ, zero_ℚ, one_ℚ, add_comm, add_assoc, zero-add, add-neg, mul_comm, mul_assoc, one-mul, zero-mul, mul-add, neg-mul, mul-inverse, div-mul}
-
-pub add-zero : (x : Fraction) → x +ℚ zero_ℚ ≡ x
-add-zero x = add_comm x zero_ℚ ∙ zero-add x
-
-pub mul-one : (x : Fraction) → x *ℚ one_ℚ ≡ x
-mul-one x = mul_comm x one_ℚ ∙ one-mul x
-
-pub mul-zero : (x : Fraction) → x *ℚ zero_ℚ ≡ zero_ℚ
-mul-zero x = mul_comm x zero_ℚ ∙ zero-mul x
-
-pub add-mul : (x y z : Fraction) → (x +ℚ y) *ℚ z ≡ (x *ℚ z) +ℚ (y *ℚ z)
-add-mul x y z = mul_comm (x +ℚ y) z ∙ mul-add z x y ∙ ap (λ u. u +ℚ (z *ℚ y)) (mul_comm z x) ∙ ap (λ u. (x *ℚ z) +ℚ u) (mul_comm z y)
-
-pub mul-neg : (x y : Fraction) → x *ℚ neg_ℚ y ≡ neg_ℚ (x *ℚ y)
-mul-neg x y = mul_comm x (neg_ℚ y) ∙ neg-mul y x ∙ ap neg_ℚ (mul_comm y x)
-
--- x(yz) = y(xz)
-pub left_swap : (x y z : Fraction) → x *ℚ (y *ℚ z) ≡ y *ℚ (x *ℚ z)
-left_swap x y z = sym (mul_assoc x y z) ∙ ap (λ u. u *ℚ z) (mul_comm x y) ∙ mul_assoc y x z
-
--- (ab)(cd) = (ac)(bd)
-pub middle_swap : (a b c d : Fraction) → (a *ℚ b) *ℚ (c *ℚ d) ≡ (a *ℚ c) *ℚ (b *ℚ d)
-middle_swap a b c d = mul_assoc a b (c *ℚ d) ∙ ap (λ u. a *ℚ u) (left_swap b c d) ∙ sym (mul_assoc a c (b *ℚ d))
+pub use Rattle.fx_model.specs.Fraction.{add-zero, mul-one, mul-zero, add-mul, mul-neg, left_swap, middle_products}
 
 -- x + (y + z) = y + (x + z)
 pub add_swap : (x y z : Fraction) → x +ℚ (y +ℚ z) ≡ y +ℚ (x +ℚ z)
@@ -51,7 +29,7 @@ sum_over r s d e n m h k = add-mul r s (d *ℚ e) ∙ ap (λ u. u +ℚ (s *ℚ (
     ∙ ap (λ u. (n *ℚ e) +ℚ u) (ap (λ u. s *ℚ u) (mul_comm d e) ∙ sym (mul_assoc s e d) ∙ ap (λ u. u *ℚ d) k)
 
 pub product_over : (r s d e n m : Fraction) → r *ℚ d ≡ n → s *ℚ e ≡ m → (r *ℚ s) *ℚ (d *ℚ e) ≡ n *ℚ m
-product_over r s d e n m h k = middle_swap r s d e ∙ ap (λ u. u *ℚ (s *ℚ e)) h ∙ ap (λ u. n *ℚ u) k
+product_over r s d e n m h k = middle_products r s d e ∙ ap (λ u. u *ℚ (s *ℚ e)) h ∙ ap (λ u. n *ℚ u) k
 
 pub quotient_over : (r s d e n m : Fraction) → ¬ (s ≡ zero_ℚ) → r *ℚ d ≡ n → s *ℚ e ≡ m → (r /ℚ s) *ℚ (d *ℚ m) ≡ n *ℚ e
 quotient_over r s d e n m p h k = ap (λ u. (r /ℚ s) *ℚ (d *ℚ u)) (sym k) ∙ ap (λ u. (r /ℚ s) *ℚ u) (left_swap d s e) ∙ sym (mul_assoc (r /ℚ s) s (d *ℚ e)) ∙ ap (λ u. u *ℚ (d *ℚ e)) (div-mul r s p)

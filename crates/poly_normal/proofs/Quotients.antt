@@ -17,7 +17,7 @@ use Rattle.fx_model.specs.declared.Node.TheVariants.{Var, Lit, Neg, Add, Sub, Mu
 use Rattle.poly_normal.specs.Polynomial as polynomial
 use Rattle.poly_normal.specs.Form.{Form, atom_form, literal_form, literal_top, literal_bottom, literal_divisor, common_divisor_to, negation_form, sum_form, difference_form, product_form, quotient_form, node_form, form}
 use Rattle.poly_normal.specs.Mark.{AreEqual, HaveEqualValues}
-use Rattle.poly_normal.proofs.Fractions.{add-zero, mul-one, mul-neg, middle_swap, product_not_zero, cancel, sum_over, product_over, quotient_over, same_from_cross}
+use Rattle.poly_normal.proofs.Fractions.{add-zero, mul-one, mul-neg, middle_products, product_not_zero, cancel, sum_over, product_over, quotient_over, same_from_cross}
 use Rattle.poly_normal.proofs.Values.{polynomial_value, value-atom, value-constant, value-append, value-negation, value-product}
 use Rattle.poly_normal.proofs.Likes.{value-equal}
 use Rattle.poly_normal.proofs.Steps.{form_step}
@@ -51,7 +51,7 @@ ten_to-down (negsuc k) = let next : suc k ≡ k + 1 = omega arith in
 
 literal_value-whole : (l : Literal) → literal_value l *ℚ whole (pos (literal_bottom l)) ≡ whole (pos (literal_top l))
 literal_value-whole l =
-    ap (λ u. literal_value l *ℚ u) (whole-product (2 ^ down l.two) (10 ^ down l.ten)) ∙ middle_swap (whole (pos l.num) *ℚ two_to l.two) (ten_to l.ten) (whole (pos (2 ^ down l.two))) (whole (pos (10 ^ down l.ten)))
+    ap (λ u. literal_value l *ℚ u) (whole-product (2 ^ down l.two) (10 ^ down l.ten)) ∙ middle_products (whole (pos l.num) *ℚ two_to l.two) (ten_to l.ten) (whole (pos (2 ^ down l.two))) (whole (pos (10 ^ down l.ten)))
     ∙ ap (λ u. u *ℚ (ten_to l.ten *ℚ whole (pos (10 ^ down l.ten)))) (mul_assoc (whole (pos l.num)) (two_to l.two) (whole (pos (2 ^ down l.two))) ∙ ap (λ u. whole (pos l.num) *ℚ u) (two_to-down l.two) ∙ sym (whole-product l.num (2 ^ up l.two)))
     ∙ ap (λ u. whole (pos (l.num * 2 ^ up l.two)) *ℚ u) (ten_to-down l.ten) ∙ sym (whole-product (l.num * 2 ^ up l.two) (10 ^ up l.ten))
 

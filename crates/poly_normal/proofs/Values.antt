@@ -6,7 +6,7 @@ use Rattle.std.proofs.lemmas.Int.{ints}
 use Rattle.fx_model.specs.Fraction.{Fraction, ◌+ℚ◌, ◌*ℚ◌, neg_ℚ, zero_ℚ, one_ℚ, add_comm, add_assoc, zero-add, mul_assoc, one-mul, zero-mul, mul-add, neg-mul, neg-add}
 use Rattle.fx_model.specs.Powers.{whole, whole-add, whole-mul, whole-neg, zero-whole, one-whole}
 use Rattle.poly_normal.specs.Polynomial.{Monomial, atom_monomial, monomial_product, same_monomial, Term, Polynomial, coefficient_of, IsEqual, negation, term_product, product, atom, constant}
-use Rattle.poly_normal.proofs.Fractions.{add-zero, mul-one, mul-zero, add-mul, middle_swap, add_swap, same_from_difference, power, power-add}
+use Rattle.poly_normal.proofs.Fractions.{add-zero, mul-one, mul-zero, add-mul, middle_products, add_swap, same_from_difference, power, power-add}
 
 -- ---- equal monomials
 pub same_monomial-self : (m : Monomial) → same_monomial m m ≡ true
@@ -45,7 +45,7 @@ module _ (v : ℕ → Fraction) where
   monomial_value-product i [] m = sym (one-mul (monomial_value v i m))
   monomial_value-product i (j ∷ l) [] = sym (mul-one (monomial_value v i (j ∷ l)))
   monomial_value-product i (j ∷ l) (k ∷ m) = ap (λ u. u *ℚ monomial_value v (suc i) (monomial_product l m)) (power-add (v i) j k) ∙ ap (λ u. (power (v i) j *ℚ power (v i) k) *ℚ u) (monomial_value-product (suc i) l m)
-      ∙ middle_swap (power (v i) j) (power (v i) k) (monomial_value v (suc i) l) (monomial_value v (suc i) m)
+      ∙ middle_products (power (v i) j) (power (v i) k) (monomial_value v (suc i) l) (monomial_value v (suc i) m)
 
   monomial_value-atom : (i k : ℕ) → monomial_value v i (replicate k 0 ++ (1 ∷ [])) ≡ v (i + k)
   monomial_value-atom i zero = let e : i ≡ i + zero = omega arith in mul-one (v i *ℚ one_ℚ) ∙ mul-one (v i) ∙ ap v e
@@ -72,7 +72,7 @@ module _ (v : ℕ → Fraction) where
 
   value-term_product : (s t : Term) → term_value v (term_product s t) ≡ term_value v s *ℚ term_value v t
   value-term_product s t = ap (λ u. u *ℚ monomial_value v 0 (monomial_product s.monomial t.monomial)) (whole-mul s.coefficient t.coefficient) ∙ ap (λ u. (whole s.coefficient *ℚ whole t.coefficient) *ℚ u) (monomial_value-product 0 s.monomial t.monomial)
-      ∙ middle_swap (whole s.coefficient) (whole t.coefficient) (monomial_value v 0 s.monomial) (monomial_value v 0 t.monomial)
+      ∙ middle_products (whole s.coefficient) (whole t.coefficient) (monomial_value v 0 s.monomial) (monomial_value v 0 t.monomial)
 
   value-row : (t : Term) (q : Polynomial) → polynomial_value v (map (term_product t) q) ≡ term_value v t *ℚ polynomial_value v q
   value-row t [] = sym (mul-zero (term_value v t))

@@ -20,6 +20,7 @@ use Rattle.script_hints.specs.Meets.{MetSidesAreEqual}
 use Rattle.rewrite_hints.specs.Divisors.{Occurs, IsDivisor, IsMadeOf}
 use Rattle.rewrite_hints.specs.Divisors.Occurs.{itself, inside}
 use Rattle.rewrite_hints.specs.Rows.{IsRowOf, RowsAreTrue, EqualSidesAreMet}
+use Rattle.facts.specs.Known.{some_out}
 
 abbrev HasValue : Option Fraction → Type 0
 HasValue o = (r : Fraction) × (o ≡ Some r)
@@ -34,13 +35,9 @@ not_zero : (y : Fraction) → y ≢ zero_ℚ → (b : Bool) → is_zero_ℚ y �
 not_zero y ne true e = absurd (ne (is_zero_out y e))
 not_zero y ne false e = refl
 
-some_and : (o : Option Fraction) (P : Fraction → Type 0) → IsSomeAnd o P → (y : Fraction) × (o ≡ Some y) × P y
-some_and None P h = absurd h
-some_and (Some y) P h = (y, refl, h)
-
 divided : (u v : Option Fraction) → HasValue u → IsSomeAnd v (λ y. y ≢ zero_ℚ) → HasValue (quotient u v)
 divided u v h k =
-    let w = some_and v (λ y. y ≢ zero_ℚ) k in
+    let w = some_out v (λ y. y ≢ zero_ℚ) k in
     (h.0 /ℚ w.0, (λ i. quotient (h.1 i) (w.1 i)) ∙ ap (λ b. if b then None else Some (h.0 /ℚ w.0)) (not_zero w.0 w.2 (is_zero_ℚ w.0) refl))
 
 module _ (nodes : List Node) (o : IsOrdered nodes) (a : Assignment) (root : ExprId) (nonzero : (d : ExprId) → IsDivisor nodes root d → IsSomeAnd (value nodes a d) (λ y. y ≢ zero_ℚ)) where

@@ -6,7 +6,7 @@ use Rattle.std.proofs.Common.{sym, subst}
 use Rattle.fx_model.specs.Fraction.{Fraction, abs_ℚ, zero_ℚ, lt_by}
 use Rattle.fx_model.specs.Powers.{IsMultiple}
 use Rattle.fx_model.specs.Grid.{Bound, Below, At, Above}
-use Rattle.fx_model.specs.Enclosure.{IsFrom, IsUpTo, Lies, BoundLe}
+use Rattle.fx_model.specs.Enclosure.{IsFrom, IsUpTo, Lies, BoundLe, up_to-le, from-le}
 use Rattle.fx_model.specs.Expression.{Assignment, value}
 use Rattle.fx_model.specs.declared.ExprId.{ExprId}
 use Rattle.fx_model.specs.declared.Node.{Node}
@@ -14,7 +14,7 @@ use Rattle.dyadic.specs.Ends.{bound_of}
 use Rattle.dyadic.specs.Order.{le_bound}
 use Rattle.dyadic.specs.Compared.{BoundLe_in, BoundLe_out}
 use Rattle.interval.specs.Intervals.{range_of}
-use Rattle.interval.specs.Members.{between, up_to_later, from_sooner}
+use Rattle.interval.specs.Members.{between}
 use Rattle.expr_dag.specs.Shapes.{is_known, are_known}
 use Rattle.facts.specs.declared.hint.Need.{Need}
 use Rattle.facts.specs.declared.hint.Need.TheVariants as need
@@ -58,11 +58,11 @@ over_at_least Above x p = p
 
 under_holds : (apart : Bool) (high end : Bound) (x : Fraction) → is_under apart high end ≡ true → IsUpTo high x → IsUnder end apart x
 under_holds true high end x e q = under_apart end x (λ p. apart_out high end e (between end high x p q))
-under_holds false high end x e q = under_at_most end x (up_to_later high end x (BoundLe_in high end e) q)
+under_holds false high end x e q = under_at_most end x (up_to-le high end x (BoundLe_in high end e) q)
 
 over_holds : (apart : Bool) (low end : Bound) (x : Fraction) → is_under apart end low ≡ true → IsFrom low x → IsOver end apart x
 over_holds true low end x e p = over_apart end x (λ q. apart_out end low e (between low end x p q))
-over_holds false low end x e p = over_at_least end x (from_sooner end low x (BoundLe_in end low e) p)
+over_holds false low end x e p = over_at_least end x (from-le end low x (BoundLe_in end low e) p)
 
 -- a fact that holds and shows a constraint makes it hold
 shown_holds : (nodes : List Node) (a : Assignment) (n : Need) (p : Fact) → shows nodes n p ≡ true → Holds nodes a p → IsMet nodes a n

@@ -3,7 +3,7 @@ use Rattle.std.specs.Prelude.{◌≡◌, ℤ, ◌<ℤ◌, Option, Some, None, Bo
 use Rattle.std.specs.Int.RustNames.{int_lt}
 use Rattle.std.proofs.Common.{arith, sym, ap, ◌∙◌, subst}
 use Rattle.std.proofs.lemmas.Int.{ints}
-use Rattle.fx_model.specs.Fraction.{Fraction, ◌-ℚ◌, ◌≤ℚ◌, neg_ℚ, zero_ℚ, lt_le, le_refl, le_trans}
+use Rattle.fx_model.specs.Fraction.{Fraction, ◌-ℚ◌, ◌≤ℚ◌, neg_ℚ, zero_ℚ, lt_le, le_refl, le_trans, neg_down}
 use Rattle.fx_model.specs.Powers.{two_to, two_to-positive}
 use Rattle.fx_model.specs.Grid.{At, IsUp, IsDown-neg}
 use Rattle.fx_model.specs.Enclosure.{Range, Lies, IsEnclosure}
@@ -11,7 +11,7 @@ use Rattle.fx_model.specs.declared.Direction.{Direction}
 use Rattle.rounding.specs.declared.sign.Sign.{Sign}
 use Rattle.rounding.specs.declared.bounds.Span.{Span}
 use Rattle.rounding.specs.declared.bounds.Span.TheVariants.{Nowhere, Leftward, Rightward, Sideward, Near}
-use Rattle.rounding.specs.Sums.{neg_to_zero, sub-from}
+use Rattle.rounding.specs.Sums.{sub-from}
 use Rattle.rounding.specs.Places.{two_to-le, less}
 use Rattle.rounding.specs.Errors.{half_of, largest_error, keeps, error_range, signed_errors, nowhere, IsPossible}
 use Rattle.rounding.specs.Spans.{spanned}
@@ -21,11 +21,11 @@ use Rattle.rounding.specs.Meet.{possible_by_cases}
 
 -- ---- spans
 pub around_zero : (u : Fraction) → zero_ℚ ≤ℚ u → neg_ℚ u ≤ℚ u
-around_zero u h = le_trans (neg_ℚ u) zero_ℚ u (neg_to_zero u h) h
+around_zero u h = le_trans (neg_ℚ u) zero_ℚ u (neg_down u h) h
 
 pub spanned_is : (s : Span) (u h v k : Fraction) → zero_ℚ ≤ℚ u → zero_ℚ ≤ℚ h → IsUp u (At v) → IsUp h (At k) → IsEnclosure (Lies (spanned s u h)) (spanned s v k)
 spanned_is Nowhere u h v k a b p q = closed_is zero_ℚ zero_ℚ zero_ℚ zero_ℚ (le_refl zero_ℚ) (down_grid zero_ℚ zero_on_grid) (up_grid zero_ℚ zero_on_grid)
-spanned_is Leftward u h v k a b p q = closed_is (neg_ℚ u) zero_ℚ (neg_ℚ v) zero_ℚ (neg_to_zero u a) (IsDown-neg u (At v) p) (up_grid zero_ℚ zero_on_grid)
+spanned_is Leftward u h v k a b p q = closed_is (neg_ℚ u) zero_ℚ (neg_ℚ v) zero_ℚ (neg_down u a) (IsDown-neg u (At v) p) (up_grid zero_ℚ zero_on_grid)
 spanned_is Rightward u h v k a b p q = closed_is zero_ℚ u zero_ℚ v a (down_grid zero_ℚ zero_on_grid) p
 spanned_is Sideward u h v k a b p q = closed_is (neg_ℚ u) u (neg_ℚ v) v (around_zero u a) (IsDown-neg u (At v) p) p
 spanned_is Near u h v k a b p q = closed_is (neg_ℚ h) h (neg_ℚ k) k (around_zero h b) (IsDown-neg h (At k) q) q

@@ -5,11 +5,11 @@ use Rattle.std.proofs.lemmas.Int.{ints, by_lt_z}
 use Rattle.std.proofs.lemmas.Nat.{pow_pos, pow-add}
 use Rattle.std.proofs.Math.Nat.{pow-le-pow_right}
 use lib.IntN.{neg_ℤ}
-use Rattle.fx_model.specs.Fraction.{Fraction, ◌+ℚ◌, ◌-ℚ◌, ◌<ℚ◌, neg_ℚ, zero_ℚ}
+use Rattle.fx_model.specs.Fraction.{Fraction, ◌+ℚ◌, ◌-ℚ◌, ◌<ℚ◌, neg_ℚ, zero_ℚ, neg_zero}
 use Rattle.fx_model.specs.Powers.{two_to, scaled, scaled-lt, scaled-shift, scaled-zero, two_to-positive}
 use Rattle.fx_model.specs.Grid.{At, IsOnGrid, IsUp}
 use Rattle.fx_model.specs.Cut.{gap_le, on_grid, up_is}
-use Rattle.rounding.specs.Sums.{add-zero, add-lt, neg-lt, neg-zero}
+use Rattle.rounding.specs.Sums.{add-zero, add-lt, neg-lt}
 use Rattle.rounding.specs.Places.{one_scaled, scaled-sub}
 use Rattle.rounding.specs.Errors.{half_of}
 use Rattle.rounding.specs.Outward.{up_grid}
@@ -47,7 +47,7 @@ sub-less : (x y : Fraction) → zero_ℚ <ℚ y → (x -ℚ y) <ℚ x
 sub-less x y h = subst (λ z. (x -ℚ y) <ℚ z) (ap (λ z. x -ℚ z) refl ∙ unchanged) (sub-below x zero_ℚ y h)
   where
     unchanged : x -ℚ zero_ℚ ≡ x
-    unchanged = ap (λ z. x +ℚ z) neg-zero ∙ add-zero x
+    unchanged = ap (λ z. x +ℚ z) neg_zero ∙ add-zero x
 
 module _ (l k e : ℤ) (j : ℕ) (at : l ≡ e +ℤ pos j) (below : k <ℤ e) (lowest : negsuc 511 ≤ℤ e) (highest : l ≤ℤ pos 512) (full : (60 ≤ j) ⊎ (e ≡ negsuc 511)) where
   q : ℕ

@@ -1,14 +1,14 @@
 -- The possible errors by cases are those that are possible by direction, by sign and by place.
 use Rattle.std.specs.Prelude.{◌≡◌, ◌↔◌, ℤ, refl, Option, Some, None, Bool, true, false, if◌then◌else◌}
 use Rattle.std.specs.Int.RustNames.{int_lt}
-use Rattle.fx_model.specs.Fraction.{Fraction, ◌-ℚ◌, ◌≤ℚ◌, neg_ℚ, zero_ℚ, le_trans, lt_le, neg-le}
+use Rattle.fx_model.specs.Fraction.{Fraction, ◌-ℚ◌, ◌≤ℚ◌, neg_ℚ, zero_ℚ, le_trans, lt_le, neg-le, neg_down}
 use Rattle.fx_model.specs.Powers.{two_to, two_to-positive}
 use Rattle.fx_model.specs.Enclosure.{Lies}
 use Rattle.fx_model.specs.declared.Direction.{Direction}
 use Rattle.fx_model.specs.declared.Direction.TheVariants.{Zr, Aw, Dn, Up, Od, Ne, No, Nz, Na, Nd, Nu}
 use Rattle.rounding.specs.declared.sign.Sign.{Sign}
 use Rattle.rounding.specs.declared.sign.Sign.TheVariants.{Unknown, NotNegative, NotPositive, Zero}
-use Rattle.rounding.specs.Sums.{neg_to_zero, sub-le, sub-from}
+use Rattle.rounding.specs.Sums.{sub-le, sub-from}
 use Rattle.rounding.specs.Places.{two_to-le, less}
 use Rattle.rounding.specs.Errors.{leftward, rightward, sideward, errors, signed_errors, half_of, IsPossible, error_range, nowhere}
 
@@ -53,10 +53,10 @@ module _ (e u : Fraction) (h : zero_ℚ ≤ℚ u) where
   left_side l = (l.0, le_trans e zero_ℚ u l.1 h)
 
   right_side : Lies (rightward u) e → Lies (sideward u) e
-  right_side l = (le_trans (neg_ℚ u) zero_ℚ e (neg_to_zero u h) l.0, l.1)
+  right_side l = (le_trans (neg_ℚ u) zero_ℚ e (neg_down u h) l.0, l.1)
 
   zero_left : Lies nowhere e → Lies (leftward u) e
-  zero_left l = (le_trans (neg_ℚ u) zero_ℚ e (neg_to_zero u h) l.0, l.1)
+  zero_left l = (le_trans (neg_ℚ u) zero_ℚ e (neg_down u h) l.0, l.1)
 
   zero_right : Lies nowhere e → Lies (rightward u) e
   zero_right l = (l.0, le_trans e zero_ℚ u l.1 h)

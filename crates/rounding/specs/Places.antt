@@ -14,6 +14,7 @@ use Rattle.rounding.specs.Sums.{neg-lt, neg-le_left, add-mul}
 use Rattle.fx_model.specs.Rounded.{rounded}
 use Rattle.rounding.specs.Rounded.{whole_one-mul, rounded_multiple, multiple_of_less}
 use Rattle.rounding.specs.Scale.{error_of, error_below, error_above}
+use Rattle.fx_model.specs.Grid.{multiple-neg}
 
 -- ---- by place
 pub scaled-sub : (a b k : ℤ) → scaled a k -ℚ scaled b k ≡ scaled (a +ℤ neg_ℤ b) k
@@ -29,9 +30,6 @@ step k e u p q h =
     subst (λ z. z ≤ℚ (u -ℚ two_to k)) (sym p.1) (subst (λ z. scaled p.0 k ≤ℚ z) (sym (ap (λ z. z -ℚ two_to k) q.1 ∙ ap (λ z. scaled q.0 k -ℚ z) (sym (one_scaled k)) ∙ scaled-sub q.0 (pos 1) k))
     (scaled-le p.0 (q.0 +ℤ neg_ℤ (pos 1)) k (omega (arith, ints))))
 
-multiple_of_negative : (k : ℤ) (e : Fraction) → IsMultiple k e → IsMultiple k (neg_ℚ e)
-multiple_of_negative k e p = (neg_ℤ p.0, ap neg_ℚ p.1 ∙ sym (neg-mul (whole p.0) (two_to k)) ∙ ap (λ z. z *ℚ two_to k) (sym (whole-neg p.0)))
-
 unit_multiple : (k l : ℤ) → k ≤ℤ l → IsMultiple k (two_to l)
 unit_multiple k l h = multiple_of_less l k (two_to l) h (pos 1, sym (one_scaled l))
 
@@ -45,7 +43,7 @@ place_at_most d k l x h p = step k (error_of d l x) (two_to l) (error_multiple d
 
 pub place_at_least : (d : Direction) (k l : ℤ) (x : Fraction) → k ≤ℤ l → IsMultiple k x → neg_ℚ (two_to l -ℚ two_to k) ≤ℚ error_of d l x
 place_at_least d k l x h p = neg-le_left (error_of d l x) (two_to l -ℚ two_to k)
-    (step k (neg_ℚ (error_of d l x)) (two_to l) (multiple_of_negative k (error_of d l x) (error_multiple d k l x h p)) (unit_multiple k l h)
+    (step k (neg_ℚ (error_of d l x)) (two_to l) (multiple-neg k (error_of d l x) (error_multiple d k l x h p)) (unit_multiple k l h)
     (subst (λ z. neg_ℚ (error_of d l x) <ℚ z) (neg-neg (two_to l)) (neg-lt (neg_ℚ (two_to l)) (error_of d l x) (error_above d l x))))
 
 -- Powers of two are in the order of their places.

@@ -2,11 +2,11 @@
 use Rattle.std.specs.Prelude.{◌≡◌, ℤ, pos, negsuc, ◌+ℤ◌, true}
 use Rattle.std.proofs.Common.{arith, sym, ap, ◌∙◌, subst}
 use Rattle.std.proofs.lemmas.Int.{ints}
-use Rattle.fx_model.specs.Fraction.{Fraction, ◌+ℚ◌, ◌-ℚ◌, ◌*ℚ◌, ◌≤ℚ◌, ◌<ℚ◌, neg_ℚ, zero_ℚ, zero-mul}
+use Rattle.fx_model.specs.Fraction.{Fraction, ◌+ℚ◌, ◌-ℚ◌, ◌*ℚ◌, ◌≤ℚ◌, ◌<ℚ◌, neg_ℚ, zero_ℚ, zero-mul, neg_zero}
 use Rattle.fx_model.specs.Powers.{whole, two_to, two_to-add, two_to-positive}
 use Rattle.fx_model.specs.Rounded.{half}
 use Rattle.fx_model.specs.declared.Direction.{Direction}
-use Rattle.rounding.specs.Sums.{neg-zero, add-zero, sub-at_most, sub-at_least, sub-below, sub-above, times-le, times-lt, add-mul}
+use Rattle.rounding.specs.Sums.{add-zero, sub-at_most, sub-at_least, sub-below, sub-above, times-le, times-lt, add-mul}
 use Rattle.fx_model.specs.Rounded.{whole_for, rounded}
 use Rattle.rounding.specs.Beside.{whole_for_beside, whole_for_near, is_nearest}
 use Rattle.rounding.specs.Rounded.{units, units-times, whole_one-mul}
@@ -60,4 +60,4 @@ module _ (d : Direction) (l : ℤ) (x : Fraction) where
   left h = subst (λ z. error_of d l x ≤ℚ z) (zero-mul (two_to l)) (at_most zero_ℚ (subst (λ z. whole (whole_for d (units l x)) ≤ℚ z) (sym (add-zero (units l x))) h))
 
   pub right : units l x ≤ℚ whole (whole_for d (units l x)) → zero_ℚ ≤ℚ error_of d l x
-  right h = subst (λ z. z ≤ℚ error_of d l x) (ap neg_ℚ (zero-mul (two_to l)) ∙ neg-zero) (at_least zero_ℚ (subst (λ z. units l x ≤ℚ z) (sym (add-zero (whole (whole_for d (units l x))))) h))
+  right h = subst (λ z. z ≤ℚ error_of d l x) (ap neg_ℚ (zero-mul (two_to l)) ∙ neg_zero) (at_least zero_ℚ (subst (λ z. units l x ≤ℚ z) (sym (add-zero (whole (whole_for d (units l x))))) h))

@@ -8,7 +8,7 @@ use Rattle.std.proofs.lemmas.Nat.{div-add-mod', mod_below, pow_pos}
 use Rattle.std.proofs.lemmas.Bool.{cases_lt}
 use Rattle.std.proofs.Math.Nat.{mul-le-mul_left, pow-le-pow_right}
 use lib.IntN.{neg_ℤ}
-use Rattle.fx_model.specs.Fraction.{Fraction, ◌+ℚ◌, ◌*ℚ◌, neg_ℚ, ◌≤ℚ◌, ◌<ℚ◌, le_or_lt, lt_not, le_trans, lt_le_trans, le_lt_trans, lt_le, add_assoc, add_comm, neg-add, neg-neg}
+use Rattle.fx_model.specs.Fraction.{Fraction, ◌+ℚ◌, ◌*ℚ◌, neg_ℚ, ◌≤ℚ◌, ◌<ℚ◌, le_or_lt, lt_not, le_trans, lt_le_trans, le_lt_trans, lt_le, add_assoc, add_comm, neg-add, neg-neg, middle_sums}
 use Rattle.fx_model.specs.Powers.{whole, whole-add, whole-le, scaled, scaled-le, scaled-lt, scaled-shift, two_to, floor_low, floor_high, floor_unique}
 use Rattle.fx_model.specs.Grid.{scaled-neg}
 use Rattle.fx_model.specs.Rounded.{floor, ceiling, half, near_low, near_high}
@@ -65,9 +65,6 @@ floor_shift m k j e s = ⊎_elim
     (cases_lt k 63)
 
 -- ---- the nearest whole number, by the floor of twice the number
-interchange : (a b c d : Fraction) → (a +ℚ b) +ℚ (c +ℚ d) ≡ (a +ℚ c) +ℚ (b +ℚ d)
-interchange a b c d = add_assoc a b (c +ℚ d) ∙ ap (λ z. a +ℚ z) (sym (add_assoc b c d) ∙ ap (λ z. z +ℚ d) (add_comm b c) ∙ add_assoc c b d) ∙ sym (add_assoc a c (b +ℚ d))
-
 twice-lt : (x y : Fraction) → x <ℚ y → (x +ℚ x) <ℚ (y +ℚ y)
 twice-lt x y h = le_lt_trans (x +ℚ x) (y +ℚ x) (y +ℚ y) (plus-le x x y (lt_le x y h)) (add-lt y x y h)
 
@@ -81,7 +78,7 @@ half-lt : (x y : Fraction) → (x +ℚ x) <ℚ (y +ℚ y) → x <ℚ y
 half-lt x y h = ⊎_elim (λ l. absurd (lt_not (x +ℚ x) (y +ℚ y) h (twice-le y x l))) (λ l. l) (le_or_lt y x)
 
 twice_high : (s : Fraction) → (s +ℚ half) +ℚ (s +ℚ half) ≡ (s +ℚ s) +ℚ whole (pos 1)
-twice_high s = interchange s half s half ∙ ap (λ a. (s +ℚ s) +ℚ a) halves
+twice_high s = middle_sums s half s half ∙ ap (λ a. (s +ℚ s) +ℚ a) halves
 
 pub near_by : (s : Fraction) (g z : ℤ) → floor (s +ℚ s) ≡ g → (z *ℤ pos 2) ≤ℤ (g +ℤ pos 1) → (g +ℤ pos 1) <ℤ ((z +ℤ pos 1) *ℤ pos 2) → near_high s ≡ z
 near_by s g z e h l = floor_unique (s +ℚ half) z (half-le (whole z) (s +ℚ half) low) (half-lt (s +ℚ half) (whole (z +ℤ pos 1)) high)

@@ -3,7 +3,7 @@ use Rattle.std.specs.Prelude.{◌≡◌, Some}
 use Rattle.std.proofs.Common.{subst, ⊎_elim}
 use Rattle.fx_model.specs.Fraction.{Fraction, ◌≤ℚ◌, ◌+ℚ◌, ◌-ℚ◌, one_ℚ, le_refl, le_trans, lt_le, lt_not, le_or_lt, minus_one, plus_one}
 use Rattle.fx_model.specs.Grid.{Bound, Below, At, Above, IsOnGrid, IsDown, IsUp}
-use Rattle.fx_model.specs.Enclosure.{Range, IsFrom, IsUpTo, Lies, IsOrdered, BoundLe, Within, within_in, member_of, ordered_by}
+use Rattle.fx_model.specs.Enclosure.{Range, IsFrom, IsUpTo, Lies, IsOrdered, BoundLe, Within, within_in, member_of, ordered_by, lower_up_to, higher_from, end_up_to, end_from}
 use Rattle.dyadic.specs.declared.number.End.{End}
 use Rattle.dyadic.specs.declared.number.End.TheVariants as end
 use Rattle.dyadic.specs.Ends.{bound_of}
@@ -42,16 +42,6 @@ inward-within r i e x l = let q = interval_from_out (up_end r.low) (down_end r.h
     (from_end r.low x (subst (λ n. IsFrom (bound_of n) x) q.0 l.0), up_to_end r.high x (subst (λ n. IsUpTo (bound_of n) x) q.1 l.1))
 
 -- ---- an interval between the bounds has its ends there
-lower_up_to : (c : Bound) (x y : Fraction) → x ≤ℚ y → IsUpTo c y → IsUpTo c x
-lower_up_to Below x y l u = u
-lower_up_to (At h) x y l u = le_trans x y h l u
-lower_up_to Above x y l u = tt
-
-higher_from : (c : Bound) (x y : Fraction) → y ≤ℚ x → IsFrom c y → IsFrom c x
-higher_from Below x y l u = tt
-higher_from (At h) x y l u = le_trans h y x u l
-higher_from Above x y l u = u
-
 above_number : (p : Fraction) (c : Bound) (g : Fraction) → IsUp p c → IsOnGrid g → p ≤ℚ g → BoundLe c (At g)
 above_number p Below g u o l = absurd u
 above_number p (At a) g u o l = u.2 g o l
@@ -61,16 +51,6 @@ below_number : (p : Fraction) (c : Bound) (g : Fraction) → IsDown p c → IsOn
 below_number p Below g u o l = absurd (u g o l)
 below_number p (At a) g u o l = u.2 g o l
 below_number p Above g u o l = absurd u
-
-end_up_to : (g : Fraction) (c : Bound) → IsOrdered (At g) c → IsUpTo c g
-end_up_to g Below o = o
-end_up_to g (At h) o = o
-end_up_to g Above o = tt
-
-end_from : (c : Bound) (g : Fraction) → IsOrdered c (At g) → IsFrom c g
-end_from Below g o = tt
-end_from (At h) g o = o
-end_from Above g o = o
 
 low_end : (p : Fraction) (lo : End) (c : Bound) → IsOrdered (bound_of lo) c → ((x : Fraction) → IsFrom (bound_of lo) x → IsUpTo c x → p ≤ℚ x) → BoundLe (bound_of (point_of p).hi) (bound_of lo)
 low_end p end.Low c o f = let m = member_of Below c o in

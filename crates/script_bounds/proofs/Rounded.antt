@@ -3,10 +3,10 @@ use Rattle.std.specs.Prelude.{◌≡◌, Some, refl}
 use Rattle.std.proofs.Common.{sym, subst, ap, ◌∙◌}
 use Rattle.fx_model.specs.Fraction.{Fraction, ◌≤ℚ◌, le_refl, le_antisymm}
 use Rattle.fx_model.specs.Grid.{Bound, Below, At, Above, IsDown, IsUp}
-use Rattle.fx_model.specs.Enclosure.{Range, Lies, IsEnclosure, IsInfimum, IsSupremum, IsOrdered, enclosure_unique, member_of}
+use Rattle.fx_model.specs.Enclosure.{Range, Lies, IsEnclosure, IsInfimum, IsSupremum, IsOrdered, enclosure_unique, member_of, enclosure_ordered}
 use Rattle.grid_words.specs.Nearest.{down, up}
 use Rattle.grid_words.specs.Outward as grid
-use Rattle.grid_words.specs.Outward.{outward, outward_is, outward_exact, enclosure_ordered}
+use Rattle.grid_words.specs.Outward.{outward, outward_is, outward_exact}
 use Rattle.dyadic.specs.Ends.{bound_of}
 use Rattle.interval.specs.declared.interval.Interval.{Interval}
 use Rattle.interval.specs.Intervals.{range_of}
@@ -15,21 +15,12 @@ use Rattle.interval.specs.Ends.{AreEnds}
 use Rattle.interval.specs.Results.{point_of, point_of-is}
 use Rattle.interval.specs.Meets.{interval_from-some}
 use Rattle.script_bounds.specs.Bounds.{down_end, up_end, outward_of}
+use Rattle.interval.specs.Members.{alone_down, alone_up}
 
 abbrev between : Bound → Bound → Range
 between b c = record { low = b; high = c }
 
 -- ---- one number
-alone_down : (x : Fraction) (b : Bound) → IsInfimum (Alone x) b → IsDown x b
-alone_down x Below i = λ h o l. i h o (λ y e. subst (λ z. h ≤ℚ z) (sym e) l)
-alone_down x (At g) i = (i.0, i.1 x refl, λ h o l. i.2 h o (λ y e. subst (λ z. h ≤ℚ z) (sym e) l))
-alone_down x Above i = i
-
-alone_up : (x : Fraction) (b : Bound) → IsSupremum (Alone x) b → IsUp x b
-alone_up x Below i = i
-alone_up x (At g) i = (i.0, i.1 x refl, λ h o l. i.2 h o (λ y e. subst (λ z. z ≤ℚ h) (sym e) l))
-alone_up x Above i = λ h o l. i h o (λ y e. subst (λ z. z ≤ℚ h) (sym e) l)
-
 pub down_at : (x : Fraction) → IsDown x (bound_of (point_of x).lo)
 down_at x = let e = point_of-is x in alone_down x (bound_of (point_of x).lo) e.low
 

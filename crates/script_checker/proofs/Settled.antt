@@ -10,7 +10,7 @@ use Rattle.interval.specs.Intervals.{range_of}
 use Rattle.facts.specs.declared.fact.Fact.{Fact}
 use Rattle.facts.specs.declared.fact.Fact.TheVariants as fact
 use Rattle.facts.specs.Holds.{Holds, IsRelated}
-use Rattle.facts.specs.Held.{some-and}
+use Rattle.facts.specs.Held.{some-and, related-wider}
 use Rattle.facts.specs.Order.{IsWithin, slot_of as slot_of_fact}
 use Rattle.goals.specs.declared.goal.Want.{Want}
 use Rattle.goals.specs.declared.goal.Want.TheVariants.{Ask, Inside}
@@ -25,10 +25,6 @@ use Rattle.script_claims.specs.Meets.{IsTrueAt}
 pub record ClaimLaws : Type 0 where
   pub inside : (nodes : List Node) (a : Assignment) (c : Claim) (i : Interval) → want_of c ≡ Inside (Some i) → LiesAt nodes a i (slot_of c) → IsTrueAt nodes a c
   pub zeros : (nodes : List Node) (a : Assignment) (c : Claim) → AreZeroAt nodes a (slot_of c) → IsTrueAt nodes a c
-
--- what lies within an interval lies in a wider one
-related : (i j : Interval) (v w : Fraction) → IsWithin i j → IsRelated i v w → IsRelated j v w
-related i j v w l r = ⊎_elim (λ z. inl z) (λ q. inr (q.0, within_in (range_of i) (range_of j) ((v /ℚ w) -ℚ one_ℚ) l q.1)) r
 
 module _ (laws : ClaimLaws) (nodes : List Node) (a : Assignment) where
   asked : (c : Claim) → want_of c ≡ Ask → IsTrueAt nodes a c
@@ -46,7 +42,7 @@ module _ (laws : ClaimLaws) (nodes : List Node) (a : Assignment) where
       laws.inside nodes a c i e (subst (LiesAt nodes a i) s wide)
   settled c (Inside (Some i)) (fact.Rel x y (Some d)) e s n h =
       let wide : LiesAt nodes a i (slot_of_fact (fact.Rel x y (Some d))) = some-and (value nodes a x) (λ v. IsSomeAnd (value nodes a y) (IsRelated d.interval v)) (λ v. IsSomeAnd (value nodes a y) (IsRelated i v))
-      (λ v k. some-and (value nodes a y) (IsRelated d.interval v) (IsRelated i v) (λ w r. related d.interval i v w n r) k) h in
+      (λ v k. some-and (value nodes a y) (IsRelated d.interval v) (IsRelated i v) (λ w r. related-wider d.interval i v w n r) k) h in
       laws.inside nodes a c i e (subst (LiesAt nodes a i) s wide)
   settled c (Inside None) (fact.Bnd x j) e s n h = absurd n
   settled c (Inside None) (fact.Rel x y (Some d)) e s n h = absurd n

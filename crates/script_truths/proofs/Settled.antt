@@ -12,7 +12,7 @@ use Rattle.interval.specs.Intervals.{range_of}
 use Rattle.facts.specs.declared.fact.Fact.{Fact}
 use Rattle.facts.specs.declared.fact.Fact.TheVariants as fact
 use Rattle.facts.specs.Holds.{Holds, IsRelated}
-use Rattle.facts.specs.Held.{some-and}
+use Rattle.facts.specs.Held.{some-and, related-wider}
 use Rattle.facts.specs.Order.{IsWithin}
 use Rattle.facts.specs.Order as order
 use Rattle.goals.specs.declared.goal.Want.{Want}
@@ -34,16 +34,13 @@ asked nodes a (Asked x) e = tt
 asked nodes a (RelativeAsked x y) e = tt
 asked nodes a _ e = cc
 
-related : (i j : Interval) (v w : Fraction) → IsWithin i j → IsRelated i v w → IsRelated j v w
-related i j v w l r = ⊎_elim (λ z. inl z) (λ q. inr (q.0, within_in (range_of i) (range_of j) ((v /ℚ w) -ℚ one_ℚ) l q.1)) r
-
 module _ (nodes : List Node) (a : Assignment) where
   bound_lies : (x : ExprId) (i j : Interval) → IsWithin i j → Holds nodes a (fact.Bnd x i) → LiesAt nodes a j (order.slot_of (fact.Bnd x i))
   bound_lies x i j l h = some-and (value nodes a x) (Lies (range_of i)) (Lies (range_of j)) (λ v m. within_in (range_of i) (range_of j) v l m) h
 
   error_lies : (x y : ExprId) (i j : Interval) → IsWithin i j → IsSomeAnd (value nodes a x) (λ v. IsSomeAnd (value nodes a y) (IsRelated i v)) → IsSomeAnd (value nodes a x) (λ v. IsSomeAnd (value nodes a y) (IsRelated j v))
   error_lies x y i j l h = some-and (value nodes a x) (λ v. IsSomeAnd (value nodes a y) (IsRelated i v)) (λ v. IsSomeAnd (value nodes a y) (IsRelated j v))
-      (λ v k. some-and (value nodes a y) (IsRelated i v) (IsRelated j v) (λ w r. related i j v w l r) k) h
+      (λ v k. some-and (value nodes a y) (IsRelated i v) (IsRelated j v) (λ w r. related-wider i j v w l r) k) h
 
   module _ (inside : (c : Claim) (i : Interval) → want_of c ≡ Inside (Some i) → LiesAt nodes a i (slot_of c) → IsTrueAt nodes a c) (zeros : (c : Claim) → AreZeroAt nodes a (slot_of c) → IsTrueAt nodes a c) where
     pub answered : (c : Claim) (w : Want) (f : Fact) → want_of c ≡ w → order.slot_of f ≡ slot_of c → Answers w f → Holds nodes a f → IsTrueAt nodes a c

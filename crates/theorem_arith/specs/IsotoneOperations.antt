@@ -2,10 +2,10 @@
 use Rattle.std.specs.Prelude.{◌≡◌, ◌≢◌, ◌||◌, [], ◌∷◌, Option, Some, None, refl}
 use Rattle.std.proofs.Common.{sym, ap, subst, ◌∙◌}
 use Rattle.fx_model.specs.Fraction.{Fraction, ◌+ℚ◌, ◌-ℚ◌, ◌*ℚ◌, ◌/ℚ◌, ◌≤ℚ◌, zero_ℚ, neg_ℚ, abs_ℚ, abs-from, le_refl, le_trans, add-le-add, zero-add, add_comm}
-use Rattle.fx_model.specs.Enclosure.{Lies, IsFrom, IsUpTo, BoundLe, Sums, Differences, in_enclosure, product_holds, ordered_by}
+use Rattle.fx_model.specs.Enclosure.{Lies, IsFrom, IsUpTo, BoundLe, Sums, Differences, in_enclosure, product_holds, ordered_by, higher_from}
 use Rattle.fx_model.specs.declared.Node.TheVariants as node
 use Rattle.grid_words.specs.Signs.{neg_down}
-use Rattle.grid_words.specs.AbsoluteValues.{abs-not_negative, abs-mul, abs-div}
+use Rattle.grid_words.specs.AbsoluteValues.{abs-not_negative, abs-mul, abs-div, product_up}
 use Rattle.grid_words.specs.Products.{quotient_holds}
 use Rattle.dyadic.specs.Ends.{bound_of}
 use Rattle.dyadic.specs.Extremes.{BoundLe-refl, greater_end}
@@ -21,12 +21,12 @@ use Rattle.facts.specs.declared.fact.Fact.TheVariants as fact
 use Rattle.facts.specs.declared.fact.Slot.TheVariants as slot
 use Rattle.facts.specs.Order.{IsWithin}
 use Rattle.facts.specs.Parts.{size_within}
-use Rattle.facts.specs.SizesWithin.{on_half_line, size_member, size_within-smaller}
+use Rattle.facts.specs.SizesWithin.{size_member, size_within-smaller}
 use Rattle.facts.specs.Promises.{IsIsotone}
 use Rattle.facts.specs.Premises.{Gives, one_abs, two_abs}
 use Rattle.facts.specs.Conclusions.{abs_of, improves_abs, improves_given, improves_only}
 use Rattle.theorem_arith.specs.Sizes.{size_of_negation_rule, size_of_product_rule, size_within_part, size_of_quotient_rule, least_size, size_of_sum, size_of_sum_rule}
-use Rattle.theorem_arith.specs.IsotoneSizes.{from_le}
+use Rattle.facts.specs.Within.{on_half_line}
 
 pub size_of_negation_rule-isotone : IsIsotone size_of_negation_rule
 size_of_negation_rule-isotone nodes (fact.Abs x i ∷ []) (slot.Abs e) ps c s q =
@@ -36,16 +36,13 @@ size_of_negation_rule-isotone nodes (fact.Abs x i ∷ []) (slot.Abs e) ps c s q 
 size_of_negation_rule-isotone nodes _ _ ps c s q = cc
 
 -- ---- products
-product_not_negative : (x y : Fraction) → zero_ℚ ≤ℚ x → zero_ℚ ≤ℚ y → zero_ℚ ≤ℚ (x *ℚ y)
-product_not_negative x y p q = subst (λ z. zero_ℚ ≤ℚ z) (abs-mul x y ∙ ap (λ z. z *ℚ abs_ℚ y) (abs-from x p) ∙ ap (λ z. x *ℚ z) (abs-from y q)) (abs-not_negative (x *ℚ y))
-
 product_smaller : (i j k l : Size) (s : Size) → IsWithin i.interval k.interval → IsWithin j.interval l.interval → size_within (product_of k.interval l.interval) ≡ Some s →
     (t : Size) × (size_within (product_of i.interval j.interval) ≡ Some t) × IsWithin t.interval s.interval
 product_smaller i j k l s v w e =
     let m = size_member i in let n = size_member j in
     let p : Interval = product_of i.interval j.interval in
     size_within-smaller p (product_of k.interval l.interval) s (m.0 *ℚ n.0) (product_of-within i.interval j.interval k.interval l.interval v w)
-    (product_holds (range_of i.interval) (range_of j.interval) (range_of p) m.0 n.0 (product_of-is i.interval j.interval) m.1 n.1) (product_not_negative m.0 n.0 m.2 n.2) e
+    (product_holds (range_of i.interval) (range_of j.interval) (range_of p) m.0 n.0 (product_of-is i.interval j.interval) m.1 n.1) (product_up m.0 n.0 m.2 n.2) e
 
 pub size_of_product_rule-isotone : IsIsotone size_of_product_rule
 size_of_product_rule-isotone nodes (fact.Abs x i ∷ fact.Abs y j ∷ []) (slot.Abs e) ps c s q =
@@ -98,8 +95,8 @@ sum_between i j =
     let p : zero_ℚ ≤ℚ z = sum_not_negative m.0 n.0 m.2 n.2 in
     let d = in_enclosure (Differences r s) (range_of (difference_of i.interval j.interval)) (m.0 -ℚ n.0) (difference_of-is i.interval j.interval) (m.0, n.0, m.1, n.1, refl) in
     let f = in_enclosure (Differences s r) (range_of (difference_of j.interval i.interval)) (n.0 -ℚ m.0) (difference_of-is j.interval i.interval) (n.0, m.0, n.1, m.1, refl) in
-    let a : IsFrom (bound_of (difference_of i.interval j.interval).lo) z = from_le (bound_of (difference_of i.interval j.interval).lo) (m.0 -ℚ n.0) z (difference_below_sum m.0 n.0 n.2) d.0 in
-    let b : IsFrom (bound_of (difference_of j.interval i.interval).lo) z = from_le (bound_of (difference_of j.interval i.interval).lo) (n.0 -ℚ m.0) z (subst (λ y. (n.0 -ℚ m.0) ≤ℚ y) (add_comm n.0 m.0) (difference_below_sum n.0 m.0 m.2)) f.0 in (
+    let a : IsFrom (bound_of (difference_of i.interval j.interval).lo) z = higher_from (bound_of (difference_of i.interval j.interval).lo) z (m.0 -ℚ n.0) (difference_below_sum m.0 n.0 n.2) d.0 in
+    let b : IsFrom (bound_of (difference_of j.interval i.interval).lo) z = higher_from (bound_of (difference_of j.interval i.interval).lo) z (n.0 -ℚ m.0) (subst (λ y. (n.0 -ℚ m.0) ≤ℚ y) (add_comm n.0 m.0) (difference_below_sum n.0 m.0 m.2)) f.0 in (
       z,
       p,
       from_greater (greater_end half_line.lo (difference_of i.interval j.interval).lo) (difference_of j.interval i.interval).lo z (from_greater half_line.lo (difference_of i.interval j.interval).lo z (on_half_line z p).0 a) b,

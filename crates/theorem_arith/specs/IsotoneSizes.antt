@@ -3,7 +3,7 @@ use Rattle.std.specs.Prelude.{◌≡◌, Bool, true, false, ◌&&◌, [], ◌∷
 use Rattle.std.proofs.Common.{sym, ap, subst}
 use Rattle.fx_model.specs.Fraction.{Fraction, ◌≤ℚ◌, zero_ℚ, neg_ℚ, abs_ℚ, le_trans}
 use Rattle.fx_model.specs.Grid.{Bound, Below, At, Above, neg_bound}
-use Rattle.fx_model.specs.Enclosure.{IsFrom, BoundLe, Negations, Sizes, in_enclosure, member_of, ordered_by}
+use Rattle.fx_model.specs.Enclosure.{IsFrom, BoundLe, Negations, Sizes, in_enclosure, member_of, ordered_by, higher_from}
 use Rattle.fx_model.specs.declared.ExprId.{ExprId}
 use Rattle.fx_model.specs.declared.Node.TheVariants as node
 use Rattle.grid_words.specs.Signs.{neg_down}
@@ -44,15 +44,10 @@ size_rule-isotone nodes (fact.Bnd x i ∷ []) (slot.Abs e) ps c s q =
     (improves_abs e (size_within (size_of i)) (size_within (size_of a.0)) (λ t h. size_of-smaller i a.0 t a.2 h)) c q)
 size_rule-isotone nodes _ _ ps c s q = cc
 
-pub from_le : (b : Bound) (x y : Fraction) → x ≤ℚ y → IsFrom b x → IsFrom b y
-from_le Below x y l f = tt
-from_le (At g) x y l f = le_trans g x y f l
-from_le Above x y l f = f
-
 around_ends : (s : Size) → AreEnds (negation_of s.interval).lo s.interval.hi
 around_ends s = let m = size_member s in
     let n = in_enclosure (Negations (range_of s.interval)) (range_of (negation_of s.interval)) (neg_ℚ m.0) (negation_of-is s.interval) (m.0, m.1, refl) in
-    ordered_by (bound_of (negation_of s.interval).lo) (bound_of s.interval.hi) m.0 (from_le (bound_of (negation_of s.interval).lo) (neg_ℚ m.0) m.0 (le_trans (neg_ℚ m.0) zero_ℚ m.0 (neg_down m.0 m.2) m.2) n.0) m.1.1
+    ordered_by (bound_of (negation_of s.interval).lo) (bound_of s.interval.hi) m.0 (higher_from (bound_of (negation_of s.interval).lo) m.0 (neg_ℚ m.0) (le_trans (neg_ℚ m.0) zero_ℚ m.0 (neg_down m.0 m.2) m.2) n.0) m.1.1
 
 around-within : (s t : Size) (k : Interval) → IsWithin t.interval s.interval → around s ≡ Some k → (j : Interval) × (around t ≡ Some j) × IsWithin j k
 around-within s t k w e = interval_from-within (negation_of t.interval).lo t.interval.hi (negation_of s.interval).lo s.interval.hi k (negation_of-within t.interval s.interval w).0 w.1 (around_ends t) e

@@ -23,17 +23,15 @@ use Rattle.facts.specs.Promises.{IsSound}
 use Rattle.facts.specs.Conclusions.{bnd_of, given}
 use Rattle.expr_dag.specs.Lifted.{at_node, lifted_quotient, lifted_twice, lifted₁, lifted₂}
 use Rattle.theorem_arith.specs.Bounds.{literal_at, literal_rule, negation_rule, binary_rule, sum_rule, difference_rule, product_rule, difference_with_itself_rule, quotient_rule, quotient_by_nonzero_rule, quotient_by_itself_rule}
+use Rattle.interval.specs.Members.{alone_lies}
 
 -- ---- literals
-point_holds : (x : Fraction) → Lies (range_of (point_of x)) x
-point_holds x = in_enclosure (Alone x) (range_of (point_of x)) x (point_of-is x) refl
-
 at_literal : (nodes : List Node) (a : Assignment) (e : ExprId) (f : Fact) → IsOrdered nodes → literal_at (slice_get nodes e.0) e ≡ Some f → Holds nodes a f
 at_literal nodes a e f o q = by_case (slice_get nodes e.0) refl q
   where
     by_case : (n : Option Node) → slice_get nodes e.0 ≡ n → literal_at n e ≡ Some f → Holds nodes a f
     by_case (Some (node.Lit l)) s q = let t : fact.Bnd e (point_of (literal_value l)) ≡ f = cc in
-        subst (Holds nodes a) t (subst (λ v. IsSomeAnd v (Lies (range_of (point_of (literal_value l))))) (sym (node_at-value nodes a e (node.Lit l) o s)) (point_holds (literal_value l)))
+        subst (Holds nodes a) t (subst (λ v. IsSomeAnd v (Lies (range_of (point_of (literal_value l))))) (sym (node_at-value nodes a e (node.Lit l) o s)) (alone_lies (literal_value l)))
     by_case _ s q = cc
 
 pub literal_rule-sound : IsSound literal_rule
@@ -83,7 +81,7 @@ pub difference_with_itself_rule-sound : IsSound difference_with_itself_rule
 difference_with_itself_rule-sound nodes (fact.Bnd x i ∷ []) (slot.Bnd e) f o q = λ a h.
     let t = if-some (is_at nodes e (node.Sub x x)) (fact.Bnd e (point_of zero_ℚ)) f q in
     subst (Holds nodes a) t.1 (at_node nodes a o e (node.Sub x x) (Lies (range_of (point_of zero_ℚ))) t.0
-    (lifted_twice ◌-ℚ◌ (value nodes a x) (Lies (range_of i)) (Lies (range_of (point_of zero_ℚ))) (λ v l. subst (Lies (range_of (point_of zero_ℚ))) (sym (add-neg v)) (point_holds zero_ℚ)) h.0))
+    (lifted_twice ◌-ℚ◌ (value nodes a x) (Lies (range_of i)) (Lies (range_of (point_of zero_ℚ))) (λ v l. subst (Lies (range_of (point_of zero_ℚ))) (sym (add-neg v)) (alone_lies zero_ℚ)) h.0))
 difference_with_itself_rule-sound nodes _ _ f o q = cc
 
 -- ---- quotients
@@ -116,5 +114,5 @@ pub quotient_by_itself_rule-sound : IsSound quotient_by_itself_rule
 quotient_by_itself_rule-sound nodes (fact.Nzr x ∷ []) (slot.Bnd e) f o q = λ a h.
     let t = if-some (is_at nodes e (node.Div x x)) (fact.Bnd e (point_of one_ℚ)) f q in
     subst (Holds nodes a) t.1 (at_node nodes a o e (node.Div x x) (Lies (range_of (point_of one_ℚ))) t.0
-    (quotient_twice (value nodes a x) (Lies (range_of (point_of one_ℚ))) (λ v n. subst (Lies (range_of (point_of one_ℚ))) (sym (mul-inverse v n)) (point_holds one_ℚ)) h.0))
+    (quotient_twice (value nodes a x) (Lies (range_of (point_of one_ℚ))) (λ v n. subst (Lies (range_of (point_of one_ℚ))) (sym (mul-inverse v n)) (alone_lies one_ℚ)) h.0))
 quotient_by_itself_rule-sound nodes _ _ f o q = cc

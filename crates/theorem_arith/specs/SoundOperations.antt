@@ -3,7 +3,7 @@ use Rattle.std.specs.Prelude.{◌≡◌, ◌≢◌, ◌⊎◌, ◌||◌, List, [
 use Rattle.std.specs.Option.{IsSomeAnd}
 use Rattle.std.proofs.Common.{sym, ap, subst, ◌∙◌, ⊎_elim}
 use Rattle.fx_model.specs.Fraction.{Fraction, ◌+ℚ◌, ◌-ℚ◌, ◌*ℚ◌, ◌≤ℚ◌, neg_ℚ, abs_ℚ, zero_ℚ, abs-from, le_refl}
-use Rattle.fx_model.specs.Enclosure.{IsFrom, IsUpTo, Lies, Sums, Differences, in_enclosure, product_holds, ordered_by}
+use Rattle.fx_model.specs.Enclosure.{IsFrom, IsUpTo, Lies, Sums, Differences, in_enclosure, product_holds, ordered_by, higher_from, lower_up_to}
 use Rattle.fx_model.specs.Expression.{Assignment, value, lift₂}
 use Rattle.fx_model.specs.declared.ExprId.{ExprId}
 use Rattle.fx_model.specs.declared.Node.{Node}
@@ -16,7 +16,7 @@ use Rattle.dyadic.specs.Order.{le_bound}
 use Rattle.dyadic.specs.Extremes.{greater_end, chosen}
 use Rattle.interval.specs.declared.interval.Interval.{Interval}
 use Rattle.interval.specs.Intervals.{range_of}
-use Rattle.interval.specs.Meets.{interval_from, interval_from-some}
+use Rattle.interval.specs.Meets.{interval_from, interval_from-some, from_greater}
 use Rattle.interval.specs.Results.{sum_of, sum_of-is, difference_of, difference_of-is, product_of, product_of-is, quotient_of, quotient_of-is, half_line}
 use Rattle.expr_dag.specs.Shapes.{is_at, is_at_out, node_at-value}
 use Rattle.facts.specs.declared.size.Size.{Size}
@@ -32,7 +32,7 @@ use Rattle.facts.specs.Conclusions.{abs_of, given}
 use Rattle.expr_dag.specs.Lifted.{at_node, lifted_quotient, lifted_twice, lifted₁, lifted₂}
 use Rattle.theorem_arith.specs.Bounds.{square_rule}
 use Rattle.theorem_arith.specs.Sizes.{size_of_negation_rule, size_of_product_rule, size_within_part, size_of_quotient_rule, least_size, size_of_sum, size_of_sum_rule}
-use Rattle.theorem_arith.specs.SoundSizes.{abs_given, from_up, to_down}
+use Rattle.theorem_arith.specs.SoundSizes.{abs_given}
 
 -- the absolute value lies in the interval
 abbrev IsSizeIn : Interval → Fraction → Type 0
@@ -73,14 +73,11 @@ size_of_quotient_rule-sound nodes (fact.Abs x s ∷ fact.Abs y t ∷ []) (slot.A
 size_of_quotient_rule-sound nodes _ _ f o q = cc
 
 -- ---- sums and differences
-from_greater : (a b : End) (x : Fraction) → IsFrom (bound_of a) x → IsFrom (bound_of b) x → IsFrom (bound_of (greater_end a b)) x
-from_greater a b x p q = chosen (le_bound (bound_of a) (bound_of b)) b a (λ e. IsFrom (bound_of e) x) (λ t. q) (λ f. p)
-
 difference_from : (i j : Interval) (x y z : Fraction) → Lies (range_of i) x → Lies (range_of j) y → (x -ℚ y) ≤ℚ z → IsFrom (bound_of (difference_of i j).lo) z
-difference_from i j x y z l m d = from_up (bound_of (difference_of i j).lo) (x -ℚ y) z d (in_enclosure (Differences (range_of i) (range_of j)) (range_of (difference_of i j)) (x -ℚ y) (difference_of-is i j) (x, y, l, m, refl)).0
+difference_from i j x y z l m d = higher_from (bound_of (difference_of i j).lo) z (x -ℚ y) d (in_enclosure (Differences (range_of i) (range_of j)) (range_of (difference_of i j)) (x -ℚ y) (difference_of-is i j) (x, y, l, m, refl)).0
 
 sum_to : (i j : Interval) (x y z : Fraction) → Lies (range_of i) x → Lies (range_of j) y → z ≤ℚ (x +ℚ y) → IsUpTo (bound_of (sum_of i j).hi) z
-sum_to i j x y z l m d = to_down (bound_of (sum_of i j).hi) z (x +ℚ y) d (in_enclosure (Sums (range_of i) (range_of j)) (range_of (sum_of i j)) (x +ℚ y) (sum_of-is i j) (x, y, l, m, refl)).1
+sum_to i j x y z l m d = lower_up_to (bound_of (sum_of i j).hi) z (x +ℚ y) d (in_enclosure (Sums (range_of i) (range_of j)) (range_of (sum_of i j)) (x +ℚ y) (sum_of-is i j) (x, y, l, m, refl)).1
 
 -- what isn't below 0, isn't below the differences and isn't above the sum lies in the interval of a sum's absolute value
 sum_found : (i j : Interval) (x y z : Fraction) → Lies (range_of i) x → Lies (range_of j) y → zero_ℚ ≤ℚ z → (x -ℚ y) ≤ℚ z → (y -ℚ x) ≤ℚ z → z ≤ℚ (x +ℚ y) → (k : Interval) × (interval_from (least_size i j) (sum_of i j).hi ≡ Some k) × Lies (range_of k) z

@@ -4,7 +4,7 @@ use Rattle.std.specs.Option.{IsSomeAnd}
 use Rattle.std.proofs.Common.{sym, ap, subst, ◌∙◌, inl, inr, ⊎_elim}
 use Rattle.fx_model.specs.Fraction.{Fraction, ◌≤ℚ◌, neg_ℚ, abs_ℚ, le_trans, neg-le, neg-neg}
 use Rattle.fx_model.specs.Grid.{Bound, Below, At, Above, neg_bound}
-use Rattle.fx_model.specs.Enclosure.{IsFrom, IsUpTo, Lies, BoundLe, Sizes, Negations, in_enclosure}
+use Rattle.fx_model.specs.Enclosure.{IsFrom, IsUpTo, Lies, BoundLe, Sizes, Negations, in_enclosure, up_to_neg, higher_from, lower_up_to}
 use Rattle.fx_model.specs.Expression.{Assignment, IsOrdered, value, lift₁}
 use Rattle.fx_model.specs.declared.ExprId.{ExprId}
 use Rattle.fx_model.specs.declared.Node.{Node}
@@ -28,7 +28,7 @@ use Rattle.facts.specs.Within.{size_within_holds}
 use Rattle.facts.specs.Holds.{Holds}
 use Rattle.facts.specs.Order.{is_same}
 use Rattle.facts.specs.CommonParts.{if-some, and_both, expr_same}
-use Rattle.facts.specs.Held.{some-and}
+use Rattle.facts.specs.Held.{some-and, both_some}
 use Rattle.facts.specs.Promises.{IsSound}
 use Rattle.facts.specs.Conclusions.{abs_of, bnd_of, given}
 use Rattle.expr_dag.specs.Lifted.{at_node, lifted₁}
@@ -57,16 +57,6 @@ size_rule-sound nodes (fact.Bnd x i ∷ []) (slot.Abs e) f o q = λ a h.
     (some-and (value nodes a x) (Lies (range_of i)) (λ v. Lies (range_of (size_of i)) (abs_ℚ v)) (λ v l. in_enclosure (Sizes (range_of i)) (range_of (size_of i)) (abs_ℚ v) (size_of-is i) (v, l, refl)) h.0))
 size_rule-sound nodes _ _ f o q = cc
 
-pub from_up : (b : Bound) (x y : Fraction) → x ≤ℚ y → IsFrom b x → IsFrom b y
-from_up Below x y l p = tt
-from_up (At g) x y l p = le_trans g x y p l
-from_up Above x y l p = p
-
-pub to_down : (b : Bound) (x y : Fraction) → x ≤ℚ y → IsUpTo b y → IsUpTo b x
-to_down Below x y l p = p
-to_down (At g) x y l p = le_trans x y g l p
-to_down Above x y l p = tt
-
 negated : (i : Interval) (x : Fraction) → Lies (range_of i) x → Lies (range_of (negation_of i)) (neg_ℚ x)
 negated i x l = in_enclosure (Negations (range_of i)) (range_of (negation_of i)) (neg_ℚ x) (negation_of-is i) (x, l, refl)
 
@@ -74,8 +64,8 @@ negated i x l = in_enclosure (Negations (range_of i)) (range_of (negation_of i))
 in_around : (s : Size) (i : Interval) (x : Fraction) → around s ≡ Some i → Lies (range_of s.interval) (abs_ℚ x) → Lies (range_of i) x
 in_around s i x e l =
     let ends = interval_from_out (negation_of s.interval).lo s.interval.hi i e in (
-      subst (λ k. IsFrom (bound_of k) x) (sym ends.0) (from_up (bound_of (negation_of s.interval).lo) (neg_ℚ (abs_ℚ x)) x (neg_abs_le x) (negated s.interval (abs_ℚ x) l).0),
-      subst (λ k. IsUpTo (bound_of k) x) (sym ends.1) (to_down (bound_of s.interval.hi) x (abs_ℚ x) (le_abs x) l.1),
+      subst (λ k. IsFrom (bound_of k) x) (sym ends.0) (higher_from (bound_of (negation_of s.interval).lo) x (neg_ℚ (abs_ℚ x)) (neg_abs_le x) (negated s.interval (abs_ℚ x) l).0),
+      subst (λ k. IsUpTo (bound_of k) x) (sym ends.1) (lower_up_to (bound_of s.interval.hi) x (abs_ℚ x) (le_abs x) l.1),
     )
 
 bnd_around : (nodes : List Node) (a : Assignment) (e : ExprId) (s : Size) (o : Option Interval) (f : Fact) → around s ≡ o → bnd_of e o ≡ Some f → IsSomeAnd (value nodes a e) (λ v. Lies (range_of s.interval) (abs_ℚ v)) → Holds nodes a f
@@ -95,15 +85,10 @@ not_le b c e l = let h : le_bound c b ≡ true = BoundLe_out c b l in
     let g : (if le_bound c b then false else true) ≡ false = ap (λ (t : Bool). if t then false else true) h in
     let k : true ≡ false = sym e ∙ g in cc
 
-upper_side : (b : Bound) (x : Fraction) → IsFrom b x → IsUpTo (neg_bound b) (neg_ℚ x)
-upper_side Below x p = tt
-upper_side (At g) x p = neg-le g x p
-upper_side Above x p = p
-
 -- where the lower end of I is above -p, a value in I with an absolute value from p on is 0 or above
 no_less : (i : Interval) (s : Size) (x : Fraction) → is_above i s ≡ true → Lies (range_of i) x → Lies (range_of s.interval) (abs_ℚ x) → x ≡ neg_ℚ (abs_ℚ x) → ⊥
 no_less i s x e l m z = not_le (neg_bound (bound_of s.interval.lo)) (bound_of i.lo) e
-    (between (bound_of i.lo) (neg_bound (bound_of s.interval.lo)) x l.0 (subst (IsUpTo (neg_bound (bound_of s.interval.lo))) (sym z) (upper_side (bound_of s.interval.lo) (abs_ℚ x) m.0)))
+    (between (bound_of i.lo) (neg_bound (bound_of s.interval.lo)) x l.0 (subst (IsUpTo (neg_bound (bound_of s.interval.lo))) (sym z) (up_to_neg (bound_of s.interval.lo) (abs_ℚ x) m.0)))
 
 no_more : (i : Interval) (s : Size) (x : Fraction) → is_below i s ≡ true → Lies (range_of i) x → Lies (range_of s.interval) (abs_ℚ x) → x ≡ abs_ℚ x → ⊥
 no_more i s x e l m z = not_le (bound_of i.hi) (bound_of s.interval.lo) e
@@ -115,10 +100,6 @@ either x = ⊎_elim (λ u. inl (sym u.is)) (λ d. inr (sym (neg-neg x) ∙ ap ne
 both_signs : (i : Interval) (s : Size) (x : Fraction) → is_above i s ≡ true → is_below i s ≡ true → Lies (range_of i) x → Lies (range_of s.interval) (abs_ℚ x) → ⊥
 both_signs i s x e k l m = ⊎_elim (λ z. no_more i s x k l m z) (λ z. no_less i s x e l m z) (either x)
 
-two_values : (o : Option Fraction) (P Q R : Fraction → Type 0) → ((x : Fraction) → P x → Q x → R x) → IsSomeAnd o P → IsSomeAnd o Q → IsSomeAnd o R
-two_values None P Q R h p q = p
-two_values (Some x) P Q R h p q = h x p q
-
 signed_holds : (nodes : List Node) (a : Assignment) (x : ExprId) (i : Interval) (s : Size) (above below : Bool) (f : Fact) → is_above i s ≡ above → is_below i s ≡ below → signed_fact x s above below ≡ Some f → IsSomeAnd (value nodes a x) (Lies (range_of i)) → IsSomeAnd (value nodes a x) (λ v. Lies (range_of s.interval) (abs_ℚ v)) → Holds nodes a f
 signed_holds nodes a x i s true true f e k q l m = absurd (none (value nodes a x) l m)
   where
@@ -126,10 +107,10 @@ signed_holds nodes a x i s true true f e k q l m = absurd (none (value nodes a x
     none None l m = l
     none (Some v) l m = both_signs i s v e k l m
 signed_holds nodes a x i s true false f e k q l m = let t : fact.Bnd x s.interval ≡ f = cc in
-    subst (Holds nodes a) t (two_values (value nodes a x) (Lies (range_of i)) (λ v. Lies (range_of s.interval) (abs_ℚ v)) (Lies (range_of s.interval))
+    subst (Holds nodes a) t (both_some (value nodes a x) (Lies (range_of i)) (λ v. Lies (range_of s.interval) (abs_ℚ v)) (Lies (range_of s.interval))
     (λ v p r. ⊎_elim (λ z. subst (Lies (range_of s.interval)) (sym z) r) (λ z. absurd (no_less i s v e p r z)) (either v)) l m)
 signed_holds nodes a x i s false true f e k q l m = let t : fact.Bnd x (negation_of s.interval) ≡ f = cc in
-    subst (Holds nodes a) t (two_values (value nodes a x) (Lies (range_of i)) (λ v. Lies (range_of s.interval) (abs_ℚ v)) (Lies (range_of (negation_of s.interval)))
+    subst (Holds nodes a) t (both_some (value nodes a x) (Lies (range_of i)) (λ v. Lies (range_of s.interval) (abs_ℚ v)) (Lies (range_of (negation_of s.interval)))
     (λ v p r. ⊎_elim (λ z. absurd (no_more i s v k p r z)) (λ z. subst (Lies (range_of (negation_of s.interval))) (sym z) (negated s.interval (abs_ℚ v) r)) (either v)) l m)
 signed_holds nodes a x i s false false f e k q l m = cc
 

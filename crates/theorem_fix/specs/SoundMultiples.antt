@@ -8,7 +8,7 @@ use Rattle.std.proofs.lemmas.Bool.{eqb-true}
 use lib.IntN.{neg_ℤ}
 use Rattle.fx_model.specs.Fraction.{Fraction, ◌+ℚ◌, ◌-ℚ◌, ◌*ℚ◌, ◌≤ℚ◌, neg_ℚ, le_antisymm, le_trans}
 use Rattle.fx_model.specs.Powers.{IsMultiple, scaled, scaled-zero, whole, two_to, whole-add}
-use Rattle.fx_model.specs.Grid.{scaled-neg, scaled-mul}
+use Rattle.fx_model.specs.Grid.{scaled-neg, scaled-mul, multiple-neg}
 use Rattle.fx_model.specs.Enclosure.{Lies}
 use Rattle.fx_model.specs.Expression.{Assignment, IsOrdered, value, lift₁, literal_value}
 use Rattle.fx_model.specs.Rounded.{rounded}
@@ -46,9 +46,6 @@ use Rattle.theorem_fix.specs.Shapes.{rounding_of, rounding_at}
 use Rattle.theorem_fix.specs.Multiples.{literal_place, literal_multiple_rule, multiple_of_negation_rule, multiple_of_sum_rule, multiple_of_product_rule, last_place, rounded_multiple_rule, untouched, untouched_multiple_rule, is_zero, number_place, point_place, number_multiple_rule}
 
 -- ---- multiples
-pub multiple-neg : (k : ℤ) (x : Fraction) → IsMultiple k x → IsMultiple k (neg_ℚ x)
-multiple-neg k x m = (neg_ℤ m.0, ap neg_ℚ m.1 ∙ sym (scaled-neg m.0 k))
-
 scaled-add : (m n k : ℤ) → scaled m k +ℚ scaled n k ≡ scaled (m +ℤ n) k
 scaled-add m n k = sym (add-mul (whole m) (whole n) (two_to k)) ∙ ap (λ y. y *ℚ two_to k) (sym (whole-add m n))
 

@@ -5,6 +5,7 @@ use Rattle.fx_model.specs.Grid.{Bound, Below, At, Above, IsDown, IsUp}
 use Rattle.std.proofs.Common.{sym, subst, refl, ⊎_elim, ◌∙◌}
 use Rattle.fx_model.specs.Enclosure.Sets.{Range, IsFrom, IsUpTo, Lies, IsInfimum, IsSupremum, Sums, IsSum}
 use Rattle.fx_model.specs.Enclosure.Attained.{infimum_at, supremum_at}
+use Rattle.fx_model.specs.Enclosure.Members.{deep, far}
 
 -- ---- sums
 pub sum_low : (r s : Range) (g h : Fraction) (b : Bound) → r.low ≡ At g → s.low ≡ At h → IsUpTo r.high g → IsUpTo s.high h → IsDown (g +ℚ h) b → IsInfimum (Sums r s) b
@@ -15,15 +16,6 @@ sum_low r s g h b p q i j d = infimum_at (Sums r s) (g +ℚ h) b (g, h, (from_en
 
     least : (z : Fraction) → Sums r s z → (g +ℚ h) ≤ℚ z
     least z t = subst (λ z. (g +ℚ h) ≤ℚ z) (sym t.4) (add-le-add g h t.0 t.1 (subst (λ e. IsFrom e t.0) p t.2.0) (subst (λ e. IsFrom e t.1) q t.3.0))
-
--- below any number there is a member of an interval that has no lower end
-deep : (r : Range) (x k : Fraction) → r.low ≡ Below → Lies r x → (y : Fraction) × Lies r y × (y ≤ℚ k)
-deep r x k p i = ⊎_elim (λ h. (x, i, h)) (λ h. (k, (subst (λ e. IsFrom e k) (sym p) tt, up_to r.high x k (lt_le k x h) i.1), le_refl k)) (le_or_lt x k)
-  where
-    up_to : (e : Bound) (x k : Fraction) → k ≤ℚ x → IsUpTo e x → IsUpTo e k
-    up_to Below x k h u = u
-    up_to (At g) x k h u = le_trans k x g h u
-    up_to Above x k h u = u
 
 -- ---- where one lower end is infinite, no number is below every sum
 pub sum_low_infinite : (r s : Range) (x y : Fraction) → r.low ≡ Below → Lies r x → Lies s y → IsInfimum (Sums r s) Below
@@ -55,16 +47,8 @@ HighSum (At g) Above b = b ≡ Above
 HighSum Below c b = b ≡ Above
 HighSum Above c b = b ≡ Above
 
-high_member : (r : Range) (x k : Fraction) → r.high ≡ Above → Lies r x → (y : Fraction) × Lies r y × (k ≤ℚ y)
-high_member r x k p i = ⊎_elim (λ h. (x, i, h)) (λ h. (k, (from_up r.low x k (lt_le x k h) i.0, subst (λ e. IsUpTo e k) (sym p) tt), le_refl k)) (le_or_lt k x)
-  where
-    from_up : (e : Bound) (x k : Fraction) → x ≤ℚ k → IsFrom e x → IsFrom e k
-    from_up Below x k h u = u
-    from_up (At g) x k h u = le_trans g x k u h
-    from_up Above x k h u = u
-
 pub sum_high_infinite : (r s : Range) (x y : Fraction) → r.high ≡ Above → Lies r x → Lies s y → IsSupremum (Sums r s) Above
-sum_high_infinite r s x y p i j = λ h o k. let d = high_member r x ((h -ℚ y) +ℚ one_ℚ) p i in
+sum_high_infinite r s x y p i j = λ h o k. let d = far r x ((h -ℚ y) +ℚ one_ℚ) p i in
     lt_not h (((h -ℚ y) +ℚ one_ℚ) +ℚ y) (over h y) (le_trans (((h -ℚ y) +ℚ one_ℚ) +ℚ y) (d.0 +ℚ y) h (add-le-add ((h -ℚ y) +ℚ one_ℚ) y d.0 y d.2 (le_refl y)) (k (d.0 +ℚ y) (d.0, y, d.1, j, refl)))
 
 swap_sums : (r s : Range) (z : Fraction) → Sums r s z → Sums s r z

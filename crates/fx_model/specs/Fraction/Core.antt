@@ -1,6 +1,7 @@
 -- What a fraction is, its operations and its order. Nothing above the modules of `Fraction` opens these definitions.
 pub mod Ring
 pub mod Order
+pub mod Laws
 pub mod Floor
 pub mod Inverse
 use Rattle.std.specs.Prelude.{◌≡◌, ◌⊎◌, ℕ, ◌*◌, ◌+◌, ◌-◌, ◌/◌, ◌≤◌, ◌<◌, ◌^◌, Bool, true, false, cond, nat_le, nat_lt, IsTrue, IsFalse, not, refl}

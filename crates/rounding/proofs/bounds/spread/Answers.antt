@@ -1,11 +1,10 @@
 use Rattle.std.proofs.Common.{◌≡◌, arith, sym, ◌∙◌, subst, pos, refl}
 use Rattle.std.proofs.lemmas.Int.{ints}
-use Rattle.fx_model.specs.Fraction.{Fraction, ◌≤ℚ◌, neg_ℚ, zero_ℚ, le_refl}
+use Rattle.fx_model.specs.Fraction.{Fraction, ◌≤ℚ◌, neg_ℚ, zero_ℚ, le_refl, neg_down}
 use Rattle.fx_model.specs.Powers.{scaled, scaled-zero}
 use Rattle.fx_model.specs.Cut.{on_grid}
 use Rattle.dyadic.specs.Values.{value_of}
 use Rattle.rounding.specs.declared.bounds.Span.TheVariants.{Nowhere, Leftward, Rightward, Sideward, Near}
-use Rattle.rounding.specs.Sums.{neg_to_zero}
 use Rattle.rounding.specs.Enclosed.{spread_by, around_zero}
 use Rattle.rounding.proofs.bounds.spread.Goals as goal
 
@@ -17,7 +16,7 @@ from_zero : (z u : Fraction) → z ≡ scaled (pos 0) (pos 0) → zero_ℚ ≤�
 from_zero z u e h = subst (λ a. a ≤ℚ u) (sym (is_zero z e)) h
 
 to_zero : (z n u : Fraction) → z ≡ scaled (pos 0) (pos 0) → n ≡ neg_ℚ u → zero_ℚ ≤ℚ u → n ≤ℚ z
-to_zero z n u e f h = subst (λ a. n ≤ℚ a) (sym (is_zero z e)) (subst (λ a. a ≤ℚ zero_ℚ) (sym f) (neg_to_zero u h))
+to_zero z n u e f h = subst (λ a. n ≤ℚ a) (sym (is_zero z e)) (subst (λ a. a ≤ℚ zero_ℚ) (sym f) (neg_down u h))
 
 around : (n u : Fraction) → n ≡ neg_ℚ u → zero_ℚ ≤ℚ u → n ≤ℚ u
 around n u f h = subst (λ a. a ≤ℚ u) (sym f) (around_zero u h)
