@@ -32,6 +32,8 @@ use Rattle.box_tree.specs.Points.{piece_of}
 use Rattle.cert_checker.specs.Contexts.{low_end, high_end, piece_fact}
 use Rattle.box_traces.specs.Traces.{IsCutTo}
 use Rattle.box_traces.specs.Trees.{cut_of, ArePoints}
+use Rattle.box_tree.specs.InRanges.{within_at}
+use Rattle.box_traces.specs.Cited.{differs}
 
 -- ---- the ends of pieces
 else_is : (b : Bool) (x y : End) → b ≡ false → (if b then x else y) ≡ y
@@ -42,16 +44,8 @@ then_is : (b : Bool) (x y : End) → b ≡ true → (if b then x else y) ≡ x
 then_is true x y e = refl
 then_is false x y e = cc
 
-other : (m n : ℕ) → m < n → (m == n) ≡ false
-other m n h = grind (arith, h)
-
 other_above : (m n : ℕ) → n < m → (m == n) ≡ false
 other_above m n h = grind (arith, h)
-
-within_at : (r : SplitRange) (points : List Dyadic) (k : ℕ) (d : Dyadic) → AllByRecursion (IsWithin r) points → k < length points → IsWithin r (slice_index_or points k d)
-within_at r [] k d w l = absurd (omega (arith, l))
-within_at r (p ∷ ps) zero d w l = w.0
-within_at r (p ∷ ps) (suc k) d w l = within_at r ps k d w.1 (omega (arith, l))
 
 module _ (r : SplitRange) (points : List Dyadic) (ok : ArePoints points) (inside : AllByRecursion (IsWithin r) points) where
   -- the end of the plan's piece, where it is the range's, and where it is a point
@@ -65,7 +59,7 @@ module _ (r : SplitRange) (points : List Dyadic) (ok : ArePoints points) (inside
   low_point k l = get_or_default points k r.high zero_number l
 
   checker_high : (k : ℕ) → k < length points → high_end points k ≡ end.At (point_of points k)
-  checker_high k l = else_is (k == length points) end.High (end.At (point_of points k)) (other k (length points) l)
+  checker_high k l = else_is (k == length points) end.High (end.At (point_of points k)) (differs k (length points) l)
 
   checker_low : (k : ℕ) → low_end points (suc k) ≡ end.At (point_of points k)
   checker_low k =

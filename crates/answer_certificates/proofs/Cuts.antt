@@ -5,13 +5,12 @@ use Rattle.std.proofs.Common.{sym, ◌∙◌, ap, subst, arith, ⊎_elim}
 use Rattle.std.proofs.Math.ListN.{get_or-append}
 use Rattle.std.proofs.Math.Seq.{get_or-append_seam}
 use Rattle.std.proofs.lemmas.List.{length-append}
-use Rattle.std.proofs.lemmas.Bool.{cases_lt, eqb-true}
+use Rattle.std.proofs.lemmas.Bool.{cases_lt, eqb-true, and_parts, or_cases}
 use Rattle.fx_model.specs.declared.ExprId.{ExprId}
 use Rattle.fx_model.specs.Fraction.{le_ℚ, ◌<ℚ◌, lt_le, le_lt_trans}
 use Rattle.dyadic.specs.declared.number.Dyadic.{Dyadic}
 use Rattle.dyadic.specs.Values.{value_of, zero_number}
-use Rattle.dyadic.specs.Rising.{point_of, IsRising, IsAboveLast}
-use Rattle.facts.specs.CommonParts.{and_both, or_out}
+use Rattle.dyadic.specs.Rising.{point_of, IsRising, IsAboveLast, rising_more}
 use Rattle.script_hints.specs.declared.hint.Cutting.{Cutting}
 use Rattle.script_hints.specs.declared.hint.Cutting.TheVariants as cutting
 use Rattle.script_hints.specs.declared.hint.Split.{Split}
@@ -23,6 +22,7 @@ use Rattle.box_tree.specs.Ranges.{IsWithin, is_less, is_inside, range_in}
 use Rattle.box_tree.specs.Points.{is_above_last, with_point, with_points, parts_from, asked_points, cut_points, middle, half_point}
 use Rattle.box_tree.specs.Regions.{PlanParts, Region, points_in, forced_or, next_forced, half_in, halved_or, next_half, turned, half_of, else_next, next_of}
 use Rattle.box_traces.specs.Trees.{ArePoints}
+use Rattle.box_tree.specs.InRanges.{at_bool, inside_within, above_in, append_within, few_behind}
 
 -- The range of x, in which the points lie; and there are 1 to 63 that rise.
 pub record IsCutAlong (ranges : List SplitRange) (x : ExprId) (points : List Dyadic) : Type 0 where
@@ -36,56 +36,6 @@ IsCut ranges (next.Force x points done) = IsCutAlong ranges x points
 IsCut ranges (next.Halve x m) = IsCutAlong ranges x (m ∷ [])
 IsCut ranges next.Rest = ⊤
 
-at_bool : (b : Bool) (P : Bool → Type 0) → (b ≡ true → P true) → (b ≡ false → P false) → P b
-at_bool true P t f = t refl
-at_bool false P t f = f refl
-
--- ---- numbers
-less_in : (a b : Dyadic) → is_less a b ≡ true → value_of a <ℚ value_of b
-less_in a b e = record { lt = not_true (le_ℚ (value_of b) (value_of a)) e }
-  where
-    not_true : (b : Bool) → not b ≡ true → b ≡ false
-    not_true true e = cc
-    not_true false e = refl
-
-inside_within : (r : SplitRange) (p : Dyadic) → is_inside r p ≡ true → IsWithin r p
-inside_within r p e =
-    let q = and_both (is_less r.low p) (is_less p r.high) e in
-    (lt_le (value_of r.low) (value_of p) (less_in r.low p q.0), lt_le (value_of p) (value_of r.high) (less_in p r.high q.1))
-
-above_in : (points : List Dyadic) (p : Dyadic) → is_above_last points p ≡ true → IsAboveLast points p
-above_in points p e l = ⊎_elim
-    (λ z. let n : length points ≡ 0 = eqb-true (length points) 0 z in absurd (omega (arith, n, l)))
-    (λ h. less_in (point_of points (length points - 1)) p h)
-    (or_out (length points == 0) (is_less (point_of points (length points - 1)) p) e)
-
--- ---- one point more
-point_kept : (points : List Dyadic) (p : Dyadic) (i : ℕ) → i < length points → point_of (points ++ p ∷ []) i ≡ point_of points i
-point_kept points p i h = get_or-append points (p ∷ []) zero_number i h
-
-point_last : (points : List Dyadic) (p : Dyadic) (j : ℕ) → j ≡ length points → point_of (points ++ p ∷ []) j ≡ p
-point_last points p j e = ap (point_of (points ++ p ∷ [])) e ∙ get_or-append_seam points p [] zero_number
-
-below_last : (points : List Dyadic) (p : Dyadic) → IsRising points → IsAboveLast points p → (i : ℕ) → i < length points → value_of (point_of points i) <ℚ value_of p
-below_last points p r a i h = ⊎_elim
-    (λ l. le_lt_trans (value_of (point_of points i)) (value_of (point_of points (length points - 1))) (value_of p)
-    (lt_le (value_of (point_of points i)) (value_of (point_of points (length points - 1))) (r i (length points - 1) l (omega arith))) (a (omega arith)))
-    (λ l. let e : length points - 1 ≡ i = omega arith in subst (λ n. value_of (point_of points n) <ℚ value_of p) e (a (omega arith)))
-    (cases_lt i (length points - 1))
-
-rising_more : (points : List Dyadic) (p : Dyadic) → IsRising points → IsAboveLast points p → IsRising (points ++ p ∷ [])
-rising_more points p r a i j h k = ⊎_elim
-    (λ l. let f : i < length points = omega arith in
-    subst (λ x. value_of x <ℚ value_of (point_of (points ++ p ∷ []) j)) (sym (point_kept points p i f)) (subst (λ x. value_of (point_of points i) <ℚ value_of x) (sym (point_kept points p j l)) (r i j h l)))
-    (λ l. let e : j ≡ length points = omega (arith, length-append points (p ∷ [])) in
-    let f : i < length points = omega arith in
-    subst (λ x. value_of x <ℚ value_of (point_of (points ++ p ∷ []) j)) (sym (point_kept points p i f)) (subst (λ x. value_of (point_of points i) <ℚ value_of x) (sym (point_last points p j e)) (below_last points p r a i f)))
-    (cases_lt j (length points))
-
-within_more : (r : SplitRange) (points : List Dyadic) (p : Dyadic) → AllByRecursion (IsWithin r) points → IsWithin r p → AllByRecursion (IsWithin r) (points ++ p ∷ [])
-within_more r [] p w i = (i, tt)
-within_more r (q ∷ qs) p w i = (w.0, within_more r qs p w.1 i)
-
 -- ---- points that stay
 -- rising points in the range, no more than so many
 record AreIn (r : SplitRange) (points : List Dyadic) (most : ℕ) : Type 0 where
@@ -95,10 +45,10 @@ record AreIn (r : SplitRange) (points : List Dyadic) (most : ℕ) : Type 0 where
 
 one_in : (r : SplitRange) (points : List Dyadic) (p : Dyadic) (most : ℕ) → AreIn r points most → AreIn r (with_point r points p) (most + 1)
 one_in r points p most a = at_bool (is_inside r p && is_above_last points p) (λ b. AreIn r (if b then points ++ p ∷ [] else points) (most + 1))
-    (λ t. let both = and_both (is_inside r p) (is_above_last points p) t in
+    (λ t. let both = and_parts (is_inside r p) (is_above_last points p) t in
     record {
       rising = rising_more points p a.rising (above_in points p both.1);
-      within = within_more r points p a.within (inside_within r p both.0);
+      within = append_within r points p a.within (inside_within r p both.0);
       few = let f = a.few in omega (arith, f, length-append points (p ∷ []));
     })
     (λ f. record { rising = a.rising; within = a.within; few = let f = a.few in omega (arith, f) })
@@ -169,15 +119,10 @@ half_cut : (plan : PlanParts) (g : Region) → IsCut g.ranges (half_of plan g)
 half_cut plan g = at_bool (nat_lt g.halvings plan.depth) (λ b. IsCut g.ranges (if b then next_half g.ranges (turned g.halvings plan.halves) else next.Rest))
     (λ t. halves_next g.ranges (turned g.halvings plan.halves)) (λ f. tt)
 
-cuts_left : (n : ℕ) (cuts : List Split) → HaveFewPieces cuts → HaveFewPieces (drop n cuts)
-cuts_left zero cuts h = h
-cuts_left (suc n) [] h = tt
-cuts_left (suc n) (c ∷ cs) h = cuts_left n cs h.1
-
 else_cut : (ranges : List SplitRange) (o : Option Next) (other : Next) → IsNext ranges o → IsCut ranges other → IsCut ranges (else_next o other)
 else_cut ranges None other n c = c
 else_cut ranges (Some m) other n c = n
 
 -- What is done next to a box cuts it so, or leaves it.
 pub next_cut : (plan : PlanParts) (g : Region) → HaveFewPieces plan.cuts → IsCut g.ranges (next_of plan g)
-next_cut plan g h = else_cut g.ranges (next_forced g.ranges g.done (drop g.done plan.cuts)) (half_of plan g) (forced_next g.ranges g.done (drop g.done plan.cuts) (cuts_left g.done plan.cuts h)) (half_cut plan g)
+next_cut plan g h = else_cut g.ranges (next_forced g.ranges g.done (drop g.done plan.cuts)) (half_of plan g) (forced_next g.ranges g.done (drop g.done plan.cuts) (few_behind g.done plan.cuts h)) (half_cut plan g)

@@ -27,6 +27,3 @@ difference_behind [] (d ∷ ds) zero n l e = (d.0, d.1, let q : difference_of d 
 difference_behind [] (d ∷ ds) (suc k) n l e = difference_behind [] ds k n (omega arith) e
 difference_behind (x ∷ nodes) ds zero n l e = absurd (omega (arith, l))
 difference_behind (x ∷ nodes) ds (suc k) n l e = difference_behind nodes ds k n (omega (arith, l)) e
-
-pub has_contains : {X : Type 0} (xs : List X) (x : X) → Has xs x → Contains xs x
-has_contains xs x h = (h.0, slice_get_within xs h.0 x h.1, get_or_from_slice_get xs h.0 x x h.1)

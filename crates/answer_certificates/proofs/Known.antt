@@ -11,12 +11,12 @@ use Rattle.interval.specs.Meets.{interval_from, interval_from_self}
 use Rattle.facts.specs.declared.fact.Fact.{Fact}
 use Rattle.facts.specs.declared.fact.Fact.TheVariants as fact
 use Rattle.facts.specs.Order.{is_same}
-use Rattle.facts.specs.CommonParts.{expr_same, same_expr}
+use Rattle.facts.specs.CommonParts.{expr_same, same_expr, all_as}
 use Rattle.derivation.specs.Derivations.{Setting, given}
 use Rattle.derivation.specs.Known.{Piece, Known}
 use Rattle.script_claims.specs.declared.claim.Claim.{Claim}
 use Rattle.script_claims.specs.Facts.{hypothesis_fact}
-use Rattle.pair_closure.specs.Reached.{Has}
+use Rattle.pair_closure.specs.Reached.{Has, has_contains}
 use Rattle.universe.specs.Universes.{with_fact, facts_of}
 use Rattle.box_tree.specs.declared.range.SplitRange.{SplitRange}
 use Rattle.box_tree.specs.Ranges.{range_in, put_range}
@@ -25,20 +25,11 @@ use Rattle.box_tree.specs.Regions.{PlanParts, Region, root, piece, region_below,
 use Rattle.box_tree.specs.Plans.{or_whole, interval_of, last_piece, with_last, pieces_below, pieces_at, piece_at}
 use Rattle.box_tree.specs.Root.{finite_range, range_by, or_later, split_range, with_range, split_ranges}
 use Rattle.cert_checker.specs.Faults.{IsVariable}
-use Rattle.answer_certificates.proofs.Fronts.{has_contains}
-
-at_bool : (b : Bool) (P : Bool → Type 0) → (b ≡ true → P true) → (b ≡ false → P false) → P b
-at_bool true P t f = t refl
-at_bool false P t f = f refl
+use Rattle.box_tree.specs.InRanges.{at_bool, below_append, range_var, finite_out}
 
 -- ---- boxes along paths
-region_more : (plan : PlanParts) (g : Region) (path : List ℕ) (i : ℕ) → region_below plan g (path ++ i ∷ []) ≡ piece plan (region_below plan g path) i
-unfolding region_below
-region_more plan g [] i = refl
-region_more plan g (j ∷ path) i = region_more plan (piece plan g j) path i
-
 pub region_of_piece : (plan : PlanParts) (path : List ℕ) (i : ℕ) → region_at plan (path ++ i ∷ []) ≡ piece plan (region_at plan path) i
-region_of_piece plan path i = region_more plan (root plan) path i
+region_of_piece plan path i = below_append plan (root plan) path i
 
 pieces_more : (plan : PlanParts) (g : Region) (path : List ℕ) (i : ℕ) (above : List Piece) →
     pieces_below plan g (path ++ i ∷ []) above ≡ with_last (last_piece (piece plan (region_below plan g path) i)) (pieces_below plan g path above)
@@ -55,12 +46,6 @@ unfolding piece_at
 piece_there plan path i = ap last_piece (region_of_piece plan path i)
 
 -- ---- ranges in lists
-pub range_var : (x : ExprId) (rs : List SplitRange) (r : SplitRange) → range_in x rs ≡ Some r → r.var ≡ x
-range_var x [] r e = cc
-range_var x (q ∷ rs) r e = at_bool (is_same q.var x) (λ b. is_same q.var x ≡ b → (if b then Some q else range_in x rs) ≡ Some r → r.var ≡ x)
-    (λ t s f. let k : q ≡ r = cc in ap (λ (z : SplitRange). z.var) (sym k) ∙ expr_same q.var x s)
-    (λ t s f. range_var x rs r f) refl e
-
 -- the range that was put is found
 put_found : (p r : SplitRange) (rs : List SplitRange) → range_in p.var rs ≡ Some r → range_in p.var (put_range p rs) ≡ Some p
 put_found p r [] e = cc
@@ -76,10 +61,6 @@ range_all : (P : SplitRange → Type 0) (x : ExprId) (rs : List SplitRange) (r :
 range_all P x [] r e a = cc
 range_all P x (q ∷ rs) r e a = at_bool (is_same q.var x) (λ b. (if b then Some q else range_in x rs) ≡ Some r → P r)
     (λ t f. let s : q ≡ r = cc in subst P s a.0) (λ t f. range_all P x rs r f a.1) e
-
-map_all : (P Q : SplitRange → Type 0) → ((r : SplitRange) → P r → Q r) → (rs : List SplitRange) → AllByRecursion P rs → AllByRecursion Q rs
-map_all P Q f [] a = tt
-map_all P Q f (r ∷ rs) a = (f r a.0, map_all P Q f rs a.1)
 
 -- ---- what is known
 -- The range is of a variable, and it is known that this lies in it.
@@ -111,18 +92,6 @@ record IsGivenRange (facts : List Fact) (x : ExprId) (r : SplitRange) : Type 0 w
   high : interval.hi ≡ end.At r.high
   var : r.var ≡ x
   there : Has facts (fact.Bnd x interval)
-
-finite_out : (x : ExprId) (lo hi : End) (r : SplitRange) → finite_range x lo hi ≡ Some r → (lo ≡ end.At r.low) × (hi ≡ end.At r.high) × (r.var ≡ x)
-finite_out x end.Low hi r e = cc
-finite_out x end.High hi r e = cc
-finite_out x (end.At l) end.Low r e = cc
-finite_out x (end.At l) end.High r e = cc
-finite_out x (end.At l) (end.At h) r e =
-    let q : record { var = x; low = l; high = h } ≡ r = some_inj _ r e in
-    (ap (λ (s : SplitRange). end.At s.low) q, ap (λ (s : SplitRange). end.At s.high) q, ap (λ (s : SplitRange). s.var) (sym q))
-  where
-    some_inj : (a b : SplitRange) → Some a ≡ Some b → a ≡ b
-    some_inj a b e = cc
 
 by_fact : (x : ExprId) (o : Option Fact) (facts : List Fact) (r : SplitRange) → range_by x o ≡ Some r → IsGivenRange (with_fact o facts) x r
 by_fact x None facts r e = cc
@@ -196,5 +165,5 @@ ranges_below u height pieces ranges x points k r i e a l h =
       ap (range_in x) s ∙ (ap (λ (z : ExprId). range_in z (put_range p ranges)) (sym v) ∙ found),
       subst (λ rs. AreRangesAt u height ((x, i) ∷ pieces) rs) (sym s)
           (put_all (IsRangeAt u height ((x, i) ∷ pieces)) p ranges new
-          (map_all (IsRangeAt u height pieces) (IsRangeAt u height ((x, i) ∷ pieces)) (λ q b. range_below u height (x, i) pieces q b) ranges a)),
+          (all_as (IsRangeAt u height pieces) (IsRangeAt u height ((x, i) ∷ pieces)) (λ q b. range_below u height (x, i) pieces q b) ranges a)),
     )

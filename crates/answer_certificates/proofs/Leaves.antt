@@ -9,13 +9,14 @@ use Rattle.facts.specs.Meets.{IsStronger-antisymm}
 use Rattle.goals.specs.declared.goal.Goal.{Goal}
 use Rattle.derivation.specs.Derivations.{Setting, At}
 use Rattle.derivation.specs.Known.{Piece, Known, IsTableAt}
-use Rattle.derivation.specs.Parts.{none_some, void_is, at_option}
+use Rattle.derivation.specs.Parts.{none_some}
 use Rattle.derivation.specs.Exists.{table_at}
 use Rattle.bisect.specs.declared.settler.State.{State}
 use Rattle.bisect.specs.declared.settler.State.TheVariants as state
 use Rattle.bisect.specs.Boxes.{open_goal}
 use Rattle.settler.specs.Standing.{IsBestKnown, AreSettledBy, StandsAs}
 use Rattle.box_traces.specs.Trees.{AllSettled, IsSettledLeaf}
+use Rattle.facts.specs.CommonParts.{at_option, void_is}
 
 -- the table has these facts on the slots of the goals
 abbrev pub AreAt : At → List Goal → List Fact → Type 0

@@ -2,7 +2,7 @@
 use Rattle.std.specs.Prelude.{◌≡◌, ℕ, ◌+◌, ◌≤◌, nat_lt, List, ◌∷◌, length, Option, Some, None, Bool, true, false, ◌||◌, if◌then◌else◌, take, refl}
 use Rattle.std.proofs.Common.{ap, ◌∙◌, subst}
 use Rattle.std.proofs.Math.Seq.{take-length}
-use Rattle.std.proofs.lemmas.Bool.{ltb-false}
+use Rattle.std.proofs.lemmas.Bool.{ltb-false, or_parts}
 use Rattle.script_words.specs.Lex.{LexesOnce}
 use Rattle.script_words.specs.Words.{Word}
 use Rattle.script_words.specs.Named.{words_of}
@@ -17,9 +17,9 @@ use Rattle.script_judge.specs.Names.{is_some_among, is_used, defines, split_name
 use Rattle.script_judge.specs.Bounds.{is_bad_bound}
 use Rattle.script_judge.specs.Splits.{is_rangeless, is_bad_point}
 use Rattle.script_judge.specs.Numbers.{Verdict, has_no_pieces, is_past_lsb, is_past_pieces}
-use Rattle.script_judge.specs.Judge.{Seen, seen_after, has_arrow, is_empty, is_on_wrong_side, form_kind, form_refusal, limit_kind, limit_refusal, or_else, refusal_at, Judged, refused, passed, nothing_seen}
+use Rattle.script_judge.specs.Judge.{Seen, seen_after, has_arrow, is_empty, is_on_wrong_side, form_kind, form_refusal, limit_kind, limit_refusal, or_else, refusal_at, Judged, refused, passed, nothing_seen, fails, both_none}
 use Rattle.script_judge.specs.Reading.{Reading, IsReadingOf, fault}
-use Rattle.script_judge.specs.First.{IsFirstRefusal, unread, read, first_of, refusal_of}
+use Rattle.script_judge.specs.First.{IsFirstRefusal, unread, read, first_of, refusal_of, second_none, none_found}
 use Rattle.script_grammar.specs.Spells.{View, Spells}
 
 -- ---- one word
@@ -39,18 +39,6 @@ one_passed i seen l ls j = found_passed l ls j refl
 
 -- ---- what isn't refused of it
 
-fails : (b : Bool) (k : RefusalKind) (rest : Option RefusalKind) → (if b then Some k else rest) ≡ None → (b ≡ false) × (rest ≡ None)
-fails true k rest e = absurd (cc e)
-fails false k rest e = (refl, e)
-
-neither : (a b : Bool) → (a || b) ≡ false → (a ≡ false) × (b ≡ false)
-neither true b e = absurd (cc e)
-neither false b e = (refl, e)
-
-both_none : (a b : Option RefusalKind) → or_else a b ≡ None → (a ≡ None) × (b ≡ None)
-both_none None b e = (refl, e)
-both_none (Some k) b e = absurd (cc e)
-
 few_propositions : (opened halved : ℕ) (c : Counts) (lsb pieces : Bool) → limit_kind opened halved c lsb pieces ≡ None → c.propositions ≤ 128
 few_propositions opened halved c lsb pieces h =
     let nesting = fails (nat_lt 64 opened) _ _ h in
@@ -65,8 +53,8 @@ not_defined side used bad rangeless defined none point past e =
     let c = fails bad _ _ b.1 in
     let d = fails rangeless _ _ c.1 in
     let f = fails (defined || none || point) _ _ d.1 in
-    let g = neither (defined || none) point f.0 in
-    (neither defined none g.0).0
+    let g = or_parts (defined || none) point f.0 in
+    (or_parts defined none g.0).0
 
 -- there are no more than 128 propositions so far
 pub within_limits : (v : Verdict) (seen : Seen) (l : Leaf) (ls : List Leaf) → refusal_at v seen l.role l.word ls ≡ None → (seen_after v seen l.role l.word).counts.propositions ≤ 128
@@ -85,19 +73,6 @@ split_plain v seen l ls e =
 
 -- ---- the words of a text that spells a script
 
-later_none : (a b : Option Refusal) → first_of a b ≡ None → b ≡ None
-later_none None b e = e
-later_none (Some x) None e = refl
-later_none (Some x) (Some y) e = absurd (by_test _ e)
-  where
-    by_test : (t : Bool) → (if t then Some y else Some x) ≡ None → ⊥
-    by_test true e = cc e
-    by_test false e = cc e
-
-fault_none : (r : Reading) (o : Option Fault) → refusal_of r o ≡ None → o ≡ None
-fault_none r None e = refl
-fault_none r (Some f) e = absurd (cc e)
-
 -- the text is read, and each of its words passes
 record IsRead (text : List ℕ) : Type 0 where
   reading : Reading
@@ -107,7 +82,7 @@ record IsRead (text : List ℕ) : Type 0 where
 text_read : (text : List ℕ) (o : Option Refusal) → IsFirstRefusal text o → o ≡ None → IsRead text
 text_read text o (unread h) e = absurd (cc e)
 text_read text o (read {r = r} {found = found} k h j) e =
-    record { reading = r; is = h; judged = subst (Judged 0 nothing_seen r.leaves) (fault_none r found (later_none (fault (length text) r) (refusal_of r found) e)) j }
+    record { reading = r; is = h; judged = subst (Judged 0 nothing_seen r.leaves) (none_found r found (second_none (fault (length text) r) (refusal_of r found) e)) j }
 
 -- the words of a script are read whole
 whole_taken : (ws : List Word) (n : ℕ) (b : Bool) → IsShapeOf ws n b → IsScript ws → n ≡ length ws

@@ -33,7 +33,7 @@ use Rattle.bisect.specs.declared.settler.State.{State}
 use Rattle.bisect.specs.declared.settler.State.TheVariants as state
 use Rattle.bisect.specs.Trees.{tree_of, children, child_count}
 use Rattle.bisect.specs.Trees as bisect
-use Rattle.bisect.specs.Boxes.{open_goal, or_later, first_open, leaf_at, with_leaf, leaves_of}
+use Rattle.bisect.specs.Boxes.{open_goal, or_later, first_open, leaf_at, with_leaf, leaves_of, first_none, later_none}
 use Rattle.bisect.specs.Walks.{boxes_from}
 use Rattle.bisect.specs.Walks as walks
 use Rattle.settler.specs.Standing.{StandsAs, AreStates}
@@ -43,10 +43,11 @@ use Rattle.box_traces.specs.Traces.{IsCutTo}
 use Rattle.box_traces.specs.Trees.{Tree, Trees, leaf, cut, cut_of, IsProved, AreProved, lines_of_tree, lines_of_trees, steps_in, steps_in_each}
 use Rattle.answer_certificates.specs.Boxes.{range_of_piece, pieces_from, cut_into, boxes_below}
 use Rattle.answer_certificates.proofs.Cuts.{IsCutAlong, IsCut, next_cut as cuts_so}
-use Rattle.answer_certificates.proofs.Known.{region_of_piece, pieces_of_piece, piece_there, range_var, AreRangesAt, range_here, interval_is, ranges_below}
+use Rattle.answer_certificates.proofs.Known.{region_of_piece, pieces_of_piece, piece_there, AreRangesAt, range_here, interval_is, ranges_below}
 use Rattle.answer_certificates.proofs.CutTo.{piece_ordered, checker_piece, checker_fact, cut_to}
 use Rattle.answer_certificates.proofs.Leaves.{no_void, settled_leaf}
 use Rattle.answer_certificates.proofs.Shown.{rows_from, rows_both, rows_none, rows_length, leaf_rows, leaves_both}
+use Rattle.box_tree.specs.InRanges.{range_var}
 
 -- ---- what is cut along what
 -- The box is cut along x at these points: its pieces have these ranges.
@@ -80,14 +81,6 @@ split_half plan g (next_cut.Force y qs done) x m e c = cc
 split_half plan g next_cut.Rest x m e c = cc
 
 -- ---- lists of boxes
-first_none : (p : List ℕ) (o : Option ℕ) (rest : Option (List ℕ × ℕ)) → or_later p o rest ≡ None → o ≡ None
-first_none p None rest e = refl
-first_none p (Some g) rest e = cc
-
-later_none : (p : List ℕ) (o : Option ℕ) (rest : Option (List ℕ × ℕ)) → or_later p o rest ≡ None → rest ≡ None
-later_none p None rest e = e
-later_none p (Some g) rest e = cc
-
 both_none : (t : bisect.Tree) (ps qs : List (List ℕ)) → first_open t (ps ++ qs) ≡ None → (first_open t ps ≡ None) × (first_open t qs ≡ None)
 both_none t [] qs e = (refl, e)
 both_none t (p ∷ ps) qs e =

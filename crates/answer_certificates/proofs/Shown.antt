@@ -10,7 +10,7 @@ use Rattle.goals.specs.declared.line.Line.{Line}
 use Rattle.goals.specs.declared.line.Line.TheVariants as line
 use Rattle.derivation.specs.Derivations.{Setting, At}
 use Rattle.derivation.specs.Known.{Piece, IsTableAt}
-use Rattle.derivation.specs.Parts.{at_option, none_some}
+use Rattle.derivation.specs.Parts.{none_some}
 use Rattle.derivation.specs.Exists.{table_at}
 use Rattle.bisect.specs.declared.settler.State.{State}
 use Rattle.bisect.specs.declared.settler.State.TheVariants as state
@@ -22,6 +22,7 @@ use Rattle.settler.specs.Standing.{StandsAs}
 use Rattle.box_traces.specs.Trees.{lines_at, leaf_lines}
 use Rattle.cert_checker.specs.After.{with_cited}
 use Rattle.answer_certificates.proofs.Leaves.{AreAt, no_void, facts_at}
+use Rattle.facts.specs.CommonParts.{at_option}
 
 -- the lines of the goals from number k on, with what more leaves know
 abbrev pub rows_from : ℕ → List Line → List Leaf → List Line

@@ -4,6 +4,7 @@ use Rattle.std.specs.List.{AllByRecursion, list_any}
 use Rattle.std.specs.Str.{bytes_eq}
 use Rattle.std.proofs.Common.{sym, ap, ◌∙◌, subst, append_assoc}
 use Rattle.std.proofs.lemmas.Slice.Eq.{bytes_eq-Decides}
+use Rattle.std.proofs.lemmas.Bool.{or_right}
 use Rattle.fx_model.specs.declared.ExprId.{ExprId}
 use Rattle.fx_model.specs.declared.Node.{Node}
 use Rattle.fx_model.specs.declared.Node.TheVariants.{Var}
@@ -27,12 +28,9 @@ use Rattle.cert_checker.specs.Faults.{IsVariable}
 use Rattle.answer_certificates.proofs.Keeping.{expr_so, formula_so, needs_so, sides_so}
 use Rattle.answer_certificates.proofs.Numbered.{Stays, stays_itself, put_stays, named_stays, named_at}
 use Rattle.answer_certificates.proofs.Passed.{one_passed, split_plain}
+use Rattle.facts.specs.CommonParts.{all_as, all_last}
 
 -- ---- lists
-all_as : {A : Type 0} (P Q : A → Type 0) → ((x : A) → P x → Q x) → (xs : List A) → AllByRecursion P xs → AllByRecursion Q xs
-all_as P Q f [] h = tt
-all_as P Q f (x ∷ xs) h = (f x h.0, all_as P Q f xs h.1)
-
 all_left : {A : Type 0} (P : A → Type 0) (xs ys : List A) → AllByRecursion P (xs ++ ys) → AllByRecursion P xs
 all_left P [] ys h = tt
 all_left P (x ∷ xs) ys h = (h.0, all_left P xs ys h.1)
@@ -41,10 +39,6 @@ all_right : {A : Type 0} (P : A → Type 0) (xs ys : List A) → AllByRecursion 
 all_right P [] ys h = h
 all_right P (x ∷ xs) ys h = all_right P xs ys h.1
 
-all_last : {A : Type 0} (P : A → Type 0) (xs : List A) (y : A) → AllByRecursion P xs → P y → AllByRecursion P (xs ++ (y ∷ []))
-all_last P [] y h p = (p, tt)
-all_last P (x ∷ xs) y h p = (h.0, all_last P xs y h.1 p)
-
 -- ---- names that the judge has seen defined
 abbrev Among : List Name → Name → Type 0
 Among names text = is_among names text ≡ true
@@ -52,13 +46,9 @@ Among names text = is_among names text ≡ true
 abbrev IsMore : List Name → List Name → Type 0
 IsMore old new = (text : Name) → Among old text → Among new text
 
-or_second : (a b : Bool) → b ≡ true → (a || b) ≡ true
-or_second true b h = refl
-or_second false b h = h
-
 more_some : (o : Option Name) (names : List Name) → IsMore names (with_some o names)
 more_some None names text h = h
-more_some (Some n) names text h = or_second (bytes_eq n text) (is_among names text) h
+more_some (Some n) names text h = or_right (bytes_eq n text) (is_among names text) h
 
 not_before : (a b : Bool) → (a ≡ true → b ≡ true) → b ≡ false → a ≡ false
 not_before true b f h = sym (f refl) ∙ h

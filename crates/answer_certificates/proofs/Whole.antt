@@ -14,7 +14,6 @@ use Rattle.theorem_list.specs.Concludes.{concludes}
 use Rattle.derivation.specs.Lists.{IsLawful}
 use Rattle.derivation.specs.Derivations.{Setting}
 use Rattle.derivation.specs.Known.{Piece, IsTableAt}
-use Rattle.derivation.specs.Parts.{at_option}
 use Rattle.derivation.specs.Exists.{table_at}
 use Rattle.derivation.specs.Laws.{TablesExist}
 use Rattle.goals.specs.declared.goal.Goal.{Goal}
@@ -54,12 +53,10 @@ use Rattle.answer_certificates.proofs.Counted.{few_instances}
 use Rattle.answer_certificates.proofs.Known.{AreRangesAt, whole_ranges}
 use Rattle.answer_certificates.proofs.Proved.{box_done}
 use Rattle.answer_certificates.proofs.Shown.{rows_from, lines_are_rows}
+use Rattle.facts.specs.CommonParts.{at_option}
+use Rattle.box_tree.specs.InRanges.{root_pieces}
 
 -- ---- the root
-root_pieces : (plan : PlanParts) → pieces_at plan [] ≡ []
-unfolding pieces_at
-root_pieces plan = refl
-
 root_ranges : (u : Setting) (height : ℕ) (plan : PlanParts) → AreRangesAt u height [] plan.ranges → AreRangesAt u height (pieces_at plan []) (region_at plan []).ranges
 unfolding pieces_at region_below
 root_ranges u height plan a = a

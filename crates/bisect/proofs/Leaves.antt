@@ -39,16 +39,6 @@ module _ (t : Tree) (In : List ℕ → Type 0) (s : IsShallow t) (step : (p : Li
   pub some_leaf : In [] → (q : List ℕ) × IsLeaf t q × In q
   some_leaf h = find_leaf 36 [] (omega arith) (root_path (child_count t)) h
 
--- a box that is cut goes into all pieces of its cut
-pub all_pieces : (c : Cut) (s : State) → 0 < children c s → children c s ≡ piece_count c
-all_pieces c state.Void h = absurd (omega (arith, h))
-all_pieces (cut.Forced x points) (state.Settled facts) h = refl
-all_pieces (cut.Forced x points) (state.Open goal) h = refl
-all_pieces (cut.Half x m) (state.Settled facts) h = absurd (omega (arith, h))
-all_pieces (cut.Half x m) (state.Open goal) h = refl
-all_pieces cut.Bottom (state.Settled facts) h = absurd (omega (arith, h))
-all_pieces cut.Bottom (state.Open goal) h = absurd (omega (arith, h))
-
 -- ---- no leaf is open
 pub not_open : (t : Tree) (ps : List (List ℕ)) (p : List ℕ) (g : ℕ) → Has ps p → child_count t p ≡ 0 → t.state_at p ≡ state.Open g → ¬ (first_open t ps ≡ None)
 not_open t [] p g h z e n = absurd h

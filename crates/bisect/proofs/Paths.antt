@@ -3,7 +3,7 @@ use Rattle.std.specs.Prelude.{◌≡◌, ◌<◌, ℕ, List, [], ◌∷◌, ◌+
 use Rattle.std.proofs.Common.{ap, subst, arith}
 use Rattle.box_tree.specs.Paths.{IsPathOf}
 
-no_more : (front : List ℕ) (piece : ℕ) (rest : List ℕ) → [] ≡ front ++ piece ∷ rest → ⊥
+pub no_more : (front : List ℕ) (piece : ℕ) (rest : List ℕ) → [] ≡ front ++ piece ∷ rest → ⊥
 no_more [] piece rest e = cc
 no_more (x ∷ front) piece rest e = cc
 

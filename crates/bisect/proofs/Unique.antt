@@ -9,7 +9,7 @@ use Rattle.std.proofs.lemmas.Cmp.{nat_list_cmp_total}
 use Rattle.bisect.specs.declared.outcome.Outcome.{Outcome}
 use Rattle.bisect.specs.declared.outcome.Outcome.TheVariants as outcome
 use Rattle.bisect.specs.Trees.{Tree}
-use Rattle.bisect.specs.Boxes.{IsBefore, AreBoxes, first_open}
+use Rattle.bisect.specs.Boxes.{IsBefore, AreBoxes, first_open, not_some}
 use Rattle.bisect.specs.Answers.{IsAnswer, IsAnswerOf}
 use Rattle.bisect.proofs.Listings.{Has, from_contains, to_contains}
 
@@ -70,18 +70,15 @@ both_first (Some z) x y e f = cc
 same_unproved : (n m : ℕ) (x y : List ℕ × ℕ) → n ≡ m → x ≡ y → outcome.Unproved n x.0 x.1 ≡ outcome.Unproved m y.0 y.1
 same_unproved n m x y d e = ap (λ (k : ℕ). outcome.Unproved k x.0 x.1) d ∙ ap (λ (z : List ℕ × ℕ). outcome.Unproved m z.0 z.1) e
 
-not_none : (x : List ℕ × ℕ) → Some x ≡ None → ⊥
-not_none x e = cc
-
 by_list : (t : Tree) (limit : ℕ) (ps : List (List ℕ)) (f g : Outcome) → IsAnswerOf t limit ps f → IsAnswerOf t limit ps g → f ≡ g
 by_list t limit ps outcome.BoxLimit outcome.BoxLimit a b = refl
 by_list t limit ps outcome.BoxLimit (outcome.Unproved n p g) a b = let l = b.0 in absurd (omega (arith, a, l))
 by_list t limit ps outcome.BoxLimit (outcome.Leaves n ls) a b = let l = b.0 in absurd (omega (arith, a, l))
 by_list t limit ps (outcome.Unproved n p g) outcome.BoxLimit a b = let l = a.0 in absurd (omega (arith, b, l))
 by_list t limit ps (outcome.Unproved n p g) (outcome.Unproved m q h) a b = same_unproved n m (p, g) (q, h) (a.2 ∙ sym b.2) (both_first (first_open t ps) (p, g) (q, h) a.1 b.1)
-by_list t limit ps (outcome.Unproved m p g) (outcome.Leaves n ls) a b = absurd (not_none (p, g) (sym a.1 ∙ b.1))
+by_list t limit ps (outcome.Unproved m p g) (outcome.Leaves n ls) a b = absurd (not_some (p, g) (sym a.1 ∙ b.1))
 by_list t limit ps (outcome.Leaves n ls) outcome.BoxLimit a b = let l = a.0 in absurd (omega (arith, b, l))
-by_list t limit ps (outcome.Leaves n ls) (outcome.Unproved m p g) a b = absurd (not_none (p, g) (sym b.1 ∙ a.1))
+by_list t limit ps (outcome.Leaves n ls) (outcome.Unproved m p g) a b = absurd (not_some (p, g) (sym b.1 ∙ a.1))
 by_list t limit ps (outcome.Leaves n ls) (outcome.Leaves m ks) a b = let e : n ≡ m = a.2 ∙ sym b.2 in let f : ls ≡ ks = a.3 ∙ sym b.3 in cc
 
 pub one_answer : (t : Tree) (limit : ℕ) (found other : Outcome) → IsAnswer t limit found → IsAnswer t limit other → found ≡ other

@@ -12,7 +12,7 @@ use Rattle.facts.specs.Order.{slot_of, IsStronger}
 use Rattle.derivation.specs.Derivations.{At}
 use Rattle.derivation.specs.Rounds.{IsProper, Improves, IsAhead, IsSame, AllSeen}
 use Rattle.derivation.specs.Changes.{IsListed}
-use Rattle.derivation.specs.Parts.{some_same, none_some, slot_cases, at_option, void_is}
+use Rattle.derivation.specs.Parts.{some_same, none_some, slot_cases, void_alone}
 use Rattle.derivation.specs.Steps.{improved_slot, improved_stronger, old_no_void}
 use Rattle.derivation.specs.Ahead.{ahead_begin, ahead_step, ahead_void}
 use Rattle.rule_universe.specs.declared.placed.Placed.{Placed}
@@ -32,6 +32,7 @@ use Rattle.box_trace.proofs.OnePlace.{slot_once}
 use Rattle.box_trace.proofs.Rows.{same_known, same_places}
 use Rattle.box_trace.proofs.Logged.{comes_improves, comes_rows, comes_first, comes_few, instance_goes_on}
 use Rattle.box_trace.proofs.Scanned.{IsWritten, written_one, written_both, wide_cases}
+use Rattle.facts.specs.CommonParts.{at_option, void_is}
 
 module _ (u : World) (now : Known) where
   -- One conclusion came.
@@ -155,15 +156,6 @@ round_void u now old new changed Seen a v g r f l = record {
   first = f;
   few = l;
 }
-
--- a fact as strong as VOID is VOID
-void_alone : (k : Fact) → IsStronger k fact.Void → k ≡ fact.Void
-void_alone fact.Void s = refl
-void_alone (fact.Bnd x i) s = absurd s
-void_alone (fact.Abs x i) s = absurd s
-void_alone (fact.Rel x y e) s = absurd s
-void_alone (fact.Fix x n) s = absurd s
-void_alone (fact.Nzr x) s = absurd s
 
 proper_same : (at new : At) → IsSame at new → IsProper new → IsProper at
 proper_same at new same p s f e = p s f (same s ∙ e)

@@ -1,17 +1,13 @@
 pub mod OnePlace
 pub mod Rows
-pub mod Cited
-pub mod Coming
 pub mod EndsOrder
 pub mod Rounded
 pub mod Logged
 pub mod Stepped
 pub mod Scanned
 pub mod Came
-pub mod Gather
 pub mod Taken
 pub mod Answered
-pub mod Lists
 pub mod Started
 pub mod Given
 pub mod Steps

@@ -23,15 +23,10 @@ use Rattle.box_trace.specs.declared.log.Log.{Log}
 use Rattle.box_traces.specs.Sections.{behind, AreAccepted, ArePlaces}
 use Rattle.box_traces.specs.Writing.{IsSlotKnown, IsWritable, givens_of}
 use Rattle.box_traces.specs.Traces.{HasFields, HaveFields}
-use Rattle.box_trace.specs.Steps.{met_by, coming}
 use Rattle.box_trace.specs.Tables.{fact_of, number_or, cited_at, known_at, place_in, HasRows}
 use Rattle.box_trace.specs.Logs.{kept_in, IsStep, Comes, InSection, CanCite, GoesOnFrom}
-use Rattle.box_trace.proofs.Cited.{step_kept, step_new, below_behind, behind_both, accepted_both, premises_found}
-use Rattle.box_trace.proofs.Coming.{aims, enough, coming_accepted}
-
-fields_more : (rows : List StepRow) (row : StepRow) → HaveFields rows → HasFields row → HaveFields (rows ++ row ∷ [])
-fields_more [] row a c = (c, tt)
-fields_more (r ∷ rows) row a c = (a.0, fields_more rows row a.1 c)
+use Rattle.box_traces.specs.Cited.{step_kept, step_new, below_behind, behind_both, accepted_both, premises_found, fields_more, mapped, reads_length, differs}
+use Rattle.box_traces.specs.Coming.{aims, enough, coming_accepted, met_by, coming}
 
 -- ---- what becomes of the table
 module _ (u : World) (old new : Log) (rule arg : ℕ) (premises : List ℕ) (c : Fact) where
@@ -144,20 +139,6 @@ module _ (u : World) (cut : Option Fact) (s : Numbered) (old new : Log) (rule ar
       elim w [ inl y ↦ subst P (sym y.3) can | inr y ↦ step_cites y now can ]
 
 -- ---- conclusions of instances
-mapped : (place : Slot → ℕ) (ss : List Slot) → length (map place ss) ≡ length ss
-mapped place [] = refl
-mapped place (s ∷ ss) = let h = mapped place ss in omega (arith, h)
-
--- what is read is as many as the slots
-reads_length : (at : At) (ss : List Slot) (ps : List Fact) → Reads at ss ps → length ss ≡ length ps
-reads_length at [] [] r = refl
-reads_length at (s ∷ ss) (p ∷ ps) r = let h = reads_length at ss ps r.1 in omega (arith, h)
-reads_length at [] (p ∷ ps) r = absurd r
-reads_length at (s ∷ ss) [] r = absurd r
-
-other : (m n : ℕ) → m < n → (m == n) ≡ false
-other m n h = grind (arith, h)
-
 module _ (u : World) (w : IsWritable (setting_of u) u.hints) where
   -- the rule of an instance gives its conclusion where the step aims
   instance_gives : (cut : Option Fact) (i : Instance) (o : Option Fact) (c : Fact) (ps : List Fact) (premises : List ℕ) (n : ℕ) → concludes u.nodes u.hints i.rule i.arg ps i.target ≡ Some c →
@@ -165,9 +146,9 @@ module _ (u : World) (w : IsWritable (setting_of u) u.hints) where
       gives (givens_of (setting_of u) u.hints cut) (coming i.rule i.arg premises o n c) ps (met_by o c) ≡ Some c
   instance_gives cut i o c ps premises n e p =
       let l : i.rule < 100 = w.low i.rule i.arg ps i.target c e in
-      let a : (i.rule == 100) ≡ false = other i.rule 100 l in
-      let b : (i.rule == 101) ≡ false = other i.rule 101 (omega (arith, l)) in
-      let d : (i.rule == 102) ≡ false = other i.rule 102 (omega (arith, l)) in
+      let a : (i.rule == 100) ≡ false = differs i.rule 100 l in
+      let b : (i.rule == 101) ≡ false = differs i.rule 101 (omega (arith, l)) in
+      let d : (i.rule == 102) ≡ false = differs i.rule 102 (omega (arith, l)) in
       let here : concludes u.nodes u.hints i.rule i.arg ps (slot_of c) ≡ Some c =
       elim (w.on_target i.rule i.arg ps i.target c e) [
         | inl q ↦ ap (concludes u.nodes u.hints i.rule i.arg ps) q ∙ e

@@ -1,35 +1,23 @@
 -- A slot of a universe has its row, and a row has one slot.
 use Rattle.std.specs.Prelude.{◌≡◌, ◌≢◌, ◌<◌, ◌&&◌, ◌+◌, ◌*◌, ◌==◌, ℕ, zero, suc, Bool, true, false, List, [], ◌∷◌, length, Option, Some, None, slice_get, slice_set, if◌then◌else◌, nat_lt, refl}
 use Rattle.std.proofs.Common.{arith, sym, ap, ◌∙◌, subst, rules}
+use Rattle.std.proofs.lemmas.Bool.{and_parts}
 use Rattle.fx_model.specs.declared.ExprId.{ExprId}
 use Rattle.facts.specs.declared.fact.Fact.{Fact}
 use Rattle.facts.specs.declared.fact.Slot.{Slot}
 use Rattle.facts.specs.declared.fact.Slot.TheVariants as slot
 use Rattle.facts.specs.Order.{is_same}
-use Rattle.facts.specs.CommonParts.{and_both, expr_same}
+use Rattle.facts.specs.CommonParts.{expr_same, at_option}
 use Rattle.pair_closure.specs.Closure.{Pair}
 use Rattle.pair_closure.specs.Reached.{IsEachOnce}
 use Rattle.derivation.specs.Rounds.{IsProper}
-use Rattle.derivation.specs.Parts.{at_option}
 use Rattle.rule_universe.specs.Worlds.{World}
 use Rattle.rule_universe.specs.Places.{IsPlace, block_place}
 use Rattle.box_trace.specs.declared.known.Cited.{Cited}
 use Rattle.box_trace.specs.declared.known.Known.{Known}
 use Rattle.box_trace.specs.Tables.{one_later, pair_number, behind_blocks, row_of, flat, row_in, fact_of, number_or, cited_at, known_at, place_in, HasRows}
 use Rattle.box_trace.proofs.OnePlace.{slot_once}
-
--- ---- lists
-pub get_set_here : {X : Type 0} (xs : List X) (i : ℕ) (v : X) → i < length xs → slice_get (slice_set xs i v) i ≡ Some v
-get_set_here [] i v h = absurd (omega arith)
-get_set_here (x ∷ xs) zero v h = refl
-get_set_here (x ∷ xs) (suc i) v h = get_set_here xs i v (omega arith)
-
-pub get_set_there : {X : Type 0} (xs : List X) (i j : ℕ) (v : X) → i ≢ j → slice_get (slice_set xs i v) j ≡ slice_get xs j
-get_set_there [] i j v h = refl
-get_set_there (x ∷ xs) zero zero v h = absurd (h refl)
-get_set_there (x ∷ xs) zero (suc j) v h = refl
-get_set_there (x ∷ xs) (suc i) zero v h = refl
-get_set_there (x ∷ xs) (suc i) (suc j) v h = get_set_there xs i j v (λ e. h (ap suc e))
+use Rattle.saturate.specs.Lists.{get_set_here, get_set_there}
 
 -- ---- blocks
 below_true : (a n : ℕ) → a < n → nat_lt a n ≡ true
@@ -61,7 +49,7 @@ pair_there x y (p ∷ ps) k e = by_test (is_same p.0 x && is_same p.1 y) refl e 
         ((j : ℕ) → pair_number x y ps ≡ Some j → slice_get ps j ≡ Some (x, y)) → slice_get (p ∷ ps) k ≡ Some (x, y)
     by_test true t q h =
         let d : 0 ≡ k = cc in
-        let a = and_both (is_same p.0 x) (is_same p.1 y) t in
+        let a = and_parts (is_same p.0 x) (is_same p.1 y) t in
         let f = expr_same p.0 x a.0 in
         let g = expr_same p.1 y a.1 in
         subst (λ j. slice_get (p ∷ ps) j ≡ Some (x, y)) d (λ i. Some (f i, g i))

@@ -23,9 +23,9 @@ use Rattle.box_trace.specs.declared.ends.Ends.{Ends}
 use Rattle.box_trace.specs.Ends.{IsLowBy, IsHighBy}
 use Rattle.box_trace.specs.Scans.{IsConclusion, held, ends_in, IsWith, IsNoted, AreEndsOf, HasEnds, IsScanned, IsWide}
 use Rattle.box_trace.proofs.OnePlace.{slot_once}
-use Rattle.box_trace.proofs.Rows.{get_set_here, get_set_there}
 use Rattle.box_trace.proofs.Rounded.{ends_beat}
 use Rattle.box_trace.proofs.EndsOrder.{low_refl, high_refl}
+use Rattle.saturate.specs.Lists.{get_set_here, get_set_there}
 
 none_at : {X : Type 0} (n p : ℕ) (v : X) → (slice_get (replicate n v) p ≡ Some v) ⊎ (slice_get (replicate n v) p ≡ None)
 none_at zero p v = inr refl

@@ -31,13 +31,12 @@ use Rattle.box_trace.specs.declared.log.Log.{Log}
 use Rattle.box_traces.specs.Sections.{behind, AreAccepted, ArePlaces}
 use Rattle.box_traces.specs.Writing.{IsSlotKnown, IsWritable, givens_of}
 use Rattle.box_traces.specs.Traces.{IsCutTo, HaveFields}
-use Rattle.box_trace.specs.Steps.{met_by}
 use Rattle.box_trace.specs.Tables.{known_at, place_in, HasRows}
 use Rattle.box_trace.specs.Logs.{Comes, InSection}
 use Rattle.box_trace.specs.Boxes.{IsSectionBelow, BeginsWithin, BeginsBelow}
 use Rattle.box_trace.proofs.Rows.{same_known, same_places, same_rows}
 use Rattle.box_trace.proofs.Logged.{Suffices, comes_rows, comes_first, comes_few, comes_section}
-use Rattle.box_trace.proofs.Coming.{enough}
+use Rattle.box_traces.specs.Coming.{enough, met_by_interval, met_by}
 
 -- what comes by a rule that is told by its number
 pub comes_as : (u : World) (old : Log) (rule arg : ℕ) (premises : List ℕ) (c : Fact) (new : Log) (r a : ℕ) → rule ≡ r → arg ≡ a → premises ≡ [] → Comes u old rule arg premises c new → Comes u old r a [] c new
@@ -120,10 +119,6 @@ module _ (u : World) (first : ℕ) where
       begins_more most old new 101 0 c b come (λ w. (omega arith, omega arith, slice_get_within u.nodes n (node.Var v) e, λ s. subst P (sym line) (enough o c (λ h q. b.rows.proper (slot_of c) h q))))
 
 -- ---- a box below another
-met_by_interval : (o : Option Fact) (x : ExprId) (i : Interval) → met_by o (fact.Bnd x i) ≡ o
-met_by_interval None x i = refl
-met_by_interval (Some g) x i = refl
-
 module _ (u : World) (piece : Piece) (parent : Known) (first : ℕ) (old new : Log) (e : old.known.rows.items ≡ parent.rows.items) (none : old.steps.items ≡ []) (f : old.first ≡ first) (r : HasRows u parent) where
   abbrev Piece_fact : Fact
   Piece_fact = fact.Bnd piece.0 piece.1

@@ -7,17 +7,16 @@ use Rattle.facts.specs.Laws.{IsStronger-slot}
 use Rattle.pair_closure.specs.Reached.{IsEachOnce}
 use Rattle.derivation.specs.Steps.{improved_stronger}
 use Rattle.derivation.specs.Exists.{joined, or_else, with_fact, with_fact-improves}
-use Rattle.derivation.specs.Parts.{void_is}
 use Rattle.rule_universe.specs.Worlds.{World, HasSlot}
 use Rattle.rule_universe.specs.Places.{IsPlace}
 use Rattle.box_trace.specs.declared.known.Cited.{Cited}
 use Rattle.box_trace.specs.declared.log.Log.{Log}
-use Rattle.box_trace.specs.Steps.{with_by}
 use Rattle.box_trace.specs.Tables.{row_in, fact_of, number_or, cited_at, known_at, place_in, HasRows}
 use Rattle.box_trace.specs.Logs.{kept_in, Comes}
 use Rattle.box_trace.proofs.OnePlace.{place_slot, place_within}
 use Rattle.box_trace.proofs.Rows.{read_at, put_here, put_there}
-use Rattle.box_trace.proofs.Coming.{with_by-some}
+use Rattle.box_traces.specs.Coming.{with_by-some, with_by}
+use Rattle.facts.specs.CommonParts.{void_is}
 
 -- ---- what is kept
 pub met_joined : (g c k : Fact) → meet_of g c ≡ Some k → k ≡ joined (Some g) c

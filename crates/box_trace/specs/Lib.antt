@@ -1,4 +1,3 @@
-pub mod Steps
 pub mod Tables
 pub mod Ends
 pub mod Scans

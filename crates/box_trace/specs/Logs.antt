@@ -20,8 +20,8 @@ use Rattle.box_trace.specs.Scans.{IsWide}
 use Rattle.box_traces.specs.Sections.{behind, ArePlaces, AreBelow, IsTraced}
 use Rattle.box_traces.specs.Writing.{IsWritable, givens_of}
 use Rattle.box_traces.specs.Traces.{HaveFields}
-use Rattle.box_trace.specs.Steps.{coming}
 use Rattle.box_trace.specs.Tables.{cited_at, known_at, place_in, HasRows}
+use Rattle.box_traces.specs.Coming.{coming}
 
 -- ---- one fact comes
 -- what is kept on the slot of c

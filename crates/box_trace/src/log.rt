@@ -1,11 +1,11 @@
 //! The steps that a box's facts come by.
+ghost use Rattle.box_traces.specs.Coming.{with_by};
 ghost use Rattle.std.specs.Prelude.{◌≡◌, ◌<◌, ◌+◌, ◌^◌, [], Some, IfNone, IfSome, OnOk, length};
 ghost use Rattle.facts.specs.Order.{slot_of, IsStronger};
 ghost use Rattle.derivation.specs.Exists.{joined};
 ghost use Rattle.rule_universe.specs.Places.{IsPlace};
 ghost use Rattle.box_trace.specs.declared.known.Cited.{Cited as Row};
 ghost use Rattle.box_trace.specs.Tables.{fact_of, number_of, number_or, HasRows};
-ghost use Rattle.box_trace.specs.Steps.{with_by};
 ghost use Rattle.box_trace.specs.Logs.{Comes};
 
 use crate::known::{Cited, Known, number_of};

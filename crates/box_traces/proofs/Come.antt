@@ -23,7 +23,7 @@ use Rattle.facts.specs.declared.instance.Instance.{Instance}
 use Rattle.derivation.specs.Derivations.{Setting, At}
 use Rattle.derivation.specs.Known.{Piece}
 use Rattle.derivation.specs.Rounds.{IsProper, Reads, conclusion}
-use Rattle.derivation.specs.Parts.{at_option, conclusion_reads}
+use Rattle.derivation.specs.Parts.{conclusion_reads}
 use Rattle.derivation.specs.Exists.{joined, with_fact, with_fact-improves, with_conclusion, conclusion_of, after_instances, after_round, after_rounds, blank, with_hypotheses, line_of, with_lines, table_at}
 use Rattle.derivation.specs.Steps.{improved_proper}
 use Rattle.cert_bytes.specs.declared.item.StepRow.{StepRow}
@@ -33,26 +33,12 @@ use Rattle.cert_checker.specs.Steps.{step_facts, gives, met_with, IsEnough, targ
 use Rattle.box_traces.specs.Sections.{behind, ArePlaces, AreBelow}
 use Rattle.box_traces.specs.Writing.{IsSlotKnown, IsWritable, givens_of}
 use Rattle.box_traces.specs.Traces.{HasFields, HaveFields, Trace, IsCutTo, most_steps}
-use Rattle.box_traces.proofs.Cited.{step_kept, behind_both, premises_found}
-use Rattle.box_traces.proofs.Coming.{met_by, coming, aims, enough, coming_accepted, placed_at, traced_more}
-
-fields_more : (rows : List StepRow) (row : StepRow) → HaveFields rows → HasFields row → HaveFields (rows ++ row ∷ [])
-fields_more [] row a c = (c, tt)
-fields_more (r ∷ rows) row a c = (a.0, fields_more rows row a.1 c)
+use Rattle.box_traces.specs.Cited.{step_kept, behind_both, premises_found, fields_more, mapped, reads_length}
+use Rattle.box_traces.specs.Coming.{met_by, coming, aims, enough, coming_accepted, placed_at, traced_more, met_by_interval}
+use Rattle.facts.specs.CommonParts.{at_option}
 
 one_longer : (rows : List StepRow) (row : StepRow) (n : ℕ) → length rows ≤ n → length (rows ++ row ∷ []) ≤ n + 1
 one_longer rows row n h = omega (arith, length-append rows (row ∷ []), h)
-
-mapped : (place : Slot → ℕ) (ss : List Slot) → length (map place ss) ≡ length ss
-mapped place [] = refl
-mapped place (s ∷ ss) = let h = mapped place ss in omega (arith, h)
-
--- what is read is as many as the slots
-reads_length : (at : At) (ss : List Slot) (ps : List Fact) → Reads at ss ps → length ss ≡ length ps
-reads_length at [] [] r = refl
-reads_length at (s ∷ ss) (p ∷ ps) r = let h = reads_length at ss ps r.1 in omega (arith, h)
-reads_length at [] (p ∷ ps) r = absurd r
-reads_length at (s ∷ ss) [] r = absurd r
 
 module _ (u : Setting) (hints : List HintRow) (w : IsWritable u hints) (piece : Option Fact) (s : Numbered) (below : AreBelow s) where
   abbrev Here : At → ℕ → Type 0
@@ -240,10 +226,6 @@ module _ (u : Setting) (hints : List HintRow) (w : IsWritable u hints) (s : Numb
       (rounds_come u hints w None s below (with_lines u (length u.nodes)) (length u.hypotheses + length u.nodes) (lines_come (length u.nodes)) height)
 
 -- ---- a child
-met_by_interval : (o : Option Fact) (x : ExprId) (i : Interval) → met_by o (fact.Bnd x i) ≡ o
-met_by_interval None x i = refl
-met_by_interval (Some g) x i = refl
-
 -- A child has a trace, wherever its parent's facts may be cited.
 pub child_trace : (u : Setting) (hints : List HintRow) → IsWritable u hints → (s : Numbered) → AreBelow s → (height : ℕ) (piece : Piece) (above : List Piece) (p : Fact) (place : Slot → ℕ) →
     IsSlotKnown u.nodes (slot.Bnd piece.0) → IsProper (table_at u height above) → ArePlaces s (table_at u height above) place → IsCutTo (table_at u height above) p piece →

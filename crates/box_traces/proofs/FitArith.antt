@@ -1,6 +1,7 @@
 -- What rules give can be written as steps.
 use Rattle.std.specs.Prelude.{◌≡◌, Bool, true, false, ◌&&◌, ◌||◌, [], ◌∷◌, Option, Some, None, slice_get, refl}
 use Rattle.std.proofs.Common.{◌∙◌, ap, arith}
+use Rattle.std.proofs.lemmas.Bool.{and_parts, and_from}
 use Rattle.fx_model.specs.Fraction.{zero_ℚ, one_ℚ}
 use Rattle.fx_model.specs.declared.ExprId.{ExprId}
 use Rattle.fx_model.specs.declared.Node.{Node}
@@ -18,9 +19,8 @@ use Rattle.theorem_arith.specs.Shapes.{is_one}
 use Rattle.theorem_arith.specs.Bounds.{literal_at, literal_rule, negation_rule, binary_rule, sum_rule, difference_rule, product_rule, difference_with_itself_rule, square_rule, quotient_rule, quotient_by_nonzero_rule, quotient_by_itself_rule}
 use Rattle.theorem_arith.specs.Sizes.{size_rule, around, value_rule, is_above, is_below, signed_fact, sign_rule, absolute_value_rule, abs_or_void, void_if_none, is_absolute_value, size_of_value_rule, size_of_negation_rule, size_of_product_rule, size_within_part, size_of_quotient_rule, size_of_sum, size_of_sum_rule}
 use Rattle.expr_dag.specs.Shapes.{is_at_out}
-use Rattle.facts.specs.CommonParts.{and_both}
 use Rattle.facts.specs.Conclusions.{given}
-use Rattle.box_traces.proofs.Fitting.{FitsSteps, only_never, given_never, bnd_never, abs_never, only_given, given_both, only_void, both_and}
+use Rattle.box_traces.proofs.Fitting.{FitsSteps, only_never, given_never, bnd_never, abs_never, only_given, given_both, only_void}
 
 literal_never : (n : Option Node) (x : ExprId) → literal_at n x ≡ Some fact.Void → ⊥
 literal_never (Some (node.Lit l)) x q = cc
@@ -87,9 +87,9 @@ sign_rule-fits nodes (fact.Bnd x i ∷ fact.Abs y s ∷ []) (slot.Bnd e) f o q =
   λ v.
       let here = q ∙ ap Some v in
       let g = given (is_one nodes x y && is_same x e) (signed_fact e s (is_above i s) (is_below i s)) fact.Void here in
-      let a : is_one nodes x y ≡ true = (and_both (is_one nodes x y) (is_same x e) g.0).0 in
+      let a : is_one nodes x y ≡ true = (and_parts (is_one nodes x y) (is_same x e) g.0).0 in
       let b : (is_above i s && is_below i s) ≡ true = signed_void e s (is_above i s) (is_below i s) g.1 in
-      only_void (is_one nodes x y && (is_above i s && is_below i s)) (both_and (is_one nodes x y) (is_above i s && is_below i s) a b),
+      only_void (is_one nodes x y && (is_above i s && is_below i s)) (and_from (is_one nodes x y) (is_above i s && is_below i s) a b),
 )
 sign_rule-fits nodes (fact.Bnd x i ∷ fact.Abs y s ∷ []) slot.Void f o q = (omega arith, λ v. q ∙ ap Some v)
 sign_rule-fits nodes _ _ f o q = cc

@@ -24,8 +24,8 @@ use Rattle.theorem_fix.specs.Nonzero.{nonzero_bound_rule, nonzero_size_rule, non
 use Rattle.theorem_fix.specs.Roundings.{rounded_interval, rounded_bound_rule, errors_of, error_rule, sign_of, signed_errors_of, signed_error_rule, multiple_error_rule}
 use Rattle.theorem_fix.specs.Shrunk.{shrunk_of, shrinking_rule, no_multiple_rule}
 use Rattle.std.specs.Prelude.{Bool, true, false}
-use Rattle.facts.specs.CommonParts.{and_both}
-use Rattle.box_traces.proofs.Fitting.{FitsSteps, only_never, given_never, bnd_never, fix_never, only_given, given_both, both_and}
+use Rattle.std.proofs.lemmas.Bool.{and_parts, and_from}
+use Rattle.box_traces.proofs.Fitting.{FitsSteps, only_never, given_never, bnd_never, fix_never, only_given, given_both}
 
 pub literal_multiple_rule-fits : FitsSteps literal_multiple_rule
 literal_multiple_rule-fits nodes [] (slot.Fix e) f o q = (omega arith, λ v. absurd (fix_never e (literal_place (slice_get nodes e.0)) (q ∙ ap Some v)))
@@ -95,8 +95,8 @@ nonzero_side_rule-fits nodes (fact.Rel x y d ∷ fact.Nzr z ∷ []) (slot.Nzr e)
   λ v.
       let here = q ∙ ap Some v in
       let g = only_given (are_known nodes x y && are_sides x y z e) (nonzero_or_void e d) here in
-      let k = and_both (are_known nodes x y) (are_sides x y z e) g.0 in
-      given_both (are_known nodes x y && (is_same z x || is_same z y)) (void_only (Some (nonzero_or_void z d))) fact.Void (both_and (are_known nodes x y) (is_same z x || is_same z y) k.0 (sides_seen x y z e k.1)) (both_zero e z d g.1),
+      let k = and_parts (are_known nodes x y) (are_sides x y z e) g.0 in
+      given_both (are_known nodes x y && (is_same z x || is_same z y)) (void_only (Some (nonzero_or_void z d))) fact.Void (and_from (are_known nodes x y) (is_same z x || is_same z y) k.0 (sides_seen x y z e k.1)) (both_zero e z d g.1),
 )
 nonzero_side_rule-fits nodes (fact.Rel x y d ∷ fact.Nzr z ∷ []) slot.Void f o q = (omega arith, λ v. q ∙ ap Some v)
 nonzero_side_rule-fits nodes _ _ f o q = cc

@@ -20,10 +20,11 @@ use Rattle.theorem_rel.specs.Values.{unit, relative_to_itself_rule, relative_dif
 use Rattle.theorem_rel.specs.Operations.{joint, joint_fact, relative_product_rule, relative_chain_rule, over_one, ratio_fact, relative_quotient_rule, turned_fact, relative_turned_rule, relative_negation_rule, weighted, rel_or_void, sum_fact, is_share, relative_sum_rule}
 use Rattle.fx_model.specs.declared.Node.{Node}
 use Rattle.std.specs.Prelude.{List}
+use Rattle.std.proofs.lemmas.Bool.{and_parts, and_from}
 use Rattle.expr_dag.specs.Shapes.{is_at_out}
-use Rattle.facts.specs.CommonParts.{and_both}
 use Rattle.facts.specs.Conclusions.{given}
-use Rattle.box_traces.proofs.Fitting.{FitsSteps, only_never, given_never, only_given, given_both, both_and, both_known, children_known, same_itself}
+use Rattle.box_traces.proofs.Fitting.{FitsSteps, only_never, given_never, only_given, given_both, both_known, children_known}
+use Rattle.facts.specs.CommonParts.{same_itself}
 
 rel_never : (x y : ExprId) (o : Option RelativeError) → rel_of x y o ≡ Some fact.Void → ⊥
 rel_never x y None q = cc
@@ -66,9 +67,9 @@ difference_by_error_rule-fits nodes (fact.Rel x y d ∷ fact.Bnd z j ∷ []) (sl
   λ v.
       let here = q ∙ ap Some v in
       let g = only_given (is_at nodes e (node.Sub x y) && is_same z y) (difference_fact e d j) here in
-      let k = and_both (is_at nodes e (node.Sub x y)) (is_same z y) g.0 in
+      let k = and_parts (is_at nodes e (node.Sub x y)) (is_same z y) g.0 in
       let b = children_known nodes e (node.Sub x y) o k.0 in
-      given_both (are_known nodes x y && is_same z y) (void_only (Some (difference_fact x d j))) fact.Void (both_and (are_known nodes x y) (is_same z y) (both_known nodes x y b.0 b.1) k.1) (void_alone (difference_fact x d j) (difference_void e x d j g.1)),
+      given_both (are_known nodes x y && is_same z y) (void_only (Some (difference_fact x d j))) fact.Void (and_from (are_known nodes x y) (is_same z y) (both_known nodes x y b.0 b.1) k.1) (void_alone (difference_fact x d j) (difference_void e x d j g.1)),
 )
 difference_by_error_rule-fits nodes (fact.Rel x y d ∷ fact.Bnd z j ∷ []) slot.Void f o q = (omega arith, λ v. q ∙ ap Some v)
 difference_by_error_rule-fits nodes _ _ f o q = cc
@@ -83,9 +84,9 @@ value_by_error_rule-fits nodes (fact.Rel x y d ∷ fact.Bnd z j ∷ []) (slot.Bn
   λ v.
       let here = q ∙ ap Some v in
       let g = only_given (are_known nodes x y && (is_same z y && is_same x e)) (value_fact e d j) here in
-      let k = and_both (are_known nodes x y) (is_same z y && is_same x e) g.0 in
-      let s = and_both (is_same z y) (is_same x e) k.1 in
-      given_both (are_known nodes x y && is_same z y) (void_only (Some (value_fact x d j))) fact.Void (both_and (are_known nodes x y) (is_same z y) k.0 s.0) (void_alone (value_fact x d j) (value_void e x d j g.1)),
+      let k = and_parts (are_known nodes x y) (is_same z y && is_same x e) g.0 in
+      let s = and_parts (is_same z y) (is_same x e) k.1 in
+      given_both (are_known nodes x y && is_same z y) (void_only (Some (value_fact x d j))) fact.Void (and_from (are_known nodes x y) (is_same z y) k.0 s.0) (void_alone (value_fact x d j) (value_void e x d j g.1)),
 )
 value_by_error_rule-fits nodes (fact.Rel x y d ∷ fact.Bnd z j ∷ []) slot.Void f o q = (omega arith, λ v. q ∙ ap Some v)
 value_by_error_rule-fits nodes _ _ f o q = cc
@@ -100,9 +101,9 @@ quotient_by_error_rule-fits nodes (fact.Rel x y d ∷ fact.Nzr z ∷ []) (slot.B
   λ v.
       let here = q ∙ ap Some v in
       let g = only_given (is_at nodes e (node.Div x y) && is_same z y) (quotient_fact e d) here in
-      let k = and_both (is_at nodes e (node.Div x y)) (is_same z y) g.0 in
+      let k = and_parts (is_at nodes e (node.Div x y)) (is_same z y) g.0 in
       let b = children_known nodes e (node.Div x y) o k.0 in
-      given_both (are_known nodes x y && is_same z y) (void_only (Some (quotient_fact x d))) fact.Void (both_and (are_known nodes x y) (is_same z y) (both_known nodes x y b.0 b.1) k.1) (void_alone (quotient_fact x d) (quotient_void e x d g.1)),
+      given_both (are_known nodes x y && is_same z y) (void_only (Some (quotient_fact x d))) fact.Void (and_from (are_known nodes x y) (is_same z y) (both_known nodes x y b.0 b.1) k.1) (void_alone (quotient_fact x d) (quotient_void e x d g.1)),
 )
 quotient_by_error_rule-fits nodes (fact.Rel x y d ∷ fact.Nzr z ∷ []) slot.Void f o q = (omega arith, λ v. q ∙ ap Some v)
 quotient_by_error_rule-fits nodes _ _ f o q = cc
@@ -126,12 +127,12 @@ relative_quotient_rule-fits nodes (fact.Rel a c i ∷ fact.Rel b d k ∷ fact.Nz
   λ v.
       let here = q ∙ ap Some v in
       let g = given ((is_at nodes x (node.Div a b) && is_at nodes y (node.Div c d)) && is_same z d) (ratio_fact x y i k) fact.Void here in
-      let s = and_both (is_at nodes x (node.Div a b) && is_at nodes y (node.Div c d)) (is_same z d) g.0 in
-      let t = and_both (is_at nodes x (node.Div a b)) (is_at nodes y (node.Div c d)) s.0 in
+      let s = and_parts (is_at nodes x (node.Div a b) && is_at nodes y (node.Div c d)) (is_same z d) g.0 in
+      let t = and_parts (is_at nodes x (node.Div a b)) (is_at nodes y (node.Div c d)) s.0 in
       let m = children_known nodes x (node.Div a b) o t.0 in
       let n = children_known nodes y (node.Div c d) o t.1 in
       given_both ((are_known nodes a c && are_known nodes b d) && is_same z d) (void_only (ratio_fact a c i k)) fact.Void
-      (both_and (are_known nodes a c && are_known nodes b d) (is_same z d) (both_and (are_known nodes a c) (are_known nodes b d) (both_known nodes a c m.0 n.0) (both_known nodes b d m.1 n.1)) s.1)
+      (and_from (are_known nodes a c && are_known nodes b d) (is_same z d) (and_from (are_known nodes a c) (are_known nodes b d) (both_known nodes a c m.0 n.0) (both_known nodes b d m.1 n.1)) s.1)
       (ratio_void x y a c i k g.1),
 )
 relative_quotient_rule-fits nodes (fact.Rel a c i ∷ fact.Rel b d k ∷ fact.Nzr z ∷ []) slot.Void f o q = (omega arith, λ v. q ∙ ap Some v)
@@ -156,7 +157,7 @@ sum_void x y a c (Some i) None l q = rel_or_void_void (has_one (range_of l)) x y
 sum_void x y a c (Some i) (Some k) l q = absurd (rel_never x y (error_from (weighted i.interval k.interval l)) q)
 
 share_is : (nodes : List Node) (o : Option Node) (c d y : ExprId) → o ≡ Some (node.Div c y) → is_at nodes y (node.Add c d) ≡ true → is_share nodes o c d ≡ true
-share_is nodes o c d y e q = rw e (both_and (is_same c c) (is_at nodes y (node.Add c d)) (same_itself c) q)
+share_is nodes o c d y e q = rw e (and_from (is_same c c) (is_at nodes y (node.Add c d)) (same_itself c) q)
 
 pub relative_sum_rule-fits : FitsSteps relative_sum_rule
 relative_sum_rule-fits nodes (fact.Rel a c i ∷ fact.Rel b d k ∷ fact.Bnd q l ∷ []) (slot.Rel x y) f o e = (
@@ -164,12 +165,12 @@ relative_sum_rule-fits nodes (fact.Rel a c i ∷ fact.Rel b d k ∷ fact.Bnd q l
   λ v.
       let here = e ∙ ap Some v in
       let g = given ((is_at nodes x (node.Add a b) && is_at nodes y (node.Add c d)) && is_at nodes q (node.Div c y)) (sum_fact x y i k l) fact.Void here in
-      let s = and_both (is_at nodes x (node.Add a b) && is_at nodes y (node.Add c d)) (is_at nodes q (node.Div c y)) g.0 in
-      let t = and_both (is_at nodes x (node.Add a b)) (is_at nodes y (node.Add c d)) s.0 in
+      let s = and_parts (is_at nodes x (node.Add a b) && is_at nodes y (node.Add c d)) (is_at nodes q (node.Div c y)) g.0 in
+      let t = and_parts (is_at nodes x (node.Add a b)) (is_at nodes y (node.Add c d)) s.0 in
       let m = children_known nodes x (node.Add a b) o t.0 in
       let n = children_known nodes y (node.Add c d) o t.1 in
       given_both ((are_known nodes a c && are_known nodes b d) && is_share nodes (slice_get nodes q.0) c d) (void_only (sum_fact a c i k l)) fact.Void
-      (both_and (are_known nodes a c && are_known nodes b d) (is_share nodes (slice_get nodes q.0) c d) (both_and (are_known nodes a c) (are_known nodes b d) (both_known nodes a c m.0 n.0) (both_known nodes b d m.1 n.1))
+      (and_from (are_known nodes a c && are_known nodes b d) (is_share nodes (slice_get nodes q.0) c d) (and_from (are_known nodes a c) (are_known nodes b d) (both_known nodes a c m.0 n.0) (both_known nodes b d m.1 n.1))
       (share_is nodes (slice_get nodes q.0) c d y (is_at_out nodes q (node.Div c y) s.1) t.1))
       (sum_void x y a c i k l g.1),
 )

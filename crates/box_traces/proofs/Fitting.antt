@@ -2,10 +2,11 @@
 use Rattle.std.specs.Prelude.{◌≡◌, ◌<◌, ◌&&◌, ◌≤◌, ℕ, suc, Bool, true, false, List, Option, Some, None, length, nat_lt, refl}
 use Rattle.std.proofs.Common.{subst, arith}
 use Rattle.std.proofs.lemmas.Option.{slice_get_within, get_or_from_slice_get}
+use Rattle.std.proofs.lemmas.Bool.{and_from}
 use Rattle.fx_model.specs.declared.ExprId.{ExprId}
 use Rattle.fx_model.specs.declared.Node.{Node}
 use Rattle.fx_model.specs.declared.Node.TheVariants as node
-use Rattle.fx_model.specs.Expression.{ChildrenBelow, IsOrdered}
+use Rattle.fx_model.specs.Expression.{ChildrenBelow, IsOrdered, children_later}
 use Rattle.interval.specs.declared.interval.Interval.{Interval}
 use Rattle.expr_dag.specs.Shapes.{is_at, is_at_out, is_known, are_known}
 use Rattle.facts.specs.declared.place.Place.{Place}
@@ -56,12 +57,6 @@ given_both b o f t q = rw t q
 pub only_void : (b : Bool) → b ≡ true → only_if b fact.Void ≡ Some fact.Void
 only_void b t = rw t refl
 
-pub both_and : (a b : Bool) → a ≡ true → b ≡ true → (a && b) ≡ true
-both_and a b s t = rw s t
-
-pub same_itself : (x : ExprId) → is_same x x ≡ true
-same_itself x = grind (arith)
-
 -- behind a test that there are few
 pub few_by : (n : ℕ) (c : Bool) (o : Option Fact) (f : Fact) → given_if (nat_lt n 65535 && c) o ≡ Some f → suc n ≤ 65535
 few_by n c o f q = by_test (nat_lt n 65535) refl q
@@ -75,22 +70,11 @@ one_known : (nodes : List Node) (x : ExprId) → x.0 < length nodes → is_known
 one_known nodes x h = grind (arith, h)
 
 pub both_known : (nodes : List Node) (x y : ExprId) → x.0 < length nodes → y.0 < length nodes → are_known nodes x y ≡ true
-both_known nodes x y h k = both_and (is_known nodes x) (is_known nodes y) (one_known nodes x h) (one_known nodes y k)
-
-wider : (k n : ℕ) (m : Node) → k < n → ChildrenBelow k m → ChildrenBelow n m
-wider k n (node.Var v) l h = tt
-wider k n (node.Lit v) l h = tt
-wider k n (node.Neg a) l h = omega arith
-wider k n (node.Add a b) l h = (let f : a.0 < k = h.0 in omega arith, let s : b.0 < k = h.1 in omega arith)
-wider k n (node.Sub a b) l h = (let f : a.0 < k = h.0 in omega arith, let s : b.0 < k = h.1 in omega arith)
-wider k n (node.Mul a b) l h = (let f : a.0 < k = h.0 in omega arith, let s : b.0 < k = h.1 in omega arith)
-wider k n (node.Div a b) l h = (let f : a.0 < k = h.0 in omega arith, let s : b.0 < k = h.1 in omega arith)
-wider k n (node.Abs a) l h = omega arith
-wider k n (node.Round r a) l h = omega arith
+both_known nodes x y h k = and_from (is_known nodes x) (is_known nodes y) (one_known nodes x h) (one_known nodes y k)
 
 -- what an expression is made of is in the list
 pub children_known : (nodes : List Node) (x : ExprId) (n : Node) → IsOrdered nodes → is_at nodes x n ≡ true → ChildrenBelow (length nodes) n
 children_known nodes x n o q =
     let e = is_at_out nodes x n q in
     let h : x.0 < length nodes = slice_get_within nodes x.0 n e in
-    wider x.0 (length nodes) n h (subst (ChildrenBelow x.0) (get_or_from_slice_get nodes x.0 n n e) (o x.0 n h))
+    children_later x.0 (length nodes) n (omega (arith, h)) (subst (ChildrenBelow x.0) (get_or_from_slice_get nodes x.0 n n e) (o x.0 n h))

@@ -24,7 +24,8 @@ use Rattle.box_traces.specs.Traces.{Trace, most_steps}
 use Rattle.box_traces.specs.Trees.{Tree, IsProved, lines_of_tree, steps_in, AreTaken, IsSubjectOf}
 use Rattle.box_traces.specs.Walks.{numbered, IsOpen}
 use Rattle.box_traces.proofs.Come.{root_trace}
-use Rattle.box_traces.proofs.Treed.{lead_both, walk_goes_on}
+use Rattle.box_traces.proofs.Treed.{walk_goes_on}
+use Rattle.box_traces.specs.Moves.{lead_both, marks_due, root_due}
 
 -- ---- the head
 abbrev behind_nodes : Context → List Node → Context
@@ -90,22 +91,6 @@ past_marks c (m ∷ rest) ns lines r = past_marks (after c (item.Mark m)) rest n
 nodes_due : (subject : Subject) (before rest : List Node) (more : List Item) → AreTaken subject before rest → AreDue (Some (Nodes zero)) more → AreDue (Some (Nodes (length rest))) (map item.Node rest ++ more)
 nodes_due subject before [] more t d = d
 nodes_due subject before (n ∷ rest) more t d = ((t.1, t.2), nodes_due subject (before ++ n ∷ []) rest more t.3 d)
-
-marks_due : (rest : List HintMark) (more : List Item) → AreDue (Some (Marks zero)) more → AreDue (Some (Marks (length rest))) (map item.Mark rest ++ more)
-marks_due [] more d = d
-marks_due (m ∷ rest) more d = ((tt, tt), marks_due rest more d)
-
-root_due : (items : List Item) → AreDue (Some (Sections 1)) items → AreDue (Some (Marks zero)) items
-root_due [] d = cc
-root_due (item.Step r ∷ items) d = d
-root_due (item.Cut x ps ∷ items) d = let e : 0 + (length ps + 1) ≡ length ps + 1 = omega arith in (d.0, subst (λ n. AreDue (Some (Sections n)) items) e d.1)
-root_due (item.Leaf refs ∷ items) d = d
-root_due (item.Dead r ∷ items) d = d
-root_due (item.Nodes n ∷ items) d = absurd d.1
-root_due (item.Node n ∷ items) d = absurd d.1
-root_due (item.Marks n ∷ items) d = absurd d.1
-root_due (item.Mark m ∷ items) d = absurd d.1
-root_due (item.End ∷ items) d = absurd d.1
 
 -- ---- the marks are the subject's
 from_all : (before rest : List HintMark) → AreFrom (before ++ rest) (length before) rest

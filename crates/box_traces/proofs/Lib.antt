@@ -1,5 +1,3 @@
-mod Cited
-mod Coming
 mod Come
 mod Written
 mod Treed

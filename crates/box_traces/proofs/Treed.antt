@@ -17,7 +17,6 @@ use Rattle.facts.specs.declared.hint.HintRow.{HintRow}
 use Rattle.derivation.specs.Derivations.{Setting, At}
 use Rattle.derivation.specs.Known.{Piece}
 use Rattle.derivation.specs.Rounds.{IsProper}
-use Rattle.derivation.specs.Parts.{void_is}
 use Rattle.derivation.specs.Exists.{table_at}
 use Rattle.goals.specs.declared.goal.Goal.{Goal}
 use Rattle.goals.specs.declared.line.Line.{Line}
@@ -40,19 +39,16 @@ use Rattle.box_traces.specs.Writing.{IsWritable, givens_of}
 use Rattle.box_traces.specs.Traces.{HaveFields, Trace, IsCutTo, most_steps}
 use Rattle.box_traces.specs.Trees.{Tree, Trees, leaf, cut, last, next, lines_at, leaf_lines, lines_of_tree, lines_of_trees, steps_in, steps_in_each, AllSettled, cut_of, IsProved, AreProved, IsSubjectOf}
 use Rattle.box_traces.specs.Walks.{numbered, behind_steps, IsLater, IsOpen, IsBehind, IsEndOf, IsInCut, Frame, LiesIn, lines_behind, left_in, steps_behind, IsDue, Ending}
-use Rattle.box_traces.specs.Moves.{AreSteps, IsEntered, frame_of, turned}
-use Rattle.box_traces.proofs.Cited.{below_behind}
+use Rattle.box_traces.specs.Moves.{AreSteps, IsEntered, frame_of, turned, lead_both, next_behind}
+use Rattle.box_traces.specs.Cited.{below_behind, found_long}
 use Rattle.box_traces.proofs.Come.{child_trace}
-use Rattle.box_traces.proofs.Written.{AreWritten, rows_written, found_long, settled_long}
+use Rattle.box_traces.proofs.Written.{AreWritten, rows_written, settled_long}
+use Rattle.facts.specs.CommonParts.{void_is}
 
 -- ---- contexts
 steps_lead : (subject : Subject) (c : Context) (rows : List StepRow) → AreAccepted (givens subject c) (numbered c) rows → LeadsTo subject c (map item.Step rows) (behind_steps c rows)
 steps_lead subject c [] a = refl
 steps_lead subject c (row ∷ rows) a = (a.0, steps_lead subject (after c (item.Step row)) rows a.1)
-
-pub lead_both : (subject : Subject) (c d e : Context) (items more : List Item) → LeadsTo subject c items d → LeadsTo subject d more e → LeadsTo subject c (items ++ more) e
-lead_both subject c d e [] more l m = subst (λ x. LeadsTo subject x more e) (sym l) m
-lead_both subject c d e (i ∷ items) more l m = (l.0, lead_both subject (after c i) d e items more l.1 m)
 
 append_none : (xs : List Citable) → xs ≡ xs ++ []
 append_none [] = refl
@@ -76,10 +72,6 @@ steps_later c (row ∷ rows) =
       steps = l.steps ∙ append_more c.steps (record { number = c.next; fact = row.fact } ∷ []) l.more;
       next = let n : c.next + 1 ≤ (behind_steps (after c (item.Step row)) rows).next = l.next in omega (arith, n);
     }
-
-next_behind : (c : Context) (rows : List StepRow) → (behind_steps c rows).next ≡ c.next + length rows
-next_behind c [] = omega arith
-next_behind c (row ∷ rows) = let h = next_behind (after c (item.Step row)) rows in omega (arith, h)
 
 numbered_behind : (c : Context) (rows : List StepRow) → numbered (behind_steps c rows) ≡ behind (numbered c) rows
 numbered_behind c [] = refl

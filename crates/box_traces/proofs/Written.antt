@@ -2,11 +2,11 @@
 use Rattle.std.specs.Prelude.{◌≡◌, ◌<◌, ◌≤◌, ◌+◌, ◌^◌, ◌==◌, ⊤, ℕ, Bool, true, false, List, [], ◌∷◌, length, Option, Some, None, if◌then◌else◌, IfSome, refl}
 use Rattle.std.specs.List.{AllByRecursion}
 use Rattle.std.proofs.Common.{arith}
+use Rattle.std.proofs.lemmas.Bool.{eqb-true}
 use Rattle.fx_model.specs.declared.Node.{Node}
 use Rattle.facts.specs.declared.fact.Fact.{Fact}
 use Rattle.facts.specs.declared.fact.Fact.TheVariants as fact
 use Rattle.goals.specs.declared.goal.Goal.{Goal}
-use Rattle.derivation.specs.Parts.{at_option}
 use Rattle.cert_bytes.specs.declared.item.StepRow.{StepRow}
 use Rattle.cert_bytes.specs.Certificates.{IsCounted, IsLong, IsOnShort, HasRoomFor}
 use Rattle.cert_checker.specs.declared.open.Citable.{Citable}
@@ -15,20 +15,10 @@ use Rattle.cert_checker.specs.Steps.{step_fact, step_facts, before, IsMetWith, A
 use Rattle.cert_checker.specs.Faults.{AreSettled}
 use Rattle.box_traces.specs.Sections.{AreAccepted, AllBelow, AreBelow}
 use Rattle.box_traces.specs.Traces.{HasFields, HaveFields}
-use Rattle.box_traces.proofs.Cited.{step_below}
+use Rattle.box_traces.specs.Cited.{step_below, found_below, found_long}
+use Rattle.facts.specs.CommonParts.{at_option}
 
 -- ---- what is found is below the next
-numbered_same : (m n : ℕ) → (m == n) ≡ true → m ≡ n
-numbered_same m n h = grind (arith, h)
-
-found_below : (rows : List Citable) (n m : ℕ) (f : Fact) → AllBelow m rows → step_fact rows n ≡ Some f → n < m
-found_below [] n m f b e = cc
-found_below (r ∷ rows) n m f b e = by_test (r.number == n) refl e (λ w. found_below rows n m f b.1 w)
-  where
-    by_test : (t : Bool) → (r.number == n) ≡ t → (if t then Some r.fact else step_fact rows n) ≡ Some f → (step_fact rows n ≡ Some f → n < m) → n < m
-    by_test true q e later = let d : r.number ≡ n = numbered_same r.number n q in let l : r.number < m = b.0 in omega (arith, d, l)
-    by_test false q e later = later e
-
 -- the numbers are long where the next is no longer than that
 abbrev IsLongBelow : ℕ → Type 0
 IsLongBelow m = m ≤ 2 ^ 64
@@ -80,9 +70,6 @@ rows_written g s (row ∷ rows) b h k a r = (
 )
 
 -- ---- what a leaf cites
-pub found_long : (rows : List Citable) (n m : ℕ) (f : Fact) → AllBelow m rows → m ≤ 2 ^ 64 → step_fact rows n ≡ Some f → IsLong n
-found_long rows n m f b h e = let l : n < m = found_below rows n m f b e in omega (arith, l, h)
-
 pub settled_long : (rows : List Citable) (m : ℕ) (goals : List Goal) (refs : List ℕ) → AllBelow m rows → m ≤ 2 ^ 64 → AreSettled rows goals refs → AllByRecursion IsLong refs
 settled_long rows m [] [] b h a = tt
 settled_long rows m (g ∷ goals) (r ∷ refs) b h a = (found_long rows r m (a.0).0 b h (a.0).1, settled_long rows m goals refs b h a.1)

@@ -1,6 +1,8 @@
 pub mod Sections
 pub mod Writing
 pub mod Traces
+pub mod Cited
+pub mod Coming
 pub mod Trees
 pub mod Walks
 pub mod Moves

@@ -1,5 +1,6 @@
 -- How a walk over a tree of boxes moves, and that it can always go on.
-use Rattle.std.specs.Prelude.{◌≡◌, ◌≤◌, ◌+◌, ◌^◌, ℕ, suc, List, ◌∷◌, length, map, None, Some}
+use Rattle.std.specs.Prelude.{◌≡◌, ◌≤◌, ◌+◌, ◌^◌, ℕ, suc, List, ◌∷◌, length, map, None, Some, zero, ◌++◌, []}
+use Rattle.std.proofs.Common.{arith, sym, subst}
 use Rattle.fx_model.specs.declared.ExprId.{ExprId}
 use Rattle.dyadic.specs.declared.number.Dyadic.{Dyadic}
 use Rattle.interval.specs.declared.interval.Interval.{Interval}
@@ -24,6 +25,11 @@ use Rattle.box_traces.specs.Writing.{IsWritable, givens_of}
 use Rattle.box_traces.specs.Traces.{HaveFields, most_steps}
 use Rattle.box_traces.specs.Trees.{Tree, Trees, cut, last, next, IsProved, lines_of_tree, steps_in, IsSubjectOf}
 use Rattle.box_traces.specs.Walks.{numbered, behind_steps, IsLater, IsOpen, IsBehind, IsEndOf, Frame, LiesIn, left_in, lines_behind, steps_behind, IsDue, Ending}
+use Rattle.fx_model.specs.declared.Node.{Node}
+use Rattle.facts.specs.declared.hint.HintMark.{HintMark}
+use Rattle.cert_bytes.specs.declared.item.Item.{Item}
+use Rattle.cert_bytes.specs.Certificates.{AreDue}
+use Rattle.cert_bytes.specs.declared.order.Due.TheVariants.{Nodes, Marks, Sections}
 
 -- This is so of everything that can be written, of so many steps a box, with what certificates are judged against.
 abbrev pub OfWalks : (Setting → List HintRow → ℕ → ℕ → List Goal → Subject → Type 0) → Type 0
@@ -88,3 +94,28 @@ pub record WalksMove : Type 0 where
   -- behind each section there are items to the end of the root section
   pub rest : OfWalks (λ u hints height most goals subject. (c d : Context) (lines : List Line) (frames : List Frame) → LiesIn u height goals c frames → IsEndOf c d lines →
       d.next + steps_behind most frames ≤ 2 ^ 64 → Ending subject d (left_in frames) (lines_behind u height goals frames lines))
+
+-- ---- laws
+pub lead_both : (subject : Subject) (c d e : Context) (items more : List Item) → LeadsTo subject c items d → LeadsTo subject d more e → LeadsTo subject c (items ++ more) e
+lead_both subject c d e [] more l m = subst (λ x. LeadsTo subject x more e) (sym l) m
+lead_both subject c d e (i ∷ items) more l m = (l.0, lead_both subject (after c i) d e items more l.1 m)
+
+pub next_behind : (c : Context) (rows : List StepRow) → (behind_steps c rows).next ≡ c.next + length rows
+next_behind c [] = omega arith
+next_behind c (row ∷ rows) = let h = next_behind (after c (item.Step row)) rows in omega (arith, h)
+
+pub marks_due : (rest : List HintMark) (more : List Item) → AreDue (Some (Marks zero)) more → AreDue (Some (Marks (length rest))) (map item.Mark rest ++ more)
+marks_due [] more d = d
+marks_due (m ∷ rest) more d = ((tt, tt), marks_due rest more d)
+
+pub root_due : (items : List Item) → AreDue (Some (Sections 1)) items → AreDue (Some (Marks zero)) items
+root_due [] d = cc
+root_due (item.Step r ∷ items) d = d
+root_due (item.Cut x ps ∷ items) d = let e : 0 + (length ps + 1) ≡ length ps + 1 = omega arith in (d.0, subst (λ n. AreDue (Some (Sections n)) items) e d.1)
+root_due (item.Leaf refs ∷ items) d = d
+root_due (item.Dead r ∷ items) d = d
+root_due (item.Nodes n ∷ items) d = absurd d.1
+root_due (item.Node n ∷ items) d = absurd d.1
+root_due (item.Marks n ∷ items) d = absurd d.1
+root_due (item.Mark m ∷ items) d = absurd d.1
+root_due (item.End ∷ items) d = absurd d.1

@@ -3,15 +3,14 @@ use Rattle.std.specs.Prelude.{◌≡◌, ℕ, zero, suc, ◌<◌, ◌+◌, ◌-�
 use Rattle.std.specs.List.{AllByRecursion}
 use Rattle.std.specs.Option.{option_map, IsSomeAnd}
 use Rattle.std.proofs.Common.{eq-eqb, sym, ap, ◌∙◌, subst, arith, inl, inr}
-use Rattle.std.proofs.lemmas.Bool.{eqb-true}
+use Rattle.std.proofs.lemmas.Bool.{eqb-true, and_parts}
 use Rattle.fx_model.specs.declared.ExprId.{ExprId}
 use Rattle.fx_model.specs.Fraction.{Fraction, ◌≤ℚ◌, lt_le, le_refl, le_trans, le_or_lt}
 use Rattle.fx_model.specs.Enclosure.{Lies}
 use Rattle.dyadic.specs.declared.number.Dyadic.{Dyadic}
 use Rattle.dyadic.specs.declared.number.End.TheVariants as end
 use Rattle.dyadic.specs.Values.{value_of}
-use Rattle.dyadic.specs.Rising.{point_of, IsRising, IsAboveLast}
-use Rattle.box_tree.proofs.Rising.{rising_more}
+use Rattle.dyadic.specs.Rising.{point_of, IsRising, IsAboveLast, rising_more}
 use Rattle.facts.specs.Order.{is_same}
 use Rattle.interval.specs.declared.interval.Interval.{Interval}
 use Rattle.interval.specs.Intervals.{range_of}
@@ -28,11 +27,11 @@ use Rattle.box_tree.specs.Pieces.{piece_count}
 use Rattle.box_tree.specs.Regions.{PlanParts, Region, root, with_piece, next_of, points_in, forced_or, next_forced, half_in, halved_or, next_half, turned, half_of, else_next, piece_by, piece, region_below, region_at}
 use Rattle.box_tree.specs.Plans.{cut_by, cut_at, or_whole, interval_of, last_piece, with_last, pieces_below, pieces_at, piece_at}
 use Rattle.box_tree.specs.Covers.{Values, Has, LiesInRange, LieIn, LieInBox, LiesInPiece}
-use Rattle.box_tree.proofs.Near.{at_bool, lt_in}
 use Rattle.box_tree.proofs.Put.{range_ordered, put_ordered}
 use Rattle.box_tree.proofs.Within.{forced_step, piece_ordered, forced_within, half_within}
-use Rattle.facts.specs.CommonParts.{at_option, expr_same}
+use Rattle.facts.specs.CommonParts.{at_option, expr_same, same_itself}
 use Rattle.facts.specs.Held.{some-and}
+use Rattle.box_tree.specs.InRanges.{at_bool, lt_in, above_in, range_var, below_append}
 
 -- ---- one range
 -- some piece of a range has each of its values
@@ -45,15 +44,12 @@ cover low high (p ∷ ps) v a b = elim (le_or_lt v (value_of p)) [
 ]
 
 -- ---- the ranges of a box
-itself : (a : ExprId) → is_same a a ≡ true
-itself a = eq-eqb a.0 a.0 refl
-
 other : (a b c : ExprId) → is_same a b ≡ false → is_same a c ≡ true → is_same b c ≡ false
 other a b c n t =
     let e = expr_same a c t in
     at_bool (is_same b c) (λ d. is_same b c ≡ d → d ≡ false)
     (λ _ u. let f : b ≡ a = expr_same b c u ∙ sym e in
-    let g : is_same a b ≡ true = ap (λ (k : ExprId). is_same a k) f ∙ itself a in
+    let g : is_same a b ≡ true = ap (λ (k : ExprId). is_same a k) f ∙ same_itself a in
     let k : true ≡ false = sym g ∙ n in cc)
     (λ _ u. refl) refl
 
@@ -73,12 +69,6 @@ put_in p r (q ∷ rs) y e =
     refl e
 
 -- ---- a box that is cut
-range_var : (x : ExprId) (rs : List SplitRange) (r : SplitRange) → range_in x rs ≡ Some r → r.var ≡ x
-range_var x [] r e = cc
-range_var x (q ∷ rs) r e = at_bool (is_same q.var x) (λ b. is_same q.var x ≡ b → (if b then Some q else range_in x rs) ≡ Some r → r.var ≡ x)
-    (λ t s f. let k : q ≡ r = cc in ap (λ (z : SplitRange). z.var) (sym k) ∙ expr_same q.var x s)
-    (λ t s f. range_var x rs r f) refl e
-
 -- one range is replaced
 put_all : (v : Values) (p r : SplitRange) (rs : List SplitRange) → range_in p.var rs ≡ Some r → IsSomeAnd (v p.var) (Has p) → LieIn v rs → LieIn v (put_range p rs)
 put_all v p r rs e h i y =
@@ -155,20 +145,9 @@ next_inside v plan g (next.Halve x m) i a w h = inside_by v x (m ∷ []) i g.ran
 next_inside v plan g next.Rest i a w h = h
 
 -- ---- ranges stay in order
-above_in : (points : List Dyadic) (p : Dyadic) → is_above_last points p ≡ true → IsAboveLast points p
-above_in points p e l = lt_in (point_of points (length points - 1)) p (either (length points == 0) (is_less (point_of points (length points - 1)) p) e (λ z. let n : length points ≡ 0 = eqb-true (length points) 0 z in omega (arith, n, l)))
-  where
-    either : (b c : Bool) → b || c ≡ true → (b ≡ true → ⊥) → c ≡ true
-    either true c e n = absurd (n refl)
-    either false c e n = e
-
-both_true : (b c : Bool) → b && c ≡ true → (b ≡ true) × (c ≡ true)
-both_true true c e = (refl, e)
-both_true false c e = cc
-
 point_rising : (r : SplitRange) (points : List Dyadic) (p : Dyadic) → IsRising points → IsRising (with_point r points p)
 point_rising r points p u = at_bool (is_inside r p && is_above_last points p) (λ b. IsRising (if b then points ++ p ∷ [] else points))
-    (λ t. rising_more points p u (above_in points p (both_true (is_inside r p) (is_above_last points p) t).1)) (λ f. u)
+    (λ t. rising_more points p u (above_in points p (and_parts (is_inside r p) (is_above_last points p) t).1)) (λ f. u)
 
 points_rising : (r : SplitRange) (points more : List Dyadic) → IsRising points → IsRising (with_points r points more)
 points_rising r points [] u = u
@@ -235,11 +214,6 @@ below_inside v plan g [] a h = h
 below_inside v plan g (i ∷ path) a h =
     next_inside v plan g (next_of plan g) i a (next_within plan g) (below_inside v plan (piece plan g i) path (piece_stays plan g i a) h)
 
-below_append : (plan : PlanParts) (g : Region) (path : List ℕ) (i : ℕ) → region_below plan g (path ++ i ∷ []) ≡ piece plan (region_below plan g path) i
-unfolding region_below
-below_append plan g [] i = refl
-below_append plan g (j ∷ path) i = below_append plan (piece plan g j) path i
-
 -- ---- what callers learn
 pub box_covers : (plan : PlanParts) (v : Values) (path : List ℕ) → LieInBox plan v path → 0 < piece_count (cut_at plan path) →
     (i : ℕ) × (i < piece_count (cut_at plan path)) × LieInBox plan v (path ++ i ∷ [])
@@ -303,7 +277,7 @@ stays_ranged x points i rs (Some r) e h =
     let k = range_var x rs r e in
     let p = piece_of r points i in
     let f : range_in p.var rs ≡ Some r = ap (λ (z : ExprId). range_in z rs) k ∙ e in
-    let s : is_same p.var x ≡ true = subst (λ (z : ExprId). is_same p.var z ≡ true) k (itself p.var) in
+    let s : is_same p.var x ≡ true = subst (λ (z : ExprId). is_same p.var z ≡ true) k (same_itself p.var) in
     (p, put_in p r rs x f ∙ rw s refl)
 
 piece_ranged : (plan : PlanParts) (g : Region) (n : Next) (i : ℕ) → RangedNext g.ranges n → IsRanged g.ranges g.last → IsRanged (piece_by plan n g i).ranges (piece_by plan n g i).last

@@ -13,8 +13,8 @@ use Rattle.box_tree.specs.Pieces.{piece_count}
 use Rattle.box_tree.specs.Regions.{PlanParts, Region, root, points_in, next_forced, half_in, halved_or, next_half, turned, half_of, else_next, next_of, piece_by, piece, region_below, region_at}
 use Rattle.box_tree.specs.Plans.{cut_by, cut_at}
 use Rattle.facts.specs.CommonParts.{at_option}
-use Rattle.box_tree.proofs.Near.{at_bool}
 use Rattle.box_tree.proofs.Within.{forced_step}
+use Rattle.box_tree.specs.InRanges.{at_bool}
 
 -- how a cut goes on: a forced one leaves more cuts behind, a half one more halving
 data Goes (plan : PlanParts) (g : Region) : Next → Type 0 where

@@ -2,9 +2,7 @@ pub mod Cover
 pub mod Depth
 pub mod Near
 pub mod Put
-pub mod Rising
 pub mod Turns
 pub mod Within
 pub mod WholeBox
 pub mod OnRanges
-pub mod Few

@@ -24,24 +24,12 @@ use Rattle.box_tree.specs.declared.range.SplitRange.{SplitRange}
 use Rattle.box_tree.specs.Ranges.{range_in}
 use Rattle.box_tree.specs.Root.{finite_range, range_by, or_later, split_range, with_range, split_ranges, plan_by}
 use Rattle.box_tree.specs.Covers.{Has, LiesInRange, LieIn, LieInBox}
-use Rattle.box_tree.proofs.Near.{at_bool}
 use Rattle.facts.specs.CommonParts.{expr_same}
 use Rattle.box_tree.proofs.Cover.{root_out}
 use Rattle.facts.specs.Held.{some-and}
+use Rattle.box_tree.specs.InRanges.{at_bool, finite_out}
 
 -- ---- one hypothesis
-finite_out : (x : ExprId) (lo hi : End) (r : SplitRange) → finite_range x lo hi ≡ Some r → (lo ≡ end.At r.low) × (hi ≡ end.At r.high) × (r.var ≡ x)
-finite_out x end.Low hi r e = cc
-finite_out x end.High hi r e = cc
-finite_out x (end.At l) end.Low r e = cc
-finite_out x (end.At l) end.High r e = cc
-finite_out x (end.At l) (end.At h) r e =
-    let q : record { var = x; low = l; high = h } ≡ r = some_inj _ r e in
-    (ap (λ (s : SplitRange). end.At s.low) q, ap (λ (s : SplitRange). end.At s.high) q, ap (λ (s : SplitRange). s.var) (sym q))
-  where
-    some_inj : (a b : SplitRange) → Some a ≡ Some b → a ≡ b
-    some_inj a b e = cc
-
 module _ (nodes : List Node) (a : Assignment) where
   bound_has : (x y : ExprId) (i : Interval) (r : SplitRange) → is_same y x ≡ true → finite_range x i.lo i.hi ≡ Some r → Holds nodes a (fact.Bnd y i) → (r.var ≡ x) × IsSomeAnd (value nodes a x) (Has r)
   bound_has x y i r s e h =

@@ -2,7 +2,7 @@
 use Rattle.std.specs.Prelude.{◌≡◌, ℕ, zero, suc, ◌<◌, ◌+◌, Bool, true, false, ◌&&◌, nat_lt, List, [], ◌∷◌, ◌++◌, length, Option, Some, None, IfSome, if◌then◌else◌, refl, ◌⊎◌, slice_index_or}
 use Rattle.std.specs.List.{AllByRecursion}
 use Rattle.std.proofs.Common.{sym, subst, arith, inl, inr}
-use Rattle.std.proofs.lemmas.Bool.{cases_lt}
+use Rattle.std.proofs.lemmas.Bool.{cases_lt, and_parts}
 use Rattle.std.proofs.lemmas.List.{get_or_default}
 use Rattle.std.proofs.Math.ListN.{get_or-eq_default}
 use Rattle.fx_model.specs.declared.ExprId.{ExprId}
@@ -19,14 +19,10 @@ use Rattle.box_tree.specs.Ranges.{IsOrdered, IsWithin, is_inside, range_in}
 use Rattle.box_tree.specs.Points.{is_above_last, with_point, with_points, asked_points, middle, half_point, piece_of}
 use Rattle.box_tree.specs.Nexts.{IsWithinNext}
 use Rattle.box_tree.specs.Regions.{PlanParts, Region, points_in, forced_or, next_forced, half_in, halved_or, next_half, turned, half_of}
-use Rattle.box_tree.proofs.Near.{inside_in, at_bool}
+use Rattle.box_tree.proofs.Near.{inside_in}
+use Rattle.box_tree.specs.InRanges.{at_bool, within_at, append_within, inside_within}
 
 -- ---- each piece's ends are in order
-within_at : (r : SplitRange) (points : List Dyadic) (k : ℕ) (d : Dyadic) → AllByRecursion (IsWithin r) points → k < length points → IsWithin r (slice_index_or points k d)
-within_at r [] k d w l = absurd (omega (arith, l))
-within_at r (p ∷ ps) zero d w l = w.0
-within_at r (p ∷ ps) (suc k) d w l = within_at r ps k d w.1 (omega (arith, l))
-
 pub piece_ordered : (r : SplitRange) (points : List Dyadic) (i : ℕ) → IsOrdered r → AllByRecursion (IsWithin r) points → IsRising points → IsOrdered (piece_of r points i)
 piece_ordered r [] zero o w u = o
 piece_ordered r (p ∷ ps) zero o w u = w.0.0
@@ -47,20 +43,9 @@ piece_ordered r points (suc k) o w u =
     ]
 
 -- ---- points that stay lie inside
-append_within : (r : SplitRange) (points : List Dyadic) (p : Dyadic) → AllByRecursion (IsWithin r) points → IsWithin r p → AllByRecursion (IsWithin r) (points ++ p ∷ [])
-append_within r [] p w i = (i, tt)
-append_within r (q ∷ qs) p w i = (w.0, append_within r qs p w.1 i)
-
-inside_within : (r : SplitRange) (p : Dyadic) → is_inside r p ≡ true → IsWithin r p
-inside_within r p e = let q = inside_in r p e in (lt_le (value_of r.low) (value_of p) q.0, lt_le (value_of p) (value_of r.high) q.1)
-
-both_true : (b c : Bool) → b && c ≡ true → (b ≡ true) × (c ≡ true)
-both_true true c e = (refl, e)
-both_true false c e = cc
-
 point_within : (r : SplitRange) (points : List Dyadic) (p : Dyadic) → AllByRecursion (IsWithin r) points → AllByRecursion (IsWithin r) (with_point r points p)
 point_within r points p w = at_bool (is_inside r p && is_above_last points p) (λ b. AllByRecursion (IsWithin r) (if b then points ++ p ∷ [] else points))
-    (λ t. append_within r points p w (inside_within r p (both_true (is_inside r p) (is_above_last points p) t).0)) (λ f. w)
+    (λ t. append_within r points p w (inside_within r p (and_parts (is_inside r p) (is_above_last points p) t).0)) (λ f. w)
 
 points_within : (r : SplitRange) (points more : List Dyadic) → AllByRecursion (IsWithin r) points → AllByRecursion (IsWithin r) (with_points r points more)
 points_within r points [] w = w

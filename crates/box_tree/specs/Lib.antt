@@ -7,4 +7,5 @@ pub mod Regions
 pub mod Plans
 pub mod Few
 pub mod Root
+pub mod InRanges
 pub mod Covers

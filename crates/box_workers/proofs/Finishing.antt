@@ -2,8 +2,7 @@
 use Rattle.std.proofs.Common.{◌≡◌, ℕ, suc, ◌+◌, ◌<◌, ◌≤◌, Bool, inl, inr, cond, List, [], ◌∷◌, ◌++◌, length, All, Option, Some, MatchOption, sym, refl, ap, ◌∙◌, subst, arith, eq-eqb}
 use Rattle.std.proofs.lemmas.List.Elements.{All-head, All-tail, All-cons, All-nil, All-append}
 use Rattle.accounts.specs.Weights.{total, kids}
-use Rattle.box_workers.proofs.Weights.{kids_le, total_append, total_snoc}
-use Rattle.bisect.specs.Trees.{Tree, children, child_count}
+use Rattle.bisect.specs.Trees.{Tree, children, child_count, all_pieces}
 use Rattle.bisect.specs.Walks.{IsListed}
 use Rattle.bisect.specs.declared.settler.State.{State}
 use Rattle.bisect.specs.declared.settler.State.TheVariants as state
@@ -19,6 +18,7 @@ use Rattle.box_workers.specs.declared.record.Record.{Record}
 use Rattle.box_workers.specs.Records.{IsLeafWithState}
 use Rattle.box_workers.specs.Seen.{BoxTask}
 use Rattle.box_workers.proofs.Walking.{went_trans, went_frame, went_as, total_ones}
+use Rattle.accounts.specs.Sums.{total_append, total_snoc, kids_le}
 
 -- after one more of several parts
 part : (t : Tree) (a b c : ℕ) (k l m : List Leaf) (whole rest more less : (List ℕ → ℕ) → ℕ) → ((g : List ℕ → ℕ) → rest g ≡ less g + more g) → Went t a k b l whole rest → Went t b l c m more nothing → Went t a k c m whole less
@@ -74,22 +74,12 @@ front_fits P old new x e all = all_front P new x (subst (All P) e all)
 pub last_fits : {X : Type 0} (P : X → Type 0) (old new : List X) (x : X) → old ≡ new ++ x ∷ [] → All P old → P x
 last_fits P old new x e all = all_last P new x (subst (All P) e all)
 
--- a box with children has as many as its cut has pieces
-pub inner_count : (c : Cut) (s : State) → 0 < children c s → children c s ≡ piece_count c
-inner_count c state.Void h = absurd (omega arith)
-inner_count (cut.Forced x points) (state.Settled facts) h = refl
-inner_count (cut.Forced x points) (state.Open goal) h = refl
-inner_count (cut.Half x m) (state.Settled facts) h = absurd (omega arith)
-inner_count (cut.Half x m) (state.Open goal) h = refl
-inner_count cut.Bottom (state.Settled facts) h = absurd (omega arith)
-inner_count cut.Bottom (state.Open goal) h = absurd (omega arith)
-
 -- a published box that is held
 module _ {E : Type 0} (t : Tree) (listed : IsListed t) (b : Held E) (path : List ℕ) (n : ℕ) (is : path ≡ b.task.path) (inner : 0 < child_count t b.task.path) (pieces : n ≡ piece_count (t.cut_at path)) (few : b.pushed ≤ child_count t b.task.path) where
   held_split : (g : List ℕ → ℕ) → held_rest t g b ≡ children_rest t path b.pushed n g + g b.task.path
   held_split g =
       let law = below_law t listed g b.task.path in
-      let c : n ≡ child_count t b.task.path = pieces ∙ ap (λ (p : List ℕ). piece_count (t.cut_at p)) is ∙ sym (inner_count (t.cut_at b.task.path) (t.state_at b.task.path) inner) in
+      let c : n ≡ child_count t b.task.path = pieces ∙ ap (λ (p : List ℕ). piece_count (t.cut_at p)) is ∙ sym (all_pieces (t.cut_at b.task.path) (t.state_at b.task.path) inner) in
       let k : kids (below t g) path n ≡ kids (below t g) b.task.path (child_count t b.task.path) = ap (λ (p : List ℕ). kids (below t g) p n) is ∙ ap (kids (below t g) b.task.path) c in
       let f : kids (below t g) path b.pushed ≡ kids (below t g) b.task.path b.pushed = ap (λ (p : List ℕ). kids (below t g) p b.pushed) is in
       let le = kids_le (below t g) b.task.path b.pushed (child_count t b.task.path) few in

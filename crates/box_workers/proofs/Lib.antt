@@ -12,4 +12,3 @@ pub mod Turns
 pub mod Walking
 pub mod Whole
 pub mod Paths
-pub mod Weights

@@ -10,7 +10,6 @@ use Rattle.box_workers.specs.Ends.{HeldFits, RecordFits}
 use Rattle.box_workers.specs.Fates.{IsHeld}
 use Rattle.boxcar.specs.Table.{Shelves}
 use Rattle.accounts.specs.Weights.{total}
-use Rattle.box_workers.proofs.Weights.{total_append, total_map}
 use Rattle.bisect.specs.Trees.{Tree}
 use Rattle.box_deques.specs.Seen.{Lane, Thief, Seat, Hand, Name, seat_at, HasPass, IsNew, IsSeated, with_hands, with_push}
 use Rattle.box_workers.specs.declared.post.Post.{Post}
@@ -23,6 +22,7 @@ use Rattle.box_workers.specs.Joins.{no_hand, taken_of_lane, lanes_pushed, lanes_
 use Rattle.box_workers.specs.Records.{children_of_all, children_of_held, record_weight, IsRecord}
 use Rattle.box_workers.specs.Gathered.{IsAccount}
 use Rattle.box_workers.proofs.Sums.{sum_same, sum_plus, sum_swap, sum_zero, shifted, hand_by_lanes}
+use Rattle.accounts.specs.Sums.{total_append, total_map}
 
 -- a worker at its start can steal
 pub start_can_steal : {E Q : Type 0} (n capacity : ℕ) (names : ℕ → Name) (k : ℕ) (post : Post E Q) → IsStart n capacity names k post → CanSteal capacity post.hand post.thieves.items

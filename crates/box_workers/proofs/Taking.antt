@@ -2,12 +2,12 @@
 use Rattle.std.proofs.Common.{◌≡◌, ◌≢◌, inl, inr, ℕ, zero, suc, ◌+◌, ◌-◌, ◌^◌, ◌<◌, ◌≤◌, min, List, [], ◌∷◌, ◌++◌, length, All, take, slice_index_or, sym, refl, ap, ◌∙◌, subst, append_assoc, arith, get_or-set_same, get_or-set_other}
 use Rattle.std.proofs.lemmas.Bool.Decides.{eqb_tells}
 use Rattle.std.proofs.lemmas.List.Elements.{All-weaker, All-more, All-get_or}
-use Rattle.box_workers.proofs.Paths.{lt_or_le}
-use Rattle.box_workers.proofs.Weights.{total_set, total_snoc}
+use Rattle.std.proofs.lemmas.Bool.{cases_lt}
 use Rattle.box_deques.specs.Moments.{SamePasses, Steals, Pops}
 use Rattle.box_deques.specs.Seen.{Lane, Thief, Seat, Hand, no_seat, seat_at, hand_with, HasPass, with_take, with_empty, with_pop}
 use Rattle.box_deques.specs.Views.{Take}
 use Rattle.box_workers.specs.Taking.{weight_of, hand_took, took, GoesOn, Rose, NotBelow, HandWentOn, RoseAt, CanSteal}
+use Rattle.accounts.specs.Sums.{total_set, total_snoc}
 
 pub goes_on_same : {X : Type 0} (xs : List X) → GoesOn xs xs
 goes_on_same xs = ([], append_none xs) where
@@ -37,7 +37,7 @@ rose_after a b c (inr x) (inl y) = inr (omega arith)
 rose_after a b c x (inr y) = inr y
 
 pub rises : (n : ℕ) → Rose n (min (n + 1) (2 ^ 64 - 1))
-rises n = elim (lt_or_le n (2 ^ 64 - 1)) [ inl lt ↦ inl (omega arith) | inr le ↦ inr (omega arith) ]
+rises n = elim (cases_lt n (2 ^ 64 - 1)) [ inl lt ↦ inl (omega arith) | inr le ↦ inr (omega arith) ]
 
 pub rose_not_below : (a b : ℕ) → Rose a b → NotBelow a b
 rose_not_below a b (inl x) = inl (omega arith)

@@ -1,8 +1,7 @@
 -- The turns of a worker.
 use Rattle.std.proofs.Common.{◌≡◌, ℕ, ◌+◌, ◌<◌, List, [], ◌∷◌, ◌++◌, All, Option, Some, None, IfNone, is_some, false, sym, refl, ap, ◌∙◌, subst, append_assoc, arith}
-use Rattle.std.proofs.lemmas.List.Elements.{All-append, All-cons, All-nil}
+use Rattle.std.proofs.lemmas.List.Elements.{All-append, All-cons, All-nil, All-push}
 use Rattle.boxcar.specs.Table.{Shelves}
-use Rattle.box_workers.proofs.Weights.{total_snoc}
 use Rattle.bisect.specs.Trees.{Tree, child_count}
 use Rattle.bisect.specs.Boxes.{leaf_at}
 use Rattle.bisect.specs.declared.outcome.Leaf.{Leaf}
@@ -15,13 +14,11 @@ use Rattle.box_workers.specs.Fates.{children_of, Pushes, IsFate}
 use Rattle.box_workers.specs.Records.{children_of_all, record_weight, IsLeafWithState, IsRecord, IsEntered}
 use Rattle.box_workers.specs.Taking.{weight_of, hand_took, took, HandWentOn, LaneWentOn}
 use Rattle.box_workers.proofs.Taking.{goes_on_trans, goes_on_same, went_on_trans, went_on_same}
+use Rattle.accounts.specs.Sums.{total_snoc}
 
 append_none : {X : Type 0} (xs : List X) → xs ++ [] ≡ xs
 append_none [] = refl
 append_none {X} (x ∷ xs) = ap (λ (l : List X). x ∷ l) (append_none xs)
-
-All-snoc : {X : Type 0} (P : X → Type 0) (xs : List X) (x : X) → All P xs → P x → All P (xs ++ x ∷ [])
-All-snoc P xs x all here = All-append P xs (x ∷ []) all (All-cons P x [] here (All-nil P))
 
 pub children_snoc : (t : Tree) (ps : List (List ℕ)) (p : List ℕ) → children_of_all t (ps ++ p ∷ []) ≡ children_of_all t ps ++ children_of p (child_count t p)
 children_snoc t [] p = append_none (children_of p (child_count t p))
@@ -89,7 +86,7 @@ module _ {E : Type 0} (t : Tree) (path_of : E → List ℕ) (capacity : ℕ) (bo
           subst (λ z. After z split' held') (sym s) (subst (λ z. After (settled ++ leaf ∷ []) z held') (sym p) (subst (λ z. After (settled ++ leaf ∷ []) split z) (sym o) (record {
             taken = (λ h. let w = weights [] x h in let n = total_snoc (λ (l : Leaf). h l.path) settled leaf in let e : h leaf.path ≡ h task.path = ap h path in omega arith);
             pushed = together [] x (children_of_all t split ++ []) refl;
-            leaves = All-snoc (IsLeafWithState t) settled leaf before.leaves (is ∙ ap (leaf_at t) (sym path), ap (child_count t) path ∙ leaf_of);
+            leaves = All-push (IsLeafWithState t) settled leaf before.leaves (is ∙ ap (leaf_at t) (sym path), ap (child_count t) path ∙ leaf_of);
             inner = before.inner;
             fits = tt;
             lane_on = lane_trans lane lane'' lane''' (lane_trans lane lane' lane'' before.lane_on lane_on) (lane_pushes lane'' lane''' [] x);
@@ -100,7 +97,7 @@ module _ {E : Type 0} (t : Tree) (path_of : E → List ℕ) (capacity : ℕ) (bo
             taken = (λ h. let w = weights (children_of path (child_count t path)) x h in let n = total_snoc h split path in let e : h path ≡ h task.path = ap h is in omega arith);
             pushed = together (children_of path (child_count t path)) x (children_of_all t (split ++ path ∷ []) ++ []) (sym (append_none (children_of_all t (split ++ path ∷ [])) ∙ children_snoc t split path));
             leaves = before.leaves;
-            inner = All-snoc (λ (q : List ℕ). 0 < child_count t q) split path before.inner inner;
+            inner = All-push (λ (q : List ℕ). 0 < child_count t q) split path before.inner inner;
             fits = tt;
             lane_on = lane_trans lane lane'' lane''' (lane_trans lane lane' lane'' before.lane_on lane_on) (lane_pushes lane'' lane''' (children_of path (child_count t path)) x);
             hand_on = went_on_trans hand hand' hand'' before.hand_on hand_on;

@@ -2,7 +2,6 @@
 use Rattle.std.proofs.Common.{◌≡◌, ℕ, zero, suc, ◌+◌, ◌-◌, List, [], ◌∷◌, ◌++◌, length, All, sym, refl, ap, ◌∙◌, subst, arith, Result, Ok, Err, IfOk}
 use Rattle.std.proofs.lemmas.List.Elements.{All-cons, All-nil, All-append}
 use Rattle.accounts.specs.Weights.{total}
-use Rattle.box_workers.proofs.Weights.{total_append}
 use Rattle.bisect.specs.Trees.{Tree, child_count}
 use Rattle.bisect.specs.Boxes.{leaf_at, with_leaf, leaves_of}
 use Rattle.bisect.specs.Walks.{Seen, after, boxes_from}
@@ -10,6 +9,7 @@ use Rattle.bisect.specs.declared.outcome.Leaf.{Leaf}
 use Rattle.box_workers.specs.Gathered.{below, leaf_only, Went, nothing}
 use Rattle.box_workers.specs.Records.{IsLeafWithState}
 use Rattle.box_workers.proofs.Order.{leaves_total}
+use Rattle.accounts.specs.Sums.{total_append}
 
 pub went_trans : (t : Tree) (a b c : ℕ) (k l m : List Leaf) (x y z : (List ℕ → ℕ) → ℕ) → Went t a k b l x y → Went t b l c m y z → Went t a k c m x z
 went_trans t a b c k l m x y z p q = record { count = p.count ∙ q.count; weigh = (λ h. p.weigh h ∙ q.weigh h); are = (λ s. q.are (p.are s)) }
@@ -53,7 +53,3 @@ visited t p old new boxes leaves e =
           omega arith);
       are = (λ all. subst (All (IsLeafWithState t)) (sym l) (All-append (IsLeafWithState t) old.leaves (leaves_of t (boxes_from t (36 - length p) p)) all (leaves_states t (boxes_from t (36 - length p) p))));
     }
-
-pub if_ok : {X E : Type 0} (r : Result X E) (P Q : X → Type 0) → ((v : X) → P v → Q v) → IfOk r P → IfOk r Q
-if_ok (Ok v) P Q f p = f v p
-if_ok (Err e) P Q f p = p

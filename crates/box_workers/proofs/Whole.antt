@@ -3,7 +3,6 @@ use Rattle.std.proofs.Common.{◌≡◌, ◌⊎◌, inl, inr, ℕ, zero, suc, �
 use Rattle.std.proofs.lemmas.List.Elements.{All-head, All-tail}
 use Rattle.accounts.specs.Paths.{child}
 use Rattle.accounts.specs.Weights.{total, kids}
-use Rattle.box_workers.proofs.Weights.{kids_le, total_append, total_snoc}
 use Rattle.bisect.specs.Trees.{Tree, child_count}
 use Rattle.bisect.specs.Walks.{IsListed, pieces_from, boxes_from}
 use Rattle.bisect.specs.declared.outcome.Leaf.{Leaf}
@@ -13,6 +12,7 @@ use Rattle.box_workers.specs.Seen.{BoxTask}
 use Rattle.box_workers.specs.Fates.{children_of}
 use Rattle.box_workers.specs.Gathered.{below, IsAccount, held_rest_of, record_rest, Few, IsPart}
 use Rattle.box_workers.specs.Records.{children_of_all, children_of_held, held_weight, record_weight, IsLeafWithState}
+use Rattle.accounts.specs.Sums.{total_append, total_snoc, kids_le}
 
 pub children_total : (h : List ℕ → ℕ) (p : List ℕ) (c : ℕ) → total h (children_of p c) ≡ kids h p c
 children_total h p zero = refl

@@ -7,7 +7,7 @@ use Rattle.fx_model.specs.Fraction.{◌<ℚ◌, lt_le, le_lt_trans}
 use Rattle.fx_model.specs.declared.ExprId.{ExprId}
 use Rattle.dyadic.specs.declared.number.Dyadic.{Dyadic}
 use Rattle.dyadic.specs.Values.{value_of}
-use Rattle.dyadic.specs.Rising.{point_of, IsRising, IsAboveLast}
+use Rattle.dyadic.specs.Rising.{point_of, IsRising, IsAboveLast, rising_more}
 use Rattle.cert_bytes.specs.declared.fault.CertKind.TheVariants.{BadNumber}
 use Rattle.cert_bytes.specs.declared.item.Item.{Item}
 use Rattle.cert_bytes.specs.declared.item.Item.TheVariants as item
@@ -30,18 +30,6 @@ below ds p i r a l =
     le_lt_trans (value_of (point_of ds i)) (value_of (point_of ds (length ds - 1))) (value_of p) (lt_le (value_of (point_of ds i)) (value_of (point_of ds (length ds - 1))) under) top)
     (λ s. let e : length ds - 1 ≡ i = omega (arith, l, s) in subst (λ (n : ℕ). value_of (point_of ds n) <ℚ value_of p) e top)
     (cases_lt i (length ds - 1))
-
-grown : (ds : List Dyadic) (p : Dyadic) → IsRising ds → IsAboveLast ds p → IsRising (ds ++ p ∷ [])
-grown ds p r a i j l k =
-    let size : length (ds ++ p ∷ []) ≡ length ds + 1 = length-append ds (p ∷ []) in
-    let f : i < length ds = omega (arith, l, k, size) in
-    subst (λ (x : Dyadic). value_of x <ℚ value_of (point_of (ds ++ p ∷ []) j)) (sym (at_front ds (p ∷ []) i f))
-    (⊎_elim
-    (λ s. subst (λ (x : Dyadic). value_of (point_of ds i) <ℚ value_of x) (sym (at_front ds (p ∷ []) j s)) (r i j l s))
-    (λ s. let e : length ds ≡ j = omega (arith, k, size, s) in
-    subst (λ (n : ℕ). value_of (point_of ds i) <ℚ value_of (point_of (ds ++ p ∷ []) n)) e
-    (subst (λ (x : Dyadic). value_of (point_of ds i) <ℚ value_of x) (sym (at_next ds p [])) (below ds p i r a f)))
-    (cases_lt j (length ds)))
 
 -- one more point, which is above the last
 record IsOneMore (ds more : List Dyadic) (s : List ℕ) : Type 0 where
@@ -74,7 +62,7 @@ points_out (suc n) acc = then_out (rising_at acc) (λ at more c. points_at n mor
       points_are = r.points_are ∙ ap (λ (l : List Dyadic). l ++ r.more) q.points_are ∙ append_assoc acc (q.next ∷ []) r.more;
       bytes = ap₂ (λ a b. a ++ b) q.bytes r.bytes;
       many = ap suc r.many;
-      rising = λ h. r.rising (subst IsRising (sym q.points_are) (grown acc q.next h q.above));
+      rising = λ h. r.rising (subst IsRising (sym q.points_are) (rising_more acc q.next h q.above));
     })
     (points_out n grown_to))
 

@@ -4,7 +4,7 @@ use Rattle.std.specs.Int.RustNames.{int_lt, unsigned_abs}
 use Rattle.std.specs.Ordering.{int_eq}
 use Rattle.std.proofs.Common.{sym, ap, subst, ◌∙◌, arith, inl, inr, ⊎_elim, eqb-true}
 use Rattle.std.proofs.lemmas.Int.{ints}
-use Rattle.std.proofs.lemmas.Bool.{cases_lt, ltb-true, lt-ltb}
+use Rattle.std.proofs.lemmas.Bool.{cases_lt, ltb-true, lt-ltb, and_parts, and_from, or_right, or_left, or_cases}
 use Rattle.std.proofs.lemmas.Bool.Decides.{Decides-int_eq}
 use Rattle.std.proofs.lemmas.Nat.{pow_pos}
 use Rattle.std.proofs.Math.Nat.{mul-le-mul_left}
@@ -14,24 +14,6 @@ use Rattle.dyadic.specs.Canonical.{IsCanonical, IsCanonical-prop, IsReduced}
 use Rattle.fx_model.specs.declared.Literal.{Literal}
 
 -- ---- tests
-
-pub both : (p q : Bool) → (p && q) ≡ true → (p ≡ true) × (q ≡ true)
-both true q e = (refl, e)
-both false q e = cc
-
-pub either : (p q : Bool) → (p || q) ≡ true → (p ≡ true) ⊎ (q ≡ true)
-either true q e = inl refl
-either false q e = inr e
-
-pub both_of : (p q : Bool) → p ≡ true → q ≡ true → (p && q) ≡ true
-both_of p q e f = rw (e, f) refl
-
-pub left_of : (p q : Bool) → p ≡ true → (p || q) ≡ true
-left_of p q e = rw e refl
-
-pub right_of : (p q : Bool) → q ≡ true → (p || q) ≡ true
-right_of true q e = refl
-right_of false q e = e
 
 pub same_int : (a b : ℤ) → int_eq a b ≡ true → a ≡ b
 same_int a b e = (Decides-int_eq a b).0 e
@@ -65,18 +47,18 @@ is_canonical : ℤ × ℤ → Bool
 is_canonical p = is_reduced p.0 p.1 && (is_small p.0 p.1 && is_placed p.1)
 
 reduced_in : (m e : ℤ) → is_reduced m e ≡ true → IsReduced m e
-reduced_in m e h = ⊎_elim (λ z. let b = both (int_eq m (pos 0)) (int_eq e (pos 0)) z in inl (same_int m (pos 0) b.0, same_int e (pos 0) b.1)) (λ o. inr (eqb-true (unsigned_abs m % 2) 1 o)) (either (int_eq m (pos 0) && int_eq e (pos 0)) (unsigned_abs m % 2 == 1) h)
+reduced_in m e h = ⊎_elim (λ z. let b = and_parts (int_eq m (pos 0)) (int_eq e (pos 0)) z in inl (same_int m (pos 0) b.0, same_int e (pos 0) b.1)) (λ o. inr (eqb-true (unsigned_abs m % 2) 1 o)) (or_cases (int_eq m (pos 0) && int_eq e (pos 0)) (unsigned_abs m % 2 == 1) h)
 
 reduced_out : (m e : ℤ) → IsReduced m e → is_reduced m e ≡ true
-reduced_out m e (inl z) = left_of (int_eq m (pos 0) && int_eq e (pos 0)) (unsigned_abs m % 2 == 1) (both_of (int_eq m (pos 0)) (int_eq e (pos 0)) (is_int m (pos 0) z.0) (is_int e (pos 0) z.1))
-reduced_out m e (inr o) = right_of (int_eq m (pos 0) && int_eq e (pos 0)) (unsigned_abs m % 2 == 1) (rw o refl)
+reduced_out m e (inl z) = or_left (int_eq m (pos 0) && int_eq e (pos 0)) (unsigned_abs m % 2 == 1) (and_from (int_eq m (pos 0)) (int_eq e (pos 0)) (is_int m (pos 0) z.0) (is_int e (pos 0) z.1))
+reduced_out m e (inr o) = or_right (int_eq m (pos 0) && int_eq e (pos 0)) (unsigned_abs m % 2 == 1) (rw o refl)
 
 canonical_in : (p : ℤ × ℤ) → is_canonical p ≡ true → IsCanonical p.0 p.1
 unfolding is_canonical
 canonical_in (m, e) h =
-    let b = both (is_reduced m e) (is_small m e && is_placed e) h in
-    let c = both (is_small m e) (is_placed e) b.1 in
-    let d = both (not (int_lt e (negsuc 511))) (not (int_lt (pos 571) e)) c.1 in
+    let b = and_parts (is_reduced m e) (is_small m e && is_placed e) h in
+    let c = and_parts (is_small m e) (is_placed e) b.1 in
+    let d = and_parts (not (int_lt e (negsuc 511))) (not (int_lt (pos 571) e)) c.1 in
     let s : unsigned_abs m * 2 ^ over 512 e < 1152921504606846976 = ltb-true (unsigned_abs m * 2 ^ over 512 e) 1152921504606846976 c.0 in
     let one : unsigned_abs m * 1 ≤ unsigned_abs m * 2 ^ over 512 e = mul-le-mul_left (unsigned_abs m) (pow_pos (over 512 e)) in
     record {
@@ -99,9 +81,9 @@ small_out m (pos n) c = ⊎_elim
 
 canonical_out : (p : ℤ × ℤ) → IsCanonical p.0 p.1 → is_canonical p ≡ true
 unfolding is_canonical
-canonical_out (m, e) c = both_of (is_reduced m e) (is_small m e && is_placed e) (reduced_out m e c.form)
-    (both_of (is_small m e) (is_placed e) (lt-ltb (unsigned_abs m * 2 ^ over 512 e) 1152921504606846976 (small_out m e c))
-    (both_of (not (int_lt e (negsuc 511))) (not (int_lt (pos 571) e)) (at_least_of e (negsuc 511) c.lowest) (at_least_of (pos 571) e c.highest)))
+canonical_out (m, e) c = and_from (is_reduced m e) (is_small m e && is_placed e) (reduced_out m e c.form)
+    (and_from (is_small m e) (is_placed e) (lt-ltb (unsigned_abs m * 2 ^ over 512 e) 1152921504606846976 (small_out m e c))
+    (and_from (not (int_lt e (negsuc 511))) (not (int_lt (pos 571) e)) (at_least_of e (negsuc 511) c.lowest) (at_least_of (pos 571) e c.highest)))
 
 abbrev number : (p : ℤ × ℤ) → IsCanonical p.0 p.1 → Dyadic
 number p c = record { mantissa = p.0; exponent = p.1; canonical = c }

@@ -6,19 +6,11 @@ use Rattle.facts.specs.declared.fact.Fact.{Fact}
 use Rattle.facts.specs.declared.fact.Fact.TheVariants as fact
 use Rattle.facts.specs.declared.fact.Slot.{Slot}
 use Rattle.facts.specs.declared.fact.Slot.TheVariants as slot
-use Rattle.facts.specs.CommonParts.{expr_same, same_expr}
+use Rattle.facts.specs.CommonParts.{expr_same, same_expr, void_is, void_cases}
 use Rattle.facts.specs.Order.{slot_of, IsStronger, meet_of, is_same}
 use Rattle.facts.specs.Laws.{IsStronger-trans, IsStronger-slot, meet_exists}
 use Rattle.cert_checker.specs.Steps.{IsLike, IsEnough, met_with}
-
--- VOID, or another
-is_void : (f : Fact) → (f ≡ fact.Void) ⊎ ¬ (f ≡ fact.Void)
-is_void fact.Void = inl refl
-is_void (fact.Bnd x i) = inr (λ e. cc)
-is_void (fact.Abs x i) = inr (λ e. cc)
-is_void (fact.Rel x y e) = inr (λ q. cc)
-is_void (fact.Fix x k) = inr (λ e. cc)
-is_void (fact.Nzr x) = inr (λ e. cc)
+use Rattle.facts.specs.Meets.{void_meet}
 
 -- one slot, or two
 by_bool : (b : Bool) (P : Type 0) → (b ≡ true → P) → (b ≡ false → P) → P
@@ -39,26 +31,9 @@ slot_same (slot.Rel x z) (slot.Rel y w) = by_bool (is_same x y) _
 slot_same slot.Void slot.Void = inl refl
 slot_same _ _ = inr (λ e. cc)
 
--- only VOID stands on its slot
-on_void : (f : Fact) → slot_of f ≡ slot.Void → f ≡ fact.Void
-on_void fact.Void e = refl
-on_void (fact.Bnd x i) e = cc
-on_void (fact.Abs x i) e = cc
-on_void (fact.Rel x y r) e = cc
-on_void (fact.Fix x k) e = cc
-on_void (fact.Nzr x) e = cc
-
 -- VOID meets with what it comes by, and with whatever comes
 void_first : (w : Fact) → meet_of fact.Void w ≡ Some fact.Void
 void_first w = refl
-
-void_second : (g : Fact) → meet_of g fact.Void ≡ Some fact.Void
-void_second fact.Void = refl
-void_second (fact.Bnd x i) = refl
-void_second (fact.Abs x i) = refl
-void_second (fact.Rel x y e) = refl
-void_second (fact.Fix x k) = refl
-void_second (fact.Nzr x) = refl
 
 enough_of : (o : Option Fact) (f stated : Fact) → o ≡ Some f → IsStronger f stated → IsEnough o stated
 enough_of o f stated e s = subst (λ q. IsEnough q stated) (sym e) s
@@ -70,15 +45,15 @@ pub met_enough : (given with : Option Fact) (stated : Fact) → IsLike stated wi
 met_enough None with stated l e = absurd e
 met_enough (Some g) None stated l e = e
 met_enough (Some g) (Some w) stated l e =
-    elim (is_void g) [
+    elim (void_cases g) [
       | inl v ↦ enough_of (meet_of g w) fact.Void stated (ap (λ x. meet_of x w) v ∙ void_first w) tt
-      | inr n ↦ elim (is_void w) [
-        | inl v ↦ enough_of (meet_of g w) fact.Void stated (ap (λ x. meet_of g x) v ∙ void_second g) tt
+      | inr n ↦ elim (void_cases w) [
+        | inl v ↦ enough_of (meet_of g w) fact.Void stated (ap (λ x. meet_of g x) v ∙ void_meet g) tt
         | inr k ↦ elim (IsStronger-slot g stated e) [
           | inl v ↦ absurd (n v)
           | inr s ↦ elim (slot_same (slot_of g) (slot_of w)) [
             | inl q ↦ met_on g w stated q e
-            | inr q ↦ absurd (l (λ v. n (on_void g (s ∙ ap slot_of v)), k, λ r. q (s ∙ r)))
+            | inr q ↦ absurd (l (λ v. n (void_is g (s ∙ ap slot_of v)), k, λ r. q (s ∙ r)))
           ]
         ]
       ]

@@ -3,7 +3,7 @@ use Rattle.std.proofs.Common.{◌≡◌, ◌≤◌, ◌<◌, ◌+◌, ◌-◌, �
 use Rattle.std.specs.Prelude.{IsErrOf}
 use Rattle.std.proofs.lemmas.List.{length-map}
 use Rattle.fx_model.specs.Expression.{Assignment, IsOrdered}
-use Rattle.fx_edge.specs.Outside.{Rose}
+use Rattle.fx_edge.specs.Outside.{Rose, rose_later}
 use Rattle.goals.specs.declared.line.Line.{Line}
 use Rattle.cert_bytes.specs.declared.fault.CertFault.{CertFault}
 use Rattle.cert_bytes.specs.declared.item.Item.{Item}
@@ -221,9 +221,6 @@ fewer_turns told c d r q open_on t l =
     let P : Bool → Type 0 = λ b. turns_left d.context.ended q.ahead.at < turns_left b r.ahead.at in
     let ends : d.context.ended ≡ is_end t.item = ap (λ (x : Standing). x.context.ended) t.taken in
     subst P (sym open_on) (turned_on d.context.ended r.ahead.at q.ahead.at (λ e. t.moves (not_end t.item (sym ends ∙ e))) t.grows l)
-
-rose_later : (before middle now : ℕ) → before ≤ middle → Rose middle now → Rose before now
-rose_later before middle now l r = omega (arith, l, r)
 
 -- a stop that is handed on has its cause
 pub rose_so : {X Y : Type 0} (e : CheckStop) (before middle now : ℕ) → before ≤ middle → (IsErrOf {T = X} {E = CheckStop} (Err e) Failed → Rose middle now) → IsErrOf {T = Y} {E = CheckStop} (Err e) Failed → Rose before now

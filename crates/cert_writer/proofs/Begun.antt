@@ -26,7 +26,7 @@ use Rattle.box_traces.specs.Walks.{numbered, IsOpen}
 use Rattle.box_traces.specs.Laws.{TracesExist}
 use Rattle.cert_writer.specs.Standing.{IsAt, most_for, at_root}
 use Rattle.cert_writer.specs.Laws.{OfAims}
-use Rattle.cert_writer.proofs.GoesOn.{lead_both}
+use Rattle.box_traces.specs.Moves.{lead_both, marks_due, root_due}
 
 -- ---- what they come to
 abbrev with_nodes : Context → List Node → Context
@@ -93,22 +93,6 @@ marks_lead s c before (m ∷ rest) all k =
 nodes_due : (s : Subject) (before rest : List Node) (more tail : List Item) → AreTaken s before rest → AreDue (Some (Nodes zero)) (more ++ tail) → AreDue (Some (Nodes (length rest))) ((map item.Node rest ++ more) ++ tail)
 nodes_due s before [] more tail t d = d
 nodes_due s before (n ∷ rest) more tail t d = ((t.1, t.2), nodes_due s (before ++ n ∷ []) rest more tail t.3 d)
-
-marks_due : (rest : List HintMark) (tail : List Item) → AreDue (Some (Marks zero)) tail → AreDue (Some (Marks (length rest))) (map item.Mark rest ++ tail)
-marks_due [] tail d = d
-marks_due (m ∷ rest) tail d = ((tt, tt), marks_due rest tail d)
-
-root_due : (items : List Item) → AreDue (Some (Sections 1)) items → AreDue (Some (Marks zero)) items
-root_due [] d = cc
-root_due (item.Step r ∷ items) d = d
-root_due (item.Cut x ps ∷ items) d = let e : 0 + (length ps + 1) ≡ length ps + 1 = omega arith in (d.0, subst (λ n. AreDue (Some (Sections n)) items) e d.1)
-root_due (item.Leaf refs ∷ items) d = d
-root_due (item.Dead r ∷ items) d = d
-root_due (item.Nodes n ∷ items) d = absurd d.1
-root_due (item.Node n ∷ items) d = absurd d.1
-root_due (item.Marks n ∷ items) d = absurd d.1
-root_due (item.Mark m ∷ items) d = absurd d.1
-root_due (item.End ∷ items) d = absurd d.1
 
 -- ---- the root
 module _ (exist : TracesExist) where

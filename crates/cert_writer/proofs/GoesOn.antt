@@ -5,6 +5,7 @@ use Rattle.std.proofs.Common.{sym, ◌∙◌, ap, subst, append-nil, arith}
 use Rattle.std.proofs.lemmas.List.{append_assoc}
 use Rattle.std.proofs.lemmas.Grind.{flat_map-append}
 use Rattle.std.proofs.lemmas.Option.{slice_get_within}
+use Rattle.std.proofs.lemmas.Bool.{eqb-true}
 use Rattle.fx_model.specs.declared.ExprId.{ExprId}
 use Rattle.fx_model.specs.declared.Node.TheVariants.{Var}
 use Rattle.dyadic.specs.declared.number.Dyadic.{Dyadic}
@@ -34,15 +35,12 @@ use Rattle.box_traces.specs.Sections.{AllBelow}
 use Rattle.box_traces.specs.Traces.{most_steps}
 use Rattle.box_traces.specs.Trees.{Tree, Trees, leaf, cut, last, next, AreProved, ArePoints, lines_of_tree, lines_of_trees, lines_at, leaf_lines, steps_in, steps_in_each}
 use Rattle.box_traces.specs.Walks.{behind_steps, IsEndOf, Frame, LiesIn, left_in, lines_behind, steps_behind, IsDue, Ending}
-use Rattle.box_traces.specs.Moves.{WalksGoOn, WalksMove, AreSteps, IsEntered}
+use Rattle.box_traces.specs.Moves.{WalksGoOn, WalksMove, AreSteps, IsEntered, lead_both, next_behind}
 use Rattle.cert_writer.specs.Standing.{Aim, IsWhole, IsBegun, Place, IsAt, Ended, HasEnded, HasWritten, AreBoxSteps, AreCited, most_for, own_items, inside, closed, beside, around}
 use Rattle.cert_writer.specs.Laws.{OfAims}
+use Rattle.box_traces.specs.Cited.{found_below, found_long}
 
 -- ---- items one behind the other
-pub lead_both : (s : Subject) (c d e : Context) (items more : List Item) → LeadsTo s c items d → LeadsTo s d more e → LeadsTo s c (items ++ more) e
-lead_both s c d e [] more l m = subst (λ y. LeadsTo s y more e) (sym l) m
-lead_both s c d e (i ∷ items) more l m = (l.0, lead_both s (after c i) d e items more l.1 m)
-
 pub spelled_both : (items more : List Item) → certificate_of (items ++ more) ≡ certificate_of items ++ certificate_of more
 spelled_both items more = flat_map-append spelling_of items more
 
@@ -74,10 +72,6 @@ front t items c n w e =
     )
 
 -- ---- one box
-pub next_behind : (c : Context) (rows : List StepRow) → (behind_steps c rows).next ≡ c.next + length rows
-next_behind c [] = omega arith
-next_behind c (row ∷ rows) = let h = next_behind (after c (item.Step row)) rows in omega (arith, h)
-
 own_leads : (t : Aim) (c : Context) (rows : List StepRow) (l : Item) → AreSteps t.subject c rows → JudgesItem t.subject (behind_steps c rows) l None →
     LeadsTo t.subject c (own_items rows l) (after (behind_steps c rows) l)
 own_leads t c rows l s j = lead_both t.subject c (behind_steps c rows) (after (behind_steps c rows) l) (map item.Step rows) (l ∷ []) s.leads (j, refl)
@@ -86,20 +80,6 @@ own_due : (t : Aim) (c : Context) (rows : List StepRow) (l : Item) (m n : ℕ) �
 own_due t c rows l m n s d = λ rest r. subst (λ y. AreDue (Some (Sections (suc m))) y) (sym (append_assoc (map item.Step rows) (l ∷ []) rest)) (s.due m (l ∷ rest) (d rest r))
 
 -- ---- what a leaf cites
-same_number : (m n : ℕ) → (m == n) ≡ true → m ≡ n
-same_number m n h = grind (arith, h)
-
-found_below : (rows : List Citable) (n m : ℕ) (f : Fact) → AllBelow m rows → step_fact rows n ≡ Some f → n < m
-found_below [] n m f b e = cc
-found_below (r ∷ rows) n m f b e = by_test (r.number == n) refl e (λ w. found_below rows n m f b.1 w)
-  where
-    by_test : (t : Bool) → (r.number == n) ≡ t → (if t then Some r.fact else step_fact rows n) ≡ Some f → (step_fact rows n ≡ Some f → n < m) → n < m
-    by_test true q e later = let d : r.number ≡ n = same_number r.number n q in let l : r.number < m = b.0 in omega (arith, d, l)
-    by_test false q e later = later e
-
-found_long : (rows : List Citable) (n m : ℕ) (f : Fact) → AllBelow m rows → m ≤ 2 ^ 64 → step_fact rows n ≡ Some f → IsLong n
-found_long rows n m f b h e = let l : n < m = found_below rows n m f b e in omega (arith, l, h)
-
 cited_long : (rows : List Citable) (at : At) (m : ℕ) (goals : List Goal) (refs : List ℕ) → AllBelow m rows → m ≤ 2 ^ 64 → AreCited rows at goals refs → AllByRecursion IsLong refs
 cited_long rows at m [] [] b h a = tt
 cited_long rows at m (g ∷ goals) (r ∷ refs) b h a = (found_long rows r m (a.0).0 b h (a.0).2, cited_long rows at m goals refs b h a.1)

@@ -10,7 +10,7 @@ use Rattle.goals.specs.declared.goal.Goal.{Goal}
 use Rattle.derivation.specs.Derivations.{Setting, Derives, At}
 use Rattle.derivation.specs.Known.{Piece, GivenAt, IsTableAt}
 use Rattle.derivation.specs.Rounds.{IsSame}
-use Rattle.derivation.specs.Parts.{at_option, none_some, void_is}
+use Rattle.derivation.specs.Parts.{none_some}
 use Rattle.derivation.specs.Laws.{TablesAreOne}
 use Rattle.rule_universe.specs.Worlds.{World}
 use Rattle.box_tree.specs.Plans.{piece_at}
@@ -29,13 +29,14 @@ use Rattle.box_traces.specs.Sections.{behind, ArePlaces}
 use Rattle.box_traces.specs.Traces.{HaveFields}
 use Rattle.box_traces.specs.Trees.{Tree, leaf, cut, AllSettled, IsProved, IsSettledLeaf, lines_of_tree, steps_in, steps_in_each}
 use Rattle.box_traces.specs.Walks.{numbered, behind_steps, IsBehind, steps_behind}
-use Rattle.box_traces.specs.Moves.{WalksMove, AreSteps}
+use Rattle.box_traces.specs.Moves.{WalksMove, AreSteps, next_behind}
 use Rattle.cert_writer.specs.Boxes.{HasShortList, KnowsVoid, IsClosed, IsEnd, refs_in}
 use Rattle.cert_writer.specs.Standing.{Aim, Place, IsAt, Ended, HasEnded, AreCited, most_for, own_items, closed}
 use Rattle.cert_writer.specs.Courses.{Course, IsCourse, HasBest, IsBefore, setting, best_at}
 use Rattle.cert_writer.specs.Laws.{WritingGoesOn}
-use Rattle.cert_writer.proofs.GoesOn.{enough, next_behind}
+use Rattle.cert_writer.proofs.GoesOn.{enough}
 use Rattle.cert_writer.proofs.Turn.{next_is}
+use Rattle.facts.specs.CommonParts.{at_option, void_is}
 
 -- What is so of a box's own steps.
 pub record OwnSteps (c : Course) (p : Place) (t : Traced) : Type 0 where

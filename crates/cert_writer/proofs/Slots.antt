@@ -1,12 +1,13 @@
 -- What is known stands on slots of the universe.
 use Rattle.std.specs.Prelude.{◌≡◌, ◌<◌, ◌≤◌, ◌+◌, ◌*◌, ◌&&◌, ℕ, suc, Bool, true, false, List, [], ◌∷◌, length, Option, Some, None, get_or, nat_lt, if◌then◌else◌, refl}
 use Rattle.std.proofs.Common.{sym, subst, arith}
+use Rattle.std.proofs.lemmas.Bool.{and_parts}
 use Rattle.fx_model.specs.declared.ExprId.{ExprId}
 use Rattle.facts.specs.declared.fact.Fact.{Fact}
 use Rattle.facts.specs.declared.fact.Slot.{Slot}
 use Rattle.facts.specs.declared.fact.Slot.TheVariants as slot
 use Rattle.facts.specs.Order.{is_same}
-use Rattle.facts.specs.CommonParts.{and_both, expr_same}
+use Rattle.facts.specs.CommonParts.{expr_same}
 use Rattle.goals.specs.declared.goal.Goal.{Goal}
 use Rattle.pair_closure.specs.Closure.{Pair}
 use Rattle.pair_closure.specs.Reached.{Has}
@@ -33,7 +34,7 @@ module _ (rows : List (Option Cited)) (f : Fact) where
       by_test : (b : Bool) → (is_same p.0 x && is_same p.1 y) ≡ b → fact_of (row_in rows (after (if b then Some 0 else one_later (pair_number x y ps)))) ≡ Some f →
           (fact_of (row_in rows (after (one_later (pair_number x y ps)))) ≡ Some f → Has ps (x, y)) → Has (p ∷ ps) (x, y)
       by_test true t q later =
-          let a = and_both (is_same p.0 x) (is_same p.1 y) t in
+          let a = and_parts (is_same p.0 x) (is_same p.1 y) t in
           let g = expr_same p.0 x a.0 in
           let h = expr_same p.1 y a.1 in
           (0, (λ i. Some (g i, h i)))

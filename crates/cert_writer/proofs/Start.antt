@@ -36,12 +36,9 @@ use Rattle.cert_writer.specs.Courses.{IsCourse, course, GrewToFront, IsBefore}
 use Rattle.cert_writer.specs.Laws.{WritingGoesOn}
 use Rattle.cert_writer.specs.Written.{IsProvedOver, IsAcceptedFront, HoldsCertificate, HoldsFront}
 use Rattle.cert_writer.proofs.GoesOn.{spelled_both}
+use Rattle.box_tree.specs.InRanges.{root_pieces}
 
 -- ---- the root
-root_pieces : (plan : PlanParts) → pieces_at plan [] ≡ []
-unfolding pieces_at
-root_pieces plan = refl
-
 root_region : (plan : PlanParts) → (region_at plan []).last ≡ None
 unfolding region_below
 root_region plan = refl

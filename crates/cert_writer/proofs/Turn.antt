@@ -33,19 +33,13 @@ use Rattle.box_traces.specs.Sections.{ArePlaces}
 use Rattle.box_traces.specs.Traces.{IsCutTo}
 use Rattle.box_traces.specs.Trees.{Tree, Trees, cut, last, next, cut_of, IsProved, AreProved}
 use Rattle.box_traces.specs.Walks.{numbered, behind_steps, Frame, IsPieceOf, LiesIn}
-use Rattle.box_traces.specs.Moves.{frame_of, turned}
+use Rattle.box_traces.specs.Moves.{frame_of, turned, next_behind}
 use Rattle.answer_certificates.specs.Boxes.{range_of_piece, pieces_from}
-use Rattle.cert_writer.specs.Files.{AppendsFront}
+use Rattle.cert_writer.specs.Files.{AppendsFront, appends_both}
 use Rattle.cert_writer.specs.Standing.{Aim, IsBegun, Place, IsAt, Ended, HasEnded, AreBoxSteps, own_items, inside, beside, around}
 use Rattle.cert_writer.specs.Courses.{Course, IsCourse, HasBest, setting, best_at, below, Grew, GrewToFront, IsBefore, IsPast, IsKnownAt, IsWithin, HasDone}
 use Rattle.cert_writer.specs.Laws.{WritingGoesOn}
-use Rattle.cert_writer.proofs.Taken.{appends_both}
-use Rattle.cert_writer.proofs.GoesOn.{spelled_both, next_behind}
-
--- ---- results
-pub on_err : {T E : Type 0} (r : Result T E) (P : Type 0) → P → OnErr r P
-on_err (Ok x) P h = tt
-on_err (Err e) P h = h
+use Rattle.cert_writer.proofs.GoesOn.{spelled_both}
 
 -- ---- what the file takes
 -- A front of items that stand behind those before.

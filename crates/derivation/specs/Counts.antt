@@ -5,6 +5,7 @@ use Rattle.std.proofs.Common.{sym, ap, subst, inl, inr, arith, get_or}
 use Rattle.std.proofs.lemmas.Int.{ints}
 use Rattle.std.proofs.lemmas.Bool.Decides.{Decides-int_eq}
 use Rattle.std.proofs.lemmas.List.Recursion.{is_count_by}
+use Rattle.std.proofs.lemmas.Bool.{and_parts, or_right, or_left}
 use Rattle.fx_model.specs.declared.ExprId.{ExprId}
 use Rattle.dyadic.specs.Order.{le_bound}
 use Rattle.dyadic.specs.Compared.{BoundLe_in}
@@ -16,7 +17,7 @@ use Rattle.facts.specs.declared.fact.Fact.{Fact}
 use Rattle.facts.specs.declared.fact.Slot.{Slot}
 use Rattle.facts.specs.declared.fact.Fact.TheVariants as fact
 use Rattle.facts.specs.declared.fact.Slot.TheVariants as slot
-use Rattle.facts.specs.CommonParts.{and_both, expr_same}
+use Rattle.facts.specs.CommonParts.{expr_same}
 use Rattle.facts.specs.Order.{is_same, IsWithin, IsWithinError, IsStronger}
 use Rattle.facts.specs.Laws.{IsStronger-refl, IsStronger-trans}
 use Rattle.facts.specs.Meets.{IsStronger-antisymm}
@@ -36,7 +37,7 @@ use Rattle.derivation.specs.Counted.{same_interval, same_error, same_fact, diffe
 -- ---- facts that pass the test are the same
 within_in : (i j : Interval) → is_within i j ≡ true → IsWithin i j
 within_in i j e =
-    let t = and_both (le_bound (range_of j).low (range_of i).low) (le_bound (range_of i).high (range_of j).high) e in
+    let t = and_parts (le_bound (range_of j).low (range_of i).low) (le_bound (range_of i).high (range_of j).high) e in
     (BoundLe_in (range_of j).low (range_of i).low t.0, BoundLe_in (range_of i).high (range_of j).high t.1)
 
 -- each is stronger than the other
@@ -44,7 +45,7 @@ abbrev AreEqual : Fact → Fact → Type 0
 AreEqual f g = IsStronger f g × IsStronger g f
 
 intervals_in : (i j : Interval) → same_interval i j ≡ true → IsWithin i j × IsWithin j i
-intervals_in i j e = let t = and_both (is_within i j) (is_within j i) e in (within_in i j t.0, within_in j i t.1)
+intervals_in i j e = let t = and_parts (is_within i j) (is_within j i) e in (within_in i j t.0, within_in j i t.1)
 
 errors_in : (d e : Option RelativeError) → same_error d e ≡ true → IsWithinError d e × IsWithinError e d
 errors_in None None t = (tt, tt)
@@ -59,24 +60,24 @@ places_in x y k n p e =
 
 facts_in : (f g : Fact) → same_fact f g ≡ true → AreEqual f g
 facts_in (fact.Bnd x i) (fact.Bnd y j) e =
-    let t = and_both (is_same x y) (same_interval i j) e in
+    let t = and_parts (is_same x y) (same_interval i j) e in
     let p = expr_same x y t.0 in
     let w = intervals_in i j t.1 in
     ((p, w.0), (sym p, w.1))
 facts_in (fact.Abs x i) (fact.Abs y j) e =
-    let t = and_both (is_same x y) (same_interval i.interval j.interval) e in
+    let t = and_parts (is_same x y) (same_interval i.interval j.interval) e in
     let p = expr_same x y t.0 in
     let w = intervals_in i.interval j.interval t.1 in
     ((p, w.0), (sym p, w.1))
 facts_in (fact.Rel x z c) (fact.Rel y u d) e =
-    let t = and_both (is_same x y && is_same z u) (same_error c d) e in
-    let v = and_both (is_same x y) (is_same z u) t.0 in
+    let t = and_parts (is_same x y && is_same z u) (same_error c d) e in
+    let v = and_parts (is_same x y) (is_same z u) t.0 in
     let p = expr_same x y v.0 in
     let q = expr_same z u v.1 in
     let w = errors_in c d t.1 in
     ((p, q, w.0), (sym p, sym q, w.1))
 facts_in (fact.Fix x k) (fact.Fix y n) e =
-    let t = and_both (is_same x y) (int_eq k.exponent n.exponent) e in
+    let t = and_parts (is_same x y) (int_eq k.exponent n.exponent) e in
     places_in x y k n (expr_same x y t.0) t.1
 facts_in (fact.Nzr x) (fact.Nzr y) e = (expr_same x y e, sym (expr_same x y e))
 facts_in fact.Void fact.Void e = (tt, tt)
@@ -95,13 +96,6 @@ differ_in (Some f) (Some g) n = at_test (same_fact f g) refl
     at_test : (t : Bool) → same_fact f g ≡ t → not t ≡ true
     at_test true e = absurd (n (ap Some (same_in f g e)))
     at_test false e = refl
-
-or_left : (a b : Bool) → a ≡ true → (a || b) ≡ true
-or_left a b e = rw e refl
-
-or_right : (a b : Bool) → b ≡ true → (a || b) ≡ true
-or_right true b e = refl
-or_right false b e = e
 
 pub touched_in : (at new : At) (ss : List Slot) (s : Slot) → Contains ss s → at s ≢ new s → is_touched at new ss ≡ true
 touched_in at new [] s w n = absurd (omega (arith, w.1))
@@ -146,7 +140,7 @@ abbrev tally : {X : Type 0} → (X → Bool) → List X → ℕ
 tally p [] = 0
 tally p (x ∷ xs) = cond (p x) (1 + tally p xs) (tally p xs)
 
-tally-is : {X : Type 0} (p : X → Bool) (xs : List X) → tally p xs ≡ count_by p xs
+pub tally-is : {X : Type 0} (p : X → Bool) (xs : List X) → tally p xs ≡ count_by p xs
 tally-is p xs = is_count_by (tally p) p refl (λ x ys. refl) xs
 
 -- no more are due than instances of which a test is true

@@ -15,12 +15,13 @@ use Rattle.facts.specs.declared.instance.Instance.{Instance}
 use Rattle.derivation.specs.Derivations.{Setting, At, IsBest, IsClosed}
 use Rattle.derivation.specs.Known.{Piece, IsGiven, GivenAt, IsTableAt}
 use Rattle.derivation.specs.Rounds.{IsProper, conclusion, IsWritten, IsKept, Improves, IsAhead, AllSeen, InTable, IsBestFrom}
-use Rattle.derivation.specs.Parts.{slot_cases, at_option}
+use Rattle.derivation.specs.Parts.{slot_cases}
 use Rattle.derivation.specs.Best.{best_proper, next_best}
 use Rattle.derivation.specs.Ahead.{ahead_begin, ahead_fewer, ahead_skip, ahead_step, ahead_next}
 use Rattle.derivation.specs.Heights.{best_start, best_void}
 use Rattle.derivation.specs.Rebased.{rebase}
 use Rattle.derivation.specs.Begun.{given_lines, known_given, IsGathered, FirstHypotheses, FirstLines, gather_blank, gather_less, gather_hypothesis, gather_line, lines_none, lines_skip, child_start, child_table, root_table}
+use Rattle.facts.specs.CommonParts.{at_option}
 
 -- ---- a fact that comes to a table
 abbrev choose : {s t : Slot} → (s ≡ t) ⊎ (s ≢ t) → Option Fact → Option Fact → Option Fact

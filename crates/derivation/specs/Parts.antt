@@ -14,16 +14,13 @@ use Rattle.derivation.specs.Lists.{RuleList}
 use Rattle.facts.specs.declared.instance.Instance.{Instance}
 use Rattle.derivation.specs.Derivations.{At, Beats}
 use Rattle.derivation.specs.Rounds.{IsProper, Reads, all_at, with_first, concluded, conclusion}
+use Rattle.facts.specs.CommonParts.{at_option, void_is}
 
 pub some_same : {X : Type 0} (a b : X) (o : Option X) → o ≡ Some a → o ≡ Some b → a ≡ b
 some_same a b o e f = let h : Some a ≡ Some b = sym e ∙ f in cc
 
 pub none_some : {X : Type 0} (a : X) (o : Option X) → o ≡ None → o ≡ Some a → ⊥
 none_some a o e f = let h : None ≡ Some a = sym e ∙ f in cc
-
-pub at_option : {X : Type 0} (o : Option X) (P : Option X → Type 0) → (o ≡ None → P None) → ((c : X) → o ≡ Some c → P (Some c)) → P o
-at_option None P n y = n refl
-at_option (Some c) P n y = y c refl
 
 -- ---- slots
 expr_cases : (x y : ExprId) → (x ≡ y) ⊎ (x ≢ y)
@@ -44,18 +41,6 @@ slot_cases (slot.Rel x p) (slot.Rel y q) =
     ]
 slot_cases slot.Void slot.Void = inl refl
 slot_cases _ _ = inr (λ q. cc)
-
--- a fact on VOID's slot is VOID
-pub void_is : (f : Fact) → slot_of f ≡ slot.Void → f ≡ fact.Void
-void_is fact.Void e = refl
-void_is (fact.Bnd x i) e = cc
-void_is (fact.Abs x i) e = cc
-void_is (fact.Rel x y t) e = cc
-void_is (fact.Fix x k) e = cc
-void_is (fact.Nzr x) e = cc
-
-pub void_cases : (f : Fact) → (f ≡ fact.Void) ⊎ ¬ (f ≡ fact.Void)
-void_cases f = elim (slot_cases (slot_of f) slot.Void) [ inl e ↦ inl (void_is f e) | inr d ↦ inr (λ e. d (ap slot_of e)) ]
 
 -- VOID alone is as strong as VOID
 pub void_alone : (g : Fact) → IsStronger g fact.Void → g ≡ fact.Void

@@ -13,8 +13,9 @@ use Rattle.derivation.specs.Lists.{IsLawful}
 use Rattle.facts.specs.declared.instance.Instance.{Instance}
 use Rattle.derivation.specs.Derivations.{Setting, Derives, DeriveEach, given, drawn, met, none, next, At, Beats, IsBest, IsClosed}
 use Rattle.derivation.specs.Rounds.{IsProper, InTable, IsBestFrom}
-use Rattle.derivation.specs.Parts.{none_some, at_option, slot_cases, void_cases, void_alone, stronger_slot, beats_weaker}
+use Rattle.derivation.specs.Parts.{none_some, slot_cases, void_alone, stronger_slot, beats_weaker}
 use Rattle.derivation.specs.Best.{Derives-suc, best_proper}
+use Rattle.facts.specs.CommonParts.{at_option, void_cases}
 
 mutual
   embed : {u : Setting} {G H : Fact → Type 0} {n : ℕ} {f : Fact} → ((x : Fact) → H x → (m : ℕ) → Derives u G m x) → Derives u H n f → Derives u G n f

@@ -1,7 +1,7 @@
 -- Each box comes to one thing, which its best table decides.
 use Rattle.std.specs.Prelude.{◌≡◌, ◌↔◌, ◌&&◌, ◌<◌, ℕ, zero, suc, Bool, true, false, List, [], ◌∷◌, Option, Some, None, slice_get, IsTrue, if◌then◌else◌, refl}
 use Rattle.std.proofs.Common.{sym, ◌∙◌, ap, subst, inl, inr, arith}
-use Rattle.std.proofs.lemmas.Bool.{cases_lt}
+use Rattle.std.proofs.lemmas.Bool.{cases_lt, and_parts, and_from}
 use Rattle.fx_model.specs.Fraction.{Fraction}
 use Rattle.fx_model.specs.Grid.{Bound, Below, At, Above}
 use Rattle.dyadic.specs.Order.{le_bound}
@@ -12,7 +12,6 @@ use Rattle.facts.specs.declared.fact.Fact.{Fact}
 use Rattle.facts.specs.declared.fact.Slot.{Slot}
 use Rattle.facts.specs.declared.fact.Fact.TheVariants as fact
 use Rattle.facts.specs.declared.fact.Slot.TheVariants as slot
-use Rattle.facts.specs.CommonParts.{and_both}
 use Rattle.facts.specs.Order.{slot_of, IsStronger}
 use Rattle.facts.specs.Meets.{IsStronger-antisymm}
 use Rattle.goals.specs.Settles.{IsWanted, Answers, Settles}
@@ -25,8 +24,9 @@ use Rattle.derivation.specs.Known.{Piece, GivenAt, Known, IsTableAt}
 use Rattle.derivation.specs.Settled.{IsMet, State, settled, void, unsettled, IsFirstUnmet, IsState}
 use Rattle.derivation.specs.Decided.{is_number, meets, answers, is_met, one_later, first_unmet, state_by, state_in}
 use Rattle.derivation.specs.Rounds.{IsSame}
-use Rattle.derivation.specs.Parts.{none_some, some_same, at_option, not_void}
+use Rattle.derivation.specs.Parts.{none_some, some_same, not_void}
 use Rattle.derivation.specs.Best.{best_proper}
+use Rattle.facts.specs.CommonParts.{at_option}
 
 -- ---- best tables agree
 best_below : (u : Setting) (G : Fact → Type 0) (h : ℕ) (at new : Slot → Option Fact) → IsBest u G h at → IsBest u G h new → new slot.Void ≡ None → (s : Slot) (f : Fact) → at s ≡ Some f →
@@ -36,7 +36,7 @@ best_below u G h at new b c v s f e =
     let y = c.least v f r.1 in
     (y.0, ap new (sym r.0) ∙ y.1, y.2)
 
--- VOID is in both of two best tables, or in none
+-- VOID is in and_from of two best tables, or in none
 void_agrees : (u : Setting) (G : Fact → Type 0) (h : ℕ) (at new : Slot → Option Fact) → IsBest u G h at → IsBest u G h new → at slot.Void ≡ None → new slot.Void ≡ None
 void_agrees u G h at new b c v =
     at_option (new slot.Void) (λ o. new slot.Void ≡ o → new slot.Void ≡ None) (λ n q. q)
@@ -56,10 +56,6 @@ best_once u G h at new b c v s =
     refl
 
 -- ---- the tests
-both : (a b : Bool) → a ≡ true → b ≡ true → (a && b) ≡ true
-both true b p q = q
-both false b p q = p
-
 number_in : (b : Bound) → is_number b ≡ true → (g : Fraction) × (b ≡ At g)
 number_in (At g) e = (g, refl)
 number_in Below e = cc
@@ -67,18 +63,18 @@ number_in Above e = cc
 
 meets_in : (want : Want) (i : Interval) → meets want i ≡ true → IsWanted want i
 meets_in Ask i e =
-    let t = and_both (is_number (range_of i).low) (is_number (range_of i).high) e in
+    let t = and_parts (is_number (range_of i).low) (is_number (range_of i).high) e in
     let l = number_in (range_of i).low t.0 in
     let h = number_in (range_of i).high t.1 in
     (l.0, h.0, l.1, h.1)
 meets_in (Inside (Some b)) i e =
-    let t = and_both (le_bound (range_of b).low (range_of i).low) (le_bound (range_of i).high (range_of b).high) e in
+    let t = and_parts (le_bound (range_of b).low (range_of i).low) (le_bound (range_of i).high (range_of b).high) e in
     (BoundLe_in (range_of b).low (range_of i).low t.0, BoundLe_in (range_of i).high (range_of b).high t.1)
 meets_in (Inside None) i e = cc
 
 meets_out : (want : Want) (i : Interval) → IsWanted want i → meets want i ≡ true
-meets_out Ask i m = both (is_number (range_of i).low) (is_number (range_of i).high) (ap is_number m.2) (ap is_number m.3)
-meets_out (Inside (Some b)) i m = both (le_bound (range_of b).low (range_of i).low) (le_bound (range_of i).high (range_of b).high)
+meets_out Ask i m = and_from (is_number (range_of i).low) (is_number (range_of i).high) (ap is_number m.2) (ap is_number m.3)
+meets_out (Inside (Some b)) i m = and_from (le_bound (range_of b).low (range_of i).low) (le_bound (range_of i).high (range_of b).high)
     (BoundLe_out (range_of b).low (range_of i).low m.0) (BoundLe_out (range_of i).high (range_of b).high m.1)
 meets_out (Inside None) i m = absurd m
 

@@ -11,12 +11,12 @@ use lib.Count.{count_leading_zeros}
 use lib.IntN.{neg_ℤ}
 use mir.Syntax.{w128}
 use Rattle.fx_model.specs.Fraction.{Fraction, ◌+ℚ◌, ◌*ℚ◌, ◌≤ℚ◌, ◌<ℚ◌, neg_ℚ, neg-neg, neg-lt, le_refl, le_trans, lt_by, lt_not, le_lt_trans, le_or_lt, add_comm, add_assoc, add-neg, zero-add, add-le, add-lt, mul_comm, zero-mul}
-use Rattle.fx_model.specs.Powers.{scaled, scaled-le, scaled-le_out, scaled-lt, scaled-lt_out, scaled-shift, scaled-zero}
+use Rattle.fx_model.specs.Powers.{scaled, scaled-le, scaled-le_out, scaled-lt, scaled-lt_out, scaled-shift, scaled-zero, scaled-add}
 use Rattle.fx_model.specs.Grid.{IsOnGrid, IsOnGrid-neg, IsDown, At, scaled-neg, scaled-mul}
 use Rattle.fx_model.specs.Cut.{on_grid, next_grid, up_least}
 use Rattle.dyadic.specs.Floors.{Floored, IsLong}
 use Rattle.dyadic.proofs.GridLemmas.{zero_in}
-use Rattle.dyadic.proofs.SumLemmas.{scaled-add, shifted_to}
+use Rattle.dyadic.proofs.SumLemmas.{shifted_to}
 
 -- ---- no number of the grid lies strictly between two numbers in a row that have as many digits
 above_none : (n : ℕ) (e : ℤ) → 576460752303423488 ≤ n → (h : Fraction) → IsOnGrid h → scaled (pos n) e <ℚ h → h <ℚ scaled (pos (n + 1)) e → ⊥

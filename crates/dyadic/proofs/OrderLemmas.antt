@@ -81,19 +81,6 @@ signs_above h l gap p q = int_greater (h *ℤ pos (2 ^ gap)) l (above h q)
     above (pos h) q = let k : 1 * 2 ^ gap ≤ h * 2 ^ gap = mul-le-mul_right {m = 1} (2 ^ gap) (omega (arith, ints)) in let r = pow_pos gap in omega (arith, ints)
     above (negsuc h) q = absurd (omega (arith, ints))
 
--- ---- signs
-pub scaled_up : (m e : ℤ) → pos 0 ≤ℤ m → zero_ℚ ≤ℚ scaled m e
-scaled_up m e h = subst (λ z. z ≤ℚ scaled m e) (scaled-zero e) (scaled-le (pos 0) m e h)
-
-pub scaled_down : (m e : ℤ) → m ≤ℤ pos 0 → scaled m e ≤ℚ zero_ℚ
-scaled_down m e h = subst (λ z. scaled m e ≤ℚ z) (scaled-zero e) (scaled-le m (pos 0) e h)
-
-pub scaled_up_out : (m e : ℤ) → zero_ℚ ≤ℚ scaled m e → pos 0 ≤ℤ m
-scaled_up_out m e h = scaled-le_out (pos 0) m e (subst (λ z. z ≤ℚ scaled m e) (sym (scaled-zero e)) h)
-
-pub scaled_down_out : (m e : ℤ) → scaled m e ≤ℚ zero_ℚ → m ≤ℤ pos 0
-scaled_down_out m e h = scaled-le_out m (pos 0) e (subst (λ z. scaled m e ≤ℚ z) (sym (scaled-zero e)) h)
-
 -- ---- the test of equal values
 tied : (r : Ordering) → is_eq r ≡ true → r ≡ Equal
 tied Less e = cc

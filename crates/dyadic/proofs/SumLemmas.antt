@@ -12,7 +12,7 @@ use Rattle.std.proofs.lemmas.Bool.{cases_lt}
 use Rattle.dyadic.proofs.NumberLemmas.{same_cut}
 use lib.Dec.{lt→ltb, T}
 use Rattle.fx_model.specs.Fraction.{Fraction, ◌+ℚ◌, ◌*ℚ◌, neg_ℚ, neg-neg, neg-add, mul_comm, mul-add, zero-add}
-use Rattle.fx_model.specs.Powers.{whole, two_to, scaled, whole-add, scaled-shift, scaled-zero}
+use Rattle.fx_model.specs.Powers.{whole, two_to, scaled, whole-add, scaled-shift, scaled-zero, scaled-add}
 use Rattle.fx_model.specs.Grid.{signed, signed-size, scaled-neg}
 use Rattle.dyadic.specs.declared.number.Dyadic.{Dyadic}
 use Rattle.dyadic.specs.Values.{value_of}
@@ -43,10 +43,6 @@ module _ (low kept rest lost : ℕ) (base two : ℤ) (x : Fraction) (at : two �
 pub signed-add : (n : Bool) (x y : Fraction) → signed n (x +ℚ y) ≡ signed n x +ℚ signed n y
 signed-add true x y = neg-add x y
 signed-add false x y = refl
-
-pub scaled-add : (m n e : ℤ) → scaled m e +ℚ scaled n e ≡ scaled (m +ℤ n) e
-scaled-add m n e = sym (ap (λ y. y *ℚ two_to e) (whole-add m n) ∙ mul_comm (whole m +ℚ whole n) (two_to e) ∙ mul-add (two_to e) (whole m) (whole n)
-    ∙ ap (λ y. y +ℚ (two_to e *ℚ whole n)) (mul_comm (two_to e) (whole m)) ∙ ap (λ y. scaled m e +ℚ y) (mul_comm (two_to e) (whole n)))
 
 equal_signs : (s t : Bool) → not (beq s t) ≡ false → t ≡ s
 equal_signs true true h = refl

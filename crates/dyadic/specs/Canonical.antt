@@ -10,8 +10,8 @@ use Rattle.std.proofs.Math.Bridge.{le_prop}
 use Rattle.std.proofs.Math.IntN.{ℤ_set}
 use Rattle.std.proofs.Math.Nat.{ℕ_set, mul-le-mul_left, mul-le-mul_right, pow-le-pow_right}
 use Rattle.fx_model.specs.Grid.{IsOnGrid}
-use Rattle.fx_model.specs.Powers.{scaled, scaled-shift, scaled-zero}
-use Rattle.dyadic.specs.Odd.{scaled-same, above, odd_lowest}
+use Rattle.fx_model.specs.Powers.{scaled, scaled-shift, scaled-zero, scaled-same}
+use Rattle.dyadic.specs.Odd.{above, odd_lowest}
 
 -- An odd mantissa, or 0 * 2^0.
 abbrev pub IsReduced : ℤ → ℤ → Type 0

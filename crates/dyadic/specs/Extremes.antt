@@ -46,7 +46,7 @@ greater_least a b c p q = chosen (le_bound (bound_of a) (bound_of b)) b a (λ e.
 pub lesser_most : (a b : End) (c : Bound) → BoundLe c (bound_of a) → BoundLe c (bound_of b) → BoundLe c (bound_of (lesser_end a b))
 lesser_most a b c p q = chosen (le_bound (bound_of a) (bound_of b)) a b (λ e. BoundLe c (bound_of e)) (λ t. p) (λ f. q)
 
-BoundLe-antisymm : (b c : Bound) → BoundLe b c → BoundLe c b → b ≡ c
+pub BoundLe-antisymm : (b c : Bound) → BoundLe b c → BoundLe c b → b ≡ c
 BoundLe-antisymm Below Below p q = refl
 BoundLe-antisymm Below (At h) p q = absurd q
 BoundLe-antisymm Below Above p q = absurd q

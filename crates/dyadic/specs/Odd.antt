@@ -6,21 +6,12 @@ use Rattle.std.proofs.lemmas.Int.{ints, by_lt_z, unsigned_abs-mul}
 use Rattle.std.proofs.lemmas.Nat.{pow-add}
 use borrow.Author.Differences.{up, down}
 use Rattle.fx_model.specs.Fraction.{◌≤ℚ◌, le_refl}
-use Rattle.fx_model.specs.Powers.{scaled, scaled-shift, scaled-le_out}
-
--- at one place, equal numbers have equal mantissas
-pub scaled-same : (m n e : ℤ) → scaled m e ≡ scaled n e → m ≡ n
-scaled-same m n e p =
-    let a : m ≤ℤ n = scaled-le_out m n e (subst (λ y. scaled m e ≤ℚ y) p (le_refl (scaled m e))) in
-    let b : n ≤ℤ m = scaled-le_out n m e (subst (λ y. y ≤ℚ scaled m e) p (le_refl (scaled m e))) in
-    omega (arith, ints)
+use Rattle.fx_model.specs.Powers.{scaled, scaled-shift, scaled-le_out, scaled-same}
+use Rattle.fx_model.specs.Cut.Gaps.{gap}
 
 -- how far a place is above another
 pub above : (e f : ℤ) → f ≤ℤ e → (k : ℕ) × (e ≡ f +ℤ pos k)
 above e f h = (up e + down f - (up f + down e), omega (arith, ints))
-
-beyond : (e f : ℤ) → f <ℤ e → (k : ℕ) × (e ≡ f +ℤ pos (k + 1))
-beyond e f h = (up e + down f - (up f + down e) - 1, omega (arith, ints))
 
 even_times : (n : ℤ) (k : ℕ) → unsigned_abs (n *ℤ pos (2 ^ (k + 1))) % 2 ≡ 0
 even_times n k = let e : unsigned_abs (n *ℤ pos (2 ^ (k + 1))) ≡ (unsigned_abs n * 2 ^ k) * 2 = unsigned_abs-mul n (pos (2 ^ (k + 1))) ∙ ap (λ p. unsigned_abs n * p) (pow-add 2 k 1) ∙ omega arith in
@@ -29,7 +20,7 @@ even_times n k = let e : unsigned_abs (n *ℤ pos (2 ^ (k + 1))) ≡ (unsigned_a
 -- m * 2^e with odd m has no form with a higher exponent
 pub odd_lowest : (m e n f : ℤ) → unsigned_abs m % 2 ≡ 1 → scaled m e ≡ scaled n f → (k : ℕ) × (e ≡ f +ℤ pos k) × (n ≡ (m *ℤ pos (2 ^ k)))
 odd_lowest m e n f odd p = by_lt_z e f
-    (λ l. let g = beyond f e l in
+    (λ l. let g = gap f e l in
     let same : m ≡ (n *ℤ pos (2 ^ (g.0 + 1))) = scaled-same m (n *ℤ pos (2 ^ (g.0 + 1))) e (p ∙ ap (scaled n) g.1 ∙ scaled-shift n e (g.0 + 1)) in
     let even = even_times n g.0 in
     let a : unsigned_abs m % 2 ≡ 0 = ap (λ m. unsigned_abs m % 2) same ∙ even in absurd (omega arith))

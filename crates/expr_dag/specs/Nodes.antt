@@ -1,5 +1,6 @@
 -- The list of shared nodes.
 use Rattle.std.specs.Prelude.{◌≡◌, ℕ, ◌<◌, ◌≤◌, pos, negsuc, Bool, List, [], ◌∷◌, ◌++◌, length, slice_get, position, Option, Some, None, ◌⊎◌, ⊤}
+use Rattle.std.proofs.Common.{sym, ◌∙◌}
 use Rattle.fx_model.specs.declared.ExprId.{ExprId}
 use Rattle.fx_model.specs.declared.Node.{Node}
 use Rattle.fx_model.specs.declared.Node.TheVariants.{Var, Lit, Neg, Add, Sub, Mul, Div, Abs, Round}
@@ -94,3 +95,6 @@ placed nodes n None = (nodes ++ n ∷ [], record { 0 = length nodes })
 -- The list with a node, and the node's number.
 abbrev pub with_node : List Node → Node → List Node × ExprId
 with_node nodes n = placed nodes n (place_of nodes n)
+
+pub one_node : (nodes : List Node) (x : ExprId) (m n : Node) → IsAt nodes x m → IsAt nodes x n → m ≡ n
+one_node nodes x m n a b = let e = sym a ∙ b in cc

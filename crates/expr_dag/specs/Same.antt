@@ -2,6 +2,7 @@
 use Rattle.std.proofs.Common.{◌≡◌, ◌==◌, ◌&&◌, Bool, true, false, refl, sym, ap, true≢false, eqb-true}
 use Rattle.std.specs.Ordering.{int_eq}
 use Rattle.std.proofs.lemmas.Bool.Decides.{Decides-int_eq}
+use Rattle.std.proofs.lemmas.Bool.{and_parts}
 use Rattle.fx_model.specs.declared.Direction.{Direction}
 use Rattle.fx_model.specs.declared.Direction.TheVariants.{Zr, Aw, Dn, Up, Od, Ne, No, Nz, Na, Nd, Nu}
 use Rattle.fx_model.specs.declared.Node.{Node}
@@ -30,18 +31,13 @@ same_direction Nd Nd h = refl
 same_direction Nu Nu h = refl
 same_direction _ _ h = absurd (true≢false (sym h))
 
-both : (p q : Bool) → (p && q) ≡ true → (p ≡ true) × (q ≡ true)
-both true true h = (refl, refl)
-both true false h = absurd (true≢false (sym h))
-both false q h = absurd (true≢false (sym h))
-
-same_id : (x y : ExprId) → (id_eq.ghosts).eq x y ≡ true → x ≡ y
+pub same_id : (x y : ExprId) → (id_eq.ghosts).eq x y ≡ true → x ≡ y
 same_id x y h = let e = eqb-true x.0 y.0 h in (λ i. record { 0 = e i })
 
 same_literal : (x y : Literal) → (literal_eq.ghosts).eq x y ≡ true → x ≡ y
 same_literal x y h =
-    let f = both (x.num == y.num) (int_eq x.two y.two && int_eq x.ten y.ten) h in
-    let g = both (int_eq x.two y.two) (int_eq x.ten y.ten) f.1 in
+    let f = and_parts (x.num == y.num) (int_eq x.two y.two && int_eq x.ten y.ten) h in
+    let g = and_parts (int_eq x.two y.two) (int_eq x.ten y.ten) f.1 in
     let n = eqb-true x.num y.num f.0 in
     let two = (Decides-int_eq x.two y.two).0 g.0 in
     let ten = (Decides-int_eq x.ten y.ten).0 g.1 in
@@ -49,14 +45,14 @@ same_literal x y h =
 
 same_rounding : (x y : Rounding) → (rounding_eq.ghosts).eq x y ≡ true → x ≡ y
 same_rounding x y h =
-    let f = both (int_eq x.lsb y.lsb) ((direction_eq.ghosts).eq x.dir y.dir) h in
+    let f = and_parts (int_eq x.lsb y.lsb) ((direction_eq.ghosts).eq x.dir y.dir) h in
     let lsb = (Decides-int_eq x.lsb y.lsb).0 f.0 in
     let dir = same_direction x.dir y.dir f.1 in
     (λ i. record { lsb = lsb i; dir = dir i })
 
 same_pair : (op : ExprId → ExprId → Node) (x y u v : ExprId) → ((id_eq.ghosts).eq x u && (id_eq.ghosts).eq y v) ≡ true → op x y ≡ op u v
 same_pair op x y u v h =
-    let f = both ((id_eq.ghosts).eq x u) ((id_eq.ghosts).eq y v) h in
+    let f = and_parts ((id_eq.ghosts).eq x u) ((id_eq.ghosts).eq y v) h in
     let e = same_id x u f.0 in
     let g = same_id y v f.1 in
     (λ i. op (e i) (g i))
@@ -72,7 +68,7 @@ same (Mul x y) (Mul u v) h = same_pair Mul x y u v h
 same (Div x y) (Div u v) h = same_pair Div x y u v h
 same (Abs x) (Abs y) h = ap Abs (same_id x y h)
 same (Round r x) (Round s y) h =
-    let f = both ((rounding_eq.ghosts).eq r s) ((id_eq.ghosts).eq x y) h in
+    let f = and_parts ((rounding_eq.ghosts).eq r s) ((id_eq.ghosts).eq x y) h in
     let e = same_rounding r s f.0 in
     let g = same_id x y f.1 in
     (λ i. Round (e i) (g i))

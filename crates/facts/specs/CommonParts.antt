@@ -1,9 +1,10 @@
 -- What two sizes, two relative errors or two places have in common.
-use Rattle.std.specs.Prelude.{◌≡◌, ◌⊎◌, ◌&&◌, ◌||◌, ◌≤ℤ◌, Bool, true, false, Option, Some, None, if◌then◌else◌, refl}
+use Rattle.std.specs.Prelude.{◌≡◌, ◌⊎◌, ◌&&◌, ◌||◌, ◌≤ℤ◌, Bool, true, false, Option, Some, None, if◌then◌else◌, refl, ◌<◌, ℕ, zero, suc, List, [], ◌∷◌, ◌++◌, length, slice_get}
 use Rattle.std.specs.Int.RustNames.{int_lt}
 use Rattle.std.proofs.Common.{sym, ◌∙◌, ap, subst, arith, inl, inr}
 use Rattle.std.proofs.lemmas.Int.{ints}
 use Rattle.std.proofs.lemmas.Bool.{eqb-true, eq-eqb}
+use Rattle.std.specs.List.{AllByRecursion}
 use Rattle.fx_model.specs.declared.ExprId.{ExprId}
 use Rattle.fx_model.specs.Fraction.{zero_ℚ, one_ℚ, neg_ℚ}
 use Rattle.fx_model.specs.Grid.{At}
@@ -17,7 +18,10 @@ use Rattle.facts.specs.declared.relative.RelativeError.{RelativeError}
 use Rattle.facts.specs.declared.place.Place.{Place}
 use Rattle.facts.specs.Ranges.{IsBelow, IsBelow-mono}
 use Rattle.facts.specs.Parts.{size_from-some, size_from_out, error_from-some, error_from_out, common_size, common_error, greater_place, size_of_part, error_of_part}
-use Rattle.facts.specs.Order.{IsWithin, IsWithinError, is_same}
+use Rattle.facts.specs.Order.{IsWithin, IsWithinError, is_same, slot_of}
+use Rattle.facts.specs.declared.fact.Fact.{Fact}
+use Rattle.facts.specs.declared.fact.Fact.TheVariants as fact
+use Rattle.facts.specs.declared.fact.Slot.TheVariants as slot
 
 pub at_option : {X : Type 0} (o : Option X) (P : Option X → Type 0) → (o ≡ None → P None) → ((c : X) → o ≡ Some c → P (Some c)) → P o
 at_option None P n y = n refl
@@ -30,18 +34,10 @@ pub if-some : {X : Type 0} (b : Bool) (v f : X) → (if b then Some v else None)
 if-some true v f e = (refl, cc)
 if-some false v f e = cc
 
-pub and_both : (a b : Bool) → (a && b) ≡ true → (a ≡ true) × (b ≡ true)
-and_both true b e = (refl, e)
-and_both false b e = cc
-
 -- a conjunction holds where its second part follows
 pub and_rises : (a b c : Bool) → (b ≡ true → c ≡ true) → (a && b) ≡ true → (a && c) ≡ true
 and_rises true b c h e = h e
 and_rises false b c h e = cc
-
-pub or_out : (b c : Bool) → (b || c) ≡ true → (b ≡ true) ⊎ (c ≡ true)
-or_out true c e = inl refl
-or_out false c e = inr e
 
 pub expr_same : (x y : ExprId) → is_same x y ≡ true → x ≡ y
 expr_same x y e = ap (λ n. record { 0 = n }) (eqb-true x.0 y.0 e)
@@ -127,3 +123,49 @@ place_most g k n p q = by_test (int_lt k.exponent n.exponent)
     by_test : (b : Bool) → (if b then n else k).exponent ≤ℤ g.exponent
     by_test true = q
     by_test false = p
+
+pub id_of : (y : ExprId) (j : ℕ) → y.0 ≡ j → y ≡ record { 0 = j }
+id_of y j e = (λ i. record { 0 = e i })
+
+pub same_itself : (x : ExprId) → is_same x x ≡ true
+same_itself x = grind (arith)
+
+-- ---- VOID
+pub void_is : (f : Fact) → slot_of f ≡ slot.Void → f ≡ fact.Void
+void_is fact.Void e = refl
+void_is (fact.Bnd x i) e = cc
+void_is (fact.Abs x i) e = cc
+void_is (fact.Rel x y t) e = cc
+void_is (fact.Fix x k) e = cc
+void_is (fact.Nzr x) e = cc
+
+pub void_cases : (f : Fact) → (f ≡ fact.Void) ⊎ ¬ (f ≡ fact.Void)
+void_cases fact.Void = inl refl
+void_cases (fact.Bnd x i) = inr (λ e. cc)
+void_cases (fact.Abs x i) = inr (λ e. cc)
+void_cases (fact.Rel x y e) = inr (λ q. cc)
+void_cases (fact.Fix x k) = inr (λ e. cc)
+void_cases (fact.Nzr x) = inr (λ e. cc)
+
+-- ---- lists
+pub stands : {A : Type 0} (xs : List A) (k : ℕ) → k < length xs → (x : A) × (slice_get xs k ≡ Some x)
+stands [] k l = absurd (omega arith)
+stands (x ∷ xs) zero l = (x, refl)
+stands (x ∷ xs) (suc k) l = stands xs k (omega arith)
+
+pub all_from : {A : Type 0} (P : A → Type 0) (xs : List A) → ((k : ℕ) (x : A) → slice_get xs k ≡ Some x → P x) → AllByRecursion P xs
+all_from P [] h = tt
+all_from P (x ∷ xs) h = (h 0 x refl, all_from P xs (λ k y e. h (suc k) y e))
+
+pub all_at : {A : Type 0} (P : A → Type 0) (xs : List A) (k : ℕ) (x : A) → AllByRecursion P xs → slice_get xs k ≡ Some x → P x
+all_at P [] k x h e = cc
+all_at P (y ∷ xs) zero x h e = let q : y ≡ x = cc in subst P q h.0
+all_at P (y ∷ xs) (suc k) x h e = all_at P xs k x h.1 e
+
+pub all_as : {A : Type 0} (P Q : A → Type 0) → ((x : A) → P x → Q x) → (xs : List A) → AllByRecursion P xs → AllByRecursion Q xs
+all_as P Q f [] h = tt
+all_as P Q f (x ∷ xs) h = (f x h.0, all_as P Q f xs h.1)
+
+pub all_last : {A : Type 0} (P : A → Type 0) (xs : List A) (x : A) → AllByRecursion P xs → P x → AllByRecursion P (xs ++ (x ∷ []))
+all_last P [] x h p = (p, tt)
+all_last P (y ∷ xs) x h p = (h.0, all_last P xs x h.1 p)

@@ -3,6 +3,7 @@ use Rattle.std.specs.Prelude.{◌≡◌, ◌≢◌, ◌&&◌, ◌≤ℤ◌, ℤ,
 use Rattle.std.specs.Option.{IsSomeAnd}
 use Rattle.std.specs.Int.RustNames.{int_lt}
 use Rattle.std.proofs.Common.{sym, ◌∙◌, ap, subst, inl, inr, ⊎_elim, rules}
+use Rattle.std.proofs.lemmas.Bool.{and_parts}
 use Rattle.fx_model.specs.Fraction.{Fraction, ◌-ℚ◌, ◌/ℚ◌, abs_ℚ, zero_ℚ, one_ℚ}
 use Rattle.fx_model.specs.Powers.{IsMultiple, scaled, scaled-shift}
 use Rattle.fx_model.specs.Enclosure.{Lies, within_in}
@@ -21,7 +22,7 @@ use Rattle.facts.specs.declared.fact.Fact.TheVariants as fact
 use Rattle.facts.specs.Parts.{common_size, common_error, greater_place}
 use Rattle.facts.specs.Holds.{AreZero, IsRelated, IsRelatedBy, Holds}
 use Rattle.facts.specs.Order.{IsWithin, IsWithinError, IsStronger, is_same, bounded, sized, meet_of}
-use Rattle.facts.specs.CommonParts.{common_size-some, common_error-some, if-some, and_both, expr_same}
+use Rattle.facts.specs.CommonParts.{common_size-some, common_error-some, if-some, expr_same}
 
 -- what a value is known for carries over to what follows from it
 pub some-and : (o : Option Fraction) (P Q : Fraction → Type 0) → ((x : Fraction) → P x → Q x) → IsSomeAnd o P → IsSomeAnd o Q
@@ -119,7 +120,7 @@ meet-Holds nodes a (fact.Abs x i) (fact.Abs y j) h e p q =
     subst (Holds nodes a) t.1 (sized-holds nodes a x i j p (subst (λ z. Holds nodes a (fact.Abs z j)) (sym s) q))
 meet-Holds nodes a (fact.Rel x z d) (fact.Rel y w o) h e p q =
     let t = if-some (is_same x y && is_same z w) (fact.Rel x z (common_error d o)) h e in
-    let b = and_both (is_same x y) (is_same z w) t.0 in
+    let b = and_parts (is_same x y) (is_same z w) t.0 in
     let s : x ≡ y = expr_same x y b.0 in
     let u : z ≡ w = expr_same z w b.1 in
     let r : Holds nodes a (fact.Rel x z o) = subst (λ k. Holds nodes a (fact.Rel k z o)) (sym s) (subst (λ k. Holds nodes a (fact.Rel y k o)) (sym u) q) in

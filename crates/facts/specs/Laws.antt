@@ -14,7 +14,7 @@ use Rattle.facts.specs.Parts.{common_size, common_error, greater_place}
 use Rattle.facts.specs.CommonParts.{at_option, some-inj, same_expr, common_size-within, within-common_size, meet_error, error_meet_left, error_meet_right, place_left, place_right, place_most}
 use Rattle.facts.specs.Order.{slot_of, IsWithin, IsWithinError, IsStronger, is_same, meet_of}
 
-IsWithin-refl : (i : Interval) → IsWithin i i
+pub IsWithin-refl : (i : Interval) → IsWithin i i
 IsWithin-refl i = (BoundLe-refl (range_of i).low, BoundLe-refl (range_of i).high)
 
 pub IsWithin-trans : (i j k : Interval) → IsWithin i j → IsWithin j k → IsWithin i k

@@ -3,6 +3,7 @@ use Rattle.std.specs.Prelude.{◌≡◌, ◌&&◌, ◌⊎◌, ◌↔◌, ℤ, po
 use Rattle.std.proofs.Common.{sym, ◌∙◌, ap, subst, inl, inr, ⊎_elim, arith, rules}
 use Rattle.std.proofs.lemmas.Int.{ints}
 use Rattle.std.proofs.Math.Dec.{T_prop}
+use Rattle.std.proofs.lemmas.Bool.{and_parts}
 use mathlib.Core.HLevel.{is_prop→PathP}
 use Rattle.fx_model.specs.Fraction.{le_antisymm}
 use Rattle.fx_model.specs.Grid.{Bound, Below, At, Above}
@@ -18,23 +19,13 @@ use Rattle.facts.specs.declared.fact.Fact.TheVariants as fact
 use Rattle.facts.specs.declared.fact.Slot.TheVariants as slot
 use Rattle.facts.specs.Parts.{common_size, common_error, greater_place, size_from_self, error_from_self}
 use Rattle.facts.specs.Order.{slot_of, IsWithin, IsWithinError, IsStronger, is_same, bounded, sized, meet_of, AreUnlike}
-use Rattle.facts.specs.CommonParts.{at_option, some-inj, if-some, and_both, expr_same}
+use Rattle.facts.specs.CommonParts.{at_option, some-inj, if-some, expr_same}
 use Rattle.facts.specs.Laws.{IsStronger-refl, IsStronger-slot, IsStronger-meet, IsMeet, meet_exists}
+use Rattle.dyadic.specs.Extremes.{BoundLe-antisymm}
 
 -- ---- one fact only is as strong as another both ways
-bounds_same : (b c : Bound) → BoundLe b c → BoundLe c b → b ≡ c
-bounds_same Below Below p q = refl
-bounds_same (At g) (At h) p q = ap At (le_antisymm g h p q)
-bounds_same Above Above p q = refl
-bounds_same Below (At h) p q = absurd q
-bounds_same Below Above p q = absurd q
-bounds_same (At g) Below p q = absurd p
-bounds_same (At g) Above p q = absurd q
-bounds_same Above Below p q = absurd p
-bounds_same Above (At h) p q = absurd p
-
 intervals_same : (i j : Interval) → IsWithin i j → IsWithin j i → i ≡ j
-intervals_same i j p q = same_range i j (λ k. record { low = bounds_same (range_of i).low (range_of j).low q.0 p.0 k; high = bounds_same (range_of i).high (range_of j).high p.1 q.1 k })
+intervals_same i j p q = same_range i j (λ k. record { low = BoundLe-antisymm (range_of i).low (range_of j).low q.0 p.0 k; high = BoundLe-antisymm (range_of i).high (range_of j).high p.1 q.1 k })
 
 sizes_same : (s t : Size) → IsWithin s.interval t.interval → IsWithin t.interval s.interval → s ≡ t
 sizes_same s t p q = some-inj s t (size_from_self s ∙ rw (intervals_same s.interval t.interval p q) (sym (size_from_self t)))
@@ -69,7 +60,7 @@ IsStronger-antisymm (fact.Nzr x) (fact.Nzr y) p q = ap fact.Nzr p
 IsStronger-antisymm _ _ p q = search rules
 
 -- ---- which facts have a meet
-void_meet : (a : Fact) → meet_of a fact.Void ≡ Some fact.Void
+pub void_meet : (a : Fact) → meet_of a fact.Void ≡ Some fact.Void
 void_meet fact.Void = refl
 void_meet (fact.Bnd x i) = refl
 void_meet (fact.Abs x s) = refl
@@ -84,7 +75,7 @@ meet-slots a fact.Void f e = inr (inl refl)
 meet-slots (fact.Bnd x i) (fact.Bnd y j) f e = inr (inr (ap slot.Bnd (expr_same x y (if-some (is_same x y) (bounded x (common_of i j)) f e).0)))
 meet-slots (fact.Abs x s) (fact.Abs y t) f e = inr (inr (ap slot.Abs (expr_same x y (if-some (is_same x y) (sized x (common_size s t)) f e).0)))
 meet-slots (fact.Rel x z d) (fact.Rel y w o) f e =
-    let b = and_both (is_same x y) (is_same z w) (if-some (is_same x y && is_same z w) (fact.Rel x z (common_error d o)) f e).0 in
+    let b = and_parts (is_same x y) (is_same z w) (if-some (is_same x y && is_same z w) (fact.Rel x z (common_error d o)) f e).0 in
     inr (inr (λ k. slot.Rel (expr_same x y b.0 k) (expr_same z w b.1 k)))
 meet-slots (fact.Fix x k) (fact.Fix y n) f e = inr (inr (ap slot.Fix (expr_same x y (if-some (is_same x y) (fact.Fix x (greater_place k n)) f e).0)))
 meet-slots (fact.Nzr x) (fact.Nzr y) f e = inr (inr (ap slot.Nzr (expr_same x y (if-some (is_same x y) (fact.Nzr x) f e).0)))

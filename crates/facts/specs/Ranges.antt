@@ -1,5 +1,6 @@
 -- The ranges that kinds of facts keep.
 use Rattle.std.specs.Prelude.{◌≡◌, ⊤, Bool, true, false, not, refl}
+use Rattle.std.proofs.lemmas.Bool.{not-true}
 use Rattle.fx_model.specs.Fraction.{Fraction, ◌<ℚ◌, le_ℚ, zero_ℚ, one_ℚ, neg_ℚ, Le-prop, Lt-prop, lt_le_trans}
 use Rattle.fx_model.specs.Grid.{Bound, Below, At, Above}
 use Rattle.fx_model.specs.Enclosure.{Range, BoundLe}
@@ -45,13 +46,9 @@ is_below x Below = false
 is_below x (At g) = not (le_ℚ g x)
 is_below x Above = true
 
-not_out : (b : Bool) → not b ≡ true → b ≡ false
-not_out true e = cc
-not_out false e = refl
-
 pub is_below_in : (x : Fraction) (b : Bound) → is_below x b ≡ true → IsBelow x b
 is_below_in x Below e = cc
-is_below_in x (At g) e = record { lt = not_out (le_ℚ g x) e }
+is_below_in x (At g) e = record { lt = not-true (le_ℚ g x) e }
 is_below_in x Above e = tt
 
 pub is_below_out : (x : Fraction) (b : Bound) → IsBelow x b → is_below x b ≡ true

@@ -1,6 +1,7 @@
 -- What a call of a folder or of a sink may do. A count of faults never falls, and stands still at 2^64 - 1.
 use Rattle.std.specs.Prelude.{◌≡◌, ◌<◌, ◌≤◌, ◌+◌, ◌-◌, ◌^◌, ℕ, List, [], length, take, drop, min}
 use Rattle.std.specs.Prelude.{⊤, Option, Some, None, Result, Ok, Err, MatchResult, OnErr}
+use Rattle.std.proofs.Common.{arith}
 
 -- a count after one more; it stands still at 2^64 - 1
 abbrev pub next_count : ℕ → ℕ
@@ -36,3 +37,6 @@ ReadsFrom (Some all) at result buf = MatchResult result (λ n. IsPiece all at n 
 abbrev pub Empties : Option (List ℕ) → Option (List ℕ) → Type 0
 Empties None new = ⊤
 Empties (Some old) new = new ≡ Some []
+
+pub rose_later : (before middle now : ℕ) → before ≤ middle → Rose middle now → Rose before now
+rose_later before middle now l r = omega (arith, l, r)

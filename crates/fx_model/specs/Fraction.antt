@@ -4,6 +4,6 @@ pub use Rattle.fx_model.specs.Fraction.Core.{Ratio, Same, Fraction, positive-mul
 unfoldable pub use Rattle.fx_model.specs.Fraction.Core.{zero_ℚ, one_ℚ}
 pub use Rattle.fx_model.specs.Fraction.Core.Ring.{add_comm, add_assoc, zero-add, add-neg, mul_comm, mul_assoc, one-mul, zero-mul, mul-add, neg-mul, neg-add, neg-neg}
 pub use Rattle.fx_model.specs.Fraction.Core.Order.{le_in, le_out, Le-prop, le_refl, le_trans, le_antisymm, le_total, add-le, mul-le, lt_by, lt_not, lt_le, le_lt_trans, lt_le_trans, le_or_lt, mul-le_cancel, mul-lt_cancel, mul_cancel, neg-le, add-le-add, Lt-prop, minus_one, under, plus_one, over}
-pub use Rattle.fx_model.specs.Fraction.Core.Laws.{add-zero, add-sub, middle_sums, left_swap, middle_products, mul-one, mul-zero, add-mul, mul-neg, add-le_out, add-lt, mul-lt, times-le, times-lt, neg-le_out, neg-lt, neg_zero, neg_up, neg_down}
+pub use Rattle.fx_model.specs.Fraction.Core.Laws.{add-zero, add-sub, middle_sums, left_swap, middle_products, mul-one, mul-zero, add-mul, mul-neg, add-le_out, add-lt, mul-lt, times-le, times-lt, neg-le_out, neg-lt, neg_zero, neg_up, neg_down, sub-add}
 pub use Rattle.fx_model.specs.Fraction.Core.Floor.{floor_ratio, FloorRatio, floor_ℚ, floor_law, floor-mk}
 pub use Rattle.fx_model.specs.Fraction.Core.Inverse.{abs_ℚ, is_zero_ℚ, square_ratio, square_positive, inverse_ratio, inverse_ℚ, ◌/ℚ◌, mul-inverse, inverse-mk, abs-from, abs-below, is_zero-zero, is_zero_out, is_zero_not, div-mul}

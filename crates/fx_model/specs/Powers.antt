@@ -1,12 +1,12 @@
 -- Whole numbers and powers of two as fractions.
 use Rattle.std.specs.Prelude.{◌≡◌, ℕ, ℤ, pos, ◌+ℤ◌, ◌*ℤ◌, ◌≤ℤ◌, ◌<ℤ◌, ◌*◌, ◌+◌, ◌^◌, refl}
-use Rattle.std.proofs.Common.{arith, sym, ap, ◌∙◌, lit<}
+use Rattle.std.proofs.Common.{arith, sym, ap, ◌∙◌, lit<, subst}
 use Rattle.std.proofs.lemmas.Nat.{pow_pos, pow-add}
 use Rattle.std.proofs.lemmas.Int.{ints, by_lt_z}
 use borrow.Author.Differences.{up, down, sum_is_lem, product_is, neg_is}
 use lib.IntN.{neg_ℤ}
 use mathlib.Core.Quot.{sound}
-use Rattle.fx_model.specs.Fraction.{Ratio, Same, Fraction, ◌+ℚ◌, ◌*ℚ◌, neg_ℚ, ◌≤ℚ◌, of_ratio, zero_ℚ, one_ℚ, le_in, le_out, add_ratio, mul_ratio, neg_ratio, add-mk, mul-mk, neg-mk, ◌<ℚ◌, lt_by, lt_not, lt_le, mul_comm, mul_assoc, mul-le, mul-le_cancel, zero-mul, by_ratio, Le-prop, Lt-prop, le_trans, floor_ℚ, floor_law}
+use Rattle.fx_model.specs.Fraction.{Ratio, Same, Fraction, ◌+ℚ◌, ◌*ℚ◌, neg_ℚ, ◌≤ℚ◌, of_ratio, zero_ℚ, one_ℚ, le_in, le_out, add_ratio, mul_ratio, neg_ratio, add-mk, mul-mk, neg-mk, ◌<ℚ◌, lt_by, lt_not, lt_le, mul_comm, mul_assoc, mul-le, mul-le_cancel, zero-mul, by_ratio, Le-prop, Lt-prop, le_trans, floor_ℚ, floor_law, add-mul, le_refl}
 
 -- The whole number z.
 pub whole : ℤ → Fraction
@@ -120,4 +120,27 @@ pub floor_unique : (x : Fraction) (z : ℤ) → whole z ≤ℚ x → x <ℚ whol
 floor_unique x z h k =
     let a : floor_ℚ x <ℤ (z +ℤ pos 1) = by_lt_z (floor_ℚ x) (z +ℤ pos 1) (λ l. l) (λ l. absurd (lt_not x (whole (z +ℤ pos 1)) k (le_trans (whole (z +ℤ pos 1)) (whole (floor_ℚ x)) x (whole-le (z +ℤ pos 1) (floor_ℚ x) l) (floor_low x)))) in
     let b : z <ℤ (floor_ℚ x +ℤ pos 1) = by_lt_z z (floor_ℚ x +ℤ pos 1) (λ l. l) (λ l. absurd (lt_not x (whole (floor_ℚ x +ℤ pos 1)) (floor_high x) (le_trans (whole (floor_ℚ x +ℤ pos 1)) (whole z) x (whole-le (floor_ℚ x +ℤ pos 1) z l) h))) in
+    omega (arith, ints)
+
+-- ---- signs
+pub scaled_up : (m e : ℤ) → pos 0 ≤ℤ m → zero_ℚ ≤ℚ scaled m e
+scaled_up m e h = subst (λ z. z ≤ℚ scaled m e) (scaled-zero e) (scaled-le (pos 0) m e h)
+
+pub scaled_down : (m e : ℤ) → m ≤ℤ pos 0 → scaled m e ≤ℚ zero_ℚ
+scaled_down m e h = subst (λ z. scaled m e ≤ℚ z) (scaled-zero e) (scaled-le m (pos 0) e h)
+
+pub scaled_up_out : (m e : ℤ) → zero_ℚ ≤ℚ scaled m e → pos 0 ≤ℤ m
+scaled_up_out m e h = scaled-le_out (pos 0) m e (subst (λ z. z ≤ℚ scaled m e) (sym (scaled-zero e)) h)
+
+pub scaled_down_out : (m e : ℤ) → scaled m e ≤ℚ zero_ℚ → m ≤ℤ pos 0
+scaled_down_out m e h = scaled-le_out m (pos 0) e (subst (λ z. scaled m e ≤ℚ z) (sym (scaled-zero e)) h)
+
+-- ---- sums and equal numbers
+pub scaled-add : (m n k : ℤ) → scaled m k +ℚ scaled n k ≡ scaled (m +ℤ n) k
+scaled-add m n k = sym (add-mul (whole m) (whole n) (two_to k)) ∙ ap (λ y. y *ℚ two_to k) (sym (whole-add m n))
+
+pub scaled-same : (m n e : ℤ) → scaled m e ≡ scaled n e → m ≡ n
+scaled-same m n e p =
+    let a : m ≤ℤ n = scaled-le_out m n e (subst (λ y. scaled m e ≤ℚ y) p (le_refl (scaled m e))) in
+    let b : n ≤ℤ m = scaled-le_out n m e (subst (λ y. y ≤ℚ scaled m e) p (le_refl (scaled m e))) in
     omega (arith, ints)

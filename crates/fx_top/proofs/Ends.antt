@@ -11,7 +11,7 @@ use Rattle.script_judge.specs.Reading.{refusal, too_long, not_text}
 use Rattle.script_judge.specs.First as first
 use Rattle.script_judge.specs.First.{IsFirstRefusal}
 use Rattle.script_grammar.specs.Spells.{View, Spells, IsRefused}
-use Rattle.fx_edge.specs.Outside.{Rose}
+use Rattle.fx_edge.specs.Outside.{Rose, rose_later}
 use Rattle.report.specs.Lines.{Bytes}
 use Rattle.command_line.specs.Check.{AskedCheck}
 use Rattle.command_line.specs.Reading.{Asked}
@@ -138,10 +138,6 @@ ends_line P s line other same p before after result ends =
     ends_more (IsLine s other) P (λ t l e. subst (λ (t : Status). P t l) (sym e.0) (subst (λ (l : Bytes). P s l) (sym (e.1 ∙ same)) p)) before after result ends
 
 -- ---- the lines of the words
-
--- a count that rose later rose
-pub rose_later : (before middle now : ℕ) → before ≤ middle → Rose middle now → Rose before now
-rose_later before middle now l r = omega (arith, l, r)
 
 module _ (words : List Bytes) (outside : Outside) (a : Asked) (asked : reading words ≡ Some (Prove a)) where
   -- the answer to a text that was read

@@ -7,7 +7,7 @@ use Rattle.std.specs.Option.{option_map}
 use Rattle.std.specs.Str.{bytes_eq}
 use Rattle.std.proofs.lemmas.Slice.Eq.{bytes_eq-Decides}
 use Rattle.goals.specs.declared.line.Line.{Line}
-use Rattle.fx_edge.specs.Outside.{Rose}
+use Rattle.fx_edge.specs.Outside.{Rose, rose_later}
 use Rattle.script_judge.specs.First.{FirstsAreUnique}
 use Rattle.script_grammar.specs.Spells.{View, Spells, SpellsOnce, NeverBoth}
 use Rattle.universe.specs.OneMark.{MarksAreOne}
@@ -34,7 +34,7 @@ use Rattle.fx_top.specs.declared.run.Status.{Status}
 use Rattle.fx_top.specs.declared.run.Status.TheVariants.{Answered, Unproved, Usage, Limit, Certificate, ReadFault, WriteFault, OutOfMemory}
 use Rattle.fx_top.specs.declared.run.Status.TheVariants as status
 use Rattle.fx_top.proofs.Complete.{read_whole}
-use Rattle.fx_top.proofs.Ends.{no_script, rose_later, told_text}
+use Rattle.fx_top.proofs.Ends.{no_script, told_text}
 use Rattle.fx_top.proofs.Once.{proved_alone}
 
 -- ---- what a file holds

@@ -1,20 +1,16 @@
 -- More laws of fractions: sums, products and quotients.
 use Rattle.std.specs.Prelude.{◌≡◌, ◌≢◌}
 use Rattle.std.proofs.Common.{sym, ap, ◌∙◌}
-use Rattle.fx_model.specs.Fraction.{Fraction, ◌+ℚ◌, ◌-ℚ◌, ◌*ℚ◌, ◌/ℚ◌, inverse_ℚ, neg_ℚ, zero_ℚ, one_ℚ, add_comm, add_assoc, zero-add, add-neg, mul_comm, mul_assoc, one-mul, zero-mul, mul-add, mul-inverse}
+use Rattle.fx_model.specs.Fraction.{Fraction, ◌+ℚ◌, ◌-ℚ◌, ◌*ℚ◌, ◌/ℚ◌, inverse_ℚ, neg_ℚ, zero_ℚ, one_ℚ, add_comm, add_assoc, zero-add, add-neg, mul_comm, mul_assoc, one-mul, zero-mul, mul-add, mul-inverse, sub-add}
 pub use Rattle.fx_model.specs.Fraction.{add-zero, mul-one, mul-zero, add-mul, middle_sums, middle_products}
 
 -- ---- sums
 neg-add_own : (y : Fraction) → neg_ℚ y +ℚ y ≡ zero_ℚ
 neg-add_own y = add_comm (neg_ℚ y) y ∙ add-neg y
 
--- (x - y) + y = x
-pub less-more : (x y : Fraction) → (x -ℚ y) +ℚ y ≡ x
-less-more x y = add_assoc x (neg_ℚ y) y ∙ ap (λ u. x +ℚ u) (neg-add_own y) ∙ add-zero x
-
 -- y + (x - y) = x
 pub more-less : (y x : Fraction) → y +ℚ (x -ℚ y) ≡ x
-more-less y x = add_comm y (x -ℚ y) ∙ less-more x y
+more-less y x = add_comm y (x -ℚ y) ∙ sub-add x y
 
 -- (y + x) - y = x
 pub added-less : (y x : Fraction) → (y +ℚ x) -ℚ y ≡ x

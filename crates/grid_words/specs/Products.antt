@@ -6,6 +6,7 @@ use Rattle.fx_model.specs.Grid.{Bound, At}
 use Rattle.fx_model.specs.Enclosure.{Range, Lies, IsEnclosure, IsOrdered, IsFinite, Products, Quotients, IsProduct, IsQuotient, whole_line, in_enclosure, finite_or, product_holds, member_of, ordered_by}
 use Rattle.grid_words.specs.Signs.{inverse_falls}
 use Rattle.grid_words.specs.Corners.{corners, corners_are}
+use Rattle.fx_model.specs.Enclosure.Unique.{both_or}
 
 abbrev pub product_ends : Bound → Bound → Bound → Bound → Range
 product_ends (At a) (At b) (At c) (At d) = corners a b c d
@@ -75,9 +76,6 @@ module _ (r s : Range) (i : IsOrdered r.low r.high) (j : IsOrdered s.low s.high)
   pub product_range_ordered : IsOrdered (product_range r s).low (product_range r s).high
   product_range_ordered = let m = member_of r.low r.high i in let n = member_of s.low s.high j in
       let l = product_holds r s (product_range r s) m.0 n.0 product_range_is (m.1, m.2) (n.1, n.2) in ordered_by (product_range r s).low (product_range r s).high (m.0 *ℚ n.0) l.0 l.1
-
-both_or : (r s : Range) → (IsFinite r × IsFinite s) ⊎ (¬ (IsFinite r × IsFinite s))
-both_or r s = ⊎_elim (λ f. ⊎_elim (λ g. inl (f, g)) (λ n. inr (λ p. n p.1)) (finite_or s)) (λ n. inr (λ p. n p.0)) (finite_or r)
 
 -- a quotient holds each quotient of members
 pub quotient_holds : (r s t : Range) (x y : Fraction) → IsQuotient r s t → Lies r x → Lies s y → Lies t (x /ℚ y)

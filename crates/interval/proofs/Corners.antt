@@ -5,12 +5,13 @@ use Rattle.fx_model.specs.Fraction.{Fraction, ◌*ℚ◌, ◌≤ℚ◌, ◌<ℚ�
 use Rattle.fx_model.specs.Grid.{Bound, At, IsDown, neg_bound}
 use Rattle.fx_model.specs.Enclosure.{Range, Lies, Products, IsInfimum, IsSupremum, IsOrdered, BoundLe, infimum_at, member_of, mirror, lies_mirror, lies_mirrored, enclosure_ordered}
 use Rattle.grid_words.specs.Signs.{times_up, times_down, factor_down}
-use Rattle.interval.proofs.Inequalities.{down-le, bound_antisymm}
+use Rattle.interval.proofs.Inequalities.{down-le}
 use Rattle.interval.specs.Enclosures.{supremum_neg}
+use Rattle.dyadic.specs.Extremes.{BoundLe-antisymm}
 
 least_is : (e f g : Bound) → BoundLe f g → BoundLe e f → (e ≡ f) ⊎ (e ≡ g) → e ≡ f
 least_is e f g h s (inl p) = p
-least_is e f g h s (inr p) = bound_antisymm e f s (subst (λ y. BoundLe f y) (sym p) h)
+least_is e f g h s (inr p) = BoundLe-antisymm e f s (subst (λ y. BoundLe f y) (sym p) h)
 
 swap : {A B : Type 0} → A ⊎ B → B ⊎ A
 swap (inl p) = inr p

@@ -6,31 +6,7 @@ use Rattle.fx_model.specs.Powers.{scaled, scaled-le, scaled-zero, scaled-le_out}
 use Rattle.fx_model.specs.Grid.{Bound, Below, At, Above, IsDown}
 use Rattle.fx_model.specs.Enclosure.{BoundLe, IsFrom, IsUpTo, within_in}
 
--- ---- signs of written numbers
-pub scaled_up : (m e : ℤ) → pos 0 ≤ℤ m → zero_ℚ ≤ℚ scaled m e
-scaled_up m e h = subst (λ z. z ≤ℚ scaled m e) (scaled-zero e) (scaled-le (pos 0) m e h)
-
-pub scaled_down : (m e : ℤ) → m ≤ℤ pos 0 → scaled m e ≤ℚ zero_ℚ
-scaled_down m e h = subst (λ z. scaled m e ≤ℚ z) (scaled-zero e) (scaled-le m (pos 0) e h)
-
-pub scaled_up_out : (m e : ℤ) → zero_ℚ ≤ℚ scaled m e → pos 0 ≤ℤ m
-scaled_up_out m e h = scaled-le_out (pos 0) m e (subst (λ z. z ≤ℚ scaled m e) (sym (scaled-zero e)) h)
-
-pub scaled_down_out : (m e : ℤ) → scaled m e ≤ℚ zero_ℚ → m ≤ℤ pos 0
-scaled_down_out m e h = scaled-le_out m (pos 0) e (subst (λ z. scaled m e ≤ℚ z) (sym (scaled-zero e)) h)
-
 -- ---- ends
-pub bound_antisymm : (b c : Bound) → BoundLe b c → BoundLe c b → b ≡ c
-bound_antisymm Below Below h k = refl
-bound_antisymm Below (At g) h k = absurd k
-bound_antisymm Below Above h k = absurd k
-bound_antisymm (At g) Below h k = absurd h
-bound_antisymm (At g) (At i) h k = ap At (le_antisymm g i h k)
-bound_antisymm (At g) Above h k = absurd k
-bound_antisymm Above Below h k = absurd h
-bound_antisymm Above (At g) h k = absurd h
-bound_antisymm Above Above h k = refl
-
 pub bound_total : (b c : Bound) → ¬ (BoundLe b c) → BoundLe c b
 bound_total Below c h = absurd (h tt)
 bound_total (At g) Below h = tt

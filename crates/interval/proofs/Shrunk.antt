@@ -107,13 +107,6 @@ end_up_by k (At x) c d e p q r = by d (subst (λ y. IsEndDown k y d) p q) r
     by (At m) q r = subst (λ y. IsEndUp k (At x) y) (sym r) (up_by k x m q)
     by Above q r = absurd q
 
-pub gap_of : (k e : ℤ) → k ≤ℤ e → (t : ℕ) × (e ≡ k +ℤ pos t)
-gap_of k e h = by (e +ℤ neg_ℤ k) refl
-  where
-    by : (d : ℤ) → e +ℤ neg_ℤ k ≡ d → (t : ℕ) × (e ≡ k +ℤ pos t)
-    by (pos t) p = (t, omega (arith, ints))
-    by (negsuc t) p = absurd (omega (arith, ints))
-
 pub shifted_grid : (q k : ℤ) → unsigned_abs q < 1152921504606846976 → negsuc 511 ≤ℤ k → k ≤ℤ pos 512 → IsOnGrid (scaled q k)
 shifted_grid q k s l h = record {
   mantissa = q;

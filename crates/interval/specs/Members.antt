@@ -1,6 +1,7 @@
 -- What lies in intervals, and intervals within intervals by what lies in them.
 use Rattle.std.specs.Prelude.{◌≡◌, ◌&&◌, Bool, true, false, refl}
 use Rattle.std.proofs.Common.{sym, subst, ⊎_elim}
+use Rattle.std.proofs.lemmas.Bool.{and_parts}
 use Rattle.fx_model.specs.Fraction.{Fraction, ◌+ℚ◌, ◌-ℚ◌, ◌≤ℚ◌, zero_ℚ, one_ℚ, le_refl, le_trans, lt_le, lt_not, le_or_lt, minus_one, plus_one}
 use Rattle.fx_model.specs.Grid.{Bound, Below, At, Above, IsDown, IsUp}
 use Rattle.fx_model.specs.Enclosure.{Range, IsOrdered, IsFrom, IsUpTo, Lies, BoundLe, Within, IsInfimum, IsSupremum, in_enclosure, member_of, within_in, lower_up_to, higher_from, end_up_to, end_from}
@@ -108,13 +109,9 @@ high_of_point x Above end.High i l = tt
 pub alone_within : (x : Fraction) (j : Interval) → Lies (range_of j) x → Within (range_of (point_of x)) (range_of j)
 alone_within x j l = (low_of_point x (range_of (point_of x)).low j.lo (point_of-is x).low l.0, high_of_point x (range_of (point_of x)).high j.hi (point_of-is x).high l.1)
 
-both_true : (a b : Bool) → (a && b) ≡ true → (a ≡ true) × (b ≡ true)
-both_true true b e = (refl, e)
-both_true false b e = cc
-
 -- ---- what a test finds lies there
 pub number_found : (r : Range) (x : Fraction) → (le_bound r.low (At x) && le_bound (At x) r.high) ≡ true → Lies r x
-number_found r x e = let a = both_true (le_bound r.low (At x)) (le_bound (At x) r.high) e in
+number_found r x e = let a = and_parts (le_bound r.low (At x)) (le_bound (At x) r.high) e in
     (from_in r.low (BoundLe_in r.low (At x) a.0), up_to_in r.high (BoundLe_in (At x) r.high a.1))
   where
     from_in : (b : Bound) → BoundLe b (At x) → IsFrom b x

@@ -11,7 +11,8 @@ use Rattle.interval.specs.declared.interval.Interval.{Interval}
 use Rattle.interval.specs.Ends.{AreEnds}
 use Rattle.interval.specs.Intervals.{range_of}
 use Rattle.interval.specs.Meets.{interval_from, interval_from-some, interval_from_out}
-use Rattle.interval.specs.Results.{negation_of, negation_of-is, size_of, size_of-is, sum_of, sum_of-is, difference_of, difference_of-is, product_of, product_of-is, quotient_of, quotient_of-some, quotient_of-is, both_finite_or}
+use Rattle.interval.specs.Results.{negation_of, negation_of-is, size_of, size_of-is, sum_of, sum_of-is, difference_of, difference_of-is, product_of, product_of-is, quotient_of, quotient_of-some, quotient_of-is}
+use Rattle.fx_model.specs.Enclosure.Unique.{both_or}
 
 -- ---- ends
 pub neg_bound-falls : (b c : Bound) → BoundLe b c → BoundLe (neg_bound c) (neg_bound b)
@@ -84,7 +85,7 @@ product_of-within i j k l v w =
     ⊎_elim (λ f. enclosure_isotone (Products (range_of k) (range_of l)) (Products (range_of i) (range_of j)) (range_of (product_of k l)) (range_of (product_of i j))
     (λ z t. (t.0, t.1, within_in (range_of i) (range_of k) t.0 v t.2, within_in (range_of j) (range_of l) t.1 w t.3, t.4))
     (q.finite f.0 f.1) (p.finite (finite_within i k v f.0) (finite_within j l w f.1)))
-    (λ n. in_whole_line (range_of (product_of i j)) (range_of (product_of k l)) (q.infinite n)) (both_finite_or (range_of k) (range_of l))
+    (λ n. in_whole_line (range_of (product_of i j)) (range_of (product_of k l)) (q.infinite n)) (both_or (range_of k) (range_of l))
 
 -- where 0 doesn't lie in the greater divisor, it doesn't in the smaller
 pub quotient_of-within : (i j k l q : Interval) → Within (range_of i) (range_of k) → Within (range_of j) (range_of l) → quotient_of k l ≡ Some q → (p : Interval) × (quotient_of i j ≡ Some p) × Within (range_of p) (range_of q)
@@ -97,5 +98,5 @@ quotient_of-within i j k l q v w e =
       ⊎_elim (λ f. enclosure_isotone (Quotients (range_of k) (range_of l)) (Quotients (range_of i) (range_of j)) (range_of q) (range_of h.0)
           (λ z t. (t.0, t.1, within_in (range_of i) (range_of k) t.0 v t.2, within_in (range_of j) (range_of l) t.1 w t.3, t.4))
           (b.finite f.0 f.1) (a.finite (finite_within i k v f.0) (finite_within j l w f.1)))
-          (λ n. in_whole_line (range_of h.0) (range_of q) (b.infinite n)) (both_finite_or (range_of k) (range_of l)),
+          (λ n. in_whole_line (range_of h.0) (range_of q) (b.infinite n)) (both_or (range_of k) (range_of l)),
     )

@@ -19,6 +19,7 @@ use Rattle.interval.specs.declared.interval.Interval.{Interval}
 use Rattle.interval.specs.Intervals.{range_of, same_range}
 use Rattle.interval.specs.Literals.{Alone}
 use Rattle.interval.specs.Decided.{made, made-some, made-none, made_out}
+use Rattle.fx_model.specs.Enclosure.Unique.{both_or}
 
 -- the ends of a range are in order, and of the grid where they are finite
 pub record IsGridRange (r : Range) : Type 0 where
@@ -111,15 +112,12 @@ size_of-is i = subst (IsSize (range_of i)) (sym (interval_of-range (size_range (
 pub size_only : (i k : Interval) → IsSize (range_of i) (range_of k) → k ≡ size_of i
 size_only i k p = same_range k (size_of i) (enclosure_unique (Sizes (range_of i)) (range_of k) (range_of (size_of i)) p (size_of-is i))
 
-pub both_finite_or : (r s : Range) → (IsFinite r × IsFinite s) ⊎ (¬ (IsFinite r × IsFinite s))
-both_finite_or r s = ⊎_elim (λ f. ⊎_elim (λ g. inl (f, g)) (λ n. inr (λ p. n p.1)) (finite_or s)) (λ n. inr (λ p. n p.0)) (finite_or r)
-
 -- ---- products, and quotients where 0 isn't in the divisor
 product_grid : (i j : Interval) → IsGridRange (product_range (range_of i) (range_of j))
 product_grid i j =
     let p = product_range_is (range_of i) (range_of j) i.ordered j.ordered in
     ⊎_elim (λ f. enclosed (Products (range_of i) (range_of j)) (product_range (range_of i) (range_of j)) (product_range_ordered (range_of i) (range_of j) i.ordered j.ordered) (p.finite f.0 f.1))
-    (λ n. whole_grid (product_range (range_of i) (range_of j)) (p.infinite n)) (both_finite_or (range_of i) (range_of j))
+    (λ n. whole_grid (product_range (range_of i) (range_of j)) (p.infinite n)) (both_or (range_of i) (range_of j))
 
 pub product_of : Interval → Interval → Interval
 product_of i j = interval_of (product_range (range_of i) (range_of j)) (product_grid i j)
@@ -195,7 +193,7 @@ quotient_grid p n =
     let r = range_of p.0 in let s = range_of p.1 in
     let q = quotient_range_is r s p.0.ordered p.1.ordered n in
     ⊎_elim (λ f. enclosed (Quotients r s) (quotient_range r s) (quotient_range_ordered r s p.0.ordered p.1.ordered n) (q.finite f.0 f.1))
-    (λ n. whole_grid (quotient_range r s) (q.infinite n)) (both_finite_or r s)
+    (λ n. whole_grid (quotient_range r s) (q.infinite n)) (both_or r s)
 
 quotient_with : (p : Interval × Interval) → IsNonzero p → Interval
 quotient_with p n = interval_of (quotient_range (range_of p.0) (range_of p.1)) (quotient_grid p n)
@@ -222,7 +220,7 @@ quotient_of-is i j k e = let q = made_out IsNonzero nonzero_prop nonzero_test no
     subst (λ k. IsQuotient (range_of i) (range_of j) (range_of k)) q.1 (quotient_with-is (i, j) q.0)
 
 pub quotient_unique : (r s t u : Range) → IsQuotient r s t → IsQuotient r s u → t ≡ u
-quotient_unique r s t u i j = ⊎_elim (λ f. enclosure_unique (Quotients r s) t u (i.finite f.0 f.1) (j.finite f.0 f.1)) (λ n. i.infinite n ∙ sym (j.infinite n)) (both_finite_or r s)
+quotient_unique r s t u i j = ⊎_elim (λ f. enclosure_unique (Quotients r s) t u (i.finite f.0 f.1) (j.finite f.0 f.1)) (λ n. i.infinite n ∙ sym (j.infinite n)) (both_or r s)
 
 pub quotient_only : (i j k : Interval) → IsQuotient (range_of i) (range_of j) (range_of k) → quotient_of i j ≡ Some k
 quotient_only i j k p = let q = quotient_of-some i j p.nonzero in

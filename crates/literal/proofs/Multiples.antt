@@ -4,7 +4,7 @@ use Rattle.std.proofs.lemmas.Int.{ints, by_lt_z}
 use Rattle.std.proofs.Math.Nat.{pow-succ'}
 use Rattle.std.proofs.lemmas.Nat.{pow-add, mul-pow, mul-mod, mod-mul-add}
 use Rattle.fx_model.specs.Fraction.{◌*ℚ◌, ◌≤ℚ◌, ◌<ℚ◌, zero_ℚ, inverse_ℚ, mul-inverse, mul_comm, mul_assoc, mul_cancel, mul-one, le_refl}
-use Rattle.fx_model.specs.Powers.{whole, two_to, scaled, scaled-shift, scaled-le_out, whole-mul, IsMultiple}
+use Rattle.fx_model.specs.Powers.{whole, two_to, scaled, scaled-shift, scaled-le_out, whole-mul, IsMultiple, scaled-same}
 use Rattle.fx_model.specs.Expression.{literal_value}
 use Rattle.fx_model.specs.Cut.Gaps.{gap_le}
 use Rattle.fx_model.specs.declared.Literal.{Literal}
@@ -12,12 +12,6 @@ use Rattle.literal.specs.Normal.{IsFix, IsCapped}
 use Rattle.literal.specs.Tens.{whole_positive, pow_positive, not_zero}
 
 -- ---- an odd number times 2^k is a multiple of 2^j where j is at most k, and of no other
-scaled_same : (m n e : ℤ) → scaled m e ≡ scaled n e → m ≡ n
-scaled_same m n e h =
-    let a : m ≤ℤ n = scaled-le_out m n e (subst (λ y. scaled m e ≤ℚ y) h (le_refl (scaled m e))) in
-    let b : n ≤ℤ m = scaled-le_out n m e (subst (λ y. y ≤ℚ scaled m e) h (le_refl (scaled m e))) in
-    omega (arith, ints)
-
 no_half : (o : ℕ) (z : ℤ) → pos o ≡ z *ℤ pos 2 → o % 2 ≡ 1 → ⊥
 no_half o (pos n) h k = let e : o ≡ n * 2 = cc in omega arith
 no_half o (negsuc n) h k = omega (arith, ints)
@@ -26,7 +20,7 @@ pub multiple_least : (o : ℕ) (k j m : ℤ) → o % 2 ≡ 1 → scaled (pos o) 
 multiple_least o k j m odd h = by_lt_z k j (λ l. absurd (above (gap_le (k +ℤ pos 1) j (omega (arith, ints))))) (λ l. l)
   where
     above : ((s : ℕ) × (j ≡ (k +ℤ pos 1) +ℤ pos s)) → ⊥
-    above g = no_half o (m *ℤ pos (2 ^ g.0)) (scaled_same (pos o) ((m *ℤ pos (2 ^ g.0)) *ℤ pos 2) k (h ∙ ap (scaled m) g.1 ∙ scaled-shift m (k +ℤ pos 1) g.0 ∙ scaled-shift (m *ℤ pos (2 ^ g.0)) k 1)) odd
+    above g = no_half o (m *ℤ pos (2 ^ g.0)) (scaled-same (pos o) ((m *ℤ pos (2 ^ g.0)) *ℤ pos 2) k (h ∙ ap (scaled m) g.1 ∙ scaled-shift m (k +ℤ pos 1) g.0 ∙ scaled-shift (m *ℤ pos (2 ^ g.0)) k 1)) odd
 
 pub multiple_below : (o : ℕ) (k j : ℤ) → j ≤ℤ k → IsMultiple j (scaled (pos o) k)
 multiple_below o k j h = let g = gap_le j k h in (pos o *ℤ pos (2 ^ g.0), ap (scaled (pos o)) g.1 ∙ scaled-shift (pos o) j g.0)
@@ -140,10 +134,10 @@ module _ (num d : ℕ) where
   multiple_by_five (pos a) m =
       let z : pos a ≡ pos 0 +ℤ pos a = omega (arith, ints) in
       let v : literal_value part ≡ scaled (m.0 *ℤ pos (2 ^ a)) (pos 0) = m.1 ∙ ap (scaled m.0) z ∙ scaled-shift m.0 (pos 0) a in
-      by_five 0 (m.0 *ℤ pos (2 ^ a)) (one num ∙ scaled_same (pos num) (pos (10 ^ (d + 1)) *ℤ (m.0 *ℤ pos (2 ^ a))) (pos 0) (level (m.0 *ℤ pos (2 ^ a)) (pos 0) v))
+      by_five 0 (m.0 *ℤ pos (2 ^ a)) (one num ∙ scaled-same (pos num) (pos (10 ^ (d + 1)) *ℤ (m.0 *ℤ pos (2 ^ a))) (pos 0) (level (m.0 *ℤ pos (2 ^ a)) (pos 0) v))
     where
       one : (n : ℕ) → pos (n * 2 ^ 0) ≡ pos n
       one n = ap pos (omega arith)
   multiple_by_five (negsuc b) m =
       let z : pos 0 ≡ negsuc b +ℤ pos (b + 1) = omega (arith, ints) in
-      by_five (b + 1) m.0 (scaled_same (pos (num * 2 ^ (b + 1))) (pos (10 ^ (d + 1)) *ℤ m.0) (negsuc b) (sym (scaled-shift (pos num) (negsuc b) (b + 1)) ∙ ap (scaled (pos num)) (sym z) ∙ level m.0 (negsuc b) m.1))
+      by_five (b + 1) m.0 (scaled-same (pos (num * 2 ^ (b + 1))) (pos (10 ^ (d + 1)) *ℤ m.0) (negsuc b) (sym (scaled-shift (pos num) (negsuc b) (b + 1)) ∙ ap (scaled (pos num)) (sym z) ∙ level m.0 (negsuc b) m.1))

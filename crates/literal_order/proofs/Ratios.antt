@@ -5,23 +5,21 @@ use Rattle.std.proofs.lemmas.Bool.{ltb-true, lt-ltb}
 use Rattle.fx_model.specs.Fraction.{Fraction, ◌*ℚ◌, ◌≤ℚ◌, ◌<ℚ◌, zero_ℚ, lt_by, lt_not, lt_le, mul-le_cancel, mul-lt, mul-lt_cancel, mul_comm, mul_assoc, zero-mul}
 use Rattle.literal.specs.Tens.{whole_positive}
 use Rattle.fx_model.specs.Powers.{whole, two_to, scaled, whole-mul, scaled-lt, scaled-lt_out, scaled-le, scaled-shift, scaled-zero}
+use Rattle.fx_model.specs.Cut.Digits.{scaled_times}
 
 -- the value is n * 2^t / d
 pub record IsRatio (v : Fraction) (n d : ℕ) (t : ℤ) : Type 0 where
   pub value : whole (pos d) *ℚ v ≡ scaled (pos n) t
   pub some : 0 < d
 
-times_whole : (n d : ℕ) (t : ℤ) → whole (pos d) *ℚ scaled (pos n) t ≡ scaled (pos (n * d)) t
-times_whole n d t = sym (mul_assoc (whole (pos d)) (whole (pos n)) (two_to t)) ∙ ap (λ x. x *ℚ two_to t) (mul_comm (whole (pos d)) (whole (pos n)) ∙ sym (whole-mul (pos n) (pos d)))
-
 -- two of them compare as their numbers across, at their places
 pub across : (x y : Fraction) (n d m e : ℕ) (t u : ℤ) → IsRatio x n d t → IsRatio y m e u → scaled (pos (n * e)) t <ℚ scaled (pos (m * d)) u ↔ x <ℚ y
 across x y n d m e t u a b =
     let p = whole_positive d a.some in
     let q = whole_positive e b.some in
-    let f : whole (pos e) *ℚ (whole (pos d) *ℚ x) ≡ scaled (pos (n * e)) t = ap (λ z. whole (pos e) *ℚ z) a.value ∙ times_whole n e t in
+    let f : whole (pos e) *ℚ (whole (pos d) *ℚ x) ≡ scaled (pos (n * e)) t = ap (λ z. whole (pos e) *ℚ z) a.value ∙ scaled_times n e t in
     let g : whole (pos e) *ℚ (whole (pos d) *ℚ y) ≡ scaled (pos (m * d)) u =
-    sym (mul_assoc (whole (pos e)) (whole (pos d)) y) ∙ ap (λ z. z *ℚ y) (mul_comm (whole (pos e)) (whole (pos d))) ∙ mul_assoc (whole (pos d)) (whole (pos e)) y ∙ ap (λ z. whole (pos d) *ℚ z) b.value ∙ times_whole m d u in (
+    sym (mul_assoc (whole (pos e)) (whole (pos d)) y) ∙ ap (λ z. z *ℚ y) (mul_comm (whole (pos e)) (whole (pos d))) ∙ mul_assoc (whole (pos d)) (whole (pos e)) y ∙ ap (λ z. whole (pos d) *ℚ z) b.value ∙ scaled_times m d u in (
       λ h. mul-lt_cancel (whole (pos d)) x y (lt_le zero_ℚ (whole (pos d)) p) (mul-lt_cancel (whole (pos e)) (whole (pos d) *ℚ x) (whole (pos d) *ℚ y) (lt_le zero_ℚ (whole (pos e)) q) (subst (λ z. z <ℚ whole (pos e) *ℚ (whole (pos d) *ℚ y)) (sym f) (subst (λ z. scaled (pos (n * e)) t <ℚ z) (sym g) h))),
       λ h. subst (λ z. z <ℚ scaled (pos (m * d)) u) f (subst (λ z. whole (pos e) *ℚ (whole (pos d) *ℚ x) <ℚ z) g (mul-lt (whole (pos e)) (whole (pos d) *ℚ x) (whole (pos d) *ℚ y) q (mul-lt (whole (pos d)) x y p h))),
     )

@@ -3,6 +3,7 @@ use Rattle.std.proofs.Common.{◌≡◌, nat_lt, List, [], ◌∷◌, Option, So
 use Rattle.std.specs.List.{AllByRecursion}
 use Rattle.std.specs.Str.{bytes_eq}
 use Rattle.std.proofs.lemmas.Slice.Eq.{bytes_eq-Decides}
+use Rattle.std.proofs.lemmas.Bool.{or_parts}
 use Rattle.fx_model.specs.declared.Rounding.{Rounding}
 use Rattle.fx_model.specs.declared.ExprId.{ExprId}
 use Rattle.script_words.specs.declared.class.Spelled.TheVariants as spelled
@@ -18,18 +19,18 @@ use Rattle.script_judge.specs.Bounds.{is_bad_bound}
 use Rattle.script_judge.specs.Numbers.{Verdict, has_no_pieces}
 use Rattle.script_judge.specs.Subject.{Subject, nothing, node_of, other, Alias, aliases_after}
 use Rattle.script_judge.specs.Splits.{is_rangeless, is_bad_point}
-use Rattle.script_judge.specs.Judge.{Seen, seen_after, has_arrow, is_empty, is_on_wrong_side, form_kind, form_refusal, limit_refusal, refusal_at, nothing_seen}
+use Rattle.script_judge.specs.Judge.{Seen, seen_after, has_arrow, is_empty, is_on_wrong_side, form_kind, form_refusal, limit_refusal, refusal_at, nothing_seen, fails, both_none}
 use Rattle.script_nodes.specs.Known.{Known, Placed, entry_of, with_entry}
 use Rattle.script_nodes.specs.Operators.{rounding_of}
 use Rattle.script_nodes.specs.Values.{expr_value}
 use Rattle.script_nodes.specs.Definitions.{name_text, rounding_by, with_value, with_operator, definition_value}
 use Rattle.node_counts.proofs.There.{itself_eq}
-use Rattle.node_counts.proofs.Kept.{Among, IsMore, more_some, SubjectAmong, IsKept, fails, neither, both_none}
+use Rattle.node_counts.proofs.Kept.{Among, IsMore, more_some, SubjectAmong, IsKept}
 use Rattle.node_counts.proofs.Passing.{Passes, passes_both, passes_kept}
 use Rattle.node_counts.proofs.Numbers.{HasNumber, by_value, by_variable, Keeps, expr_keeps}
-use Rattle.node_counts.proofs.FewHalves.{all_last}
 use Rattle.node_counts.proofs.Plain.{IsCalm, IsNoRange, words_still, IsPlain, words_plain, IsSilent, words_silent, inner_plain, inner_no_range, no_alias, word_ranges}
 use Rattle.node_counts.proofs.Subjects.{bare, subject_by, expr_said, Says, expr_says, IsTied, Tied, tied_later}
+use Rattle.facts.specs.CommonParts.{all_last}
 
 -- ---- a value joins
 
@@ -123,7 +124,7 @@ nothing_stands k = record {
 
 -- ---- words of a definition
 
--- neither names nor words of expressions
+-- or_parts names nor words of expressions
 abbrev IsStatic : Due → Type 0
 IsStatic d.Script = ⊥
 IsStatic d.NewName = ⊥
@@ -191,7 +192,7 @@ fresh_at v seen r w behind text e n =
     let named = split_name r w in
     let used = used_test (is_on_wrong_side r w (has_arrow behind) (is_empty behind)) (is_used seen.names (defines r w) behind) (is_bad_bound seen.bounds v.number)
     (is_rangeless seen.splits.ranges (is_some_among seen.names.defined named) named) (is_some_among seen.names.defined named) (has_no_pieces r w) (is_bad_point seen.splits (nat_lt 0 seen.counts.pieces) v.number) v.past form.0 in
-    (neither (is_among seen.names.known text) (is_used_before_end text behind) (sym (ap (λ o. is_used seen.names o behind) n) ∙ used)).0
+    (or_parts (is_among seen.names.known text) (is_used_before_end text behind) (sym (ap (λ o. is_used seen.names o behind) n) ∙ used)).0
 
 record IsHead (text : Name) (seen last : Seen) : Type 0 where
   fresh : is_among seen.names.known text ≡ false

@@ -1,5 +1,6 @@
 -- The range that the judge finds behind an expression is that of the claim.
 use Rattle.std.proofs.Common.{◌≡◌, ◌⊎◌, ℕ, nat_lt, inl, inr, List, [], ◌∷◌, Option, Some, None, Bool, true, false, not, ◌&&◌, if◌then◌else◌, refl, sym, ap, ◌∙◌, subst}
+use Rattle.std.proofs.lemmas.Bool.{not-false, or_parts}
 use Rattle.fx_model.specs.Fraction.{Fraction, le_ℚ}
 use Rattle.fx_model.specs.Expression.{literal_value}
 use Rattle.fx_model.specs.Grid.{signed}
@@ -31,14 +32,13 @@ use Rattle.script_judge.specs.Bounds.{is_crossed, is_bad_bound, is_some_too_low,
 use Rattle.script_judge.specs.Numbers.{Verdict, Tells, has_no_pieces}
 use Rattle.script_judge.specs.Sides.{has_arrow}
 use Rattle.script_judge.specs.Splits.{Ends, ends_at, ends_between, ranges_after, is_rangeless, is_bad_point}
-use Rattle.script_judge.specs.Judge.{Seen, seen_after, is_empty, is_on_wrong_side, form_kind, form_refusal, limit_refusal, refusal_at}
+use Rattle.script_judge.specs.Judge.{Seen, seen_after, is_empty, is_on_wrong_side, form_kind, form_refusal, limit_refusal, refusal_at, fails, both_none}
 use Rattle.script_nodes.specs.Literals.{literal_of, LiteralsAreTold, SpelledOnce}
 use Rattle.script_nodes.specs.Written.{bound_written}
 use Rattle.script_bounds.specs.Bounds.{written_range, outward_of}
 use Rattle.script_claims.specs.declared.claim.Claim.TheVariants.{Bounded}
 use Rattle.script_claims.specs.Claims.{ranged}
 use Rattle.node_counts.specs.Ranges.{GivesRange}
-use Rattle.node_counts.proofs.Kept.{fails, neither, both_none}
 use Rattle.node_counts.proofs.Told.{Reads, reads_both}
 use Rattle.node_counts.proofs.Plain.{IsCalm, no_range, word_ranges, word_calm}
 
@@ -130,10 +130,6 @@ record UpperRead (b : Bound) (rest : List Leaf) (seen last : Seen) : Type 0 wher
 bad_test : (side used bad rangeless defined none point past : Bool) → form_kind side used bad rangeless defined none point past ≡ None → bad ≡ false
 bad_test side used bad rangeless defined none point past e = let a = fails side _ _ e in let b = fails used _ _ a.1 in (fails bad _ _ b.1).0
 
-not_false : (b : Bool) → not b ≡ false → b ≡ true
-not_false true e = refl
-not_false false e = absurd (cc e)
-
 -- bounds that aren't refused are in order
 in_order : (v : Verdict) (seen : Seen) (r : Due) (w : Word) (behind : List Leaf) → refusal_at v seen r w behind ≡ None → (x y : Fraction) → seen.bounds.lower ≡ Some x → v.number ≡ Some y → le_ℚ x y ≡ true
 in_order v seen r w behind e x y low high =
@@ -141,8 +137,8 @@ in_order v seen r w behind e x y low high =
     let named = split_name r w in
     let bad = bad_test (is_on_wrong_side r w (has_arrow behind) (is_empty behind)) (is_used seen.names (defines r w) behind) (is_bad_bound seen.bounds v.number)
     (is_rangeless seen.splits.ranges (is_some_among seen.names.defined named) named) (is_some_among seen.names.defined named) (has_no_pieces r w) (is_bad_point seen.splits (nat_lt 0 seen.counts.pieces) v.number) v.past form.0 in
-    let crossed = (neither (is_crossed seen.bounds.lower v.number) (seen.bounds.relative && seen.bounds.lower_due && is_some_too_low v.number) bad).0 in
-    not_false (le_ℚ x y) (sym (ap (λ o. is_crossed o v.number) low ∙ ap (is_crossed (Some x)) high) ∙ crossed)
+    let crossed = (or_parts (is_crossed seen.bounds.lower v.number) (seen.bounds.relative && seen.bounds.lower_due && is_some_too_low v.number) bad).0 in
+    not-false (le_ℚ x y) (sym (ap (λ o. is_crossed o v.number) low ∙ ap (is_crossed (Some x)) high) ∙ crossed)
 
 signed_upper : (b : Bound) (w v : Word) (rest : List Leaf) (seen last : Seen) → ((x : Fraction) → IsBoundOf d.Bound w (at d.Magnitude v ∷ rest) x → x ≡ written_value (bound_written b)) → Reads seen (at d.Bound w ∷ (at d.Magnitude v ∷ [])) rest last → seen.bounds.lower_due ≡ false → UpperRead b rest seen last
 signed_upper b w v rest seen last is p due =

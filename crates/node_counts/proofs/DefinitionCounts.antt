@@ -25,6 +25,7 @@ use Rattle.node_counts.proofs.Sizes.{size, value_size, operator_size}
 use Rattle.node_counts.proofs.Weights.{own}
 use Rattle.node_counts.proofs.Passing.{Passes, passes_both, passes_kept, IsStill, passes_quiet}
 use Rattle.node_counts.proofs.ExpressionCounts.{expr_counts}
+use Rattle.node_counts.proofs.There.{or_more}
 
 -- no definition is being read, and there are no more nodes than may be
 pub record IsBetween (ops : List Name) (seen : Seen) (k : Known) : Type 0 where
@@ -200,12 +201,8 @@ pub record IsDefined (ops : List Name) (rest : List Leaf) (last : Seen) (k : Kno
   pub kept : IsKept ops last
   pub marked : Marked ops nothing rest
 
-one_more : (a b c : Bool) → (b ≡ true → c ≡ true) → (a || b) ≡ true → (a || c) ≡ true
-one_more true b c f h = refl
-one_more false b c f h = f h
-
 operators_more : (ops old new : List Name) (text : Name) → IsMore ops old → new ≡ text ∷ old → IsMore (text ∷ ops) new
-operators_more ops old new text more e n h = ap (λ names. is_among names n) e ∙ one_more (bytes_eq text n) (is_among ops n) (is_among old n) (more n) h
+operators_more ops old new text more e n h = ap (λ names. is_among names n) e ∙ or_more (bytes_eq text n) (is_among ops n) (is_among old n) (more n) h
 
 pub definition_counts : ReadsTrees → (x : Definition) (rest : List Leaf) (ops : List Name) (k : Known) (seen last : Seen) → Marked ops nothing (definition_leaves x ++ rest) → Passes seen (definition_leaves x) last → IsKept ops seen → IsBetween ops seen k
     → (new : List Name) × IsDefined new rest last (definition_value x k)

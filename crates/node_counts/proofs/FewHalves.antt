@@ -13,11 +13,10 @@ use Rattle.script_shape.specs.Roles.{Leaf, expr_leaves, name_leaves, needs_leave
 use Rattle.script_shape.specs.Inner.{EachRole, IsInner, each_of_both, each_as, name_roles, operator_roles, expr_inner}
 use Rattle.script_judge.specs.Names.{Name, is_among, split_name, halved_after}
 use Rattle.script_judge.specs.Numbers.{Verdict}
-use Rattle.script_judge.specs.Judge.{Seen, seen_after, has_arrow, form_refusal, limit_refusal, Judged, nothing_seen}
+use Rattle.script_judge.specs.Judge.{Seen, seen_after, has_arrow, form_refusal, limit_refusal, Judged, nothing_seen, both_none}
 use Rattle.script_nodes.specs.Definitions.{definition_value}
 use Rattle.script_claims.specs.Claims.{formula_claims}
 use Rattle.node_counts.specs.Few.{hints_behind}
-use Rattle.node_counts.proofs.Kept.{both_none}
 use Rattle.node_counts.proofs.FewHints.{limits_hold, hints_of}
 use Rattle.node_counts.proofs.WordRoles.{IsOfProp, prop_roles, IsOfPart, needs_roles, cut_roles}
 use Rattle.script_nodes.specs.Known.{Known, named}
@@ -27,6 +26,7 @@ use Rattle.script_nodes.specs.Definitions.{name_text}
 use Rattle.node_counts.proofs.There.{any_before, any_last}
 use Rattle.node_counts.proofs.Passing.{Passes, passes_all, passes_both}
 use Rattle.node_counts.proofs.Numbers.{HasNumber, Keeps, keeps_both, keeps_itself, named_keeps, expr_keeps, named_has, number_once}
+use Rattle.facts.specs.CommonParts.{all_last}
 
 -- ---- the judge lets no more than 4 pass
 
@@ -77,10 +77,6 @@ variable_more xs x n false h = any_before (same_number n) xs (x ∷ []) h
 pub variable_length : (xs : List ExprId) (x : ExprId) (b : Bool) → length (if b then xs else xs ++ (x ∷ [])) ≤ 1 + length xs
 variable_length xs x true = omega arith
 variable_length xs x false = omega (arith, length-append xs (x ∷ []))
-
-pub all_last : {A : Type 0} (P : A → Type 0) (xs : List A) (x : A) → AllByRecursion P xs → P x → AllByRecursion P (xs ++ (x ∷ []))
-all_last P [] x h p = (p, tt)
-all_last P (y ∷ xs) x h p = (h.0, all_last P xs x h.1 p)
 
 -- one name, by whether it was among those before
 module _ (n : AnyName) (x : HintsSoFar) (names : List Name) where

@@ -1,6 +1,6 @@
 -- A script that the judge lets pass has few hints.
 use Rattle.std.proofs.Common.{◌≡◌, ℕ, ◌+◌, ◌≤◌, nat_lt, List, [], ◌∷◌, length, None, Bool, refl, ap, subst, arith, le_refl}
-use Rattle.std.proofs.lemmas.Bool.{ltb-false}
+use Rattle.std.proofs.lemmas.Bool.{ltb-false, or_parts}
 use Rattle.script_words.specs.declared.class.Sign.TheVariants as s
 use Rattle.script_words.specs.Words.{sign}
 use Rattle.script_shape.specs.declared.due.Due.TheVariants as d
@@ -9,8 +9,7 @@ use Rattle.script_shape.specs.Roles.{Leaf, at, prop_leaves, formula_leaves, hint
 use Rattle.script_judge.specs.declared.counts.Counts.{Counts}
 use Rattle.script_judge.specs.declared.counts.Place.TheVariants as place
 use Rattle.script_judge.specs.Counts.{one_if, begins_hint, place_after}
-use Rattle.script_judge.specs.Judge.{Seen, seen_after, has_arrow, form_refusal, limit_kind, limit_refusal, Judged, nothing_seen}
-use Rattle.node_counts.proofs.Kept.{fails, neither, both_none}
+use Rattle.script_judge.specs.Judge.{Seen, seen_after, has_arrow, form_refusal, limit_kind, limit_refusal, Judged, nothing_seen, fails, both_none}
 use Rattle.node_counts.proofs.Passing.{Passes, passes_all, passes_both}
 use Rattle.node_counts.proofs.WordRoles.{IsOfProp, prop_roles, IsOfHint, hint_roles}
 use Rattle.node_counts.proofs.Places.{HasFirst, prop_first, hint_first, prop_enters, prop_stays, hint_enters, hint_stays, first_comes}
@@ -39,7 +38,7 @@ limits_hold opened halved c lsb past h =
     let low = fails lsb _ _ nodes.1 in
     let splits = fails _ _ _ low.1 in
     let more = fails _ _ _ splits.1 in
-    record { hints = ltb-false 64 c.hints hints.0; splits = ltb-false 4 c.splits (neither _ _ splits.0).0; halved = ltb-false 4 halved (neither _ _ splits.0).1; pieces = ltb-false 64 c.pieces (neither _ _ more.0).0 }
+    record { hints = ltb-false 64 c.hints hints.0; splits = ltb-false 4 c.splits (or_parts _ _ splits.0).0; halved = ltb-false 4 halved (or_parts _ _ splits.0).1; pieces = ltb-false 64 c.pieces (or_parts _ _ more.0).0 }
 
 pub all_within : (ls : List Leaf) (seen last : Seen) → Passes seen ls last → IsWithin seen → IsWithin last
 all_within [] seen last p h = subst IsWithin p h

@@ -11,7 +11,8 @@ use Rattle.script_hints.specs.declared.hint.HintList.{HintList}
 use Rattle.script_hints.specs.Hints.{same_number, with_variable, halved, HintsSoFar, with_halved, with_names, with_halving, with_hint, with_hints, no_hints}
 use Rattle.script_nodes.specs.Definitions.{name_text}
 use Rattle.node_counts.specs.Few.{hints_behind}
-use Rattle.node_counts.proofs.FewHalves.{variable_there, variable_more, variable_length, all_last}
+use Rattle.node_counts.proofs.FewHalves.{variable_there, variable_more, variable_length}
+use Rattle.facts.specs.CommonParts.{all_last}
 
 abbrev IsIn : List ExprId → ExprId → Type 0
 IsIn xs x = list_any (same_number x) xs ≡ true

@@ -20,9 +20,10 @@ use Rattle.script_nodes.specs.Written.{bound_written}
 use Rattle.script_hints.specs.Few.{HasFewPieces}
 use Rattle.node_counts.specs.Few.{HasFewHints, hints_behind, HintsAreFew}
 use Rattle.node_counts.proofs.FewHints.{hint_count, hints_counted, hints_of, hints_pass, all_within}
-use Rattle.node_counts.proofs.FewHalves.{all_last, halves_are_few}
+use Rattle.node_counts.proofs.FewHalves.{halves_are_few}
 use Rattle.node_counts.proofs.FewOrdered.{order_is_short}
 use Rattle.node_counts.proofs.FewCuts.{is_cut, cut_count, cuts_counted, point_count, CutIsFew, HintIsFew, AreFew, hints_few}
+use Rattle.facts.specs.CommonParts.{all_last}
 
 -- ---- pieces
 

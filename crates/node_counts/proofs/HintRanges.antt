@@ -31,13 +31,14 @@ use Rattle.node_counts.proofs.Kept.{split_ranged}
 use Rattle.node_counts.proofs.Passing.{Passes, passes_both}
 use Rattle.node_counts.proofs.WordRoles.{IsOfPart, IsOfHint, cut_roles, hint_roles}
 use Rattle.node_counts.proofs.Numbers.{HasNumber, Keeps, keeps_both, keeps_itself, named_keeps, expr_keeps, named_has, number_once}
-use Rattle.node_counts.proofs.FewHalves.{all_last, needs_keep}
+use Rattle.node_counts.proofs.FewHalves.{needs_keep}
 use Rattle.node_counts.proofs.Told.{Reads, reads_pass, reads_both, reads_all}
 use Rattle.node_counts.proofs.Plain.{IsCalm, IsNoRange, words_still, word_ranges, word_calm, no_alias, inner_no_range}
 use Rattle.node_counts.proofs.Subjects.{Tied}
 use Rattle.node_counts.proofs.Aliases.{Stands, nothing_stands, definition_stands}
 use Rattle.node_counts.proofs.BoundRanges.{HaveIntervals, range_read}
-use Rattle.node_counts.proofs.PropRanges.{Held, all_held, formula_formed}
+use Rattle.node_counts.proofs.PropRanges.{Held, formula_formed}
+use Rattle.facts.specs.CommonParts.{all_as, all_last}
 
 part_no_range : (r : Due) → IsOfPart r → IsNoRange r
 part_no_range d.Range h = h
@@ -208,7 +209,7 @@ module _ (told : LiteralsAreTold) (once : SpelledOnce) (law : HaveIntervals) whe
       let none : has_arrow (hints_leaves h ++ []) ≡ false = hints_no_arrow h [] refl in
       let start : Fine claims closed (cs.known, no_hints) = record {
         calm = word_calm m.0 both.0 d.CloseBrace (sign s.CloseBrace) tt formed.calm;
-        ranges = subst (AllByRecursion (Ranged claims cs.known)) (sym (word_ranges m.0 both.0 d.CloseBrace (sign s.CloseBrace) formed.calm.lower)) (all_held (Held (at d.CloseBrace (sign s.CloseBrace) ∷ (hints_leaves h ++ [])) cs) (Ranged claims cs.known) (held_ranged cs (at d.CloseBrace (sign s.CloseBrace) ∷ (hints_leaves h ++ [])) none) both.0.splits.ranges formed.held);
+        ranges = subst (AllByRecursion (Ranged claims cs.known)) (sym (word_ranges m.0 both.0 d.CloseBrace (sign s.CloseBrace) formed.calm.lower)) (all_as (Held (at d.CloseBrace (sign s.CloseBrace) ∷ (hints_leaves h ++ [])) cs) (Ranged claims cs.known) (held_ranged cs (at d.CloseBrace (sign s.CloseBrace) ∷ (hints_leaves h ++ [])) none) both.0.splits.ranges formed.held);
         said = record { cuts = tt; halves = tt; order = tt };
       } in
       (hints_fine claims h (cs.known, no_hints) closed last (reads_pass (hints_leaves h) [] closed last m.3) start).said

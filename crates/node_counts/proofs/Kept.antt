@@ -2,7 +2,7 @@
 use Rattle.std.proofs.Common.{◌≡◌, ℕ, ◌≤◌, nat_lt, List, [], ◌∷◌, ◌++◌, Option, Some, None, Bool, true, false, not, ◌&&◌, ◌||◌, if◌then◌else◌, refl, sym, ap, ◌∙◌}
 use Rattle.std.specs.Option.{is_some}
 use Rattle.std.specs.Str.{bytes_eq}
-use Rattle.std.proofs.lemmas.Bool.{ltb-false}
+use Rattle.std.proofs.lemmas.Bool.{ltb-false, or_right, or_parts}
 use Rattle.std.proofs.lemmas.Slice.Eq.{bytes_eq-Decides}
 use Rattle.script_words.specs.declared.class.Sign.{Sign}
 use Rattle.script_words.specs.declared.class.Sign.TheVariants as s
@@ -18,7 +18,7 @@ use Rattle.script_judge.specs.Subject.{Subject, nothing, node_of, other, Alias, 
 use Rattle.script_judge.specs.Splits.{Ends, SplitRange, with_range, ranges_after, range_of, is_rangeless, is_bad_point}
 use Rattle.script_judge.specs.Splits as splits
 use Rattle.script_judge.specs.Numbers.{Verdict, has_no_pieces}
-use Rattle.script_judge.specs.Judge.{Seen, seen_after, has_arrow, is_empty, is_on_wrong_side, form_kind, form_refusal, limit_kind, limit_refusal, or_else, refusal_at}
+use Rattle.script_judge.specs.Judge.{Seen, seen_after, has_arrow, is_empty, is_on_wrong_side, form_kind, form_refusal, limit_kind, limit_refusal, or_else, refusal_at, fails, both_none}
 
 -- ---- names that were seen
 
@@ -29,13 +29,9 @@ Among names text = is_among names text ≡ true
 abbrev pub IsMore : List Name → List Name → Type 0
 IsMore old new = (text : Name) → Among old text → Among new text
 
-or_second : (a b : Bool) → b ≡ true → (a || b) ≡ true
-or_second true b h = refl
-or_second false b h = h
-
 pub more_some : (o : Option Name) (names : List Name) → IsMore names (with_some o names)
 more_some None names text h = h
-more_some (Some n) names text h = or_second (bytes_eq n text) _ h
+more_some (Some n) names text h = or_right (bytes_eq n text) _ h
 
 abbrev pub SubjectAmong : List Name → Subject → Type 0
 SubjectAmong names nothing = Unit {0}
@@ -140,18 +136,6 @@ pub record IsKept (ops : List Name) (seen : Seen) : Type 0 where
   pub ranges : RangesAmong seen.names.known seen.splits.ranges
   pub nodes : seen.counts.nodes ≤ 512
 
-pub fails : (b : Bool) (k : RefusalKind) (rest : Option RefusalKind) → (if b then Some k else rest) ≡ None → (b ≡ false) × (rest ≡ None)
-fails true k rest e = absurd (cc e)
-fails false k rest e = (refl, e)
-
-pub neither : (a b : Bool) → (a || b) ≡ false → (a ≡ false) × (b ≡ false)
-neither true b e = absurd (cc e)
-neither false b e = (refl, e)
-
-pub both_none : (a b : Option RefusalKind) → or_else a b ≡ None → (a ≡ None) × (b ≡ None)
-both_none None b h = (refl, h)
-both_none (Some k) b h = absurd (cc h)
-
 within_limits : (opened halved : ℕ) (c : Counts) (lsb pieces : Bool) → limit_kind opened halved c lsb pieces ≡ None → c.nodes ≤ 512
 within_limits opened halved c lsb pieces h =
     let nesting = fails (nat_lt 64 opened) _ _ h in
@@ -204,8 +188,8 @@ split_tests side used bad rangeless defined none point past e =
     let c = fails bad _ _ b.1 in
     let d = fails rangeless _ _ c.1 in
     let f = fails (defined || none || point) _ _ d.1 in
-    let g = neither (defined || none) point f.0 in
-    let h = neither defined none g.0 in
+    let g = or_parts (defined || none) point f.0 in
+    let h = or_parts defined none g.0 in
     (d.0, h.0)
 
 -- what holds of a split variable that isn't refused

@@ -11,7 +11,7 @@ use Rattle.expr_dag.specs.Same.{itself}
 use Rattle.script_shape.specs.Tree.{Expr, term, sum, difference, Term, factor, product, quotient, Factor, negation, atom, Atom, number, variable, parenthesized, absolute, called, rounded, fused}
 use Rattle.script_nodes.specs.Known.{Name, Known, Placed, entry_of, put, variables_with, variable_put, name_put, named}
 use Rattle.script_nodes.specs.Values.{then_rounded, fused_sum, expr_value, term_value, factor_value, atom_value}
-use Rattle.node_counts.proofs.There.{past, stays, joins, any_before, any_last, node_stays, node_joins, absent, found, has_node, itself_eq}
+use Rattle.node_counts.proofs.There.{past, stays, joins, any_before, any_last, node_stays, node_joins, absent, found, has_node, itself_eq, name_joins, same_place}
 
 -- ---- the number of a name
 
@@ -135,23 +135,15 @@ placed_at nodes n = by_test (has_node nodes n) refl
     by_test true h = subst (λ o. (placed nodes n o).1 ≡ record { 0 = position_or_len (same_node n) (placed nodes n o).0 }) (sym (found nodes n h)) refl
     by_test false h = subst (λ o. (placed nodes n o).1 ≡ record { 0 = position_or_len (same_node n) (placed nodes n o).0 }) (sym (absent nodes n h)) (ap (λ (i : ℕ). record { 0 = i }) (sym (past (same_node n) nodes h) ∙ sym (joins (same_node n) nodes n (itself n))))
 
-variables_among : (names : List Name) (text : Name) (b : Bool) → list_any (bytes_eq text) names ≡ b → list_any (bytes_eq text) (if b then names else names ++ (text ∷ [])) ≡ true
-variables_among names text true h = h
-variables_among names text false h = any_last (bytes_eq text) names text (itself_eq text)
-
-variables_place : (names : List Name) (text : Name) (b : Bool) → position_or_len (bytes_eq text) (if b then names else names ++ (text ∷ [])) ≡ position_or_len (bytes_eq text) names
-variables_place names text true = refl
-variables_place names text false = joins (bytes_eq text) names text (itself_eq text)
-
 variable_has : (k : Known) (text : Name) → entry_of k.values text ≡ None → HasNumber (variable_put k text).0 text (variable_put k text).1
 unfolding variable_put put
 variable_has k text e =
     let names = variables_with k.variables text in
     let n : Node = Var (position_or_len (bytes_eq text) k.variables) in
-    let same : position_or_len (bytes_eq text) names ≡ position_or_len (bytes_eq text) k.variables = variables_place k.variables text (list_any (bytes_eq text) k.variables) in
+    let same : position_or_len (bytes_eq text) names ≡ position_or_len (bytes_eq text) k.variables = same_place k.variables text (list_any (bytes_eq text) k.variables) in
     by_variable (record {
       none = e;
-      among = variables_among k.variables text (list_any (bytes_eq text) k.variables) refl;
+      among = name_joins k.variables text (list_any (bytes_eq text) k.variables) refl;
       there = ap (λ i. has_node (with_node k.nodes n).0 (Var i)) same ∙ node_joins k.nodes n (has_node k.nodes n) (place_of k.nodes n) refl refl;
       at = placed_at k.nodes n ∙ ap (λ i. record { 0 = position_or_len (same_node (Var i)) (with_node k.nodes n).0 }) (sym same);
     })

@@ -22,11 +22,11 @@ use Rattle.script_claims.specs.Claims.{ranged, prop_claim, Claims, then_claimed,
 use Rattle.node_counts.specs.Ranges.{GivesRange, HasRange}
 use Rattle.node_counts.proofs.Numbers.{HasNumber, Keeps, keeps_both, expr_keeps}
 use Rattle.node_counts.proofs.WordRoles.{IsOfProp, prop_roles}
-use Rattle.node_counts.proofs.FewHalves.{all_last}
 use Rattle.node_counts.proofs.BoundRanges.{RangesAreRead}
 use Rattle.node_counts.proofs.Told.{Reads, reads_pass, reads_both}
 use Rattle.node_counts.proofs.Plain.{IsCalm, IsNoRange, word_ranges, word_calm, words_still, IsPlain, words_plain, no_alias, inner_no_range}
 use Rattle.node_counts.proofs.Subjects.{bare, subject_by, expr_said, Says, expr_says, Tied, tied_later, IsBegun, begun_by, second_other}
+use Rattle.facts.specs.CommonParts.{all_as, all_last}
 
 -- ---- propositions
 
@@ -155,10 +155,6 @@ arrow_behind (l ∷ ls) rest h = ap (λ b. b || has_arrow (ls ++ rest)) (no_arro
 abbrev pub Held : List Leaf → Claims → SplitRange → Type 0
 Held rest cs r = (x : ExprId) × HasNumber cs.known r.variable x × (HasRange cs.sides.hypotheses x ⊎ (HasRange cs.sides.goals x × (has_arrow rest ≡ true)))
 
-pub all_held : (P Q : SplitRange → Type 0) → ((r : SplitRange) → P r → Q r) → (rs : List SplitRange) → AllByRecursion P rs → AllByRecursion Q rs
-all_held P Q f [] h = tt
-all_held P Q f (r ∷ rs) h = (f r h.0, all_held P Q f rs h.1)
-
 pub record Formed (rest : List Leaf) (cs : Claims) (seen : Seen) : Type 0 where
   pub tied : Tied cs.known seen.splits.aliases
   pub calm : IsCalm seen
@@ -206,7 +202,7 @@ formula_formed law (and f p) rest k seen last q none tied c empty =
     let next = seen_after m.0 both.0 d.Connective (sign s.And) in
     let ranges = word_ranges m.0 both.0 d.Connective (sign s.And) before.calm.lower in
     then_prop law p cs rest next last m.3 refl (subst (Tied cs.known) (sym (no_alias both.0.splits.aliases both.0.splits.subject)) before.tied) (word_calm m.0 both.0 d.Connective (sign s.And) tt before.calm)
-    (subst (AllByRecursion (Held rest (then_claimed p cs))) (sym ranges) (all_held (Held (at d.Connective (sign s.And) ∷ (prop_leaves p ++ rest)) cs) (Held rest (then_claimed p cs)) (and_held p cs rest) both.0.splits.ranges before.held))
+    (subst (AllByRecursion (Held rest (then_claimed p cs))) (sym ranges) (all_as (Held (at d.Connective (sign s.And) ∷ (prop_leaves p ++ rest)) cs) (Held rest (then_claimed p cs)) (and_held p cs rest) both.0.splits.ranges before.held))
 formula_formed law (implies f p) rest k seen last q none tied c empty =
     let both = reads_both (formula_leaves f) _ rest seen last q in
     let cs = formula_claims f k in
@@ -215,4 +211,4 @@ formula_formed law (implies f p) rest k seen last q none tied c empty =
     let next = seen_after m.0 both.0 d.Connective (sign s.Arrow) in
     let ranges = word_ranges m.0 both.0 d.Connective (sign s.Arrow) before.calm.lower in
     then_prop law p (then_arrow cs) rest next last m.3 refl (subst (Tied cs.known) (sym (no_alias both.0.splits.aliases both.0.splits.subject)) before.tied) (word_calm m.0 both.0 d.Connective (sign s.Arrow) tt before.calm)
-    (subst (AllByRecursion (Held rest (then_claimed p (then_arrow cs)))) (sym ranges) (all_held (Held (at d.Connective (sign s.Arrow) ∷ (prop_leaves p ++ rest)) cs) (Held rest (then_claimed p (then_arrow cs))) (implies_held p cs rest) both.0.splits.ranges before.held))
+    (subst (AllByRecursion (Held rest (then_claimed p (then_arrow cs)))) (sym ranges) (all_as (Held (at d.Connective (sign s.Arrow) ∷ (prop_leaves p ++ rest)) cs) (Held rest (then_claimed p (then_arrow cs))) (implies_held p cs rest) both.0.splits.ranges before.held))

@@ -2,6 +2,7 @@
 use Rattle.std.proofs.Common.{◌≡◌, ℕ, ◌+◌, ◌≤◌, List, [], ◌∷◌, length, Bool, true, false, not, ◌||◌, refl, sym, ap, ◌∙◌, arith}
 use Rattle.std.specs.Str.{bytes_eq}
 use Rattle.std.proofs.lemmas.Slice.Eq.{bytes_eq-Decides}
+use Rattle.std.proofs.lemmas.Bool.{or_right, or_left}
 use Rattle.fx_model.specs.declared.Rounding.{Rounding}
 use Rattle.fx_model.specs.declared.Node.{Node}
 use Rattle.expr_dag.specs.Nodes.{place_of}
@@ -9,7 +10,7 @@ use Rattle.script_judge.specs.Counts.{one_if}
 use Rattle.script_judge.specs.Names.{is_among}
 use Rattle.script_nodes.specs.Known.{Name, Known, Placed, put, named}
 use Rattle.script_nodes.specs.Definitions.{with_value, with_operator}
-use Rattle.node_counts.proofs.There.{is_there, Later, placed_most, put_later, named_later, named_there, named_most, named_same, value_later, value_there}
+use Rattle.node_counts.proofs.There.{is_there, Later, placed_most, put_later, named_later, named_there, named_most, named_same, value_later, value_there, or_more, or_first}
 
 -- how many of the names don't pass a test
 abbrev pub loose : (Name → Bool) → List Name → ℕ
@@ -51,22 +52,6 @@ module _ (old new : Name → Bool) (more : (text : Name) → old text ≡ true �
           let one = one_less (old n) (new n) (more n) in
           omega arith
 
-or_first : (a b c : Bool) → (a ≡ true → b ≡ true) → (a || c) ≡ true → (b || c) ≡ true
-or_first true b c f h = ap (λ x. x || c) (f refl)
-or_first false true c f h = refl
-or_first false false c f h = h
-
-or_second : (a b c : Bool) → (b ≡ true → c ≡ true) → (a || b) ≡ true → (a || c) ≡ true
-or_second true b c f h = refl
-or_second false b c f h = f h
-
-or_last : (a b : Bool) → b ≡ true → (a || b) ≡ true
-or_last true b h = refl
-or_last false b h = h
-
-or_true : (a b : Bool) → a ≡ true → (a || b) ≡ true
-or_true a b h = ap (λ x. x || b) h
-
 only_first : (a b : Bool) → b ≡ false → (a || b) ≡ true → a ≡ true
 only_first true b h e = refl
 only_first false b h e = sym h ∙ e
@@ -94,7 +79,7 @@ module _ (ops names : List Name) (k : Known) (text : Name) (free : is_among ops 
   behind = (named k text).0
 
   now_settled : is_settled ops behind text ≡ true
-  now_settled = or_true (is_there behind text) (is_among ops text) (named_there k text)
+  now_settled = or_left (is_there behind text) (is_among ops text) (named_there k text)
 
   rest_less : loose (is_settled ops behind) names ≤ loose (is_settled ops k) names
   rest_less = later_less ops k behind (named_later k text) names
@@ -123,12 +108,12 @@ module _ (ops names : List Name) (k : Known) (text : Name) (free : is_among ops 
 pub value_size : (ops names : List Name) (text : Name) (p : Placed) → size ops (text ∷ names) (with_value text p) ≤ size ops names p.0
 value_size ops names text p =
     let b = later_less ops p.0 (with_value text p) (value_later text p) names in
-    omega (arith, ap (λ t. one_if (not t)) (or_true (is_there (with_value text p) text) (is_among ops text) (value_there text p)))
+    omega (arith, ap (λ t. one_if (not t)) (or_left (is_there (with_value text p) text) (is_among ops text) (value_there text p)))
 
 -- a name of an operator is settled
 pub operator_size : (ops names : List Name) (text : Name) (r : Rounding) (k : Known) → size (text ∷ ops) (text ∷ names) (with_operator text r k) ≤ size ops names k
 operator_size ops names text r k =
     let new = is_settled (text ∷ ops) (with_operator text r k) in
-    let b = less (is_settled ops k) new (λ n. or_second (is_there k n) (is_among ops n) (is_among (text ∷ ops) n) (or_last (bytes_eq text n) (is_among ops n))) names in
-    let now : new text ≡ true = or_last (is_there k text) (is_among (text ∷ ops) text) (or_true (bytes_eq text text) (is_among ops text) ((bytes_eq-Decides text text).1 refl)) in
+    let b = less (is_settled ops k) new (λ n. or_more (is_there k n) (is_among ops n) (is_among (text ∷ ops) n) (or_right (bytes_eq text n) (is_among ops n))) names in
+    let now : new text ≡ true = or_right (is_there k text) (is_among (text ∷ ops) text) (or_left (bytes_eq text text) (is_among ops text) ((bytes_eq-Decides text text).1 refl)) in
     omega (arith, ap (λ t. one_if (not t)) now)

@@ -5,6 +5,7 @@ use Rattle.std.specs.Option.{is_some}
 use Rattle.std.specs.Str.{bytes_eq}
 use Rattle.std.proofs.lemmas.List.Folds.{list_any-append}
 use Rattle.std.proofs.lemmas.Slice.Eq.{bytes_eq-Decides}
+use Rattle.std.proofs.lemmas.Bool.{and_parts, and_from, or_right}
 use Rattle.fx_model.specs.declared.ExprId.{ExprId}
 use Rattle.fx_model.specs.declared.Node.{Node}
 use Rattle.fx_model.specs.declared.Node.TheVariants.{Var}
@@ -96,17 +97,9 @@ is_there k text = is_some (entry_of k.values text) || variable_there k.nodes k.v
 abbrev pub Later : Known → Known → Type 0
 Later k j = (text : Name) → is_there k text ≡ true → is_there j text ≡ true
 
-or_more : (a b c : Bool) → (b ≡ true → c ≡ true) → (a || b) ≡ true → (a || c) ≡ true
+pub or_more : (a b c : Bool) → (b ≡ true → c ≡ true) → (a || b) ≡ true → (a || c) ≡ true
 or_more true b c f h = refl
 or_more false b c f h = f h
-
-pub both_true : (a b : Bool) → (a && b) ≡ true → (a ≡ true) × (b ≡ true)
-both_true true true h = (refl, refl)
-both_true true false h = absurd (cc)
-both_true false b h = absurd (cc)
-
-pub and_true : (a b : Bool) → a ≡ true → b ≡ true → (a && b) ≡ true
-and_true a b h k = ap (λ x. x && b) h ∙ k
 
 pub itself_eq : (text : Name) → bytes_eq text text ≡ true
 itself_eq text = (bytes_eq-Decides text text).1 refl
@@ -114,8 +107,8 @@ itself_eq text = (bytes_eq-Decides text text).1 refl
 variable_stays : (nodes : List Node) (names : List Name) (m : Node) (text : Name) → variable_there nodes names text ≡ true → variable_there (with_node nodes m).0 names text ≡ true
 variable_stays nodes names m text h =
     let n = Var (position_or_len (bytes_eq text) names) in
-    let t = both_true (list_any (bytes_eq text) names) (has_node nodes n) h in
-    and_true (list_any (bytes_eq text) names) (has_node (with_node nodes m).0 n) t.0 (node_stays nodes n m (place_of nodes m) t.1)
+    let t = and_parts (list_any (bytes_eq text) names) (has_node nodes n) h in
+    and_from (list_any (bytes_eq text) names) (has_node (with_node nodes m).0 n) t.0 (node_stays nodes n m (place_of nodes m) t.1)
 
 pub put_later : (k : Known) (n : Node) → Later k (put k n).0
 unfolding put
@@ -127,15 +120,15 @@ names_stay : (nodes : List Node) (names : List Name) (new text : Name) (b : Bool
 names_stay nodes names new text true h = h
 names_stay nodes names new text false h =
     let more = names ++ (new ∷ []) in
-    let t = both_true (list_any (bytes_eq text) names) (has_node nodes (Var (position_or_len (bytes_eq text) names))) h in
-    and_true (list_any (bytes_eq text) more) (has_node nodes (Var (position_or_len (bytes_eq text) more))) (any_before (bytes_eq text) names (new ∷ []) t.0)
+    let t = and_parts (list_any (bytes_eq text) names) (has_node nodes (Var (position_or_len (bytes_eq text) names))) h in
+    and_from (list_any (bytes_eq text) more) (has_node nodes (Var (position_or_len (bytes_eq text) more))) (any_before (bytes_eq text) names (new ∷ []) t.0)
     (ap (λ i. has_node nodes (Var i)) (stays (bytes_eq text) names (new ∷ []) t.0) ∙ t.1)
 
-name_joins : (names : List Name) (text : Name) (b : Bool) → list_any (bytes_eq text) names ≡ b → list_any (bytes_eq text) (if b then names else names ++ (text ∷ [])) ≡ true
+pub name_joins : (names : List Name) (text : Name) (b : Bool) → list_any (bytes_eq text) names ≡ b → list_any (bytes_eq text) (if b then names else names ++ (text ∷ [])) ≡ true
 name_joins names text true h = h
 name_joins names text false h = any_last (bytes_eq text) names text (itself_eq text)
 
-same_place : (names : List Name) (text : Name) (b : Bool) → position_or_len (bytes_eq text) (if b then names else names ++ (text ∷ [])) ≡ position_or_len (bytes_eq text) names
+pub same_place : (names : List Name) (text : Name) (b : Bool) → position_or_len (bytes_eq text) (if b then names else names ++ (text ∷ [])) ≡ position_or_len (bytes_eq text) names
 same_place names text true = refl
 same_place names text false = joins (bytes_eq text) names text (itself_eq text)
 
@@ -143,17 +136,13 @@ variable_joins : (nodes : List Node) (names : List Name) (text : Name) → varia
 variable_joins nodes names text =
     let n = Var (position_or_len (bytes_eq text) names) in
     let more = variables_with names text in
-    and_true (list_any (bytes_eq text) more) (has_node (with_node nodes n).0 (Var (position_or_len (bytes_eq text) more))) (name_joins names text (list_any (bytes_eq text) names) refl)
+    and_from (list_any (bytes_eq text) more) (has_node (with_node nodes n).0 (Var (position_or_len (bytes_eq text) more))) (name_joins names text (list_any (bytes_eq text) names) refl)
     (ap (λ i. has_node (with_node nodes n).0 (Var i)) (same_place names text (list_any (bytes_eq text) names)) ∙ node_joins nodes n (has_node nodes n) (place_of nodes n) refl refl)
 
 variable_later : (k : Known) (text : Name) → Later k (variable_put k text).0
 unfolding put variable_put
 variable_later k text other h =
     or_more (is_some (entry_of k.values other)) _ _ (λ v. variable_stays k.nodes _ (Var (position_or_len (bytes_eq text) k.variables)) other (names_stay k.nodes k.variables text other (list_any (bytes_eq text) k.variables) v)) h
-
-or_second : (a b : Bool) → b ≡ true → (a || b) ≡ true
-or_second true b h = refl
-or_second false b h = h
 
 -- ---- a name is read
 
@@ -168,7 +157,7 @@ named_later k text = name_later k text (entry_of k.values text)
 name_there : (k : Known) (text : Name) (o : Option ExprId) → entry_of k.values text ≡ o → is_there (name_put k text o).0 text ≡ true
 unfolding put variable_put
 name_there k text (Some x) e = ap (λ o. is_some o || variable_there k.nodes k.variables text) e
-name_there k text None e = or_second (is_some (entry_of k.values text)) _ (variable_joins k.nodes k.variables text)
+name_there k text None e = or_right (is_some (entry_of k.values text)) _ (variable_joins k.nodes k.variables text)
 
 pub named_there : (k : Known) (text : Name) → is_there (named k text).0 text ≡ true
 unfolding named
@@ -188,7 +177,7 @@ unfolding put variable_put
 name_same k text (Some x) e h = le_refl (length k.nodes)
 name_same k text None e h =
     let v : variable_there k.nodes k.variables text ≡ true = sym (ap (λ o. is_some o || variable_there k.nodes k.variables text) e) ∙ h in
-    let t = both_true (list_any (bytes_eq text) k.variables) (has_node k.nodes (Var (position_or_len (bytes_eq text) k.variables))) v in
+    let t = and_parts (list_any (bytes_eq text) k.variables) (has_node k.nodes (Var (position_or_len (bytes_eq text) k.variables))) v in
     placed_same k.nodes (Var (position_or_len (bytes_eq text) k.variables)) t.1
 
 -- a name that is there adds no node
@@ -218,7 +207,7 @@ entry_joins (e ∷ es) text a = by_test (bytes_eq text e.0) refl (entry_joins es
     by_test true h more = ap (λ b. is_some (if b then Some a else entry_of es text)) h
     by_test false h more = ap (λ b. is_some (if b then Some e.1 else entry_of (with_entry es text a) text)) h ∙ more
 
-or_first : (a b c : Bool) → (a ≡ true → b ≡ true) → (a || c) ≡ true → (b || c) ≡ true
+pub or_first : (a b c : Bool) → (a ≡ true → b ≡ true) → (a || c) ≡ true → (b || c) ≡ true
 or_first true b c f h = ap (λ x. x || c) (f refl)
 or_first false true c f h = refl
 or_first false false c f h = h

@@ -3,12 +3,11 @@ use Rattle.std.specs.Prelude.{◌≡◌, ◌≢◌, ◌⊎◌, List}
 use Rattle.std.proofs.Common.{inl, inr, sym, ◌∙◌, subst}
 use Rattle.fx_model.specs.declared.ExprId.{ExprId}
 use Rattle.fx_model.specs.declared.Node.{Node}
-use Rattle.expr_dag.specs.Nodes.{IsAt}
+use Rattle.expr_dag.specs.Nodes.{IsAt, one_node}
 use Rattle.pair_closure.specs.Reached.{Has}
 use Rattle.pair_closure.specs.Closure.{Pair, matched, rounded, LeadsToPair}
 use Rattle.pair_closure.specs.Closure.LeadsToPair.{operands, inside}
 use Rattle.pair_closure.specs.Grown.{IsGrown}
-use Rattle.pair_closure.specs.Ids.{one_node}
 use Rattle.pair_closure.proofs.Grown.{grown_both, grown_same}
 
 module _ (nodes : List Node) where

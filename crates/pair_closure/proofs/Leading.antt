@@ -5,7 +5,7 @@ use Rattle.fx_model.specs.declared.ExprId.{ExprId}
 use Rattle.fx_model.specs.declared.Node.{Node}
 use Rattle.fx_model.specs.declared.Node.TheVariants.{Var, Lit, Neg, Add, Sub, Mul, Div, Abs, Round}
 use Rattle.fx_model.specs.Expression.{ChildrenBelow, IsOrdered}
-use Rattle.expr_dag.specs.Nodes.{IsAt}
+use Rattle.expr_dag.specs.Nodes.{IsAt, one_node}
 use Rattle.pair_closure.specs.Reached.{Has}
 use Rattle.pair_closure.specs.Reached.IsReached.{begin, lead}
 use Rattle.pair_closure.specs.Closure.{Pair, matched, matched_terms, AreApart, BeginsExpressions, LeadsToExpression, IsTaken, AreKnown}
@@ -14,21 +14,8 @@ use Rattle.pair_closure.specs.Closure.LeadsToExpression.{operands, past_left, pa
 use Rattle.pair_closure.specs.Differences.{IsGivenBy, IsDifferenceOf, IsPastLeft, IsPastRight, HasKnownSides}
 use Rattle.pair_closure.specs.Grown.{IsGrown, IsOverfull}
 use Rattle.pair_closure.proofs.Grown.{grown_both, grown_same, grown_none, overfull_later, overfull_wider}
-use Rattle.pair_closure.specs.Ids.{one_node}
 use Rattle.pair_closure.proofs.Known.{children, matched_below}
 use Rattle.pair_closure.proofs.Listed.{no_member}
-
--- what stands below a place stands below a later one
-pub children_later : (j k : ℕ) (n : Node) → j ≤ k → ChildrenBelow j n → ChildrenBelow k n
-children_later j k (Var m) l c = tt
-children_later j k (Lit m) l c = tt
-children_later j k (Neg x) l c = let a : x.0 < j = c in omega arith
-children_later j k (Add x y) l c = let a : x.0 < j = c.0 in let b : y.0 < j = c.1 in (omega arith, omega arith)
-children_later j k (Sub x y) l c = let a : x.0 < j = c.0 in let b : y.0 < j = c.1 in (omega arith, omega arith)
-children_later j k (Mul x y) l c = let a : x.0 < j = c.0 in let b : y.0 < j = c.1 in (omega arith, omega arith)
-children_later j k (Div x y) l c = let a : x.0 < j = c.0 in let b : y.0 < j = c.1 in (omega arith, omega arith)
-children_later j k (Abs x) l c = let a : x.0 < j = c in omega arith
-children_later j k (Round r x) l c = let a : x.0 < j = c in omega arith
 
 -- terms are operands
 pub terms_matched : (m n : Node) (p : Pair) → Has (matched_terms m n) p → Has (matched m n) p

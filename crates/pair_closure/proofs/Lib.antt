@@ -7,7 +7,6 @@ pub mod Rounded
 pub mod Known
 pub mod FollowAll
 pub mod GivenBy
-pub mod Faults
 pub mod RowsPut
 pub mod Taken
 pub mod Ordered

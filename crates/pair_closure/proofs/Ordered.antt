@@ -7,18 +7,15 @@ use Rattle.std.proofs.lemmas.Option.{slice_get_within, get_or_from_slice_get}
 use Rattle.std.proofs.lemmas.Bool.{cases_lt}
 use Rattle.std.specs.List.{Contains}
 use Rattle.fx_model.specs.declared.ExprId.{ExprId}
-use Rattle.pair_closure.specs.Reached.{Has, IsEachOnce}
+use Rattle.pair_closure.specs.Reached.{Has, IsEachOnce, has_contains}
 use Rattle.pair_closure.specs.Members.{has_from_contains}
 use Rattle.pair_closure.specs.Closure.{Pair, AreBelow, rank, AreRising}
 
 -- ---- what a sort leaves
-contains_from_has : {A : Type 0} (xs : List A) (x : A) → Has xs x → Contains xs x
-contains_from_has xs x h = (h.0, slice_get_within xs h.0 x h.1, get_or_from_slice_get xs h.0 x x h.1)
-
 pub permuted : (xs ys : List Pair) → IsPermutation xs ys → (p : Pair) → Has ys p ↔ Has xs p
 permuted xs ys m p = (
-  λ h. has_from_contains xs p (Contains-permutation ys xs p (IsPermutation-sym xs ys m) (contains_from_has ys p h)),
-  λ h. has_from_contains ys p (Contains-permutation xs ys p m (contains_from_has xs p h)),
+  λ h. has_from_contains xs p (Contains-permutation ys xs p (IsPermutation-sym xs ys m) (has_contains ys p h)),
+  λ h. has_from_contains ys p (Contains-permutation xs ys p m (has_contains xs p h)),
 )
 
 -- pairs of one rank are one

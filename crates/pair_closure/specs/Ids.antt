@@ -18,10 +18,6 @@ apart_ids x y h e = true≢false (sym (eq-eqb x.0 y.0 (ap (λ (z : ExprId). z.0)
 pub same_at : (nodes : List Node) (x y : ExprId) (n : Node) → x ≡ y → IsAt nodes x n → IsAt nodes y n
 same_at nodes x y n e = subst (λ z. IsAt nodes z n) e
 
--- a place has one node
-pub one_node : (nodes : List Node) (x : ExprId) (m n : Node) → IsAt nodes x m → IsAt nodes x n → m ≡ n
-one_node nodes x m n a b = some-inj m n (sym a ∙ b)
-
 pub not_same : (x y : ExprId) → x ≢ y → (b : Bool) → (x.0 == y.0) ≡ b → b ≡ false
 not_same x y ne true e = absurd (ne (same_ids x y e))
 not_same x y ne false e = refl

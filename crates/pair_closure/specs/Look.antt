@@ -3,6 +3,7 @@ use Rattle.std.specs.Prelude.{◌≡◌, ◌==◌, ◌&&◌, ℕ, Bool, true, fa
 use Rattle.std.proofs.Common.{ap, sym, ◌∙◌, eqb-true, true≢false}
 use Rattle.std.proofs.lemmas.Option.{slice_get_within, get_or_from_slice_get}
 use Rattle.std.proofs.lemmas.List.Folds.{list_any_at}
+use Rattle.std.proofs.lemmas.Bool.{and_parts}
 use Rattle.indexmap.proofs.CallerLemmas.{Contains-list_any}
 use Rattle.fx_model.specs.declared.ExprId.{ExprId}
 use Rattle.fx_model.specs.contracts.ExprIdPartialEq.TheImpl as id_eq
@@ -10,18 +11,11 @@ use Rattle.pair_closure.specs.Closure.{Pair}
 use Rattle.pair_closure.specs.Reached.{Has}
 use Rattle.pair_closure.specs.Members.{has_from_contains}
 use Rattle.pair_closure.specs.Among.{same_pair, is_among}
-
-same_id : (x y : ExprId) → (id_eq.ghosts).eq x y ≡ true → x ≡ y
-same_id x y h = let e = eqb-true x.0 y.0 h in (λ i. record { 0 = e i })
-
-both : (p q : Bool) → (p && q) ≡ true → (p ≡ true) × (q ≡ true)
-both true true h = (refl, refl)
-both true false h = absurd (true≢false (sym h))
-both false q h = absurd (true≢false (sym h))
+use Rattle.expr_dag.specs.Same.{same_id}
 
 pub exact : (p q : Pair) → same_pair p q ≡ true → p ≡ q
 exact p q h =
-    let f = both ((id_eq.ghosts).eq p.0 q.0) ((id_eq.ghosts).eq p.1 q.1) h in
+    let f = and_parts ((id_eq.ghosts).eq p.0 q.0) ((id_eq.ghosts).eq p.1 q.1) h in
     let a = same_id p.0 q.0 f.0 in
     let b = same_id p.1 q.1 f.1 in
     (λ i. (a i, b i))

@@ -21,6 +21,7 @@ use Rattle.poly_normal.proofs.Fractions.{add-zero, mul-one, mul-neg, middle_prod
 use Rattle.poly_normal.proofs.Values.{polynomial_value, value-atom, value-constant, value-append, value-negation, value-product}
 use Rattle.poly_normal.proofs.Likes.{value-equal}
 use Rattle.poly_normal.proofs.Steps.{form_step}
+use Rattle.literal.specs.Tens.{pow_positive}
 
 -- r is the quotient of the values of the two polynomials
 pub record IsQuotient (v : ℕ → Fraction) (r : Fraction) (f : Form) : Type 0 where
@@ -34,10 +35,6 @@ whole_not_zero n h e = let below : pos n ≤ℤ pos 0 = whole-le_out (pos n) (po
 whole-product : (m n : ℕ) → whole (pos (m * n)) ≡ whole (pos m) *ℚ whole (pos n)
 whole-product m n = whole-mul (pos m) (pos n)
 
-power-positive : (b k : ℕ) → 0 < b → 0 < b ^ k
-power-positive b zero h = rw (pow-zero b) (lit< tt)
-power-positive b (suc k) h = rw (pow-suc b k) (mul-pos (power-positive b k h) h)
-
 -- ---- literals
 two_to-down : (t : ℤ) → two_to t *ℚ whole (pos (2 ^ down t)) ≡ whole (pos (2 ^ up t))
 two_to-down t = let lifted : t +ℤ pos (down t) ≡ pos (up t) = omega (arith, ints) in
@@ -47,7 +44,7 @@ ten_to-down : (t : ℤ) → ten_to t *ℚ whole (pos (10 ^ down t)) ≡ whole (p
 ten_to-down (pos k) = ap (λ u. whole (pos (10 ^ k)) *ℚ u) (sym one-whole) ∙ mul-one (whole (pos (10 ^ k)))
 ten_to-down (negsuc k) = let next : suc k ≡ k + 1 = omega arith in
     ap (λ j. inverse_ℚ (whole (pos (10 ^ (k + 1)))) *ℚ whole (pos (10 ^ j))) next ∙ mul_comm (inverse_ℚ (whole (pos (10 ^ (k + 1))))) (whole (pos (10 ^ (k + 1))))
-    ∙ mul-inverse (whole (pos (10 ^ (k + 1)))) (whole_not_zero (10 ^ (k + 1)) (power-positive 10 (k + 1) (omega arith))) ∙ one-whole
+    ∙ mul-inverse (whole (pos (10 ^ (k + 1)))) (whole_not_zero (10 ^ (k + 1)) (pow_positive 10 (k + 1) (omega arith))) ∙ one-whole
 
 literal_value-whole : (l : Literal) → literal_value l *ℚ whole (pos (literal_bottom l)) ≡ whole (pos (literal_top l))
 literal_value-whole l =
@@ -75,7 +72,7 @@ pub whole_quotient : (a g : ℕ) → a % g ≡ 0 → (a / g) * g ≡ a
 whole_quotient a g e = let split = div-add-mod' a g in omega arith
 
 literal_bottom-positive : (l : Literal) → 0 < literal_bottom l
-literal_bottom-positive l = mul-pos (power-positive 2 (down l.two) (omega arith)) (power-positive 10 (down l.ten) (omega arith))
+literal_bottom-positive l = mul-pos (pow_positive 2 (down l.two) (omega arith)) (pow_positive 10 (down l.ten) (omega arith))
 
 reduced : (r : Fraction) (top bottom g : ℕ) → IsDivisor g top bottom → 0 < bottom → r *ℚ whole (pos bottom) ≡ whole (pos top) → (¬ (whole (pos (bottom / g)) ≡ zero_ℚ)) × (r *ℚ whole (pos (bottom / g)) ≡ whole (pos (top / g)))
 reduced r top bottom g d h e = (

@@ -243,11 +243,3 @@ module _ (nodes : List Node) (a b : ExprId) (marks : List Bool) (forms : List (O
 -- the law, from the answer
 pub law_from : (nodes : List Node) (a b : ExprId) (r : Result Sameness AllocError) → IfOk r (Answers nodes a b) → r ≡ Ok Same → AreEqual nodes a b
 law_from nodes a b r h e = (subst (λ x. IfOk x (Answers nodes a b)) e h).1
-
-pub not_true : (b : Bool) → not b ≡ true → b ≡ false
-not_true true e = absurd (false_not_true e)
-not_true false e = refl
-
-pub not_false : (b : Bool) → not b ≡ false → b ≡ true
-not_false true e = refl
-not_false false e = absurd (false_not_true (sym e))

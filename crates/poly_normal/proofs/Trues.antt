@@ -1,6 +1,7 @@
 -- How many marked atoms come before a node.
 use Rattle.std.specs.Prelude.{◌≡◌, ◌&&◌, ℕ, ◌+◌, ◌<◌, ◌≤◌, Bool, true, false, if◌then◌else◌, List, [], ◌∷◌, take, length, slice_index_or, refl}
 use Rattle.std.proofs.Common.{arith, sym, ap, ◌∙◌, zero, suc, subst}
+use Rattle.std.proofs.lemmas.Bool.{and_from}
 use Rattle.fx_model.specs.declared.Node.{Node}
 use Rattle.fx_model.specs.declared.Node.TheVariants.{Var}
 use Rattle.poly_normal.specs.Parts.{is_atom_node}
@@ -51,15 +52,12 @@ trues-take_within (false ∷ bs) (suc i) = trues-take_within bs i
 pub trues-below : (bs : List Bool) (i : ℕ) → i < length bs → slice_index_or bs i false ≡ true → trues (take i bs) < trues bs
 trues-below bs i h e = let k = trues-take bs i h in let l = trues-take_within bs (i + 1) in let m : count_of (slice_index_or bs i false) ≡ 1 = ap count_of e in omega arith
 
-both_true : (a b : Bool) → a ≡ true → b ≡ true → (a && b) ≡ true
-both_true a b p q = ap (λ x. x && b) p ∙ q
-
 pub place_more : (ns : List Node) (bs : List Bool) (i : ℕ) (b : Bool) → i < length ns → length bs ≡ length ns → slice_index_or bs i false ≡ b → trues (take (i + 1) (places ns bs)) ≡ trues (take i (places ns bs)) + count_of (b && is_atom_node (slice_index_or ns i (Var 0)))
 place_more ns bs i b h e m = trues-take (places ns bs) i (let l = length-places ns bs e in omega arith) ∙ ap (λ x. trues (take i (places ns bs)) + count_of x) (place_at ns bs i h e ∙ ap (λ x. x && is_atom_node (slice_index_or ns i (Var 0))) m)
 
 -- the place of a marked atom is within the width
 pub place_below : (ns : List Node) (bs : List Bool) (i : ℕ) → i < length ns → length bs ≡ length ns → slice_index_or bs i false ≡ true → is_atom_node (slice_index_or ns i (Var 0)) ≡ true → trues (take i (places ns bs)) < trues (places ns bs)
-place_below ns bs i h e m a = trues-below (places ns bs) i (let l = length-places ns bs e in omega arith) (place_at ns bs i h e ∙ both_true (slice_index_or bs i false) (is_atom_node (slice_index_or ns i (Var 0))) m a)
+place_below ns bs i h e m a = trues-below (places ns bs) i (let l = length-places ns bs e in omega arith) (place_at ns bs i h e ∙ and_from (slice_index_or bs i false) (is_atom_node (slice_index_or ns i (Var 0))) m a)
 
 pub width_small : (w : ℕ) (bs : List Bool) (i : ℕ) → w ≡ trues (take i bs) → w ≤ i
 width_small w bs i e = let h = trues-take_at_most bs i in omega arith

@@ -21,6 +21,7 @@ use Rattle.rewrite_hints.specs.Divisors.{Occurs, IsDivisor, IsMadeOf}
 use Rattle.rewrite_hints.specs.Divisors.Occurs.{itself, inside}
 use Rattle.rewrite_hints.specs.Rows.{IsRowOf, RowsAreTrue, EqualSidesAreMet}
 use Rattle.facts.specs.Known.{some_out}
+use Rattle.facts.specs.CommonParts.{all_at}
 
 abbrev HasValue : Option Fraction → Type 0
 HasValue o = (r : Fraction) × (o ≡ Some r)
@@ -78,11 +79,6 @@ module _ (nodes : List Node) (o : IsOrdered nodes) (a : Assignment) (root : Expr
   root_valued l = valued (suc root.0) root (omega arith) l itself
 
 -- ---- rows
-all_at : {A : Type 0} (P : A → Type 0) (xs : List A) (k : ℕ) (x : A) → AllByRecursion P xs → slice_get xs k ≡ Some x → P x
-all_at P [] k x h e = absurd (none-some x e)
-all_at P (y ∷ ys) zero x h e = let s : y ≡ x = cc in subst P s h.0
-all_at P (y ∷ ys) (suc k) x h e = all_at P ys k x h.1 e
-
 pub rows_are_true : MetSidesAreEqual → RowsAreTrue
 rows_are_true enough nodes a h row o known r m = row_by_values nodes a row
     (λ n.

@@ -1,6 +1,7 @@
 -- The rules on differences, and those that find nothing left: from stronger premises they give a fact as strong, or stronger.
 use Rattle.std.specs.Prelude.{◌≡◌, ◌&&◌, true, [], ◌∷◌, Option, Some, None, refl}
 use Rattle.std.proofs.Common.{sym, subst}
+use Rattle.std.proofs.lemmas.Bool.{and_parts}
 use Rattle.fx_model.specs.Fraction.{zero_ℚ}
 use Rattle.fx_model.specs.Grid.{At}
 use Rattle.fx_model.specs.declared.ExprId.{ExprId}
@@ -17,7 +18,7 @@ use Rattle.facts.specs.declared.relative.RelativeError.{RelativeError}
 use Rattle.facts.specs.declared.fact.Fact.TheVariants as fact
 use Rattle.facts.specs.declared.fact.Slot.TheVariants as slot
 use Rattle.facts.specs.Order.{IsWithin, IsWithinError, is_same}
-use Rattle.facts.specs.CommonParts.{and_both, and_rises}
+use Rattle.facts.specs.CommonParts.{and_rises}
 use Rattle.facts.specs.Laws.{IsStronger-refl}
 use Rattle.facts.specs.Promises.{IsIsotone}
 use Rattle.facts.specs.Premises.{Gives, one_bnd, two_bnd, four_bnd, bnd_then_nzr}
@@ -85,7 +86,7 @@ second_by_difference_rule-isotone nodes _ _ ps c s g = cc
 -- ---- nothing is left
 is_zero-rises : (i j : Interval) → IsWithin j i → is_zero (range_of i) ≡ true → is_zero (range_of j) ≡ true
 is_zero-rises i j w e =
-    let a = and_both (le_bound (At zero_ℚ) (range_of i).low) (le_bound (range_of i).high (At zero_ℚ)) e in
+    let a = and_parts (le_bound (At zero_ℚ) (range_of i).low) (le_bound (range_of i).high (At zero_ℚ)) e in
     let l = bound_trans (At zero_ℚ) (range_of i).low (range_of j).low a.0 (BoundLe_out (range_of i).low (range_of j).low w.0) in
     let u = bound_trans (range_of j).high (range_of i).high (At zero_ℚ) (BoundLe_out (range_of j).high (range_of i).high w.1) a.1 in
     rw l u

@@ -1,6 +1,7 @@
 -- The rule of rewriting hints: from stronger premises it gives a fact as strong, or stronger.
 use Rattle.std.specs.Prelude.{◌≡◌, ◌&&◌, not, nat_lt, length, Bool, true, false, List, [], ◌∷◌, refl}
 use Rattle.std.proofs.Common.{sym, ap, subst, suc}
+use Rattle.std.proofs.lemmas.Bool.{and_parts, and_from}
 use Rattle.fx_model.specs.Grid.{Bound}
 use Rattle.fx_model.specs.Enclosure.{BoundLe}
 use Rattle.fx_model.specs.declared.ExprId.{ExprId}
@@ -18,7 +19,6 @@ use Rattle.facts.specs.declared.fact.Fact.{Fact}
 use Rattle.facts.specs.declared.fact.Slot.{Slot}
 use Rattle.facts.specs.declared.fact.Fact.TheVariants as fact
 use Rattle.facts.specs.declared.fact.Slot.TheVariants as slot
-use Rattle.facts.specs.CommonParts.{and_both}
 use Rattle.facts.specs.Order.{IsStronger, is_same}
 use Rattle.facts.specs.Promises.{EachStronger, IsIsotone}
 use Rattle.facts.specs.Premises.{Gives, first_premise, strong_bnd, strong_abs, strong_fix, strong_nzr}
@@ -40,22 +40,19 @@ is_under-rises : (apart : Bool) (b c g h : Bound) → BoundLe g b → BoundLe c 
 is_under-rises true b c g h l m e = apart_rises b c g h l m e
 is_under-rises false b c g h l m e = bound_trans g b h (BoundLe_out g b l) (bound_trans b c h e (BoundLe_out c h m))
 
-and_both_in : (a b : Bool) → a ≡ true → b ≡ true → (a && b) ≡ true
-and_both_in a b p q = rw p q
-
 -- a stronger fact shows what a fact shows
 shows-rises : (nodes : List Node) (n : Need) (q p : Fact) → ¬ (p ≡ fact.Void) → IsStronger p q → shows nodes n q ≡ true → shows nodes n p ≡ true
 shows-rises nodes (need.NotZero x) (fact.Nzr z) p v s e = subst (λ k. shows nodes (need.NotZero x) k ≡ true) (sym (strong_nzr p z v s)) e
 shows-rises nodes (need.Below x end apart) (fact.Bnd z j) p v s e =
     let t = strong_bnd p z j v s in
-    let b = and_both (is_known nodes x && is_same z x) (is_under apart (range_of j).high (bound_of end)) e in
+    let b = and_parts (is_known nodes x && is_same z x) (is_under apart (range_of j).high (bound_of end)) e in
     subst (λ k. shows nodes (need.Below x end apart) k ≡ true) (sym t.1)
-    (and_both_in (is_known nodes x && is_same z x) (is_under apart (range_of t.0).high (bound_of end)) b.0 (is_under-rises apart (range_of j).high (bound_of end) (range_of t.0).high (bound_of end) t.2.1 (BoundLe-refl (bound_of end)) b.1))
+    (and_from (is_known nodes x && is_same z x) (is_under apart (range_of t.0).high (bound_of end)) b.0 (is_under-rises apart (range_of j).high (bound_of end) (range_of t.0).high (bound_of end) t.2.1 (BoundLe-refl (bound_of end)) b.1))
 shows-rises nodes (need.Above x end apart) (fact.Bnd z j) p v s e =
     let t = strong_bnd p z j v s in
-    let b = and_both (is_known nodes x && is_same z x) (is_under apart (bound_of end) (range_of j).low) e in
+    let b = and_parts (is_known nodes x && is_same z x) (is_under apart (bound_of end) (range_of j).low) e in
     subst (λ k. shows nodes (need.Above x end apart) k ≡ true) (sym t.1)
-    (and_both_in (is_known nodes x && is_same z x) (is_under apart (bound_of end) (range_of t.0).low) b.0 (is_under-rises apart (bound_of end) (range_of j).low (bound_of end) (range_of t.0).low (BoundLe-refl (bound_of end)) t.2.0 b.1))
+    (and_from (is_known nodes x && is_same z x) (is_under apart (bound_of end) (range_of t.0).low) b.0 (is_under-rises apart (bound_of end) (range_of j).low (bound_of end) (range_of t.0).low (BoundLe-refl (bound_of end)) t.2.0 b.1))
 shows-rises nodes _ _ p v s e = cc
 
 show_needs-rises : (nodes : List Node) (ns : List Need) (qs ps : List Fact) → EachStronger ps qs → show_needs nodes ns qs ≡ true → show_needs nodes ns ps ≡ true
@@ -64,15 +61,15 @@ show_needs-rises nodes [] [] (p ∷ ps) s e = absurd s
 show_needs-rises nodes [] (q ∷ qs) ps s e = cc
 show_needs-rises nodes (n ∷ ns) [] ps s e = cc
 show_needs-rises nodes (n ∷ ns) (q ∷ qs) [] s e = absurd s
-show_needs-rises nodes (n ∷ ns) (q ∷ qs) (p ∷ ps) s e = let b = and_both (shows nodes n q) (show_needs nodes ns qs) e in
-    and_both_in (shows nodes n p) (show_needs nodes ns ps) (shows-rises nodes n q p s.0 s.1 b.0) (show_needs-rises nodes ns qs ps s.2 b.1)
+show_needs-rises nodes (n ∷ ns) (q ∷ qs) (p ∷ ps) s e = let b = and_parts (shows nodes n q) (show_needs nodes ns qs) e in
+    and_from (shows nodes n p) (show_needs nodes ns ps) (shows-rises nodes n q p s.0 s.1 b.0) (show_needs-rises nodes ns qs ps s.2 b.1)
 
 show_row-rises : (nodes : List Node) (ds : List ExprId) (ns : List Need) (qs ps : List Fact) → EachStronger ps qs → show_row nodes ds ns qs ≡ true → show_row nodes ds ns ps ≡ true
 show_row-rises nodes [] ns qs ps s e = show_needs-rises nodes ns qs ps s e
 show_row-rises nodes (d ∷ ds) ns [] ps s e = cc
 show_row-rises nodes (d ∷ ds) ns (q ∷ qs) [] s e = absurd s
-show_row-rises nodes (d ∷ ds) ns (q ∷ qs) (p ∷ ps) s e = let b = and_both (shows nodes (need.NotZero d) q) (show_row nodes ds ns qs) e in
-    and_both_in (shows nodes (need.NotZero d) p) (show_row nodes ds ns ps) (shows-rises nodes (need.NotZero d) q p s.0 s.1 b.0) (show_row-rises nodes ds ns qs ps s.2 b.1)
+show_row-rises nodes (d ∷ ds) ns (q ∷ qs) (p ∷ ps) s e = let b = and_parts (shows nodes (need.NotZero d) q) (show_row nodes ds ns qs) e in
+    and_from (shows nodes (need.NotZero d) p) (show_row nodes ds ns ps) (shows-rises nodes (need.NotZero d) q p s.0 s.1 b.0) (show_row-rises nodes ds ns qs ps s.2 b.1)
 
 as_many : (ps qs : List Fact) → EachStronger ps qs → length ps ≡ length qs
 as_many [] [] s = refl
@@ -98,10 +95,10 @@ rewriting_rule-isotone row nodes (q ∷ qs) t ps c s e =
     let a = first_premise ps q qs s in
     let known : Bool = are_known nodes row.left row.right in
     let w = given (nat_lt (length qs) 65535 && (known && show_row nodes row.divisors row.needs qs)) (rewritten row.left row.right q t) c e in
-    let b = and_both (nat_lt (length qs) 65535) (known && show_row nodes row.divisors row.needs qs) w.0 in
-    let d = and_both known (show_row nodes row.divisors row.needs qs) b.1 in
+    let b = and_parts (nat_lt (length qs) 65535) (known && show_row nodes row.divisors row.needs qs) w.0 in
+    let d = and_parts known (show_row nodes row.divisors row.needs qs) b.1 in
     let few : nat_lt (length a.1) 65535 ≡ true = subst (λ n. nat_lt n 65535 ≡ true) (sym (as_many a.1 qs a.2.others)) b.0 in
     let all : (nat_lt (length a.1) 65535 && (known && show_row nodes row.divisors row.needs a.1)) ≡ true =
-    and_both_in (nat_lt (length a.1) 65535) (known && show_row nodes row.divisors row.needs a.1) few (and_both_in known (show_row nodes row.divisors row.needs a.1) d.0 (show_row-rises nodes row.divisors row.needs qs a.1 a.2.others d.1)) in
+    and_from (nat_lt (length a.1) 65535) (known && show_row nodes row.divisors row.needs a.1) few (and_from known (show_row nodes row.divisors row.needs a.1) d.0 (show_row-rises nodes row.divisors row.needs qs a.1 a.2.others d.1)) in
     subst (λ l. Gives (rewriting_rule row nodes l t) c) (sym a.2.is)
     (subst (λ (k : Bool). Gives (given_if k (rewritten row.left row.right a.0 t)) c) (sym all) (rewritten-improves row.left row.right q a.0 t a.2.not_void a.2.first c w.1))

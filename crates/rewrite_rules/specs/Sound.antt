@@ -1,6 +1,7 @@
 -- The rules on differences, and those that find nothing left, are sound: where the premises hold, the conclusion does.
 use Rattle.std.specs.Prelude.{◌≡◌, ◌&&◌, true, List, [], ◌∷◌, Option, Some, None, slice_get, refl}
 use Rattle.std.proofs.Common.{sym, ap, subst, ◌∙◌}
+use Rattle.std.proofs.lemmas.Bool.{and_parts}
 use Rattle.fx_model.specs.Fraction.{Fraction, ◌+ℚ◌, ◌-ℚ◌, ◌*ℚ◌, ◌≤ℚ◌, neg_ℚ, zero_ℚ, le_trans, le_antisymm}
 use Rattle.fx_model.specs.Grid.{Bound, Below, At, Above}
 use Rattle.fx_model.specs.Enclosure.{IsFrom, IsUpTo, Lies, BoundLe, Negations, Sums, Differences, in_enclosure, product_holds}
@@ -20,7 +21,7 @@ use Rattle.facts.specs.declared.fact.Fact.TheVariants as fact
 use Rattle.facts.specs.declared.fact.Slot.TheVariants as slot
 use Rattle.facts.specs.Holds.{Holds}
 use Rattle.facts.specs.Order.{is_same}
-use Rattle.facts.specs.CommonParts.{if-some, and_both, expr_same}
+use Rattle.facts.specs.CommonParts.{if-some, expr_same}
 use Rattle.facts.specs.Promises.{IsSound}
 use Rattle.facts.specs.Conclusions.{given}
 use Rattle.grid_words.specs.FractionLaws.{more-less}
@@ -62,7 +63,7 @@ record AreMade (make : ExprId → ExprId → Node) (nodes : List Node) (o p q : 
   second : is_at nodes t.1 (make r.1 s.1) ≡ true
 
 made_out : (make : ExprId → ExprId → Node) (nodes : List Node) (o p q : Option (ExprId × ExprId)) → are_made make nodes o p q ≡ true → (t : ExprId × ExprId) × (r : ExprId × ExprId) × (s : ExprId × ExprId) × AreMade make nodes o p q t r s
-made_out make nodes (Some t) (Some r) (Some s) e = let b = and_both (is_at nodes t.0 (make r.0 s.0)) (is_at nodes t.1 (make r.1 s.1)) e in
+made_out make nodes (Some t) (Some r) (Some s) e = let b = and_parts (is_at nodes t.0 (make r.0 s.0)) (is_at nodes t.1 (make r.1 s.1)) e in
     (t, r, s, record { whole = refl; left = refl; right = refl; first = b.0; second = b.1 })
 made_out make nodes (Some t) (Some r) None e = cc
 made_out make nodes (Some t) None q e = cc
@@ -118,9 +119,9 @@ record AreProducts (nodes : List Node) (o p q : Option (ExprId × ExprId)) (a d 
 
 products_out : (nodes : List Node) (o p q : Option (ExprId × ExprId)) (a d : ExprId) → are_products nodes o p q a d ≡ true → (t : ExprId × ExprId) × (r : ExprId × ExprId) × (s : ExprId × ExprId) × AreProducts nodes o p q a d t r s
 products_out nodes (Some t) (Some r) (Some s) a d e =
-    let b = and_both (is_same r.0 a && is_same s.1 d) (is_at nodes t.0 (node.Mul a s.0) && is_at nodes t.1 (node.Mul r.1 d)) e in
-    let c = and_both (is_same r.0 a) (is_same s.1 d) b.0 in
-    let n = and_both (is_at nodes t.0 (node.Mul a s.0)) (is_at nodes t.1 (node.Mul r.1 d)) b.1 in
+    let b = and_parts (is_same r.0 a && is_same s.1 d) (is_at nodes t.0 (node.Mul a s.0) && is_at nodes t.1 (node.Mul r.1 d)) e in
+    let c = and_parts (is_same r.0 a) (is_same s.1 d) b.0 in
+    let n = and_parts (is_at nodes t.0 (node.Mul a s.0)) (is_at nodes t.1 (node.Mul r.1 d)) b.1 in
     (t, r, s, record { whole = refl; left = refl; right = refl; begins = expr_same r.0 a c.0; ends = expr_same s.1 d c.1; first = n.0; second = n.1 })
 products_out nodes (Some t) (Some r) None a d e = cc
 products_out nodes (Some t) None q a d e = cc
@@ -167,7 +168,7 @@ record AreNegations (nodes : List Node) (o p : Option (ExprId × ExprId)) (t r :
   second : is_at nodes t.1 (node.Neg r.1) ≡ true
 
 negations_out : (nodes : List Node) (o p : Option (ExprId × ExprId)) → are_negations nodes o p ≡ true → (t : ExprId × ExprId) × (r : ExprId × ExprId) × AreNegations nodes o p t r
-negations_out nodes (Some t) (Some r) e = let b = and_both (is_at nodes t.0 (node.Neg r.0)) (is_at nodes t.1 (node.Neg r.1)) e in (t, r, record { whole = refl; part = refl; first = b.0; second = b.1 })
+negations_out nodes (Some t) (Some r) e = let b = and_parts (is_at nodes t.0 (node.Neg r.0)) (is_at nodes t.1 (node.Neg r.1)) e in (t, r, record { whole = refl; part = refl; first = b.0; second = b.1 })
 negations_out nodes (Some t) None e = cc
 negations_out nodes None p e = cc
 
@@ -191,12 +192,12 @@ record AreThrough (nodes : List Node) (p q : Option (ExprId × ExprId)) (r s : E
   whole : is_at nodes e (node.Sub x y) ≡ true
 
 through_out : (nodes : List Node) (e : ExprId) (p q : Option (ExprId × ExprId)) → is_through nodes e p q ≡ true → (r : ExprId × ExprId) × (s : ExprId × ExprId) × AreThrough nodes p q r s r.1 s.0 r.0 s.1 e
-through_out nodes e (Some r) (Some s) t = let b = and_both (is_same r.1 s.0) (is_at nodes e (node.Sub r.0 s.1)) t in (r, s, record { left = refl; right = refl; same = expr_same r.1 s.0 b.0; whole = b.1 })
+through_out nodes e (Some r) (Some s) t = let b = and_parts (is_same r.1 s.0) (is_at nodes e (node.Sub r.0 s.1)) t in (r, s, record { left = refl; right = refl; same = expr_same r.1 s.0 b.0; whole = b.1 })
 through_out nodes e (Some r) None t = cc
 through_out nodes e None q t = cc
 
 against_out : (nodes : List Node) (e : ExprId) (p q : Option (ExprId × ExprId)) → is_against nodes e p q ≡ true → (r : ExprId × ExprId) × (s : ExprId × ExprId) × AreThrough nodes p q r s r.1 s.1 r.0 s.0 e
-against_out nodes e (Some r) (Some s) t = let b = and_both (is_same r.1 s.1) (is_at nodes e (node.Sub r.0 s.0)) t in (r, s, record { left = refl; right = refl; same = expr_same r.1 s.1 b.0; whole = b.1 })
+against_out nodes e (Some r) (Some s) t = let b = and_parts (is_same r.1 s.1) (is_at nodes e (node.Sub r.0 s.0)) t in (r, s, record { left = refl; right = refl; same = expr_same r.1 s.1 b.0; whole = b.1 })
 against_out nodes e (Some r) None t = cc
 against_out nodes e None q t = cc
 
@@ -260,8 +261,8 @@ pub zero_and_not_rule-sound : IsSound zero_and_not_rule
 zero_and_not_rule-sound nodes (fact.Bnd x i ∷ fact.Nzr y ∷ []) slot.Void f o g = λ a h.
     let r = range_of i in
     let t = if-some (is_known nodes x && (is_same x y && is_zero r)) fact.Void f g in
-    let b = and_both (is_same x y) (is_zero r) (and_both (is_known nodes x) _ t.0).1 in
-    let c = and_both (le_bound (At zero_ℚ) r.low) (le_bound r.high (At zero_ℚ)) b.1 in
+    let b = and_parts (is_same x y) (is_zero r) (and_parts (is_known nodes x) _ t.0).1 in
+    let c = and_parts (le_bound (At zero_ℚ) r.low) (le_bound r.high (At zero_ℚ)) b.1 in
     let v = bnd_out nodes a x i h.0 in
     let w = nzr_out nodes a y h.1.0 in
     let e : w.0 ≡ v.0 = one_value nodes a y w.0 v.0 w.1 (subst (λ u. HasValue nodes a u v.0) (expr_same x y b.0) v.1) in
@@ -271,7 +272,7 @@ zero_and_not_rule-sound nodes _ _ f o g = cc
 pub both_zero_and_not_rule-sound : IsSound both_zero_and_not_rule
 both_zero_and_not_rule-sound nodes (fact.Rel x y d ∷ fact.Nzr z ∷ []) slot.Void f o g = λ a h.
     let t = given (are_known nodes x y && is_same z y) (void_of d) f g in
-    let b = and_both (are_known nodes x y) (is_same z y) t.0 in
+    let b = and_parts (are_known nodes x y) (is_same z y) t.0 in
     both_zero nodes a x y z d f (expr_same z y b.1) t.1 h.0 h.1.0
   where
     both_zero : (nodes : List Node) (a : Assignment) (x y z : ExprId) (d : Option RelativeError) (f : Fact) → z ≡ y → void_of d ≡ Some f → Holds nodes a (fact.Rel x y d) → Holds nodes a (fact.Nzr z) → Holds nodes a f

@@ -3,6 +3,7 @@ use Rattle.std.specs.Prelude.{◌≡◌, ◌≢◌, ◌&&◌, not, nat_lt, lengt
 use Rattle.std.specs.List.{AllByRecursion}
 use Rattle.std.specs.Option.{IsSomeAnd}
 use Rattle.std.proofs.Common.{sym, subst}
+use Rattle.std.proofs.lemmas.Bool.{and_parts}
 use Rattle.fx_model.specs.Fraction.{Fraction, abs_ℚ, zero_ℚ, lt_by}
 use Rattle.fx_model.specs.Powers.{IsMultiple}
 use Rattle.fx_model.specs.Grid.{Bound, Below, At, Above}
@@ -25,7 +26,7 @@ use Rattle.facts.specs.declared.fact.Fact.TheVariants as fact
 use Rattle.facts.specs.declared.fact.Slot.TheVariants as slot
 use Rattle.facts.specs.Holds.{Holds}
 use Rattle.facts.specs.Order.{is_same}
-use Rattle.facts.specs.CommonParts.{if-some, and_both, expr_same}
+use Rattle.facts.specs.CommonParts.{if-some, expr_same}
 use Rattle.facts.specs.Held.{some-and}
 use Rattle.facts.specs.Conclusions.{given}
 use Rattle.rewrite_rules.specs.Rewriting.{is_under, shows, show_needs, show_row, rewritten, rewriting_rule}
@@ -66,15 +67,15 @@ over_holds false low end x e p = over_at_least end x (from-le end low x (BoundLe
 
 -- a fact that holds and shows a constraint makes it hold
 shown_holds : (nodes : List Node) (a : Assignment) (n : Need) (p : Fact) → shows nodes n p ≡ true → Holds nodes a p → IsMet nodes a n
-shown_holds nodes a (need.NotZero x) (fact.Nzr z) e h = let b = and_both (is_known nodes x) (is_same z x) e in subst (λ u. Holds nodes a (fact.Nzr u)) (expr_same z x b.1) h
+shown_holds nodes a (need.NotZero x) (fact.Nzr z) e h = let b = and_parts (is_known nodes x) (is_same z x) e in subst (λ u. Holds nodes a (fact.Nzr u)) (expr_same z x b.1) h
 shown_holds nodes a (need.Below x end apart) (fact.Bnd z j) e h =
-    let b = and_both (is_known nodes x && is_same z x) (is_under apart (range_of j).high (bound_of end)) e in
-    let c = and_both (is_known nodes x) (is_same z x) b.0 in
+    let b = and_parts (is_known nodes x && is_same z x) (is_under apart (range_of j).high (bound_of end)) e in
+    let c = and_parts (is_known nodes x) (is_same z x) b.0 in
     subst (λ u. IsSomeAnd (value nodes a u) (IsUnder (bound_of end) apart)) (expr_same z x c.1)
     (some-and (value nodes a z) (Lies (range_of j)) (IsUnder (bound_of end) apart) (λ v l. under_holds apart (range_of j).high (bound_of end) v b.1 l.1) h)
 shown_holds nodes a (need.Above x end apart) (fact.Bnd z j) e h =
-    let b = and_both (is_known nodes x && is_same z x) (is_under apart (bound_of end) (range_of j).low) e in
-    let c = and_both (is_known nodes x) (is_same z x) b.0 in
+    let b = and_parts (is_known nodes x && is_same z x) (is_under apart (bound_of end) (range_of j).low) e in
+    let c = and_parts (is_known nodes x) (is_same z x) b.0 in
     subst (λ u. IsSomeAnd (value nodes a u) (IsOver (bound_of end) apart)) (expr_same z x c.1)
     (some-and (value nodes a z) (Lies (range_of j)) (IsOver (bound_of end) apart) (λ v l. over_holds apart (range_of j).low (bound_of end) v b.1 l.0) h)
 shown_holds nodes a _ _ e h = cc
@@ -82,13 +83,13 @@ shown_holds nodes a _ _ e h = cc
 needs_hold : (nodes : List Node) (a : Assignment) (ns : List Need) (ps : List Fact) → show_needs nodes ns ps ≡ true → AllByRecursion (Holds nodes a) ps → AllByRecursion (IsMet nodes a) ns
 needs_hold nodes a [] ps e h = tt
 needs_hold nodes a (n ∷ ns) [] e h = cc
-needs_hold nodes a (n ∷ ns) (p ∷ ps) e h = let b = and_both (shows nodes n p) (show_needs nodes ns ps) e in (shown_holds nodes a n p b.0 h.0, needs_hold nodes a ns ps b.1 h.1)
+needs_hold nodes a (n ∷ ns) (p ∷ ps) e h = let b = and_parts (shows nodes n p) (show_needs nodes ns ps) e in (shown_holds nodes a n p b.0 h.0, needs_hold nodes a ns ps b.1 h.1)
 
 divisors_hold : (nodes : List Node) (a : Assignment) (ds : List ExprId) (ns : List Need) (ps : List Fact) → show_row nodes ds ns ps ≡ true → AllByRecursion (Holds nodes a) ps → AllByRecursion (λ d. Holds nodes a (fact.Nzr d)) ds × AllByRecursion (IsMet nodes a) ns
 divisors_hold nodes a [] ns ps e h = (tt, needs_hold nodes a ns ps e h)
 divisors_hold nodes a (d ∷ ds) ns [] e h = cc
 divisors_hold nodes a (d ∷ ds) ns (p ∷ ps) e h =
-    let b = and_both (shows nodes (need.NotZero d) p) (show_row nodes ds ns ps) e in
+    let b = and_parts (shows nodes (need.NotZero d) p) (show_row nodes ds ns ps) e in
     let r = divisors_hold nodes a ds ns ps b.1 h.1 in
     ((shown_holds nodes a (need.NotZero d) p b.0 h.0, r.0), r.1)
 
@@ -96,7 +97,7 @@ divisors_hold nodes a (d ∷ ds) ns (p ∷ ps) e h =
 -- what holds of b's value holds of a's, where they are the same
 carried : (nodes : List Node) (a : Assignment) (l r x e : ExprId) (P : Fraction → Type 0) → ((v : Fraction) → value nodes a r ≡ Some v → value nodes a l ≡ Some v) → (is_same x r && is_same e l) ≡ true → IsSomeAnd (value nodes a x) P → IsSomeAnd (value nodes a e) P
 carried nodes a l r x e P s t h =
-    let b = and_both (is_same x r) (is_same e l) t in
+    let b = and_parts (is_same x r) (is_same e l) t in
     let k : IsSomeAnd (value nodes a r) P = subst (λ u. IsSomeAnd (value nodes a u) P) (expr_same x r b.0) h in
     subst (λ u. IsSomeAnd (value nodes a u) P) (sym (expr_same e l b.1)) (at_value (value nodes a r) refl k)
   where
@@ -119,7 +120,7 @@ pub rewriting_rule-sound : (row : HintRow) → IsSoundWithRow row (rewriting_rul
 rewriting_rule-sound row nodes [] t f o q = cc
 rewriting_rule-sound row nodes (p ∷ ps) t f o q = λ a w h.
     let g = given (nat_lt (length ps) 65535 && (are_known nodes row.left row.right && show_row nodes row.divisors row.needs ps)) (rewritten row.left row.right p t) f q in
-    let b = and_both (nat_lt (length ps) 65535) (are_known nodes row.left row.right && show_row nodes row.divisors row.needs ps) g.0 in
-    let c = and_both (are_known nodes row.left row.right) (show_row nodes row.divisors row.needs ps) b.1 in
+    let b = and_parts (nat_lt (length ps) 65535) (are_known nodes row.left row.right && show_row nodes row.divisors row.needs ps) g.0 in
+    let c = and_parts (are_known nodes row.left row.right) (show_row nodes row.divisors row.needs ps) b.1 in
     let d = divisors_hold nodes a row.divisors row.needs ps c.1 h.1 in
     rewritten_holds nodes a row.left row.right p t f (w d.0 d.1) g.1 h.0

@@ -3,6 +3,7 @@ use Rattle.std.specs.Prelude.{◌≡◌, ℤ, ◌<ℤ◌, Option, Some, None, Bo
 use Rattle.std.specs.Int.RustNames.{int_lt}
 use Rattle.std.proofs.Common.{arith, sym, ap, ◌∙◌, subst}
 use Rattle.std.proofs.lemmas.Int.{ints}
+use Rattle.std.proofs.lemmas.Bool.{not-true, not-false}
 use Rattle.fx_model.specs.Fraction.{Fraction, ◌-ℚ◌, ◌≤ℚ◌, neg_ℚ, zero_ℚ, lt_le, le_refl, le_trans, neg_down}
 use Rattle.fx_model.specs.Powers.{two_to, two_to-positive}
 use Rattle.fx_model.specs.Grid.{At, IsUp, IsDown-neg}
@@ -35,31 +36,23 @@ pub spread_by : (s t : Span) (u h a b c d : Fraction) → s ≡ t → a ≡ c �
 spread_by s t u h a b c d e p q r = (λ i. closed (p i) (q i)) ∙ r ∙ ap (λ s. spanned s u h) (sym e)
 
 -- ---- what is left as it is, and the rest
-not_false : (b : Bool) → not b ≡ false → b ≡ true
-not_false true h = refl
-not_false false h = cc
-
-not_true : (b : Bool) → not b ≡ true → b ≡ false
-not_true true h = cc
-not_true false h = refl
-
 below_unit : (k l : ℤ) → int_lt k l ≡ true → k <ℤ l
 below_unit k l h = grind (arith, ints)
 
 pub not_kept : (l k : ℤ) → keeps l (Some k) ≡ false → k <ℤ l
-not_kept l k h = below_unit k l (not_false (int_lt k l) h)
+not_kept l k h = below_unit k l (not-false (int_lt k l) h)
 
 kept_errors : (d : Direction) (l : ℤ) (sign : Sign) (fix : Option ℤ) → keeps l fix ≡ true → nowhere ≡ error_range d l sign fix
 kept_errors d l sign None h = cc
-kept_errors d l sign (Some k) h = ap (λ b. if b then signed_errors sign d (two_to l -ℚ two_to k) (half_of l) else nowhere) (sym (not_true (int_lt k l) h))
+kept_errors d l sign (Some k) h = ap (λ b. if b then signed_errors sign d (two_to l -ℚ two_to k) (half_of l) else nowhere) (sym (not-true (int_lt k l) h))
 
 rest_errors : (d : Direction) (l : ℤ) (sign : Sign) (fix : Option ℤ) → keeps l fix ≡ false → signed_errors sign d (largest_error l fix) (half_of l) ≡ error_range d l sign fix
 rest_errors d l sign None h = refl
-rest_errors d l sign (Some k) h = ap (λ b. if b then signed_errors sign d (two_to l -ℚ two_to k) (half_of l) else nowhere) (sym (not_false (int_lt k l) h))
+rest_errors d l sign (Some k) h = ap (λ b. if b then signed_errors sign d (two_to l -ℚ two_to k) (half_of l) else nowhere) (sym (not-false (int_lt k l) h))
 
 pub largest_from : (l : ℤ) (fix : Option ℤ) → keeps l fix ≡ false → zero_ℚ ≤ℚ largest_error l fix
 largest_from l None h = lt_le zero_ℚ (two_to l) (two_to-positive l)
-largest_from l (Some k) h = sub-from (two_to l) (two_to k) (two_to-le k l (less k l (not_false (int_lt k l) h)))
+largest_from l (Some k) h = sub-from (two_to l) (two_to k) (two_to-le k l (less k l (not-false (int_lt k l) h)))
 
 pub half_from : (l : ℤ) → zero_ℚ ≤ℚ half_of l
 half_from l = lt_le zero_ℚ (half_of l) (two_to-positive _)

@@ -6,7 +6,8 @@ use lib.IntN.{neg_ℤ}
 use Rattle.fx_model.specs.Fraction.{Fraction, ◌+ℚ◌, neg_ℚ, ◌≤ℚ◌, ◌<ℚ◌, zero_ℚ, le_refl, le_trans, lt_not, lt_le, lt_le_trans, le_lt_trans, neg-le, neg-neg, neg-add}
 use Rattle.fx_model.specs.Powers.{whole, whole-add, whole-neg, whole-le, whole-le_out, whole-lt, zero-whole, floor_low, floor_high, floor_unique}
 use Rattle.fx_model.specs.Rounded.{floor, ceiling}
-use Rattle.rounding.specs.Sums.{neg-lt, neg-le_right, plus-le, plus-lt}
+use Rattle.rounding.specs.Sums.{neg-lt, plus-le, plus-lt}
+use Rattle.fx_model.specs.Grid.{neg_over}
 
 pub whole-lt_out : (a b : ℤ) → whole a <ℚ whole b → a <ℤ b
 whole-lt_out a b h = by_lt_z a b (λ l. l) (λ l. absurd (lt_not (whole a) (whole b) h (whole-le b a l)))
@@ -37,7 +38,7 @@ floor-plus x z = floor_unique (x +ℚ whole z) (floor x +ℤ z)
 
 -- ---- the ceiling is the least whole number that isn't below
 pub ceiling_high : (x : Fraction) → x ≤ℚ whole (ceiling x)
-ceiling_high x = subst (λ a. x ≤ℚ a) (sym (whole-neg (floor (neg_ℚ x)))) (neg-le_right (whole (floor (neg_ℚ x))) x (floor_low (neg_ℚ x)))
+ceiling_high x = subst (λ a. x ≤ℚ a) (sym (whole-neg (floor (neg_ℚ x)))) (neg_over (whole (floor (neg_ℚ x))) x (floor_low (neg_ℚ x)))
 
 pub ceiling_to : (z : ℤ) (x : Fraction) → x ≤ℚ whole z → ceiling x ≤ℤ z
 ceiling_to z x h = let l : neg_ℤ z ≤ℤ floor (neg_ℚ x) = floor_from (neg_ℤ z) (neg_ℚ x) (subst (λ a. a ≤ℚ neg_ℚ x) (sym (whole-neg z)) (neg-le x (whole z) h)) in omega (arith, ints)

@@ -4,16 +4,9 @@ use Rattle.std.proofs.Common.{sym, ap, ◌∙◌, subst}
 use Rattle.fx_model.specs.Fraction.{Fraction, ◌+ℚ◌, ◌-ℚ◌, ◌*ℚ◌, neg_ℚ, zero_ℚ, ◌≤ℚ◌, ◌<ℚ◌, add_comm, add_assoc, zero-add, add-neg, neg-neg, neg-add, neg-le, add-le, lt_by, lt_not, mul_comm, mul-add, mul-le, lt_le, mul-le_cancel, neg_down}
 pub use Rattle.fx_model.specs.Fraction.{add-zero, add-sub, add-lt, add-mul, neg-lt, times-le, times-lt}
 
--- a - b + b = a
-pub sub-add : (a b : Fraction) → (a -ℚ b) +ℚ b ≡ a
-sub-add a b = add_assoc a (neg_ℚ b) b ∙ ap (λ z. a +ℚ z) (add_comm (neg_ℚ b) b ∙ add-neg b) ∙ add-zero a
-
 -- ---- the order
 pub neg-le_left : (x y : Fraction) → neg_ℚ x ≤ℚ y → neg_ℚ y ≤ℚ x
 neg-le_left x y h = subst (λ z. neg_ℚ y ≤ℚ z) (neg-neg x) (neg-le (neg_ℚ x) y h)
-
-pub neg-le_right : (x y : Fraction) → x ≤ℚ neg_ℚ y → y ≤ℚ neg_ℚ x
-neg-le_right x y h = subst (λ z. z ≤ℚ neg_ℚ x) (neg-neg y) (neg-le x (neg_ℚ y) h)
 
 pub plus-le : (z x y : Fraction) → x ≤ℚ y → (x +ℚ z) ≤ℚ (y +ℚ z)
 plus-le z x y h = subst (λ a. a ≤ℚ (y +ℚ z)) (add_comm z x) (subst (λ b. (z +ℚ x) ≤ℚ b) (add_comm z y) (add-le z x y h))

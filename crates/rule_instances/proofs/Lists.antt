@@ -2,6 +2,7 @@
 use Rattle.std.specs.Prelude.{◌≡◌, ◌&&◌, ◌||◌, Bool, true, false, not, List, [], ◌∷◌, ◌++◌}
 use Rattle.std.specs.List.{list_any}
 use Rattle.std.proofs.Common.{inl, inr, ap, sym, ◌∙◌, eqb, eq-eqb, true≢false, refl}
+use Rattle.std.proofs.lemmas.Bool.{and_parts, not-true, or_parts}
 use Rattle.pair_closure.specs.Reached.{Has, IsEachOnce}
 use Rattle.pair_closure.specs.Members.{has_cases, has_first, no_member, once_nil, once_cons, once_append}
 use Rattle.facts.specs.declared.instance.Instance.{Instance}
@@ -12,23 +13,10 @@ abbrev pub numbers_differ : List Instance → Bool
 numbers_differ [] = true
 numbers_differ (i ∷ is) = not (list_any (λ j. eqb i.rule j.rule) is) && numbers_differ is
 
-both : (p q : Bool) → (p && q) ≡ true → (p ≡ true) × (q ≡ true)
-both true true h = (refl, refl)
-both true false h = absurd (true≢false (sym h))
-both false q h = absurd (true≢false (sym h))
-
-not_true : (b : Bool) → not b ≡ true → b ≡ false
-not_true true e = absurd (true≢false (sym e))
-not_true false e = refl
-
-or_either : (p q : Bool) → (p || q) ≡ false → (p ≡ false) × (q ≡ false)
-or_either true q h = absurd (true≢false h)
-or_either false q h = (refl, h)
-
 absent_number : (i : Instance) (is : List Instance) → list_any (λ j. eqb i.rule j.rule) is ≡ false → ¬ Has is i
 absent_number i [] e m = no_member i m
 absent_number i (j ∷ is) e m =
-    let s = or_either (eqb i.rule j.rule) (list_any (λ k. eqb i.rule k.rule) is) e in
+    let s = or_parts (eqb i.rule j.rule) (list_any (λ k. eqb i.rule k.rule) is) e in
     elim (has_cases j is i m) [
       | inl h ↦ absurd (true≢false (sym (eq-eqb i.rule j.rule (ap (λ (k : Instance). k.rule) h)) ∙ s.0))
       | inr r ↦ absent_number i is s.1 r
@@ -37,8 +25,8 @@ absent_number i (j ∷ is) e m =
 pub once_by_number : (is : List Instance) → numbers_differ is ≡ true → IsEachOnce is
 once_by_number [] e = once_nil
 once_by_number (i ∷ is) e =
-    let s = both (not (list_any (λ j. eqb i.rule j.rule) is)) (numbers_differ is) e in
-    once_cons i is (absent_number i is (not_true (list_any (λ j. eqb i.rule j.rule) is) s.0)) (once_by_number is s.1)
+    let s = and_parts (not (list_any (λ j. eqb i.rule j.rule) is)) (numbers_differ is) e in
+    once_cons i is (absent_number i is (not-true (list_any (λ j. eqb i.rule j.rule) is) s.0)) (once_by_number is s.1)
 
 -- ---- behind a test
 pub given_out : (b : Bool) (i j : Instance) → Has (given b i) j → (b ≡ true) × (j ≡ i)

@@ -1,15 +1,16 @@
 -- The lists of a difference past other expressions have exactly its chains, each once.
 use Rattle.std.specs.Prelude.{◌≡◌, ◌≢◌, ◌⊎◌, ◌↔◌, ◌&&◌, ℕ, Bool, true, false, not, if◌then◌else◌, List, [], ◌∷◌, Some, slice_get, refl}
 use Rattle.std.proofs.Common.{inl, inr, ap, sym, ◌∙◌, subst, true≢false}
+use Rattle.std.proofs.lemmas.Bool.{and_parts, not-true}
 use Rattle.fx_model.specs.declared.ExprId.{ExprId}
 use Rattle.fx_model.specs.declared.Node.{Node}
 use Rattle.fx_model.specs.declared.Node.TheVariants.{Sub}
-use Rattle.expr_dag.specs.Nodes.{IsAt, place_of}
+use Rattle.expr_dag.specs.Nodes.{IsAt, place_of, one_node}
 use Rattle.facts.specs.declared.fact.Slot.TheVariants as slot
 use Rattle.pair_closure.specs.Reached.{Has, IsEachOnce}
 use Rattle.pair_closure.specs.Closure.{Pair, AreApart, is_same}
 use Rattle.pair_closure.specs.Members.{no_member, has_first, once_nil}
-use Rattle.pair_closure.specs.Ids.{one_node, same_ids, not_same, apart_ids}
+use Rattle.pair_closure.specs.Ids.{same_ids, not_same, apart_ids}
 use Rattle.facts.specs.declared.instance.Instance.{Instance}
 use Rattle.rule_instances.specs.Slots.{rule}
 use Rattle.rule_instances.specs.Instances.{OfChain}
@@ -21,20 +22,11 @@ use Rattle.rule_instances.proofs.Each.{At, at_place, place_at, each_out, each_in
 use Rattle.rule_instances.proofs.Families.{first_of}
 
 -- ---- the test
-both : (p q : Bool) → (p && q) ≡ true → (p ≡ true) × (q ≡ true)
-both true true h = (refl, refl)
-both true false h = absurd (true≢false (sym h))
-both false q h = absurd (true≢false (sym h))
-
-not_true : (b : Bool) → not b ≡ true → b ≡ false
-not_true true e = absurd (true≢false (sym e))
-not_true false e = refl
-
 apart_out : (a b c : ExprId) → apart a b c ≡ true → AreApart a b c
 apart_out a b c e =
-    let f = both (not (is_same a b)) (not (is_same b c) && not (is_same a c)) e in
-    let g = both (not (is_same b c)) (not (is_same a c)) f.1 in
-    (apart_ids a b (not_true (is_same a b) f.0), apart_ids b c (not_true (is_same b c) g.0), apart_ids a c (not_true (is_same a c) g.1))
+    let f = and_parts (not (is_same a b)) (not (is_same b c) && not (is_same a c)) e in
+    let g = and_parts (not (is_same b c)) (not (is_same a c)) f.1 in
+    (apart_ids a b (not-true (is_same a b) f.0), apart_ids b c (not-true (is_same b c) g.0), apart_ids a c (not-true (is_same a c) g.1))
 
 apart_in : (a b c : ExprId) → AreApart a b c → apart a b c ≡ true
 apart_in a b c t = (λ i. not (not_same a b t.0 (is_same a b) refl i) && (not (not_same b c t.1 (is_same b c) refl i) && not (not_same a c t.2 (is_same a c) refl i)))

@@ -1,16 +1,16 @@
 -- The list of a pair has exactly its instances but those past a third expression, each once.
 use Rattle.std.specs.Prelude.{◌≡◌, ◌≢◌, ◌⊎◌, ◌↔◌, ◌&&◌, Bool, true, false, Some, List, [], ◌∷◌, ◌++◌, refl}
 use Rattle.std.proofs.Common.{inl, inr, ap, sym, ◌∙◌, subst, eq-eqb, true≢false}
+use Rattle.std.proofs.lemmas.Bool.{and_parts, and_from}
 use Rattle.fx_model.specs.declared.ExprId.{ExprId}
 use Rattle.fx_model.specs.declared.Node.{Node}
 use Rattle.fx_model.specs.declared.Node.TheVariants.{Neg, Add, Sub, Mul, Div}
-use Rattle.expr_dag.specs.Nodes.{IsAt, place_of}
+use Rattle.expr_dag.specs.Nodes.{IsAt, place_of, one_node}
 use Rattle.facts.specs.declared.fact.Slot.TheVariants as slot
 use Rattle.pair_closure.specs.Reached.{Has}
 use Rattle.pair_closure.specs.Closure.{Pair, is_same}
 use Rattle.pair_closure.specs.Among.{is_among}
 use Rattle.pair_closure.specs.Look.{among_out, among_in}
-use Rattle.pair_closure.specs.Ids.{one_node}
 use Rattle.pair_closure.specs.Ids.{same_ids, apart_ids, self_same, not_same}
 use Rattle.pair_closure.specs.Members.{no_member, has_first}
 use Rattle.facts.specs.declared.instance.Instance.{Instance}
@@ -22,14 +22,6 @@ use Rattle.rule_instances.specs.Found.{found, pair_rules, twin_rules, difference
 use Rattle.pair_closure.specs.Members.{has_all, has_left, has_right, has_either}
 use Rattle.rule_instances.proofs.Lists.{given_out, given_in}
 use Rattle.rule_instances.proofs.OfDifferences.{found_out, found_in, one_out}
-
-and_both : (p q : Bool) → (p && q) ≡ true → (p ≡ true) × (q ≡ true)
-and_both true true h = (refl, refl)
-and_both true false h = absurd (true≢false (sym h))
-and_both false q h = absurd (true≢false (sym h))
-
-both_true : (p q : Bool) → p ≡ true → q ≡ true → (p && q) ≡ true
-both_true p q a b = (λ j. a j && b j)
 
 module _ (nodes : List Node) (pairs : List Pair) (number : (w : ExprId) (n : Node) → (place_of nodes n ≡ Some w) ↔ IsAt nodes w n) (x y : ExprId) where
   abbrev Of : Instance → Type 0
@@ -73,7 +65,7 @@ module _ (nodes : List Node) (pairs : List Pair) (number : (w : ExprId) (n : Nod
   two_out : (p q : Pair) (i j : Instance) → (Has pairs p → Has pairs q → Of j) → Has (given (is_among pairs p && is_among pairs q) j) i → Of i
   two_out p q i j f h =
       let g = given_out (is_among pairs p && is_among pairs q) j i h in
-      let b = and_both (is_among pairs p) (is_among pairs q) g.0 in
+      let b = and_parts (is_among pairs p) (is_among pairs q) g.0 in
       subst Of (sym g.1) (f (among_out pairs p b.0) (among_out pairs q b.1))
 
   operation_only : (m n : Node) → IsAt nodes x m → IsAt nodes y n → (i : Instance) → Has (operation_rules nodes pairs x y m n) i → Of i
@@ -155,7 +147,7 @@ module _ (nodes : List Node) (pairs : List Pair) (number : (w : ExprId) (n : Nod
         in_operations i (subst (λ w. Has (operation_rules nodes pairs x y w n) i) (one_node nodes x k m xk xm) (subst (λ w. Has (operation_rules nodes pairs x y k w) i) (one_node nodes y j n yj yn) h))
 
     two_in : (p q : Pair) (i : Instance) → Has pairs p → Has pairs q → Has (given (is_among pairs p && is_among pairs q) i) i
-    two_in p q i a b = given_in (is_among pairs p && is_among pairs q) i (both_true (is_among pairs p) (is_among pairs q) (among_in pairs p a) (among_in pairs q b))
+    two_in p q i a b = given_in (is_among pairs p && is_among pairs q) i (and_from (is_among pairs p) (is_among pairs q) (among_in pairs p a) (among_in pairs q b))
 
     -- but what goes past a third expression
     all_in : IsAt nodes x m → IsAt nodes y n → (i : Instance) → Of i → Has (at_pair nodes pairs x y m n) i ⊎ ((c : ExprId) × Has pairs (y, c) × Has (past_pair pairs x y c) i)

@@ -6,7 +6,7 @@ use Rattle.std.proofs.lemmas.Option.{slice_get-get_or, slice_get_within}
 use Rattle.fx_model.specs.declared.ExprId.{ExprId}
 use Rattle.fx_model.specs.declared.Node.{Node}
 use Rattle.fx_model.specs.declared.Node.TheVariants.{Var, Lit, Neg, Add, Sub, Mul, Div, Abs, Round}
-use Rattle.expr_dag.specs.Nodes.{IsAt, place_of}
+use Rattle.expr_dag.specs.Nodes.{IsAt, place_of, one_node}
 use Rattle.facts.specs.declared.fact.Slot.{Slot}
 use Rattle.facts.specs.declared.fact.Slot.TheVariants as slot
 use Rattle.facts.specs.declared.hint.HintRow.{HintRow}
@@ -14,7 +14,6 @@ use Rattle.pair_closure.specs.Reached.{Has, IsEachOnce, IsListOf}
 use Rattle.pair_closure.specs.Closure.{Pair, AreKnown}
 use Rattle.pair_closure.specs.Rows.{seconds}
 use Rattle.pair_closure.specs.Members.{no_member, has_all, has_left, has_right, has_either, once_nil, once_cons, once_append}
-use Rattle.pair_closure.specs.Ids.{one_node}
 use Rattle.facts.specs.declared.instance.Instance.{Instance}
 use Rattle.pair_closure.specs.Among.{is_among}
 use Rattle.rule_instances.specs.Slots.{rule, rewriting}

@@ -6,7 +6,7 @@ use Rattle.std.proofs.lemmas.Option.{slice_get_within, get_or_from_slice_get}
 use Rattle.fx_model.specs.declared.ExprId.{ExprId}
 use Rattle.fx_model.specs.declared.Node.{Node}
 use Rattle.fx_model.specs.declared.Node.TheVariants as node
-use Rattle.fx_model.specs.Expression.{ChildrenBelow, IsOrdered}
+use Rattle.fx_model.specs.Expression.{ChildrenBelow, IsOrdered, children_later}
 use Rattle.expr_dag.specs.Nodes.{IsAt}
 use Rattle.facts.specs.declared.fact.Slot.{Slot}
 use Rattle.facts.specs.declared.fact.Slot.TheVariants.{Nzr}
@@ -41,24 +41,12 @@ pub record RowIsKnown (n : ℕ) (row : HintRow) : Type 0 where
   pub divisors : AllByRecursion (λ (d : ExprId). d.0 < n) row.divisors
   pub needs : AllByRecursion (NeedIsKnown n) row.needs
 
--- what a node is made of, below a larger number
-wider : (k n : ℕ) (m : Node) → k < n → ChildrenBelow k m → ChildrenBelow n m
-wider k n (node.Var v) l h = tt
-wider k n (node.Lit v) l h = tt
-wider k n (node.Neg a) l h = omega arith
-wider k n (node.Add a b) l h = (let f : a.0 < k = h.0 in omega arith, let s : b.0 < k = h.1 in omega arith)
-wider k n (node.Sub a b) l h = (let f : a.0 < k = h.0 in omega arith, let s : b.0 < k = h.1 in omega arith)
-wider k n (node.Mul a b) l h = (let f : a.0 < k = h.0 in omega arith, let s : b.0 < k = h.1 in omega arith)
-wider k n (node.Div a b) l h = (let f : a.0 < k = h.0 in omega arith, let s : b.0 < k = h.1 in omega arith)
-wider k n (node.Abs a) l h = omega arith
-wider k n (node.Round r a) l h = omega arith
-
 module _ (nodes : List Node) (pairs : List Pair) (ordered : IsOrdered nodes) (known : AreKnown nodes pairs) where
   pub here : (x : ExprId) (n : Node) → IsAt nodes x n → x.0 < length nodes
   here x n e = slice_get_within nodes x.0 n e
 
   pub kid : (x : ExprId) (n : Node) → IsAt nodes x n → ChildrenBelow (length nodes) n
-  kid x n e = wider x.0 (length nodes) n (here x n e) (subst (ChildrenBelow x.0) (get_or_from_slice_get nodes x.0 n n e) (ordered x.0 n (here x n e)))
+  kid x n e = children_later x.0 (length nodes) n (let l = here x n e in omega (arith, l)) (subst (ChildrenBelow x.0) (get_or_from_slice_get nodes x.0 n n e) (ordered x.0 n (here x n e)))
 
   -- target and premises are slots of these nodes and pairs
   abbrev pub HasSlots : Instance → Type 0

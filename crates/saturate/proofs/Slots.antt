@@ -4,11 +4,12 @@ use Rattle.std.proofs.Common.{arith, sym, ap, ◌∙◌, subst, true≢false}
 use Rattle.std.proofs.Math.ListN.{get_or-map}
 use Rattle.std.specs.List.{Contains}
 use Rattle.std.proofs.lemmas.List.{length-map}
+use Rattle.std.proofs.lemmas.Bool.{and_parts}
 use Rattle.fx_model.specs.declared.ExprId.{ExprId}
 use Rattle.facts.specs.declared.fact.Slot.{Slot}
 use Rattle.facts.specs.declared.fact.Slot.TheVariants as slot
 use Rattle.facts.specs.Order.{is_same}
-use Rattle.facts.specs.CommonParts.{and_both, expr_same}
+use Rattle.facts.specs.CommonParts.{expr_same}
 use Rattle.pair_closure.specs.Closure.{Pair}
 use Rattle.pair_closure.specs.Reached.{IsEachOnce}
 use Rattle.rule_universe.specs.declared.placed.Placed.{Placed}
@@ -109,7 +110,7 @@ shaped_found t c e slot.Void p h = tt
 by_test : (x y : ExprId) (p : Pair) (ps : List Pair) (b : Bool) → (is_same p.0 x && is_same p.1 y) ≡ b → (b ≡ false → slice_get ps (place_of x y ps) ≡ Some (x, y)) →
     slice_get (p ∷ ps) (if b then 0 else 1 + place_of x y ps) ≡ Some (x, y)
 by_test x y p ps true e later =
-    let a = and_both (is_same p.0 x) (is_same p.1 y) e in
+    let a = and_parts (is_same p.0 x) (is_same p.1 y) e in
     let f = expr_same p.0 x a.0 in
     let g = expr_same p.1 y a.1 in
     (λ i. Some (f i, g i))

@@ -35,7 +35,8 @@ use Rattle.cert_checker.specs.Checking.{AreAccepted}
 use Rattle.script_checker.specs.Subjects.{goal_of, with_fact, facts_of, IsSubjectOf}
 use Rattle.script_checker.specs.Checking.{AreHeld, AreAcceptedFor}
 use Rattle.script_checker.proofs.Settled.{ClaimLaws, settled}
-use Rattle.script_checker.proofs.Named.{facts_named, goals_named, at_all, hint_of, rows_named}
+use Rattle.script_checker.proofs.Named.{facts_named, goals_named, hint_of, rows_named}
+use Rattle.facts.specs.CommonParts.{all_at}
 
 -- a claim's fact holds wherever the claim is true
 abbrev FactsHold : Type 0
@@ -53,9 +54,9 @@ module _ (holds : FactsHold) (nodes : List Node) (a : Assignment) where
 rows_held : HintsAreMet → HintRowsAreTrue → (s : View) (a : Assignment) (rows : List HintRow) → IsOrdered s.nodes → NamesNodes s → Meets a s → AreRows s.nodes s.hints.rewrites rows → RowsAreTrue s.nodes a rows
 rows_held met true s a rows ordered names meets are k row e =
     let h = hint_of s.nodes ordered s.hints.rewrites rows are k row e in
-    let of = at_all (HintIsOf (length s.nodes)) s.hints.rewrites k h.0 names.hints.rewrites h.1 in
+    let of = all_at (HintIsOf (length s.nodes)) s.hints.rewrites k h.0 names.hints.rewrites h.1 in
     let all = met a s ordered names meets in
-    true s.nodes a h.0 row ordered of.sides.0 h.2 (at_all (MeetsHint s.nodes a) s.hints.rewrites k h.0 all h.1)
+    true s.nodes a h.0 row ordered of.sides.0 h.2 (all_at (MeetsHint s.nodes a) s.hints.rewrites k h.0 all h.1)
 
 -- the subject's parts, where they are the script's
 names_nodes : (s : View) (t : Subject) → IsOrdered s.nodes → NamesNodes s → IsSubjectOf s t → SubjectNamesNodes t

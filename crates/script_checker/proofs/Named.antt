@@ -31,6 +31,7 @@ use Rattle.rewrite_hints.specs.Rows.{IsRowOf}
 use Rattle.rewrite_hints.specs.Marks.{AreRows, AreKnownSides}
 use Rattle.cert_checker.specs.Met.{SlotIsAmong, NeedIsAmong, RowIsAmong}
 use Rattle.script_checker.specs.Subjects.{goal_of, with_fact, facts_of}
+use Rattle.facts.specs.CommonParts.{stands, all_from, all_at}
 
 -- ---- facts and goals
 abbrev IsNamed : ℕ → Fact → Type 0
@@ -88,20 +89,6 @@ needs_named : (n : ℕ) (cs : List Constraint) → AllByRecursion (ConstraintIsO
 needs_named n [] h = tt
 needs_named n (c ∷ cs) h = (need_named n c h.0, needs_named n cs h.1)
 
-all_at : {A : Type 0} (P : A → Type 0) (xs : List A) → ((k : ℕ) (x : A) → slice_get xs k ≡ Some x → P x) → AllByRecursion P xs
-all_at P [] h = tt
-all_at P (x ∷ xs) h = (h 0 x refl, all_at P xs (λ k y e. h (suc k) y e))
-
-pub at_all : {A : Type 0} (P : A → Type 0) (xs : List A) (k : ℕ) (x : A) → AllByRecursion P xs → slice_get xs k ≡ Some x → P x
-at_all P [] k x h e = cc
-at_all P (y ∷ xs) zero x h e = let q : y ≡ x = cc in subst P q h.0
-at_all P (y ∷ xs) (suc k) x h e = at_all P xs k x h.1 e
-
-pub stands : {A : Type 0} (xs : List A) (k : ℕ) → k < length xs → (x : A) × (slice_get xs k ≡ Some x)
-stands [] k l = absurd (omega arith)
-stands (x ∷ xs) zero l = (x, refl)
-stands (x ∷ xs) (suc k) l = stands xs k (omega arith)
-
 module _ (nodes : List Node) (ordered : IsOrdered nodes) where
   -- a divisor is a node
   divisor_named : (y a d : ExprId) → IsAt nodes y (Div a d) → d.0 < length nodes
@@ -114,7 +101,7 @@ module _ (nodes : List Node) (ordered : IsOrdered nodes) where
   row_named h row of is = record {
     left = subst (λ (x : ExprId). x.0 < length nodes) (sym is.left) of.sides.0;
     right = subst (λ (x : ExprId). x.0 < length nodes) (sym is.right) of.sides.1;
-    divisors = all_at (λ (d : ExprId). d.0 < length nodes) row.divisors (λ k d e. let w = (is.divisors.exactly d).0 (k, e) in divisor_named w.0 w.1 d w.3);
+    divisors = all_from (λ (d : ExprId). d.0 < length nodes) row.divisors (λ k d e. let w = (is.divisors.exactly d).0 (k, e) in divisor_named w.0 w.1 d w.3);
     needs = subst (AllByRecursion (NeedIsAmong (length nodes))) (sym is.needs) (needs_named (length nodes) h.constraints of.constraints);
   }
 
@@ -127,10 +114,10 @@ module _ (nodes : List Node) (ordered : IsOrdered nodes) where
       (s.0, s.1, are.each k s.0 row s.1 e)
 
   pub rows_named : (hints : List Hint) (rows : List HintRow) → AllByRecursion (HintIsOf (length nodes)) hints → AreRows nodes hints rows → AllByRecursion (RowIsAmong (length nodes)) rows
-  rows_named hints rows of are = all_at (RowIsAmong (length nodes)) rows (λ k row e.
+  rows_named hints rows of are = all_from (RowIsAmong (length nodes)) rows (λ k row e.
       let h = hint_of hints rows are k row e in
-      row_named h.0 row (at_all (HintIsOf (length nodes)) hints k h.0 of h.1) h.2)
+      row_named h.0 row (all_at (HintIsOf (length nodes)) hints k h.0 of h.1) h.2)
 
 -- the sides of rewritings are nodes
 pub sides_named : (nodes : List Node) (hints : List Hint) → AllByRecursion (HintIsOf (length nodes)) hints → AreKnownSides nodes hints
-sides_named nodes hints of k h e = (at_all (HintIsOf (length nodes)) hints k h of e).sides
+sides_named nodes hints of k h e = (all_at (HintIsOf (length nodes)) hints k h of e).sides

@@ -23,7 +23,7 @@ use Rattle.cert_checker.specs.Outcomes.{Outcome, ComesOf, ComesOnce}
 use Rattle.cert_checker.specs.Checking.{Checks, IsAnswer}
 use Rattle.script_checker.specs.Subjects.{goal_of, IsSubjectOf}
 use Rattle.script_checker.specs.Checking.{ComesFor, ChecksFor, ChecksAreOne}
-use Rattle.script_checker.proofs.Named.{stands}
+use Rattle.facts.specs.CommonParts.{stands}
 
 -- one of a list for each of another is one list, where each is one
 each_is_one : {A B : Type 0} (R : A → B → Type 0) → ((x : A) (y z : B) → R x y → R x z → y ≡ z) → (xs : List A) (ys zs : List B) → IsEachOf R xs ys → IsEachOf R xs zs → ys ≡ zs

@@ -12,8 +12,9 @@ use Rattle.script_claims.specs.declared.claim.Claim.TheVariants.{Bounded, Asked,
 use Rattle.script_claims.specs.Claims.{Claims, exponent_of, ranged, relative, of_value, prop_claim, then_claimed, then_arrow, no_claims, formula_claims}
 use Rattle.script_nodes.specs.Written.{bound_written}
 use Rattle.script_grammar.specs.Names.{IsNode, ClaimIsOf}
-use Rattle.script_grammar.proofs.Lists.{all_as, all_both}
+use Rattle.script_grammar.proofs.Lists.{all_both}
 use Rattle.script_grammar.proofs.ExpressionNames.{Fits, Grows, grows_both, Sits, expr_sits}
+use Rattle.facts.specs.CommonParts.{all_as}
 
 claim_more : (n m : ℕ) → n ≤ m → (c : Claim) → ClaimIsOf n c → ClaimIsOf m c
 claim_more n m h (Bounded x lower upper) f = omega arith

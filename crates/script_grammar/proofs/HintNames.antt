@@ -15,8 +15,9 @@ use Rattle.script_hints.specs.Hints.{NeedsSoFar, one_more, with_need, with_need_
 use Rattle.script_nodes.specs.Definitions.{name_text}
 use Rattle.script_nodes.specs.Written.{bound_written}
 use Rattle.script_grammar.specs.Names.{IsNode, AreNodes, ConstraintIsOf, HintIsOf, HintsAreOf}
-use Rattle.script_grammar.proofs.Lists.{all_as, all_both}
+use Rattle.script_grammar.proofs.Lists.{all_both}
 use Rattle.script_grammar.proofs.ExpressionNames.{Fits, Grows, grows_both, named_sits, expr_sits}
+use Rattle.facts.specs.CommonParts.{all_as}
 
 -- ---- among more nodes
 

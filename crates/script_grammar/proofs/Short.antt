@@ -8,7 +8,7 @@ use Rattle.script_shape.specs.Roles.{Leaf, script_leaves, LeavesAreOfTrees}
 use Rattle.script_judge.specs.declared.refusal.Refusal.{Refusal}
 use Rattle.script_judge.specs.declared.fault.Fault.{Fault}
 use Rattle.script_judge.specs.Reading.{Reading, IsReadingOf, fault}
-use Rattle.script_judge.specs.First.{IsFirstRefusal, unread, read, first_of, refusal_of}
+use Rattle.script_judge.specs.First.{IsFirstRefusal, unread, read, first_of, refusal_of, second_none, none_found}
 use Rattle.script_judge.specs.Judge.{Judged, nothing_seen}
 use Rattle.script_nodes.specs.Known.{Known, nothing_known}
 use Rattle.script_nodes.specs.Definitions.{definition_value}
@@ -32,19 +32,6 @@ known_of (define x rest) k = known_of rest (definition_value x k)
 record IsPassed (text : List ℕ) (r : Reading) : Type 0 where
   reading : IsReadingOf text r
   judged : Judged 0 nothing_seen r.leaves None
-
-second_none : (a b : Option Refusal) → first_of a b ≡ None → b ≡ None
-second_none None b e = e
-second_none (Some x) None e = refl
-second_none (Some x) (Some y) e = absurd (by_test _ e)
-  where
-    by_test : (t : Bool) → (if t then Some y else Some x) ≡ None → ⊥
-    by_test true e = cc e
-    by_test false e = cc e
-
-none_found : (r : Reading) (o : Option Fault) → refusal_of r o ≡ None → o ≡ None
-none_found r None e = refl
-none_found r (Some f) e = absurd (cc e)
 
 all_passed : (text : List ℕ) (o : Option Refusal) → IsFirstRefusal text o → o ≡ None → (r : Reading) × IsPassed text r
 all_passed text o (unread h) e = absurd (cc e)

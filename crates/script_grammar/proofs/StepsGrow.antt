@@ -15,11 +15,6 @@ use Rattle.script_grammar.specs.Steps.{Step, defining, claiming, hinting, closes
 abbrev pub count : Step → ℕ
 count st = length (nodes_at st)
 
--- a fault that is passed on
-pub passed : {A B : Type 0} (r : Result B DagFault) (f : DagFault) → IsErrAnd r (λ e. e ≡ f) → r ≡ Err Full → ◌≡◌ {A = Result A DagFault} (Err f) (Err Full)
-passed (Ok x) f h e = absurd h
-passed (Err g) f h e = let k : g ≡ Full = cc in ap Err (sym h ∙ k)
-
 either : (n : ℕ) (b : Bool) (x y : Step) → n ≤ count x → n ≤ count y → n ≤ count (if b then x else y)
 either n true x y p q = p
 either n false x y p q = q

@@ -57,10 +57,6 @@ module _ (len : ℕ) (tokens : List Token) (bad : Option ℕ) (words : List Word
 
 -- ---- texts
 
-pub ok_all : {T E : Type 0} (r : Result T E) (P Q : T → Type 0) → ((x : T) → P x → Q x) → IfOk r P → IfOk r Q
-ok_all (Ok x) P Q f h = f x h
-ok_all (Err e) P Q f h = h
-
 pub readable_of : (text : List ℕ) (o : Option Refusal) → IsTextRefusal text o → o ≡ None → IsReadable text
 readable_of text o (too_long h) e = absurd (cc e)
 readable_of text o (not_text h k) e = absurd (cc e)

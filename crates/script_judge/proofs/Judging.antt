@@ -15,7 +15,7 @@ use Rattle.script_judge.specs.Names.{is_used, is_some_among, defines, split_name
 use Rattle.script_judge.specs.Bounds.{is_bad_bound}
 use Rattle.script_judge.specs.Splits.{is_rangeless, is_bad_point}
 use Rattle.script_judge.specs.Numbers.{Verdict, Tells, has_no_pieces, is_past_lsb, is_past_pieces}
-use Rattle.script_judge.specs.Judge.{Seen, nothing_seen, seen_after, is_arrow, has_arrow, arrow_count, is_empty, is_on_wrong_side, form_kind, form_refusal, limit_kind, limit_refusal, or_else, refusal_at, Judged, refused, passed}
+use Rattle.script_judge.specs.Judge.{Seen, nothing_seen, seen_after, is_arrow, has_arrow, arrow_count, is_empty, is_on_wrong_side, form_kind, form_refusal, limit_kind, limit_refusal, or_else, refusal_at, Judged, refused, passed, fails}
 use Rattle.script_judge.specs.Views.{IsSeen}
 
 -- ---- arrows
@@ -44,10 +44,6 @@ pub told_arrow : (behind : List Leaf) (left : ℕ) → left ≡ arrow_count behi
 told_arrow behind left h = ap (nat_lt 0) h ∙ sym (arrows_left behind)
 
 -- ---- limits
-
-fails : (b : Bool) (k : RefusalKind) (rest : Option RefusalKind) → (if b then Some k else rest) ≡ None → (b ≡ false) × (rest ≡ None)
-fails true k rest e = absurd (cc e)
-fails false k rest e = (refl, e)
 
 neither : (a b : Bool) → (a || b) ≡ false → a ≡ false
 neither true b e = absurd (cc e)

@@ -1,5 +1,5 @@
 -- The refusals that are judged on the words before the reading ends, token by token.
-use Rattle.std.specs.Prelude.{◌≡◌, ℕ, ◌+◌, ◌&&◌, ◌||◌, not, nat_lt, List, [], ◌∷◌, length, Option, Some, None, Bool, true, false, if◌then◌else◌}
+use Rattle.std.specs.Prelude.{◌≡◌, ℕ, ◌+◌, ◌&&◌, ◌||◌, not, nat_lt, List, [], ◌∷◌, length, Option, Some, None, Bool, true, false, if◌then◌else◌, refl}
 use Rattle.script_words.specs.declared.class.Sign.TheVariants as s
 use Rattle.script_words.specs.Words.{Word, sign}
 use Rattle.script_shape.specs.declared.due.Due.{Due}
@@ -129,3 +129,12 @@ pub data Judged : ℕ → Seen → List Leaf → Option Fault → Type 0 where
   refused : {i : ℕ} {seen : Seen} {l : Leaf} {ls : List Leaf} {v : Verdict} {k : RefusalKind} → Tells v l.role l.word ls → refusal_at v seen l.role l.word ls ≡ Some k → Judged i seen (l ∷ ls) (Some (record { kind = k; word = i }))
   passed : {i : ℕ} {seen : Seen} {l : Leaf} {ls : List Leaf} {v : Verdict} {found : Option Fault} → Tells v l.role l.word ls → refusal_at v seen l.role l.word ls ≡ None
       → Judged (i + 1) (seen_after v seen l.role l.word) ls found → Judged i seen (l ∷ ls) found
+
+-- ---- no refusal
+pub fails : (b : Bool) (k : RefusalKind) (rest : Option RefusalKind) → (if b then Some k else rest) ≡ None → (b ≡ false) × (rest ≡ None)
+fails true k rest e = absurd (cc e)
+fails false k rest e = (refl, e)
+
+pub both_none : (a b : Option RefusalKind) → or_else a b ≡ None → (a ≡ None) × (b ≡ None)
+both_none None b h = (refl, h)
+both_none (Some k) b h = absurd (cc h)

@@ -1,5 +1,6 @@
 -- What each thing that is due stands for, and that the stack speaks of all that can come.
 use Rattle.std.proofs.Common.{◌≡◌, ℕ, List, [], ◌∷◌, ◌++◌, Option, Some, None, option_and_then, Bool, true, false, ◌&&◌, refl, sym, ap, ◌∙◌, append_assoc, append-nil}
+use Rattle.std.proofs.lemmas.Bool.{and_parts}
 use Rattle.script_words.specs.declared.class.Spelled.TheVariants as spelled
 use Rattle.script_words.specs.declared.class.Number.{Number}
 use Rattle.script_words.specs.declared.class.Number.TheVariants as digits_kind
@@ -333,15 +334,11 @@ back (w ∷ ws) due more g = back_step w due (ws ++ more) (through (run ws) (ws 
 
 -- ---- what may end
 
-both_true : (a b : Bool) → (a && b) ≡ true → (a ≡ true) × (b ≡ true)
-both_true true b h = (refl, h)
-both_true false b h = absurd (cc h)
-
 pub nothing : (ds : List Due) → may_end ds ≡ true → Goes ds []
 unfolding may_end
 nothing [] h = (tt, refl)
 nothing (d ∷ rest) h =
-    let e = both_true (may_skip d) (may_end rest) h in
+    let e = and_parts (may_skip d) (may_end rest) h in
     let q = skipped d e.0 in
     let r = nothing rest e.1 in
     ((q.0, r.0), ap (λ l. l ++ parts_words rest r.0) q.1 ∙ r.1)

@@ -22,14 +22,9 @@ use Rattle.rewrite_hints.specs.Rows.{IsRowOf, RowsAreTrue, EqualSidesAreMet}
 use Rattle.rewrite_hints.specs.Marks.{AreRows}
 use Rattle.rule_universe.specs.Licensed.{NeedIsKnown, RowIsKnown, kid}
 use Rattle.script_truths.specs.Truths.{CheckedRowsAreTrue, MetRowsAreTrue}
+use Rattle.facts.specs.CommonParts.{stands}
 
 -- ---- lists
--- what stands at a place of a list stands where another of its length has something
-stands : {A : Type 0} (xs : List A) (k : ℕ) → k < length xs → (x : A) × (slice_get xs k ≡ Some x)
-stands [] k l = absurd (omega arith)
-stands (x ∷ xs) zero l = (x, refl)
-stands (x ∷ xs) (suc k) l = stands xs k (omega arith)
-
 pub all_from : {A : Type 0} (P : A → Type 0) (xs : List A) → ((x : A) → Has xs x → P x) → AllByRecursion P xs
 all_from P [] h = tt
 all_from P (x ∷ xs) h = (h x (0, refl), all_from P xs (λ y m. h y (suc m.0, m.1)))

@@ -17,11 +17,6 @@ use Rattle.saturate.specs.Boxes.{IsBox, IsItsTable, IsItsState, table_of, state_
 pub in_frame : (P : World → ℕ → Type 0) (u v : World) (h k : ℕ) → u ≡ v → h ≡ k → P u h → P v k
 in_frame P u v h k e f x = subst (λ n. P v n) f (subst (λ w. P w h) e x)
 
--- what each value gives
-pub ok_gives : {A E : Type 0} {P Q : A → Type 0} (r : Result A E) → IfOk r P → ((a : A) → P a → Q a) → IfOk r Q
-ok_gives (Ok a) p f = f a p
-ok_gives (Err e) p f = tt
-
 -- What a call is promised over the settler's universe and rounds holds over the frame's, of the frame's box.
 module _ (u v : World) (h k : ℕ) (e : u ≡ v) (f : h ≡ k) (piece : Option Piece) (parent : Option (Bor Table)) (pieces : List Piece) (is : IsBox v k piece parent pieces) where
   pub same_box : IsBox u h piece parent pieces

@@ -17,10 +17,10 @@ use Rattle.derivation.specs.Known.{Piece, Known}
 use Rattle.bisect.specs.declared.settler.State.{State}
 use Rattle.bisect.specs.declared.settler.State.TheVariants as state
 use Rattle.bisect.specs.Trees.{Tree, child_count, IsLeaf}
-use Rattle.bisect.specs.Boxes.{AreBoxes, first_open, open_goal, or_later}
+use Rattle.bisect.specs.Boxes.{AreBoxes, first_open, open_goal, or_later, not_some, first_none, later_none}
 use Rattle.bisect.specs.Gathered.{IsTrueState}
 use Rattle.settler.specs.Standing.{AreSettledBy, StandsAs}
-use Rattle.settler.proofs.Tight.{settled_fact, later_none, has_contained}
+use Rattle.settler.proofs.Tight.{settled_fact, has_contained}
 
 abbrev pub slots_of : List Goal → List Slot
 slots_of goals = map (λ (g : Goal). g.of) goals
@@ -56,14 +56,6 @@ module _ (kinds : AreOfGoals) (u : Setting) (a : Assignment) (height : ℕ) (pie
     where
       some_none : (j : ℕ) → Some j ≡ None → ⊥
       some_none j q = cc
-
--- no leaf of the list is open
-not_some : (x : List ℕ × ℕ) → Some x ≡ None → ⊥
-not_some x e = cc
-
-first_none : (p : List ℕ) (o : Option ℕ) (rest : Option (List ℕ × ℕ)) → or_later p o rest ≡ None → o ≡ None
-first_none p None rest e = refl
-first_none p (Some g) rest e = absurd (not_some (p, g) e)
 
 closed_in : (t : Tree) (ps : List (List ℕ)) (p : List ℕ) (k : ℕ) → slice_get ps k ≡ Some p → child_count t p ≡ 0 → first_open t ps ≡ None → open_goal zero (t.state_at p) ≡ None
 closed_in t [] p k e z n = cc

@@ -16,13 +16,14 @@ use Rattle.derivation.specs.Known.{Piece, Known, IsTableAt}
 use Rattle.derivation.specs.Settled.{IsMet, IsFirstUnmet, IsState}
 use Rattle.derivation.specs.Settled as box
 use Rattle.derivation.specs.Decided.{state_in}
-use Rattle.derivation.specs.Parts.{some_same, void_is}
+use Rattle.derivation.specs.Parts.{some_same}
 use Rattle.derivation.specs.Exists.{table_at}
 use Rattle.derivation.specs.Laws.{TablesExist, BoxesComeToOneState}
 use Rattle.bisect.specs.declared.settler.State.{State}
 use Rattle.bisect.specs.declared.settler.State.TheVariants as state
 use Rattle.settler.specs.Standing.{IsBestKnown, AreSettledBy, StandsAs}
 use Rattle.settler.specs.Decided.{with_found, goal_facts, state_with, standing_at}
+use Rattle.facts.specs.CommonParts.{void_is}
 
 -- ---- in one way
 best_once : (u : Setting) (height : ℕ) (pieces : List Piece) (s : Slot) (f g : Fact) → IsBestKnown u height pieces s f → IsBestKnown u height pieces s g → f ≡ g

@@ -22,7 +22,7 @@ use Rattle.bisect.specs.declared.settler.State.{State}
 use Rattle.bisect.specs.declared.settler.State.TheVariants as state
 use Rattle.bisect.specs.declared.outcome.Leaf.{Leaf}
 use Rattle.bisect.specs.Trees.{Tree, child_count, IsLeaf}
-use Rattle.bisect.specs.Boxes.{AreBoxes, first_open, leaves_of, leaf_at, with_leaf, open_goal, or_later}
+use Rattle.bisect.specs.Boxes.{AreBoxes, first_open, leaves_of, leaf_at, with_leaf, open_goal, or_later, not_some, later_none}
 use Rattle.bisect.specs.Gathered.{with_known, with_state, line_with, line_of, lines_of}
 use Rattle.settler.specs.Standing.{IsBestKnown, AreSettledBy, StandsAs, AreStates}
 use Rattle.settler.specs.Answers.{Options, plan_of, tree_by, IsProved}
@@ -108,14 +108,6 @@ settled_fact u height pieces (g ∷ gs) (f ∷ fs) a zero h e =
     let same : g ≡ h = cc in
     (f, refl, subst (λ (x : Goal). IsBestKnown u height pieces x.of f) same a.0, subst (λ x. Settles x f) same a.1)
 settled_fact u height pieces (g ∷ gs) (f ∷ fs) a (suc k) h e = settled_fact u height pieces gs fs a.2 k h e
-
--- nothing is open
-not_some : (x : List ℕ × ℕ) → Some x ≡ None → ⊥
-not_some x e = cc
-
-pub later_none : (p : List ℕ) (o : Option ℕ) (rest : Option (List ℕ × ℕ)) → or_later p o rest ≡ None → rest ≡ None
-later_none p None rest e = e
-later_none p (Some g) rest e = absurd (not_some (p, g) e)
 
 module _ (u : World) (plan : PlanParts) (height : ℕ) (t : Tree) (stand : AreStates u plan height t.state_at) (k : ℕ) (goal : Goal) (there : slice_get u.goals k ≡ Some goal) where
   gives : (path : List ℕ) (s : State) → StandsAs (setting_of u) u.goals height (pieces_at plan path) s → (rest : Option (List ℕ × ℕ)) → or_later path (open_goal zero s) rest ≡ None →

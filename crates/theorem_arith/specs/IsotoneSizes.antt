@@ -1,6 +1,7 @@
 -- The rules on absolute values: from stronger premises they give a fact as strong, or stronger.
 use Rattle.std.specs.Prelude.{◌≡◌, Bool, true, false, ◌&&◌, [], ◌∷◌, Option, Some, None, slice_get, if◌then◌else◌, refl}
 use Rattle.std.proofs.Common.{sym, ap, subst}
+use Rattle.std.proofs.lemmas.Bool.{and_parts, and_from}
 use Rattle.fx_model.specs.Fraction.{Fraction, ◌≤ℚ◌, zero_ℚ, neg_ℚ, abs_ℚ, le_trans}
 use Rattle.fx_model.specs.Grid.{Bound, Below, At, Above, neg_bound}
 use Rattle.fx_model.specs.Enclosure.{IsFrom, BoundLe, Negations, Sizes, in_enclosure, member_of, ordered_by, higher_from}
@@ -22,7 +23,6 @@ use Rattle.facts.specs.declared.size.Size.{Size}
 use Rattle.facts.specs.declared.fact.Fact.TheVariants as fact
 use Rattle.facts.specs.declared.fact.Slot.TheVariants as slot
 use Rattle.facts.specs.Order.{IsWithin, IsStronger, is_same}
-use Rattle.facts.specs.CommonParts.{and_both}
 use Rattle.facts.specs.Parts.{size_within}
 use Rattle.facts.specs.SizesWithin.{size_member, size_within-within, size_within-none, size_within-grows, size_within-smaller}
 use Rattle.facts.specs.Promises.{IsIsotone}
@@ -90,10 +90,6 @@ improves_signed x s t false false c d w p r f e = cc
 improves_signed x s t true b false d w p r f e = let g : false ≡ true = p refl in cc
 improves_signed x s t a true c false w p r f e = let g : false ≡ true = r refl in cc
 
-and_true : (a b : Bool) → a ≡ true → b ≡ true → (a && b) ≡ true
-and_true true b p q = q
-and_true false b p q = p
-
 pub sign_rule-isotone : IsIsotone sign_rule
 sign_rule-isotone nodes (fact.Bnd x i ∷ fact.Abs y k ∷ []) (slot.Bnd e) ps c s q =
     let a = bnd_then_abs ps x i y k s in
@@ -104,9 +100,9 @@ sign_rule-isotone nodes (fact.Bnd x i ∷ fact.Abs y k ∷ []) slot.Void ps c s 
     let a = bnd_then_abs ps x i y k s in
     subst (λ l. Gives (sign_rule nodes l slot.Void) c) (sym a.2)
     (improves_if (is_one nodes x y && (is_above i k && is_below i k)) (is_one nodes x y && (is_above a.0 a.1 && is_below a.0 a.1)) fact.Void fact.Void
-    (λ t. let u = and_both (is_one nodes x y) (is_above i k && is_below i k) t in
-    let v = and_both (is_above i k) (is_below i k) u.1 in
-    and_true (is_one nodes x y) (is_above a.0 a.1 && is_below a.0 a.1) u.0 (and_true (is_above a.0 a.1) (is_below a.0 a.1) (is_above-kept i a.0 k a.1 a.3 a.4 v.0) (is_below-kept i a.0 k a.1 a.3 a.4 v.1))) tt c q)
+    (λ t. let u = and_parts (is_one nodes x y) (is_above i k && is_below i k) t in
+    let v = and_parts (is_above i k) (is_below i k) u.1 in
+    and_from (is_one nodes x y) (is_above a.0 a.1 && is_below a.0 a.1) u.0 (and_from (is_above a.0 a.1) (is_below a.0 a.1) (is_above-kept i a.0 k a.1 a.3 a.4 v.0) (is_below-kept i a.0 k a.1 a.3 a.4 v.1))) tt c q)
 sign_rule-isotone nodes _ _ ps c s q = cc
 
 pub absolute_value_rule-isotone : IsIsotone absolute_value_rule

@@ -1,9 +1,10 @@
 -- Conclusions of rules.
 use Rattle.std.specs.Prelude.{◌≡◌, ◌&&◌, Bool, true, List}
+use Rattle.std.proofs.lemmas.Bool.{and_parts}
 use Rattle.fx_model.specs.declared.Node.{Node}
 use Rattle.expr_dag.specs.Shapes.{is_known}
 use Rattle.facts.specs.Order.{is_same}
-use Rattle.facts.specs.CommonParts.{and_both, expr_same}
+use Rattle.facts.specs.CommonParts.{expr_same}
 use Rattle.fx_model.specs.declared.ExprId.{ExprId}
 
 -- both are one expression of the list
@@ -11,4 +12,4 @@ abbrev pub is_one : List Node → ExprId → ExprId → Bool
 is_one nodes x y = is_same x y && is_known nodes x
 
 pub one_same : (nodes : List Node) (x y : ExprId) → is_one nodes x y ≡ true → x ≡ y
-one_same nodes x y e = expr_same x y (and_both (is_same x y) _ e).0
+one_same nodes x y e = expr_same x y (and_parts (is_same x y) _ e).0

@@ -85,7 +85,7 @@ difference_with_itself_rule-sound nodes (fact.Bnd x i ∷ []) (slot.Bnd e) f o q
 difference_with_itself_rule-sound nodes _ _ f o q = cc
 
 -- ---- quotients
-bnd_given : (nodes : List Node) (a : Assignment) (e : ExprId) (k : Option Interval) (f : Fact) → bnd_of e k ≡ Some f → ((i : Interval) → k ≡ Some i → IsSomeAnd (value nodes a e) (Lies (range_of i))) → Holds nodes a f
+pub bnd_given : (nodes : List Node) (a : Assignment) (e : ExprId) (k : Option Interval) (f : Fact) → bnd_of e k ≡ Some f → ((i : Interval) → k ≡ Some i → IsSomeAnd (value nodes a e) (Lies (range_of i))) → Holds nodes a f
 bnd_given nodes a e None f q h = cc
 bnd_given nodes a e (Some i) f q h = let t : fact.Bnd e i ≡ f = cc in subst (Holds nodes a) t (h i refl)
 

@@ -2,6 +2,7 @@
 use Rattle.std.specs.Prelude.{◌≡◌, ◌≢◌, ◌⊎◌, ◌||◌, List, [], ◌∷◌, Option, Some, None, refl}
 use Rattle.std.specs.Option.{IsSomeAnd}
 use Rattle.std.proofs.Common.{sym, ap, subst, ◌∙◌, ⊎_elim}
+use Rattle.std.proofs.lemmas.Bool.{or_cases}
 use Rattle.fx_model.specs.Fraction.{Fraction, ◌+ℚ◌, ◌-ℚ◌, ◌*ℚ◌, ◌≤ℚ◌, neg_ℚ, abs_ℚ, zero_ℚ, abs-from, le_refl}
 use Rattle.fx_model.specs.Enclosure.{IsFrom, IsUpTo, Lies, Sums, Differences, in_enclosure, product_holds, ordered_by, higher_from, lower_up_to}
 use Rattle.fx_model.specs.Expression.{Assignment, value, lift₂}
@@ -26,7 +27,7 @@ use Rattle.facts.specs.declared.fact.Slot.TheVariants as slot
 use Rattle.facts.specs.Parts.{size_within}
 use Rattle.facts.specs.Within.{on_half_line}
 use Rattle.facts.specs.Holds.{Holds}
-use Rattle.facts.specs.CommonParts.{if-some, or_out}
+use Rattle.facts.specs.CommonParts.{if-some}
 use Rattle.facts.specs.Promises.{IsSound}
 use Rattle.facts.specs.Conclusions.{abs_of, given}
 use Rattle.expr_dag.specs.Lifted.{at_node, lifted_quotient, lifted_twice, lifted₁, lifted₂}
@@ -111,7 +112,7 @@ size_of_sum_rule-sound nodes (fact.Abs x s ∷ fact.Abs y t ∷ []) (slot.Abs e)
     ⊎_elim
     (λ n. sum_given nodes a e s t f ◌+ℚ◌ (value nodes a x) (value nodes a y) (record { least = abs-add_least; other = abs-add_other; most = abs-add }) g.1 (node_at-value nodes a e (node.Add x y) o (is_at_out nodes e (node.Add x y) n)) h.0 h.1.0)
     (λ n. sum_given nodes a e s t f ◌-ℚ◌ (value nodes a x) (value nodes a y) (record { least = abs-sub_least; other = abs-sub_other; most = abs-sub }) g.1 (node_at-value nodes a e (node.Sub x y) o (is_at_out nodes e (node.Sub x y) n)) h.0 h.1.0)
-    (or_out (is_at nodes e (node.Add x y)) (is_at nodes e (node.Sub x y)) g.0)
+    (or_cases (is_at nodes e (node.Add x y)) (is_at nodes e (node.Sub x y)) g.0)
 size_of_sum_rule-sound nodes _ _ f o q = cc
 
 -- ---- the square, from the absolute value

@@ -2,6 +2,7 @@
 use Rattle.std.specs.Prelude.{◌≡◌, ◌⊎◌, ◌&&◌, Bool, true, false, List, [], ◌∷◌, Option, Some, None, slice_get, if◌then◌else◌, refl}
 use Rattle.std.specs.Option.{IsSomeAnd}
 use Rattle.std.proofs.Common.{sym, ap, subst, ◌∙◌, inl, inr, ⊎_elim}
+use Rattle.std.proofs.lemmas.Bool.{and_parts}
 use Rattle.fx_model.specs.Fraction.{Fraction, ◌≤ℚ◌, neg_ℚ, abs_ℚ, le_trans, neg-le, neg-neg}
 use Rattle.fx_model.specs.Grid.{Bound, Below, At, Above, neg_bound}
 use Rattle.fx_model.specs.Enclosure.{IsFrom, IsUpTo, Lies, BoundLe, Sizes, Negations, in_enclosure, up_to_neg, higher_from, lower_up_to}
@@ -27,7 +28,7 @@ use Rattle.facts.specs.Parts.{size_within}
 use Rattle.facts.specs.Within.{size_within_holds}
 use Rattle.facts.specs.Holds.{Holds}
 use Rattle.facts.specs.Order.{is_same}
-use Rattle.facts.specs.CommonParts.{if-some, and_both, expr_same}
+use Rattle.facts.specs.CommonParts.{if-some, expr_same}
 use Rattle.facts.specs.Held.{some-and, both_some}
 use Rattle.facts.specs.Promises.{IsSound}
 use Rattle.facts.specs.Conclusions.{abs_of, bnd_of, given}
@@ -117,15 +118,15 @@ signed_holds nodes a x i s false false f e k q l m = cc
 pub sign_rule-sound : IsSound sign_rule
 sign_rule-sound nodes (fact.Bnd x i ∷ fact.Abs y s ∷ []) (slot.Bnd e) f o q = λ a h.
     let t = given (is_one nodes x y && is_same x e) (signed_fact e s (is_above i s) (is_below i s)) f q in
-    let b = and_both (is_one nodes x y) (is_same x e) t.0 in
+    let b = and_parts (is_one nodes x y) (is_same x e) t.0 in
     let xe : x ≡ e = expr_same x e b.1 in
     let ye : y ≡ e = sym (one_same nodes x y b.0) ∙ xe in
     signed_holds nodes a e i s (is_above i s) (is_below i s) f refl refl t.1
     (subst (λ z. IsSomeAnd (value nodes a z) (Lies (range_of i))) xe h.0) (subst (λ z. IsSomeAnd (value nodes a z) (λ v. Lies (range_of s.interval) (abs_ℚ v))) ye h.1.0)
 sign_rule-sound nodes (fact.Bnd x i ∷ fact.Abs y s ∷ []) slot.Void f o q = λ a h.
     let t = if-some (is_one nodes x y && (is_above i s && is_below i s)) fact.Void f q in
-    let b = and_both (is_one nodes x y) (is_above i s && is_below i s) t.0 in
-    let c = and_both (is_above i s) (is_below i s) b.1 in
+    let b = and_parts (is_one nodes x y) (is_above i s && is_below i s) t.0 in
+    let c = and_parts (is_above i s) (is_below i s) b.1 in
     let v : signed_fact x s (is_above i s) (is_below i s) ≡ Some f = ap (λ u. signed_fact x s u (is_below i s)) c.0 ∙ ap (signed_fact x s true) c.1 ∙ ap Some t.1 in
     signed_holds nodes a x i s (is_above i s) (is_below i s) f refl refl v h.0 (subst (λ z. IsSomeAnd (value nodes a z) (λ v. Lies (range_of s.interval) (abs_ℚ v))) (sym (one_same nodes x y b.0)) h.1.0)
 sign_rule-sound nodes _ _ f o q = cc

@@ -2,6 +2,7 @@
 use Rattle.std.specs.Prelude.{◌≡◌, ◌⊎◌, ◌&&◌, ◌≤ℤ◌, true, List, [], ◌∷◌, Option, Some, None, refl}
 use Rattle.std.specs.Option.{IsSomeAnd}
 use Rattle.std.proofs.Common.{sym, ap, subst, ◌∙◌, inl, inr}
+use Rattle.std.proofs.lemmas.Bool.{and_parts}
 use Rattle.fx_model.specs.Fraction.{Fraction}
 use Rattle.fx_model.specs.Powers.{IsMultiple}
 use Rattle.fx_model.specs.Enclosure.{Lies, Within, member_of, ordered_by, within_in}
@@ -14,7 +15,7 @@ use Rattle.facts.specs.declared.place.Place.{Place}
 use Rattle.facts.specs.declared.fact.Fact.{Fact}
 use Rattle.facts.specs.declared.fact.Fact.TheVariants as fact
 use Rattle.facts.specs.declared.fact.Slot.TheVariants as slot
-use Rattle.facts.specs.CommonParts.{and_both, expr_same, some-inj}
+use Rattle.facts.specs.CommonParts.{expr_same, some-inj}
 use Rattle.facts.specs.Order.{IsWithin, is_same}
 use Rattle.facts.specs.Promises.{IsSound, IsIsotone, EachStronger}
 use Rattle.facts.specs.Premises.{Gives, strong_bnd, first_premise, one_fix}
@@ -22,15 +23,12 @@ use Rattle.facts.specs.Conclusions.{bnd_of, given, given_if, improves_bnd, impro
 use Rattle.theorem_arith.specs.Shapes.{is_one, one_same}
 use Rattle.theorem_fix.specs.EachRule.{IsIsotoneOrVoid}
 use Rattle.interval.specs.Outward.{outward_of_lies}
-use Rattle.theorem_fix.specs.SoundRoundings.{bnd_given}
 use Rattle.theorem_fix.specs.Shrunk.{shrunk_range, shrunk_of, shrinking_rule, void_without, no_multiple_rule}
 use Rattle.theorem_fix.specs.ShrunkRanges.{shrunk_ends, shrunk_some, shrunk_ordered, multiple_lies, shrunk_within}
+use Rattle.facts.specs.Held.{both_some}
+use Rattle.theorem_arith.specs.Sound.{bnd_given}
 
 -- ---- sound
-both_known : (u : Option Fraction) (P Q R : Fraction → Type 0) → ((x : Fraction) → P x → Q x → R x) → IsSomeAnd u P → IsSomeAnd u Q → IsSomeAnd u R
-both_known None P Q R h p q = p
-both_known (Some x) P Q R h p q = h x p q
-
 neither_known : (u : Option Fraction) (P Q : Fraction → Type 0) → ((x : Fraction) → P x → Q x → ⊥) → IsSomeAnd u P → IsSomeAnd u Q → ⊥
 neither_known None P Q h p q = p
 neither_known (Some x) P Q h p q = h x p q
@@ -38,10 +36,10 @@ neither_known (Some x) P Q h p q = h x p q
 pub shrinking_rule-sound : IsSound shrinking_rule
 shrinking_rule-sound nodes (fact.Bnd x i ∷ fact.Fix y k ∷ []) (slot.Bnd e) f o q = λ a h.
     let t = given (is_one nodes x y && is_same x e) (bnd_of e (shrunk_of i k)) f q in
-    let b = and_both (is_one nodes x y) (is_same x e) t.0 in
+    let b = and_parts (is_one nodes x y) (is_same x e) t.0 in
     let m : IsSomeAnd (value nodes a x) (IsMultiple k.exponent) = subst (λ z. IsSomeAnd (value nodes a z) (IsMultiple k.exponent)) (sym (one_same nodes x y b.0)) h.1.0 in
     bnd_given nodes a e (shrunk_of i k) f t.1 (λ j s. subst (λ z. IsSomeAnd (value nodes a z) (Lies (range_of j))) (expr_same x e b.1)
-    (both_known (value nodes a x) (Lies (range_of i)) (IsMultiple k.exponent) (Lies (range_of j)) (λ v l n. outward_of_lies (shrunk_range k.exponent (range_of i)) j v s (multiple_lies k.exponent (range_of i) v n l)) h.0 m))
+    (both_some (value nodes a x) (Lies (range_of i)) (IsMultiple k.exponent) (Lies (range_of j)) (λ v l n. outward_of_lies (shrunk_range k.exponent (range_of i)) j v s (multiple_lies k.exponent (range_of i) v n l)) h.0 m))
 shrinking_rule-sound nodes _ _ f o q = cc
 
 -- a multiple in the interval shows that there is a shrunk one
@@ -106,7 +104,7 @@ shrunk_or_void : (nodes : List Node) (x y e : ExprId) (i j : Interval) (k n : Pl
 shrunk_or_void nodes x y e i j k n c w h q = by_case (shrunk_of j n) refl
   where
     by_case : (o : Option Interval) → shrunk_of j n ≡ o → Gives (given_if (is_one nodes x y && is_same x e) (bnd_of e o)) c ⊎ (given_if (is_one nodes x y) (void_without o) ≡ Some fact.Void)
-    by_case None m = inr (ap (λ d. given_if d (Some fact.Void)) (and_both (is_one nodes x y) (is_same x e) (given (is_one nodes x y && is_same x e) (bnd_of e (shrunk_of i k)) c q).0).0)
+    by_case None m = inr (ap (λ d. given_if d (Some fact.Void)) (and_parts (is_one nodes x y) (is_same x e) (given (is_one nodes x y && is_same x e) (bnd_of e (shrunk_of i k)) c q).0).0)
     by_case (Some r) m = inl (improves_given (is_one nodes x y && is_same x e) (bnd_of e (shrunk_of i k)) (bnd_of e (Some r))
         (improves_bnd e (shrunk_of i k) (Some r) (λ p f. (r, refl, further_in i j k n p r w h f m))) c q)
 

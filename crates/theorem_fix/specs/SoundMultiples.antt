@@ -4,10 +4,10 @@ use Rattle.std.specs.Int.RustNames.{int_lt, unsigned_abs}
 use Rattle.std.specs.Option.{IsSomeAnd}
 use Rattle.std.proofs.Common.{sym, ap, subst, ◌∙◌, ⊎_elim, arith}
 use Rattle.std.proofs.lemmas.Int.{ints}
-use Rattle.std.proofs.lemmas.Bool.{eqb-true}
+use Rattle.std.proofs.lemmas.Bool.{eqb-true, or_cases}
 use lib.IntN.{neg_ℤ}
 use Rattle.fx_model.specs.Fraction.{Fraction, ◌+ℚ◌, ◌-ℚ◌, ◌*ℚ◌, ◌≤ℚ◌, neg_ℚ, le_antisymm, le_trans}
-use Rattle.fx_model.specs.Powers.{IsMultiple, scaled, scaled-zero, whole, two_to, whole-add}
+use Rattle.fx_model.specs.Powers.{IsMultiple, scaled, scaled-zero, whole, two_to, whole-add, scaled-add}
 use Rattle.fx_model.specs.Grid.{scaled-neg, scaled-mul, multiple-neg}
 use Rattle.fx_model.specs.Enclosure.{Lies}
 use Rattle.fx_model.specs.Expression.{Assignment, IsOrdered, value, lift₁, literal_value}
@@ -30,7 +30,7 @@ use Rattle.facts.specs.declared.fact.Fact.{Fact}
 use Rattle.facts.specs.declared.fact.Fact.TheVariants as fact
 use Rattle.facts.specs.declared.fact.Slot.TheVariants as slot
 use Rattle.facts.specs.Holds.{Holds}
-use Rattle.facts.specs.CommonParts.{if-some, expr_same, or_out}
+use Rattle.facts.specs.CommonParts.{if-some, expr_same}
 use Rattle.facts.specs.Held.{multiple-lower, some-and}
 use Rattle.facts.specs.Order.{is_same}
 use Rattle.facts.specs.Promises.{IsSound}
@@ -46,9 +46,6 @@ use Rattle.theorem_fix.specs.Shapes.{rounding_of, rounding_at}
 use Rattle.theorem_fix.specs.Multiples.{literal_place, literal_multiple_rule, multiple_of_negation_rule, multiple_of_sum_rule, multiple_of_product_rule, last_place, rounded_multiple_rule, untouched, untouched_multiple_rule, is_zero, number_place, point_place, number_multiple_rule}
 
 -- ---- multiples
-scaled-add : (m n k : ℤ) → scaled m k +ℚ scaled n k ≡ scaled (m +ℤ n) k
-scaled-add m n k = sym (add-mul (whole m) (whole n) (two_to k)) ∙ ap (λ y. y *ℚ two_to k) (sym (whole-add m n))
-
 pub multiple-add : (k : ℤ) (x y : Fraction) → IsMultiple k x → IsMultiple k y → IsMultiple k (x +ℚ y)
 multiple-add k x y m n = (m.0 +ℤ n.0, ap (λ z. z +ℚ y) m.1 ∙ ap (λ z. scaled m.0 k +ℚ z) n.1 ∙ scaled-add m.0 n.0 k)
 
@@ -116,7 +113,7 @@ multiple_of_sum_rule-sound nodes (fact.Fix x k ∷ fact.Fix y n ∷ []) (slot.Fi
     (lifted₂ ◌+ℚ◌ (value nodes a x) (value nodes a y) (IsMultiple k.exponent) (IsMultiple n.exponent) (IsMultiple p.exponent) (λ u v l m. multiple-add p.exponent u v (low u l) (high v m)) h.0 h.1.0))
     (λ s. at_node nodes a o e (node.Sub x y) (IsMultiple p.exponent) s
     (lifted₂ ◌-ℚ◌ (value nodes a x) (value nodes a y) (IsMultiple k.exponent) (IsMultiple n.exponent) (IsMultiple p.exponent) (λ u v l m. multiple-sub p.exponent u v (low u l) (high v m)) h.0 h.1.0))
-    (or_out (is_at nodes e (node.Add x y)) (is_at nodes e (node.Sub x y)) t.0))
+    (or_cases (is_at nodes e (node.Add x y)) (is_at nodes e (node.Sub x y)) t.0))
 multiple_of_sum_rule-sound nodes _ _ f o q = cc
 
 pub multiple_of_product_rule-sound : IsSound multiple_of_product_rule

@@ -2,6 +2,7 @@
 use Rattle.std.specs.Prelude.{◌≡◌, ◌≢◌, ◌⊎◌, ◌&&◌, ◌||◌, not, Bool, true, false, List, [], ◌∷◌, Option, Some, None}
 use Rattle.std.specs.Option.{IsSomeAnd}
 use Rattle.std.proofs.Common.{sym, ap, subst, ◌∙◌, inl, inr, ⊎_elim}
+use Rattle.std.proofs.lemmas.Bool.{and_parts, or_cases}
 use Rattle.fx_model.specs.Fraction.{Fraction, ◌*ℚ◌, ◌/ℚ◌, neg_ℚ, abs_ℚ, zero_ℚ, one_ℚ, inverse_ℚ, abs-from, le_refl, lt_not, mul_comm, mul_assoc, mul-inverse, one-mul, zero-mul, zero-add, neg-neg, add-neg, div-mul}
 use Rattle.fx_model.specs.Grid.{Bound, Below, At, Above}
 use Rattle.fx_model.specs.Enclosure.{IsFrom, Lies}
@@ -17,7 +18,7 @@ use Rattle.facts.specs.declared.fact.Fact.{Fact}
 use Rattle.facts.specs.declared.fact.Fact.TheVariants as fact
 use Rattle.facts.specs.declared.fact.Slot.TheVariants as slot
 use Rattle.facts.specs.Holds.{AreZero, IsRelated, Holds}
-use Rattle.facts.specs.CommonParts.{if-some, and_both, or_out, expr_same}
+use Rattle.facts.specs.CommonParts.{if-some, expr_same}
 use Rattle.facts.specs.Held.{some-and}
 use Rattle.facts.specs.Order.{is_same}
 use Rattle.facts.specs.Ranges.{IsBelow, is_below, is_below_in}
@@ -55,7 +56,7 @@ both_ways false m e = cc
 pub nonzero_bound_rule-sound : IsSound nonzero_bound_rule
 nonzero_bound_rule-sound nodes (fact.Bnd x i ∷ []) (slot.Nzr e) f o q = λ a h.
     let t = if-some (is_one nodes x e && not (has_zero (range_of i))) (fact.Nzr e) f q in
-    let b = and_both (is_one nodes x e) (not (has_zero (range_of i))) t.0 in
+    let b = and_parts (is_one nodes x e) (not (has_zero (range_of i))) t.0 in
     subst (Holds nodes a) t.1 (subst (λ z. IsSomeAnd (value nodes a z) IsNonzero) (one_same nodes x e b.0)
     (some-and (value nodes a x) (Lies (range_of i)) IsNonzero (λ v l z. both_ways (has_zero (range_of i)) b.1 (zero_test i (subst (Lies (range_of i)) z l))) h.0))
 nonzero_bound_rule-sound nodes _ _ f o q = cc
@@ -72,7 +73,7 @@ pub nonzero_size_rule-sound : IsSound nonzero_size_rule
 nonzero_size_rule-sound nodes (fact.Abs x s ∷ []) (slot.Nzr e) f o q = λ a h.
     let low = (range_of s.interval).low in
     let t = if-some (is_one nodes x e && is_below zero_ℚ low) (fact.Nzr e) f q in
-    let b = and_both (is_one nodes x e) (is_below zero_ℚ low) t.0 in
+    let b = and_parts (is_one nodes x e) (is_below zero_ℚ low) t.0 in
     subst (Holds nodes a) t.1 (subst (λ z. IsSomeAnd (value nodes a z) IsNonzero) (one_same nodes x e b.0)
     (some-and (value nodes a x) (λ v. Lies (range_of s.interval) (abs_ℚ v)) IsNonzero (λ v l z. above_zero low (is_below_in zero_ℚ low b.1) (subst (IsFrom low) (ap abs_ℚ z ∙ zero_size) l.0)) h.0))
 nonzero_size_rule-sound nodes _ _ f o q = cc
@@ -126,25 +127,25 @@ first_holds nodes a x y (Some d) r n = pair_first (value nodes a x) (value nodes
 -- of the side that isn't z
 other_holds : (nodes : List Node) (a : Assignment) (x y z e : ExprId) (d : Option RelativeError) → are_sides x y z e ≡ true → Holds nodes a (fact.Rel x y d) → IsSomeAnd (value nodes a z) IsNonzero → Holds nodes a (nonzero_or_void e d)
 other_holds nodes a x y z e d s r n = ⊎_elim
-    (λ t. let b = and_both (is_same z x) (is_same e y) t in
+    (λ t. let b = and_parts (is_same z x) (is_same e y) t in
     subst (λ w. Holds nodes a (nonzero_or_void w d)) (sym (expr_same e y b.1)) (second_holds nodes a x y d r (subst (λ w. IsSomeAnd (value nodes a w) IsNonzero) (expr_same z x b.0) n)))
-    (λ t. let b = and_both (is_same z y) (is_same e x) t in
+    (λ t. let b = and_parts (is_same z y) (is_same e x) t in
     subst (λ w. Holds nodes a (nonzero_or_void w d)) (sym (expr_same e x b.1)) (first_holds nodes a x y d r (subst (λ w. IsSomeAnd (value nodes a w) IsNonzero) (expr_same z y b.0) n)))
-    (or_out (is_same z x && is_same e y) (is_same z y && is_same e x) s)
+    (or_cases (is_same z x && is_same e y) (is_same z y && is_same e x) s)
 
 -- VOID is said of either side
 nothing_holds : (nodes : List Node) (a : Assignment) (x y z : ExprId) (d : Option RelativeError) (f : Fact) → (is_same z x || is_same z y) ≡ true → void_only (Some (nonzero_or_void z d)) ≡ Some f → Holds nodes a (fact.Rel x y d) → IsSomeAnd (value nodes a z) IsNonzero → Holds nodes a f
 nothing_holds nodes a x y z None f s q r n = absurd (no_pair (value nodes a x) (value nodes a y) r (⊎_elim
     (λ t. inl (subst (λ w. IsSomeAnd (value nodes a w) IsNonzero) (expr_same z x t) n))
     (λ t. inr (subst (λ w. IsSomeAnd (value nodes a w) IsNonzero) (expr_same z y t) n))
-    (or_out (is_same z x) (is_same z y) s)))
+    (or_cases (is_same z x) (is_same z y) s)))
 nothing_holds nodes a x y z (Some d) f s q r n = cc
 
 pub nonzero_side_rule-sound : IsSound nonzero_side_rule
 nonzero_side_rule-sound nodes (fact.Rel x y d ∷ fact.Nzr z ∷ []) (slot.Nzr e) f o q = λ a h.
     let t = if-some (are_known nodes x y && are_sides x y z e) (nonzero_or_void e d) f q in
-    subst (Holds nodes a) t.1 (other_holds nodes a x y z e d (and_both (are_known nodes x y) (are_sides x y z e) t.0).1 h.0 h.1.0)
+    subst (Holds nodes a) t.1 (other_holds nodes a x y z e d (and_parts (are_known nodes x y) (are_sides x y z e) t.0).1 h.0 h.1.0)
 nonzero_side_rule-sound nodes (fact.Rel x y d ∷ fact.Nzr z ∷ []) slot.Void f o q = λ a h.
     let t = given (are_known nodes x y && (is_same z x || is_same z y)) (void_only (Some (nonzero_or_void z d))) f q in
-    nothing_holds nodes a x y z d f (and_both (are_known nodes x y) (is_same z x || is_same z y) t.0).1 t.1 h.0 h.1.0
+    nothing_holds nodes a x y z d f (and_parts (are_known nodes x y) (is_same z x || is_same z y) t.0).1 t.1 h.0 h.1.0
 nonzero_side_rule-sound nodes _ _ f o q = cc

@@ -36,11 +36,7 @@ use Rattle.interval.specs.Outward.{outward_of_lies}
 use Rattle.theorem_fix.specs.Shapes.{rounding_at, error_rounding_of, error_rounding_at}
 use Rattle.theorem_fix.specs.SoundMultiples.{at_rounding, rounding_of_out}
 use Rattle.theorem_fix.specs.Roundings.{rounded_end, rounded_range, rounded_interval, rounded_bound_rule, errors_of, error_rule, sign_by, sign_of, is_sided, sided, signed_errors_of, signed_error_rule, multiple_error_rule}
-
--- a BND fact of an interval that may be missing
-pub bnd_given : (nodes : List Node) (a : Assignment) (e : ExprId) (o : Option Interval) (f : Fact) → bnd_of e o ≡ Some f → ((i : Interval) → o ≡ Some i → IsSomeAnd (value nodes a e) (Lies (range_of i))) → Holds nodes a f
-bnd_given nodes a e None f q h = cc
-bnd_given nodes a e (Some i) f q h = let t : fact.Bnd e i ≡ f = cc in subst (Holds nodes a) t (h i refl)
+use Rattle.theorem_arith.specs.Sound.{bnd_given}
 
 -- ---- rounded values
 rounded_from : (r : Rounding) (b : Bound) (x : Fraction) → IsFrom b x → IsFrom (rounded_end r b) (rounded r.dir r.lsb x)

@@ -18,7 +18,7 @@ use Rattle.facts.specs.declared.fact.Slot.TheVariants as slot
 use Rattle.facts.specs.Order.{IsWithin, IsWithinError, IsStronger, is_same}
 use Rattle.facts.specs.Parts.{error_from, error_from_out, error_of_part}
 use Rattle.facts.specs.CommonParts.{at_option}
-use Rattle.facts.specs.Laws.{IsStronger-refl}
+use Rattle.facts.specs.Laws.{IsStronger-refl, IsWithin-refl}
 use Rattle.facts.specs.Promises.{IsIsotone}
 use Rattle.facts.specs.Premises.{Gives}
 use Rattle.facts.specs.Conclusions.{Improves, improves_given, improves_only}
@@ -30,7 +30,6 @@ use Rattle.interval.specs.Members.{zero_test, zero_found, grown, some_member, wi
 use Rattle.theorem_rel.specs.Members.{weighted_lies}
 use Rattle.facts.specs.RelativePremises.{one_rel, two_rel, two_rel_then_nzr, two_rel_then_bnd}
 use Rattle.facts.specs.RelativeConclusions.{improves_error, improves_part, improves_void, improves_fact, improves_to_none, improves_to, improves_void_only}
-use Rattle.theorem_rel.specs.IsotoneValues.{IsWithin-itself}
 
 -- ---- products and chains
 joint-within : (i k j l : Interval) → IsWithin i j → IsWithin k l → IsWithin (joint i k) (joint j l)
@@ -69,9 +68,9 @@ over_one-within : (i j : Interval) (k l : RelativeError) (w : Interval) → IsWi
 over_one-within i j k l w p r e = at_option (quotient_of i (sum_of unit k.interval)) (λ o. quotient_of i (sum_of unit k.interval) ≡ o → less_one o ≡ Some w → (v : Interval) × (over_one j l ≡ Some v) × IsWithin v w)
     (λ _ _ n. cc)
     (λ q g _ n.
-    let d = quotient_of-within j (sum_of unit l.interval) i (sum_of unit k.interval) q p (sum_of-within unit l.interval unit k.interval (IsWithin-itself unit) r) g in
+    let d = quotient_of-within j (sum_of unit l.interval) i (sum_of unit k.interval) q p (sum_of-within unit l.interval unit k.interval (IsWithin-refl unit) r) g in
     let z : difference_of q unit ≡ w = cc in
-    (difference_of d.0 unit, ap less_one d.1, subst (IsWithin (difference_of d.0 unit)) z (difference_of-within d.0 unit q unit d.2 (IsWithin-itself unit)))) refl e
+    (difference_of d.0 unit, ap less_one d.1, subst (IsWithin (difference_of d.0 unit)) z (difference_of-within d.0 unit q unit d.2 (IsWithin-refl unit)))) refl e
 
 ratio_fact-improves : (x y : ExprId) (i k j l : Option RelativeError) → IsWithinError j i → IsWithinError l k → Improves (ratio_fact x y i k) (ratio_fact x y j l)
 ratio_fact-improves x y i k j None v w = improves_void (ratio_fact x y i k)
@@ -80,7 +79,7 @@ ratio_fact-improves x y None (Some k) None (Some l) v w = none_again x y
 ratio_fact-improves x y None (Some k) (Some j) (Some l) v w = absurd v
 ratio_fact-improves x y (Some i) (Some k) None (Some l) v w = improves_to_none x y (error_of_part (over_one (sum_of unit i.interval) k))
 ratio_fact-improves x y (Some i) (Some k) (Some j) (Some l) v w = improves_part x y (over_one (sum_of unit i.interval) k) (over_one (sum_of unit j.interval) l)
-    (λ u e. over_one-within (sum_of unit i.interval) (sum_of unit j.interval) k l u (sum_of-within unit j.interval unit i.interval (IsWithin-itself unit) v) w e)
+    (λ u e. over_one-within (sum_of unit i.interval) (sum_of unit j.interval) k l u (sum_of-within unit j.interval unit i.interval (IsWithin-refl unit) v) w e)
 
 pub relative_quotient_rule-isotone : IsIsotone relative_quotient_rule
 relative_quotient_rule-isotone nodes (fact.Rel a c i ∷ fact.Rel b d k ∷ fact.Nzr z ∷ []) (slot.Rel x y) ps r s q =
@@ -98,7 +97,7 @@ turned_fact-improves : (x y : ExprId) (i j : Option RelativeError) → IsWithinE
 turned_fact-improves x y None None v = none_again x y
 turned_fact-improves x y None (Some j) v = absurd v
 turned_fact-improves x y (Some i) None v = improves_to_none x y (error_of_part (over_one unit i))
-turned_fact-improves x y (Some i) (Some j) v = improves_part x y (over_one unit i) (over_one unit j) (λ u e. over_one-within unit unit i j u (IsWithin-itself unit) v e)
+turned_fact-improves x y (Some i) (Some j) v = improves_part x y (over_one unit i) (over_one unit j) (λ u e. over_one-within unit unit i j u (IsWithin-refl unit) v e)
 
 pub relative_turned_rule-isotone : IsIsotone relative_turned_rule
 relative_turned_rule-isotone nodes (fact.Rel x y i ∷ []) (slot.Rel z w) ps r s q =
@@ -118,7 +117,7 @@ relative_negation_rule-isotone nodes _ _ ps r s q = cc
 -- ---- sums
 weighted-within : (i k l j m n : Interval) → IsWithin i j → IsWithin k m → IsWithin l n → IsWithin (weighted i k l) (weighted j m n)
 weighted-within i k l j m n u v w = sum_of-within (product_of i l) (product_of k (difference_of unit l)) (product_of j n) (product_of m (difference_of unit n))
-    (product_of-within i l j n u w) (product_of-within k (difference_of unit l) m (difference_of unit n) v (difference_of-within unit l unit n (IsWithin-itself unit) w))
+    (product_of-within i l j n u w) (product_of-within k (difference_of unit l) m (difference_of unit n) v (difference_of-within unit l unit n (IsWithin-refl unit) w))
 
 -- with no share of the first the error is that of the second
 second_alone : (s t : Fraction) → (s *ℚ zero_ℚ) +ℚ (t *ℚ (one_ℚ -ℚ zero_ℚ)) ≡ t

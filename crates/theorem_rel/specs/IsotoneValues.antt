@@ -16,7 +16,7 @@ use Rattle.facts.specs.declared.fact.Fact.TheVariants as fact
 use Rattle.facts.specs.declared.fact.Slot.TheVariants as slot
 use Rattle.facts.specs.Order.{IsWithin, IsWithinError, IsStronger, is_same}
 use Rattle.facts.specs.Parts.{error_of_part}
-use Rattle.facts.specs.Laws.{IsStronger-refl}
+use Rattle.facts.specs.Laws.{IsStronger-refl, IsWithin-refl}
 use Rattle.facts.specs.Promises.{IsIsotone}
 use Rattle.facts.specs.Premises.{Gives, one_bnd, two_bnd}
 use Rattle.facts.specs.Conclusions.{improves_given, improves_only}
@@ -31,9 +31,6 @@ relative_to_itself_rule-isotone nodes (fact.Bnd x i ∷ []) (slot.Rel y z) ps c 
     let a = one_bnd ps x i s in
     subst (λ l. Gives (relative_to_itself_rule nodes l (slot.Rel y z)) c) (sym a.1) (c, q, IsStronger-refl c)
 relative_to_itself_rule-isotone nodes _ _ ps c s q = cc
-
-pub IsWithin-itself : (i : Interval) → IsWithin i i
-IsWithin-itself i = let t : IsStronger (fact.Bnd (record { 0 = 0 }) i) (fact.Bnd (record { 0 = 0 }) i) = IsStronger-refl (fact.Bnd (record { 0 = 0 }) i) in t.1
 
 pub relative_difference_rule-isotone : IsIsotone relative_difference_rule
 relative_difference_rule-isotone nodes (fact.Bnd p i ∷ fact.Bnd z j ∷ []) (slot.Rel x y) ps c s q =
@@ -80,7 +77,7 @@ difference_by_error_rule-isotone nodes (fact.Rel x y d ∷ fact.Bnd z j ∷ []) 
 difference_by_error_rule-isotone nodes _ _ ps c s q = cc
 
 value_fact-rises : (e : ExprId) (d g : Option RelativeError) (j k : Interval) → IsWithinError g d → IsWithin k j → IsStronger (value_fact e g k) (value_fact e d j)
-value_fact-rises e (Some d) (Some g) j k v w = (refl, product_of-within k (sum_of unit g.interval) j (sum_of unit d.interval) w (sum_of-within unit g.interval unit d.interval (IsWithin-itself unit) v))
+value_fact-rises e (Some d) (Some g) j k v w = (refl, product_of-within k (sum_of unit g.interval) j (sum_of unit d.interval) w (sum_of-within unit g.interval unit d.interval (IsWithin-refl unit) v))
 value_fact-rises e (Some d) None j k v w = zero_is_strong e k (fact.Bnd e (product_of j (sum_of unit d.interval))) (λ l. (refl, zero_in_product j (sum_of unit d.interval) (grown k j zero_ℚ w l)))
 value_fact-rises e None None j k v w = zero_or_void-rises e j k w
 value_fact-rises e None (Some g) j k v w = absurd v
@@ -98,7 +95,7 @@ value_by_error_rule-isotone nodes (fact.Rel x y d ∷ fact.Bnd z j ∷ []) slot.
 value_by_error_rule-isotone nodes _ _ ps c s q = cc
 
 quotient_fact-rises : (e : ExprId) (d g : Option RelativeError) → IsWithinError g d → IsStronger (quotient_fact e g) (quotient_fact e d)
-quotient_fact-rises e (Some d) (Some g) v = (refl, sum_of-within unit g.interval unit d.interval (IsWithin-itself unit) v)
+quotient_fact-rises e (Some d) (Some g) v = (refl, sum_of-within unit g.interval unit d.interval (IsWithin-refl unit) v)
 quotient_fact-rises e d None v = tt
 quotient_fact-rises e None (Some g) v = absurd v
 

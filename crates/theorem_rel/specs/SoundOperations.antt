@@ -1,6 +1,7 @@
 -- The rules on relative errors of operations are sound: where the premises hold, the conclusion does.
 use Rattle.std.specs.Prelude.{◌≡◌, ◌≢◌, ◌&&◌, Bool, true, List, [], ◌∷◌, Option, Some, None, slice_get, refl}
 use Rattle.std.proofs.Common.{sym, ap, subst, ◌∙◌, ⊎_elim}
+use Rattle.std.proofs.lemmas.Bool.{and_parts}
 use Rattle.fx_model.specs.Fraction.{Fraction, ◌+ℚ◌, ◌-ℚ◌, ◌*ℚ◌, ◌/ℚ◌, inverse_ℚ, neg_ℚ, zero_ℚ, one_ℚ, zero-add, zero-mul, neg-mul, mul-inverse}
 use Rattle.fx_model.specs.Enclosure.{Lies, Sums, Differences, in_enclosure, product_holds}
 use Rattle.fx_model.specs.Expression.{Assignment, IsOrdered, value, quotient}
@@ -20,7 +21,7 @@ use Rattle.facts.specs.declared.fact.Slot.TheVariants as slot
 use Rattle.facts.specs.Holds.{Holds, AreZero, IsRelated, IsRelatedBy}
 use Rattle.facts.specs.Order.{is_same}
 use Rattle.facts.specs.Parts.{error_from, error_of_part}
-use Rattle.facts.specs.CommonParts.{at_option, if-some, and_both, expr_same}
+use Rattle.facts.specs.CommonParts.{at_option, if-some, expr_same}
 use Rattle.facts.specs.Promises.{IsSound}
 use Rattle.facts.specs.Conclusions.{given}
 use Rattle.facts.specs.RelativeConclusions.{void_only}
@@ -63,7 +64,7 @@ joint_given nodes a x y (Some i) None f p r q u v w m n j g h e = zero_given nod
 pub relative_product_rule-sound : IsSound relative_product_rule
 relative_product_rule-sound nodes (fact.Rel l c i ∷ fact.Rel b d k ∷ []) (slot.Rel x y) f o q = λ a h.
     let t = given (is_at nodes x (node.Mul l b) && is_at nodes y (node.Mul c d)) (joint_fact x y i k) f q in
-    let n = and_both (is_at nodes x (node.Mul l b)) (is_at nodes y (node.Mul c d)) t.0 in
+    let n = and_parts (is_at nodes x (node.Mul l b)) (is_at nodes y (node.Mul c d)) t.0 in
     let r = rel_out nodes a l c i h.0 in
     let s = rel_out nodes a b d k h.1.0 in
     joint_given nodes a x y i k f r.0 r.1 s.0 s.1 (r.0 *ℚ s.0) (r.1 *ℚ s.1)
@@ -88,8 +89,8 @@ last_zero (Some i) v w r e = second_zero i v w r e
 pub relative_chain_rule-sound : IsSound relative_chain_rule
 relative_chain_rule-sound nodes (fact.Rel l b i ∷ fact.Rel m c k ∷ []) (slot.Rel x y) f o q = λ a h.
     let t = given ((are_known nodes l b && are_known nodes m c) && (is_same m b && (is_same l x && is_same c y))) (joint_fact x y i k) f q in
-    let g = and_both (is_same m b) (is_same l x && is_same c y) (and_both (are_known nodes l b && are_known nodes m c) _ t.0).1 in
-    let n = and_both (is_same l x) (is_same c y) g.1 in
+    let g = and_parts (is_same m b) (is_same l x && is_same c y) (and_parts (are_known nodes l b && are_known nodes m c) _ t.0).1 in
+    let n = and_parts (is_same l x) (is_same c y) g.1 in
     let r = rel_out nodes a l b i h.0 in
     let s = rel_out nodes a m c k h.1.0 in
     let z : s.0 ≡ r.1 = one_value nodes a b s.0 r.1 (subst (λ u. HasValue nodes a u s.0) (expr_same m b g.0) s.2.first) r.2.second in
@@ -136,8 +137,8 @@ no_ratio nodes a x y (Some i) (Some k) f q u z h e = absurd (no_void_rel x y (er
 pub relative_quotient_rule-sound : IsSound relative_quotient_rule
 relative_quotient_rule-sound nodes (fact.Rel l c i ∷ fact.Rel b d k ∷ fact.Nzr z ∷ []) (slot.Rel x y) f o q = λ a h.
     let t = given ((is_at nodes x (node.Div l b) && is_at nodes y (node.Div c d)) && is_same z d) (ratio_fact x y i k) f q in
-    let g = and_both (is_at nodes x (node.Div l b) && is_at nodes y (node.Div c d)) (is_same z d) t.0 in
-    let n = and_both (is_at nodes x (node.Div l b)) (is_at nodes y (node.Div c d)) g.0 in
+    let g = and_parts (is_at nodes x (node.Div l b) && is_at nodes y (node.Div c d)) (is_same z d) t.0 in
+    let n = and_parts (is_at nodes x (node.Div l b)) (is_at nodes y (node.Div c d)) g.0 in
     let r = rel_out nodes a l c i h.0 in
     let s = rel_out nodes a b d k h.1.0 in
     let w = nzr_out nodes a z h.1.1.0 in
@@ -148,7 +149,7 @@ relative_quotient_rule-sound nodes (fact.Rel l c i ∷ fact.Rel b d k ∷ fact.N
     (at_value nodes a y (node.Div c d) o n.1 ∙ quotient_in (value nodes a c) (value nodes a d) r.1 s.1 r.2.second s.2.second m) r.2.related s.2.related t.1
 relative_quotient_rule-sound nodes (fact.Rel l c i ∷ fact.Rel b d k ∷ fact.Nzr z ∷ []) slot.Void f o q = λ a h.
     let t = given ((are_known nodes l c && are_known nodes b d) && is_same z d) (void_only (ratio_fact l c i k)) f q in
-    let g = and_both (are_known nodes l c && are_known nodes b d) (is_same z d) t.0 in
+    let g = and_parts (are_known nodes l c && are_known nodes b d) (is_same z d) t.0 in
     let s = rel_out nodes a b d k h.1.0 in
     let w = nzr_out nodes a z h.1.1.0 in
     let e : w.0 ≡ s.1 = one_value nodes a d w.0 s.1 (subst (λ u. HasValue nodes a u w.0) (expr_same z d g.1) w.1) s.2.second in
@@ -167,7 +168,7 @@ turned_given nodes a x y (Some i) f v w m n r e =
 pub relative_turned_rule-sound : IsSound relative_turned_rule
 relative_turned_rule-sound nodes (fact.Rel x y i ∷ []) (slot.Rel z w) f o q = λ a h.
     let t = given (are_known nodes x y && (is_same y z && is_same x w)) (turned_fact z w i) f q in
-    let n = and_both (is_same y z) (is_same x w) (and_both (are_known nodes x y) _ t.0).1 in
+    let n = and_parts (is_same y z) (is_same x w) (and_parts (are_known nodes x y) _ t.0).1 in
     let r = rel_out nodes a x y i h.0 in
     turned_given nodes a z w i f r.1 r.0 (subst (λ u. HasValue nodes a u r.1) (expr_same y z n.0) r.2.second) (subst (λ u. HasValue nodes a u r.0) (expr_same x w n.1) r.2.first) r.2.related t.1
 relative_turned_rule-sound nodes _ _ f o q = cc
@@ -181,7 +182,7 @@ related_negations (Some i) v w r = let t = related_out i.interval v w r in
 pub relative_negation_rule-sound : IsSound relative_negation_rule
 relative_negation_rule-sound nodes (fact.Rel l b i ∷ []) (slot.Rel x y) f o q = λ a h.
     let t = if-some (is_at nodes x (node.Neg l) && is_at nodes y (node.Neg b)) (fact.Rel x y i) f q in
-    let n = and_both (is_at nodes x (node.Neg l)) (is_at nodes y (node.Neg b)) t.0 in
+    let n = and_parts (is_at nodes x (node.Neg l)) (is_at nodes y (node.Neg b)) t.0 in
     let r = rel_out nodes a l b i h.0 in
     subst (Holds nodes a) t.1 (rel_in nodes a x y i (neg_ℚ r.0) (neg_ℚ r.1) (record {
       first = at_value nodes a x (node.Neg l) o n.0 ∙ lifted_one neg_ℚ (value nodes a l) r.0 r.2.first;
@@ -245,8 +246,8 @@ share_out nodes a q c y l r u e m n h =
 pub relative_sum_rule-sound : IsSound relative_sum_rule
 relative_sum_rule-sound nodes (fact.Rel b c i ∷ fact.Rel g d k ∷ fact.Bnd q l ∷ []) (slot.Rel x y) f o e = λ a h.
     let t = given ((is_at nodes x (node.Add b g) && is_at nodes y (node.Add c d)) && is_at nodes q (node.Div c y)) (sum_fact x y i k l) f e in
-    let m = and_both (is_at nodes x (node.Add b g) && is_at nodes y (node.Add c d)) (is_at nodes q (node.Div c y)) t.0 in
-    let n = and_both (is_at nodes x (node.Add b g)) (is_at nodes y (node.Add c d)) m.0 in
+    let m = and_parts (is_at nodes x (node.Add b g) && is_at nodes y (node.Add c d)) (is_at nodes q (node.Div c y)) t.0 in
+    let n = and_parts (is_at nodes x (node.Add b g)) (is_at nodes y (node.Add c d)) m.0 in
     let r = rel_out nodes a b c i h.0 in
     let s = rel_out nodes a g d k h.1.0 in
     let w : HasValue nodes a y (r.1 +ℚ s.1) = at_value nodes a y (node.Add c d) o n.1 ∙ lifted_in ◌+ℚ◌ (value nodes a c) (value nodes a d) r.1 s.1 r.2.second s.2.second in
@@ -255,14 +256,14 @@ relative_sum_rule-sound nodes (fact.Rel b c i ∷ fact.Rel g d k ∷ fact.Bnd q 
     (share_out nodes a q c y l r.1 s.1 (at_value nodes a q (node.Div c y) o m.1) r.2.second w h.1.1.0) r.2.related s.2.related t.1
 relative_sum_rule-sound nodes (fact.Rel b c i ∷ fact.Rel g d k ∷ fact.Bnd q l ∷ []) slot.Void f o e = λ a h.
     let t = given ((are_known nodes b c && are_known nodes g d) && is_share nodes (slice_get nodes q.0) c d) (void_only (sum_fact b c i k l)) f e in
-    let m = and_both (are_known nodes b c && are_known nodes g d) (is_share nodes (slice_get nodes q.0) c d) t.0 in
+    let m = and_parts (are_known nodes b c && are_known nodes g d) (is_share nodes (slice_get nodes q.0) c d) t.0 in
     let r = rel_out nodes a b c i h.0 in
     let s = rel_out nodes a g d k h.1.0 in
     no_sum nodes a b c i k l f r.0 r.1 s.0 s.1 (share_at nodes a q c d l r.1 s.1 (slice_get nodes q.0) o refl m.1 r.2.second s.2.second h.1.1.0) r.2.related s.2.related t.1
   where
     share_at : (nodes : List Node) (a : Assignment) (q c d : ExprId) (l : Interval) (r u : Fraction) (n : Option Node) → IsOrdered nodes → slice_get nodes q.0 ≡ n → is_share nodes n c d ≡ true → HasValue nodes a c r → HasValue nodes a d u → Holds nodes a (fact.Bnd q l) → IsShare l r u
     share_at nodes a q c d l r u (Some (node.Div w m)) o e t p z h =
-        let b = and_both (is_same w c) (is_at nodes m (node.Add c d)) t in
+        let b = and_parts (is_same w c) (is_at nodes m (node.Add c d)) t in
         share_out nodes a q c m l r u (node_at-value nodes a q (node.Div w m) o e ∙ ap (λ v. quotient (value nodes a v) (value nodes a m)) (expr_same w c b.0)) p
         (at_value nodes a m (node.Add c d) o b.1 ∙ lifted_in ◌+ℚ◌ (value nodes a c) (value nodes a d) r u p z) h
     share_at nodes a q c d l r u _ o e t p z h = cc

@@ -1,6 +1,7 @@
 -- The rules from bounds to relative errors and back are sound: where the premises hold, the conclusion does.
 use Rattle.std.specs.Prelude.{◌≡◌, ◌≢◌, ◌&&◌, Bool, List, [], ◌∷◌, Option, Some, None, if◌then◌else◌}
 use Rattle.std.proofs.Common.{sym, ap, subst, ◌∙◌}
+use Rattle.std.proofs.lemmas.Bool.{and_parts}
 use Rattle.fx_model.specs.Fraction.{Fraction, ◌+ℚ◌, ◌-ℚ◌, ◌*ℚ◌, ◌/ℚ◌, zero_ℚ, one_ℚ, mul_comm, add-neg}
 use Rattle.fx_model.specs.Enclosure.{Lies, product_holds}
 use Rattle.fx_model.specs.Expression.{Assignment, value}
@@ -19,7 +20,7 @@ use Rattle.facts.specs.declared.fact.Slot.TheVariants as slot
 use Rattle.facts.specs.Holds.{Holds, AreZero, IsRelatedBy}
 use Rattle.facts.specs.Order.{is_same}
 use Rattle.facts.specs.Parts.{error_from, error_of_part}
-use Rattle.facts.specs.CommonParts.{if-some, and_both, expr_same}
+use Rattle.facts.specs.CommonParts.{if-some, expr_same}
 use Rattle.facts.specs.Promises.{IsSound}
 use Rattle.facts.specs.Conclusions.{given}
 use Rattle.facts.specs.RelativeConclusions.{rel_of, void_only}
@@ -37,7 +38,7 @@ use Rattle.theorem_rel.specs.Given.{rel_given, part_given}
 pub relative_to_itself_rule-sound : IsSound relative_to_itself_rule
 relative_to_itself_rule-sound nodes (fact.Bnd x i ∷ []) (slot.Rel y z) f o q = λ a h.
     let t = given (is_known nodes x && (is_same x y && is_same x z)) (rel_of y z (error_from (point_of zero_ℚ))) f q in
-    let b = and_both (is_same x y) (is_same x z) (and_both (is_known nodes x) _ t.0).1 in
+    let b = and_parts (is_same x y) (is_same x z) (and_parts (is_known nodes x) _ t.0).1 in
     let v = bnd_out nodes a x i h.0 in
     rel_given nodes a y z (point_of zero_ℚ) f v.0 v.0 zero_ℚ t.1
     (subst (λ k. HasValue nodes a k v.0) (expr_same x y b.0) v.1) (subst (λ k. HasValue nodes a k v.0) (expr_same x z b.1) v.1)
@@ -48,7 +49,7 @@ relative_to_itself_rule-sound nodes _ _ f o q = cc
 pub relative_difference_rule-sound : IsSound relative_difference_rule
 relative_difference_rule-sound nodes (fact.Bnd p i ∷ fact.Bnd z j ∷ []) (slot.Rel x y) f o q = λ a h.
     let t = given (is_at nodes p (node.Sub x y) && is_same z y) (rel_of x y (error_of_part (quotient_of i j))) f q in
-    let b = and_both (is_at nodes p (node.Sub x y)) (is_same z y) t.0 in
+    let b = and_parts (is_at nodes p (node.Sub x y)) (is_same z y) t.0 in
     let d = bnd_out nodes a p i h.0 in
     let k = lifted_out ◌-ℚ◌ (value nodes a x) (value nodes a y) d.0 (sym (at_value nodes a p (node.Sub x y) o b.0) ∙ d.1) in
     let e = bnd_out nodes a z j h.1.0 in
@@ -84,7 +85,7 @@ zero_not_void nodes a x j v w f z l q =
 pub difference_by_error_rule-sound : IsSound difference_by_error_rule
 difference_by_error_rule-sound nodes (fact.Rel x y d ∷ fact.Bnd z j ∷ []) (slot.Bnd e) f o q = λ a h.
     let t = if-some (is_at nodes e (node.Sub x y) && is_same z y) (difference_fact e d j) f q in
-    let b = and_both (is_at nodes e (node.Sub x y)) (is_same z y) t.0 in
+    let b = and_parts (is_at nodes e (node.Sub x y)) (is_same z y) t.0 in
     let r = rel_out nodes a x y d h.0 in
     let w = bnd_out nodes a z j h.1.0 in
     let s : w.0 ≡ r.1 = one_value nodes a y w.0 r.1 (subst (λ u. HasValue nodes a u w.0) (expr_same z y b.1) w.1) r.2.second in
@@ -92,7 +93,7 @@ difference_by_error_rule-sound nodes (fact.Rel x y d ∷ fact.Bnd z j ∷ []) (s
     (at_value nodes a e (node.Sub x y) o b.0 ∙ lifted_in ◌-ℚ◌ (value nodes a x) (value nodes a y) r.0 r.1 r.2.first r.2.second) r.2.related (subst (Lies (range_of j)) s w.2))
 difference_by_error_rule-sound nodes (fact.Rel x y d ∷ fact.Bnd z j ∷ []) slot.Void f o q = λ a h.
     let t = given (are_known nodes x y && is_same z y) (void_only (Some (difference_fact x d j))) f q in
-    let b = and_both (are_known nodes x y) (is_same z y) t.0 in
+    let b = and_parts (are_known nodes x y) (is_same z y) t.0 in
     let r = rel_out nodes a x y d h.0 in
     let w = bnd_out nodes a z j h.1.0 in
     let s : w.0 ≡ r.1 = one_value nodes a y w.0 r.1 (subst (λ u. HasValue nodes a u w.0) (expr_same z y b.1) w.1) r.2.second in
@@ -115,14 +116,14 @@ value_holds nodes a e (Some d) j v w p r l =
 pub value_by_error_rule-sound : IsSound value_by_error_rule
 value_by_error_rule-sound nodes (fact.Rel x y d ∷ fact.Bnd z j ∷ []) (slot.Bnd e) f o q = λ a h.
     let t = if-some (are_known nodes x y && (is_same z y && is_same x e)) (value_fact e d j) f q in
-    let b = and_both (is_same z y) (is_same x e) (and_both (are_known nodes x y) _ t.0).1 in
+    let b = and_parts (is_same z y) (is_same x e) (and_parts (are_known nodes x y) _ t.0).1 in
     let r = rel_out nodes a x y d h.0 in
     let w = bnd_out nodes a z j h.1.0 in
     let s : w.0 ≡ r.1 = one_value nodes a y w.0 r.1 (subst (λ u. HasValue nodes a u w.0) (expr_same z y b.0) w.1) r.2.second in
     subst (Holds nodes a) t.1 (value_holds nodes a e d j r.0 r.1 (subst (λ u. HasValue nodes a u r.0) (expr_same x e b.1) r.2.first) r.2.related (subst (Lies (range_of j)) s w.2))
 value_by_error_rule-sound nodes (fact.Rel x y d ∷ fact.Bnd z j ∷ []) slot.Void f o q = λ a h.
     let t = given (are_known nodes x y && is_same z y) (void_only (Some (value_fact x d j))) f q in
-    let b = and_both (are_known nodes x y) (is_same z y) t.0 in
+    let b = and_parts (are_known nodes x y) (is_same z y) t.0 in
     let r = rel_out nodes a x y d h.0 in
     let w = bnd_out nodes a z j h.1.0 in
     let s : w.0 ≡ r.1 = one_value nodes a y w.0 r.1 (subst (λ u. HasValue nodes a u w.0) (expr_same z y b.1) w.1) r.2.second in
@@ -144,7 +145,7 @@ quotient_holds_by nodes a e (Some d) v w n p r =
 pub quotient_by_error_rule-sound : IsSound quotient_by_error_rule
 quotient_by_error_rule-sound nodes (fact.Rel x y d ∷ fact.Nzr z ∷ []) (slot.Bnd e) f o q = λ a h.
     let t = if-some (is_at nodes e (node.Div x y) && is_same z y) (quotient_fact e d) f q in
-    let b = and_both (is_at nodes e (node.Div x y)) (is_same z y) t.0 in
+    let b = and_parts (is_at nodes e (node.Div x y)) (is_same z y) t.0 in
     let r = rel_out nodes a x y d h.0 in
     let w = nzr_out nodes a z h.1.0 in
     let s : w.0 ≡ r.1 = one_value nodes a y w.0 r.1 (subst (λ u. HasValue nodes a u w.0) (expr_same z y b.1) w.1) r.2.second in
@@ -153,7 +154,7 @@ quotient_by_error_rule-sound nodes (fact.Rel x y d ∷ fact.Nzr z ∷ []) (slot.
     (at_value nodes a e (node.Div x y) o b.0 ∙ quotient_in (value nodes a x) (value nodes a y) r.0 r.1 r.2.first r.2.second n) r.2.related)
 quotient_by_error_rule-sound nodes (fact.Rel x y d ∷ fact.Nzr z ∷ []) slot.Void f o q = λ a h.
     let t = given (are_known nodes x y && is_same z y) (void_only (Some (quotient_fact x d))) f q in
-    let b = and_both (are_known nodes x y) (is_same z y) t.0 in
+    let b = and_parts (are_known nodes x y) (is_same z y) t.0 in
     let r = rel_out nodes a x y d h.0 in
     let w = nzr_out nodes a z h.1.0 in
     let s : w.0 ≡ r.1 = one_value nodes a y w.0 r.1 (subst (λ u. HasValue nodes a u w.0) (expr_same z y b.1) w.1) r.2.second in

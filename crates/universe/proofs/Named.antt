@@ -39,16 +39,7 @@ use Rattle.script_grammar.specs.Spells.{View}
 use Rattle.script_grammar.specs.Names.{IsNode, AreNodes, ClaimIsOf, ConstraintIsOf, HintIsOf, NamesNodes}
 use Rattle.universe.specs.Starts.{sides_of, whole_difference, claim_pairs, claims_pairs, hint_pairs, hints_pairs, starting_pairs}
 use Rattle.universe.specs.Universes.{with_fact, facts_of}
-
--- ---- lists
-pub stands : {A : Type 0} (xs : List A) (k : ℕ) → k < length xs → (x : A) × (slice_get xs k ≡ Some x)
-stands [] k l = absurd (omega arith)
-stands (x ∷ xs) zero l = (x, refl)
-stands (x ∷ xs) (suc k) l = stands xs k (omega arith)
-
-all_from : {A : Type 0} (P : A → Type 0) (xs : List A) → ((k : ℕ) (x : A) → slice_get xs k ≡ Some x → P x) → AllByRecursion P xs
-all_from P [] h = tt
-all_from P (x ∷ xs) h = (h 0 x refl, all_from P xs (λ k y e. h (suc k) y e))
+use Rattle.facts.specs.CommonParts.{stands, all_from}
 
 -- ---- facts of hypotheses
 bnd_slot : (x : ExprId) (o : Option Interval) (f : Fact) → bnd_of x o ≡ Some f → slot_of f ≡ slot.Bnd x

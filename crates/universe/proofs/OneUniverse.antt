@@ -18,7 +18,7 @@ use Rattle.rule_universe.specs.Worlds.{World}
 use Rattle.universe.specs.Starts.{starting_pairs}
 use Rattle.universe.specs.OneMark.{MarksAreOne}
 use Rattle.universe.specs.Universes.{UniversesAreOne}
-use Rattle.universe.proofs.Named.{stands}
+use Rattle.facts.specs.CommonParts.{stands}
 
 -- lists as long as each other, with the same at each place
 same_list : {A : Type 0} (xs ys : List A) → length xs ≡ length ys → ((k : ℕ) (x y : A) → slice_get xs k ≡ Some x → slice_get ys k ≡ Some y → x ≡ y) → xs ≡ ys

@@ -43,7 +43,7 @@ module _ (h l s : ℕ) (e : ℤ) (small : l < 2 ^ s) where
   )
 
 -- ---- a quotient: x * d is q * d + r at 2^e
-scaled_times : (q d : ℕ) (e : ℤ) → whole (pos d) *ℚ scaled (pos q) e ≡ scaled (pos (q * d)) e
+pub scaled_times : (q d : ℕ) (e : ℤ) → whole (pos d) *ℚ scaled (pos q) e ≡ scaled (pos (q * d)) e
 scaled_times q d e = sym (mul_assoc (whole (pos d)) (whole (pos q)) (two_to e)) ∙ ap (λ y. y *ℚ two_to e) (sym (whole-mul (pos d) (pos q)) ∙ ap whole (omega (arith, ints)))
 
 module _ (q r d : ℕ) (e : ℤ) (x : Fraction) (small : r < d) where

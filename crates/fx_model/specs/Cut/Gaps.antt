@@ -27,7 +27,7 @@ cut_high x q e false c = subst (λ y. y <ℚ scaled (pos (q + 1)) e) (sym c) (sc
 cut_high x q e true c = c.1
 
 -- ---- what a grid number with a lower exponent is below
-gap : (e f : ℤ) → f <ℤ e → (k : ℕ) × (e ≡ f +ℤ pos (k + 1))
+pub gap : (e f : ℤ) → f <ℤ e → (k : ℕ) × (e ≡ f +ℤ pos (k + 1))
 gap e f h = (up e + down f - (up f + down e) - 1, omega (arith, ints))
 
 pub gap_le : (e f : ℤ) → e ≤ℤ f → (k : ℕ) × (f ≡ e +ℤ pos k)

@@ -41,7 +41,7 @@ finite_or r = by r.low r.high
     by Below c = inr (λ f. let e = f.2 in cc)
     by Above c = inr (λ f. let e = f.2 in cc)
 
-both_or : (r s : Range) → (IsFinite r × IsFinite s) ⊎ (¬ (IsFinite r × IsFinite s))
+pub both_or : (r s : Range) → (IsFinite r × IsFinite s) ⊎ (¬ (IsFinite r × IsFinite s))
 both_or r s = ⊎_elim (λ f. ⊎_elim (λ g. inl (f, g)) (λ n. inr (λ p. n p.1)) (finite_or s)) (λ n. inr (λ p. n p.0)) (finite_or r)
 
 pub product_unique : (r s t u : Range) → IsProduct r s t → IsProduct r s u → t ≡ u

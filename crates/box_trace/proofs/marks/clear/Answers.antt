@@ -1,5 +1,5 @@
 use Rattle.std.proofs.Common.{Some, true, length, slice_get, subst, ◌≡◌}
-use Rattle.box_trace.proofs.Lists.{none_true}
+use Rattle.saturate.specs.Lists.{none_true}
 use Rattle.box_trace.proofs.marks.clear.Goals as goal
 
 pub returns : goal.returns

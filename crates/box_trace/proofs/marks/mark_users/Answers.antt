@@ -1,8 +1,7 @@
 use Rattle.std.proofs.Common.{arith, ◌≡◌, ◌<◌, Some, true, length, slice_index_or, slice_get, slice_set, sym, subst, inl, inr, take, ◌+◌}
 use Rattle.std.specs.List.{Contains}
 use Rattle.std.proofs.lemmas.List.Elements.{Contains-get_or}
-use Rattle.box_trace.proofs.Rows.{get_set_here}
-use Rattle.box_trace.proofs.Lists.{taken_cases, taken_more, taken_here, set_cases, set_keeps}
+use Rattle.saturate.specs.Lists.{taken_cases, taken_more, taken_here, set_cases, set_keeps, get_set_here}
 use Rattle.box_trace.proofs.marks.mark_users.Goals as goal
 
 pub bounds-due-k : goal.bounds-due-k

@@ -15,7 +15,7 @@ use Rattle.rule_universe.specs.Placed.{slots_of}
 use Rattle.saturate.specs.Universes.{setting_of}
 use Rattle.box_trace.specs.Tables.{known_at}
 use Rattle.box_trace.proofs.Rows.{same_known}
-use Rattle.box_trace.proofs.Lists.{all_true, written_back, listed_none}
+use Rattle.saturate.specs.Lists.{all_true, written_back, listed_none}
 use Rattle.box_trace.proofs.Came.{not_void, longer_round, longer_none}
 use Rattle.box_trace.proofs.rounds.rounds.Goals as goal
 

@@ -9,9 +9,7 @@ use Rattle.box_trace.proofs.Scanned.{IsWritten, written_none, written_all}
 use Rattle.box_trace.proofs.Came.{begin_ahead, written_ahead, written_listed, written_placed, written_few, goes_on_both, most_bound, most_more, not_void, round_void}
 use Rattle.box_trace.proofs.rounds.write.Goals as goal
 use Rattle.box_trace.proofs.rounds.write.Goals.{in-Some+in_ok-write_slot+else-is_void+in_ok-push, in_default}
-
-none_in : {X : Type 0} (x : X) → Contains [] x → ⊥
-none_in x w = let l : w.0 < 0 = w.1 in omega arith
+use Rattle.saturate.specs.Lists.{none_in}
 
 pub loop-p-init : goal.loop-p-init
 loop-p-init c =

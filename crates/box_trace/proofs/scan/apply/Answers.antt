@@ -8,7 +8,7 @@ use Rattle.derivation.specs.Rounds.{all_at, with_first}
 use Rattle.rule_universe.specs.declared.placed.Placed.{Placed}
 use Rattle.rule_universe.specs.Placed.{slots_of}
 use Rattle.box_trace.specs.Tables.{known_at}
-use Rattle.box_trace.proofs.Gather.{after, after_none, after_first, gathered_none, gathered_all}
+use Rattle.saturate.specs.Gather.{after, after_none, after_first, gathered_none, gathered_all}
 use Rattle.box_trace.proofs.scan.apply.Goals as goal
 
 -- what stands behind the last element

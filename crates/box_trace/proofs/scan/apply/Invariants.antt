@@ -2,7 +2,7 @@ use Rattle.std.proofs.Common.{◌≡◌, drop}
 use Rattle.derivation.specs.Rounds.{all_at}
 use Rattle.rule_universe.specs.Placed.{slots_of}
 use Rattle.box_trace.specs.Tables.{known_at}
-use Rattle.box_trace.proofs.Gather.{after}
+use Rattle.saturate.specs.Gather.{after}
 use Rattle.box_trace.proofs.scan.apply.Given as goal
 
 abbrev pub invariant-loop-p : goal.invariant-loop-p

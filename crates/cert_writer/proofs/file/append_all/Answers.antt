@@ -1,7 +1,8 @@
 use Rattle.std.proofs.Common.{◌∙◌, arith}
 use Rattle.std.proofs.Math.Seq.{take-add}
-use Rattle.cert_writer.proofs.Taken.{appends_both, on_failure, rest_of}
+use Rattle.cert_writer.proofs.Taken.{on_failure}
 use Rattle.cert_writer.proofs.file.append_all.Goals as goal
+use Rattle.cert_writer.specs.Files.{appends_both, rest_of}
 
 pub returns-in_err-done-clause-err : goal.returns-in_err-done-clause-err
 returns-in_err-done-clause-err g c = on_failure _ _ _ _ c.args.bytes.now c.loop-done.done c.loop-done.invariant.taken c.in_err-done.ensures.bytes

@@ -2,8 +2,9 @@ use Rattle.std.specs.Prelude.{◌≡◌, ◌<◌, ◌+◌, ◌-◌, [], ◌∷�
 use Rattle.std.proofs.Common.{arith, ap, ◌∙◌}
 use Rattle.std.proofs.lemmas.List.{length-append}
 use Rattle.cert_writer.specs.Courses.{course, OnCourses, GrewToFront}
-use Rattle.cert_writer.proofs.Turn.{begun_later, child_of, on_err, turn}
+use Rattle.cert_writer.proofs.Turn.{begun_later, child_of, turn}
 use Rattle.cert_writer.proofs.walk.+write_box.Goals as goal
+use Rattle.cert_writer.specs.Files.{on_err}
 
 pub write_box-requires : goal.write_box-requires
 write_box-requires g t c κs within =

@@ -2,11 +2,11 @@ use Rattle.std.specs.Prelude.{[], None, refl}
 use Rattle.std.specs.Io.KnownBytes.{Appends}
 use Rattle.std.proofs.Common.{sym, ◌∙◌, ap, subst}
 use Rattle.cert_bytes.specs.Certificates.{certificate_of}
-use Rattle.cert_writer.specs.Files.{AppendsFront}
+use Rattle.cert_writer.specs.Files.{AppendsFront, on_err}
 use Rattle.cert_writer.specs.Heads.{head_items}
 use Rattle.cert_writer.specs.Courses.{course, IsBefore}
 use Rattle.cert_writer.specs.Written.{OfProved, HoldsFront}
-use Rattle.cert_writer.proofs.Turn.{begun_front, begun_still, on_err}
+use Rattle.cert_writer.proofs.Turn.{begun_front, begun_still}
 use Rattle.cert_writer.proofs.Start.{start, head_spelled, headed, emptied, begun_none, holds_old, holds_front, holds_whole}
 use Rattle.cert_writer.proofs.whole.write_cert.Goals as goal
 

@@ -1,7 +1,7 @@
 -- What follows at once from the laws of a ring and of its order.
 use Rattle.std.specs.Prelude.{◌≡◌}
 use Rattle.std.proofs.Common.{sym, ap, ◌∙◌, subst}
-use Rattle.fx_model.specs.Fraction.Core.{Fraction, ◌+ℚ◌, ◌*ℚ◌, neg_ℚ, ◌≤ℚ◌, ◌<ℚ◌, zero_ℚ, one_ℚ}
+use Rattle.fx_model.specs.Fraction.Core.{Fraction, ◌+ℚ◌, ◌*ℚ◌, neg_ℚ, ◌≤ℚ◌, ◌<ℚ◌, zero_ℚ, one_ℚ, ◌-ℚ◌}
 use Rattle.fx_model.specs.Fraction.Core.Ring.{add_comm, add_assoc, zero-add, add-neg, mul_comm, mul_assoc, one-mul, zero-mul, mul-add, neg-mul, neg-neg}
 use Rattle.fx_model.specs.Fraction.Core.Order.{add-le, lt_by, lt_not, lt_le, mul-le, mul-le_cancel, neg-le}
 
@@ -70,3 +70,8 @@ neg_up v h = subst (λ z. z ≤ℚ neg_ℚ v) neg_zero (neg-le v zero_ℚ h)
 
 pub neg_down : (v : Fraction) → zero_ℚ ≤ℚ v → neg_ℚ v ≤ℚ zero_ℚ
 neg_down v h = subst (λ z. neg_ℚ v ≤ℚ z) neg_zero (neg-le zero_ℚ v h)
+
+-- ---- differences
+-- (a - b) + b = a
+pub sub-add : (a b : Fraction) → (a -ℚ b) +ℚ b ≡ a
+sub-add a b = add_assoc a (neg_ℚ b) b ∙ ap (λ z. a +ℚ z) (add_comm (neg_ℚ b) b ∙ add-neg b) ∙ add-zero a

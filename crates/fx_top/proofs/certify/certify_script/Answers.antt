@@ -1,8 +1,8 @@
 use Rattle.std.proofs.Common.{refl}
 use Rattle.fx_top.specs.Answers.{options_from}
-use Rattle.fx_top.proofs.Known.{on_err}
 use Rattle.fx_top.proofs.Written.{is_proved, written_whole, written_other, broken_front}
 use Rattle.fx_top.proofs.certify.certify_script.Goals as goal
+use Rattle.cert_writer.specs.Files.{on_err}
 
 pub returns-in_default-clause-ok : goal.returns-in_default-clause-ok
 returns-in_default-clause-ok g c =

@@ -2,13 +2,14 @@ use Rattle.std.proofs.Common.{◌≡◌, ◌^◌, ◌<◌, ◌≤ℤ◌, ◌+ℤ
 use Rattle.std.specs.Int.RustNames.{unsigned_abs}
 use Rattle.std.specs.Int.Signed.{shr_z}
 use Rattle.std.proofs.lemmas.Int.{ints}
-use Rattle.interval.proofs.Shrunk.{gap_of, down_self, multiple_above, moved_down, shifted_grid}
+use Rattle.interval.proofs.Shrunk.{down_self, multiple_above, moved_down, shifted_grid}
 use Rattle.interval.proofs.multiples.multiple_down.Goals as goal
+use Rattle.fx_model.specs.Cut.Gaps.{gap_le}
 
 pub returns-then-exponent-k : goal.returns-then-exponent-k
 returns-then-exponent-k c =
     let h : c.args.k ≤ℤ c.args.x.exponent = omega (arith, ints, c.exponent.ensures.value) in
-    let g = gap_of c.args.k c.args.x.exponent h in
+    let g = gap_le c.args.k c.args.x.exponent h in
     down_self c.args.k _ (multiple_above c.args.x.mantissa c.args.k c.args.x.exponent g.0 g.1)
 
 pub returns-in-Some : goal.returns-in-Some

@@ -18,13 +18,7 @@ use Rattle.saturate.proofs.Slots.{shaped_room}
 use Rattle.saturate.proofs.Visits.{visited_ahead, quiet_ahead, listed_more, risen_more}
 use Rattle.saturate.proofs.round.round.Goals as goal
 use Rattle.saturate.proofs.round.round.Goals.{then-due-k+in_ok-visit+else-next, else-due-k}
-
-none_in : {X : Type 0} (x : X) → Contains [] x → ⊥
-none_in x w = let l : w.0 < 0 = w.1 in omega arith
-
--- the instance with a number
-instance_at : (instances : List Instance) (k : ℕ) → k < length instances → (i : Instance) × (slice_get instances k ≡ Some i)
-instance_at instances k l = elim (slice_get_cases instances k).1 [ inl w ↦ (w.0, w.2) | inr w ↦ absurd (omega (arith, l, w.0)) ]
+use Rattle.saturate.specs.Lists.{none_in, instance_at}
 
 -- what changed before and now has its places
 known_more : (u : World) (before changed : List Placed) → AreKnown u before → GainsKnown u before changed → AreKnown u changed

@@ -6,10 +6,7 @@ use Rattle.box_trace.specs.Scans.{IsVisited}
 use Rattle.box_trace.proofs.Scanned.{scanned_beaten}
 use Rattle.box_trace.proofs.scan.Scan.gather.Goals as goal
 use Rattle.box_trace.proofs.scan.Scan.gather.Goals.{then-due-k+in_ok-visited+in_default, else-due-k}
-
--- the instance with a number
-instance_at : (instances : List Instance) (k : ℕ) → k < length instances → (i : Instance) × (slice_get instances k ≡ Some i)
-instance_at instances k l = elim (slice_get_cases instances k).1 [ inl w ↦ (w.0, w.2) | inr w ↦ absurd (omega (arith, l, w.0)) ]
+use Rattle.saturate.specs.Lists.{instance_at}
 
 pub loop-k-preserved : goal.loop-k-preserved
 loop-k-preserved c =

@@ -2,9 +2,9 @@ use Rattle.std.proofs.Common.{List, sym, ◌∙◌, subst}
 use Rattle.box_tree.specs.declared.range.SplitRange.{SplitRange}
 use Rattle.box_tree.specs.Nexts.{IsWithinNext}
 use Rattle.script_hints.specs.Few.{HaveFewPieces}
-use Rattle.box_tree.proofs.Few.{few_behind}
 use Rattle.box_tree.proofs.Within.{forced_within, half_within}
 use Rattle.box_tree.proofs.region.Region.next.Goals as goal
+use Rattle.box_tree.specs.InRanges.{few_behind}
 
 pub returns-in-Some-clause-within : goal.returns-in-Some-clause-within
 returns-in-Some-clause-within c =

@@ -1,6 +1,6 @@
-use Rattle.script_nodes.proofs.Faults.{passed}
 use Rattle.script_nodes.proofs.Grows.{bar_past, call_past, fma_past}
 use Rattle.script_nodes.proofs.reader.Reader.enclosed.Goals as goal
+use Rattle.expr_dag.specs.Faults.{passed}
 
 pub returns-in_err-factor-in-Some-Bar-clause-full :
     goal.returns-in_err-factor-in-Some-Bar-clause-full

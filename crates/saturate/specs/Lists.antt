@@ -1,15 +1,16 @@
 -- Lists by number, marks and changes.
-use Rattle.std.specs.Prelude.{◌≡◌, ◌⊎◌, ◌<◌, ◌+◌, ℕ, Bool, true, false, List, [], ◌∷◌, ◌++◌, length, Some, slice_get, slice_set, Contains, refl}
+use Rattle.std.specs.Prelude.{◌≡◌, ◌⊎◌, ◌<◌, ◌+◌, ℕ, Bool, true, false, List, [], ◌∷◌, ◌++◌, length, Some, slice_get, slice_set, Contains, refl, ◌≢◌}
 use Rattle.std.proofs.Common.{sym, ◌∙◌, ap, subst, inl, inr, arith, get_or, take, drop, add-one, zero, suc}
 use lib.ListN.{replicate}
 use Rattle.std.proofs.lemmas.List.{drop_all, take_all, append-nil}
 use Rattle.std.proofs.Math.Seq.{take-suc}
 use Rattle.std.proofs.lemmas.List.Elements.{Contains-push, Contains-push_cases, Contains-append_left}
-use Rattle.std.proofs.lemmas.Option.{slice_get_read}
+use Rattle.std.proofs.lemmas.Option.{slice_get_read, slice_get_cases}
 use Rattle.facts.specs.declared.fact.Slot.{Slot}
 use Rattle.derivation.specs.Derivations.{At}
 use Rattle.derivation.specs.Rounds.{IsSame}
 use Rattle.derivation.specs.Changes.{IsListed}
+use Rattle.facts.specs.declared.instance.Instance.{Instance}
 
 -- ---- lists by number
 pub item_at : {X : Type 0} (items all : List X) (k : ℕ) (x : X) → items ≡ all → k < length items → x ≡ get_or items k x → slice_get all k ≡ Some x
@@ -24,6 +25,25 @@ taken_more xs i d x h w = subst (λ l. Contains l x) (sym (rw (add-one i) (take-
 
 pub taken_here : {X : Type 0} (xs : List X) (i : ℕ) (d : X) → i < length xs → Contains (take (i + 1) xs) (get_or xs i d)
 taken_here xs i d h = subst (λ l. Contains l (get_or xs i d)) (sym (rw (add-one i) (take-suc xs i d h))) (Contains-push (take i xs) (get_or xs i d))
+
+pub get_set_here : {X : Type 0} (xs : List X) (i : ℕ) (v : X) → i < length xs → slice_get (slice_set xs i v) i ≡ Some v
+get_set_here [] i v h = absurd (omega arith)
+get_set_here (x ∷ xs) zero v h = refl
+get_set_here (x ∷ xs) (suc i) v h = get_set_here xs i v (omega arith)
+
+pub get_set_there : {X : Type 0} (xs : List X) (i j : ℕ) (v : X) → i ≢ j → slice_get (slice_set xs i v) j ≡ slice_get xs j
+get_set_there [] i j v h = refl
+get_set_there (x ∷ xs) zero zero v h = absurd (h refl)
+get_set_there (x ∷ xs) zero (suc j) v h = refl
+get_set_there (x ∷ xs) (suc i) zero v h = refl
+get_set_there (x ∷ xs) (suc i) (suc j) v h = get_set_there xs i j v (λ e. h (ap suc e))
+
+pub none_in : {X : Type 0} (x : X) → Contains [] x → ⊥
+none_in x w = let l : w.0 < 0 = w.1 in omega arith
+
+-- the instance with a number
+pub instance_at : (instances : List Instance) (k : ℕ) → k < length instances → (i : Instance) × (slice_get instances k ≡ Some i)
+instance_at instances k l = elim (slice_get_cases instances k).1 [ inl w ↦ (w.0, w.2) | inr w ↦ absurd (omega (arith, l, w.0)) ]
 
 -- what is marked was marked, or is this
 pub set_cases : (due : List Bool) (j k : ℕ) → slice_get (slice_set due j true) k ≡ Some true → (slice_get due k ≡ Some true) ⊎ (k ≡ j)

@@ -1,5 +1,5 @@
 -- The step by which a fact comes to a table.
-use Rattle.std.specs.Prelude.{◌≡◌, ℕ, List, Option, Some, None, refl}
+use Rattle.std.specs.Prelude.{◌≡◌, ◌≢◌, ◌⊎◌, ℕ, List, [], ◌∷◌, ◌++◌, Option, Some, None, refl}
 use Rattle.std.proofs.Common.{sym, ◌∙◌, ap, subst, inl, inr}
 use Rattle.fx_model.specs.declared.Node.{Node}
 use Rattle.facts.specs.declared.fact.Fact.{Fact}
@@ -9,12 +9,35 @@ use Rattle.facts.specs.declared.fact.Slot.TheVariants as slot
 use Rattle.facts.specs.Order.{slot_of, IsStronger, meet_of}
 use Rattle.facts.specs.Laws.{IsStronger-refl, meet_exists}
 use Rattle.facts.specs.Meets.{meet-exchanged}
-use Rattle.derivation.specs.Parts.{void_cases, stronger_slot}
+use Rattle.derivation.specs.Derivations.{At}
+use Rattle.derivation.specs.Rounds.{IsWritten}
+use Rattle.derivation.specs.Parts.{some_same, slot_cases, stronger_slot}
 use Rattle.derivation.specs.Exists.{joined}
-use Rattle.cert_checker.specs.Open.{Numbered}
+use Rattle.cert_bytes.specs.declared.item.StepRow.{StepRow}
+use Rattle.cert_checker.specs.Open.{Numbered, with_step}
 use Rattle.cert_checker.specs.Steps.{step_fact, step_facts, IsMetWith, IsLike, AreKnown, Givens, gives, met_with, IsEnough, IsConcluded, target_of}
+use Rattle.box_traces.specs.Sections.{behind, ArePlaces, IsTraced, AreBelow}
 use Rattle.box_traces.specs.Writing.{IsSlotKnown}
-use Rattle.box_trace.specs.Steps.{met_by, with_by, coming}
+use Rattle.box_traces.specs.Cited.{step_kept, step_new, below_behind, behind_both, accepted_both}
+use Rattle.facts.specs.CommonParts.{void_cases}
+use Rattle.fx_model.specs.declared.ExprId.{ExprId}
+use Rattle.interval.specs.declared.interval.Interval.{Interval}
+
+-- With what a fact that comes is met: the fact on the slot; nothing where VOID comes.
+abbrev pub met_by : Option Fact → Fact → Option Fact
+met_by None c = None
+met_by (Some g) fact.Void = None
+met_by (Some g) c = Some g
+
+-- its step
+abbrev pub with_by : Option Fact → ℕ → Fact → Option ℕ
+with_by None n c = None
+with_by (Some g) n fact.Void = None
+with_by (Some g) n c = Some n
+
+-- The step by which c comes, from a rule and its premises, where this fact stood on its slot, and in this step.
+abbrev pub coming : ℕ → ℕ → List ℕ → Option Fact → ℕ → Fact → StepRow
+coming rule arg premises o n c = record { rule = rule; arg = arg; fact = joined o c; with = with_by o n c; premises = premises }
 
 void_joined : (o : Option Fact) → joined o fact.Void ≡ fact.Void
 void_joined None = refl
@@ -138,3 +161,50 @@ pub coming_accepted : (g : Givens) (s : Numbered) (rule arg : ℕ) (premises : L
     IsConcluded g s.rows (coming rule arg premises o n c)
 coming_accepted g s rule arg premises ps o n c p h k f e =
     (ps, met_by o c, record { found = f; met = met_places s o n c h; like = like_joined o c p }, record { known = joined_known g.nodes o c p k; enough = e })
+
+-- ---- places behind a step
+abbrev pick : {s t : Slot} → (s ≡ t) ⊎ (s ≢ t) → ℕ → ℕ → ℕ
+pick (inl e) a b = a
+pick (inr d) a b = b
+
+-- the places, with the slot of the fact in step n
+abbrev pub placed_at : (Slot → ℕ) → Fact → ℕ → Slot → ℕ
+placed_at place k n t = pick (slot_cases t (slot_of k)) n (place t)
+
+pub placed_same : (place : Slot → ℕ) (k : Fact) (n : ℕ) (t : Slot) → t ≡ slot_of k → placed_at place k n t ≡ n
+placed_same place k n t e = by_slot (slot_cases t (slot_of k))
+  where
+    by_slot : (x : (t ≡ slot_of k) ⊎ (t ≢ slot_of k)) → pick x n (place t) ≡ n
+    by_slot (inl d) = refl
+    by_slot (inr d) = absurd (d e)
+
+pub placed_other : (place : Slot → ℕ) (k : Fact) (n : ℕ) (t : Slot) → t ≢ slot_of k → placed_at place k n t ≡ place t
+placed_other place k n t e = by_slot (slot_cases t (slot_of k))
+  where
+    by_slot : (x : (t ≡ slot_of k) ⊎ (t ≢ slot_of k)) → pick x n (place t) ≡ place t
+    by_slot (inl d) = absurd (e d)
+    by_slot (inr d) = refl
+
+pub placed_behind : (s : Numbered) (at new : At) (place : Slot → ℕ) (k : Fact) → AreBelow s → ArePlaces s at place → IsWritten at new k →
+    ArePlaces (with_step s k) new (placed_at place k s.next)
+placed_behind s at new place k b p w t f e = by_slot (slot_cases t (slot_of k))
+  where
+    by_slot : (x : (t ≡ slot_of k) ⊎ (t ≢ slot_of k)) → step_fact (with_step s k).rows (pick x s.next (place t)) ≡ Some f
+    by_slot (inl d) = step_new s k b ∙ ap Some (some_same k f (new t) (ap new d ∙ w.here) e)
+    by_slot (inr d) = step_kept s k (place t) f (p t f (sym (w.others t d) ∙ e))
+
+-- One step more.
+pub traced_more : (g : Givens) (s : Numbered) (rows : List StepRow) (at new : At) (place : Slot → ℕ) (row : StepRow) → AreBelow s → IsTraced g s rows at place →
+    IsConcluded g (behind s rows).rows row → IsWritten at new row.fact → IsTraced g s (rows ++ row ∷ []) new (placed_at place row.fact (behind s rows).next)
+traced_more g s rows at new place row b t c w =
+    let last : behind s (rows ++ row ∷ []) ≡ with_step (behind s rows) row.fact = behind_both s rows (row ∷ []) in
+    let placed : ArePlaces (with_step (behind s rows) row.fact) new (placed_at place row.fact (behind s rows).next) =
+    placed_behind (behind s rows) at new place row.fact (below_behind s rows b) t.placed w in
+    record {
+      accepted = accepted_both g s rows (row ∷ []) t.accepted (c, tt);
+      placed = subst (λ x. ArePlaces x new (placed_at place row.fact (behind s rows).next)) (sym last) placed;
+    }
+
+pub met_by_interval : (o : Option Fact) (x : ExprId) (i : Interval) → met_by o (fact.Bnd x i) ≡ o
+met_by_interval None x i = refl
+met_by_interval (Some g) x i = refl
