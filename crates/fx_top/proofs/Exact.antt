@@ -7,7 +7,7 @@ use Rattle.fx_top.specs.declared.run.Status.TheVariants.{Answered, Unproved, Usa
 use Rattle.fx_top.specs.declared.run.Status.TheVariants as status
 
 -- one answer is defined, read faults aside
-abbrev DefinedOnce : Type 0
+abbrev pub DefinedOnce : Type 0
 DefinedOnce = (words : List Bytes) (outside : Outside) (s t : Status) (lines others : Bytes) → IsTelling words outside.told
     → s ≢ ReadFault → t ≢ ReadFault → Prints words outside s lines → Prints words outside t others → (s ≡ t) × (lines ≡ others)
 

@@ -7,3 +7,4 @@ pub mod Made
 pub mod Checked
 pub mod Complete
 pub mod Written
+pub mod Again

@@ -282,6 +282,13 @@ module _ (spells_once : SpellsOnce) (both : NeverBoth) (refused_once : FirstsAre
 abbrev ProvesOnce : Type 0
 ProvesOnce = (o : Options) (text : Bytes) (s t : Status) (line other : Bytes) → ProvePrints o text s line → ProvePrints o text t other → Twice s t line other
 
+pub same_text : (told : Option Bytes) (all text : Bytes) → told ≡ Some all → IsTold told text → text ≡ all
+same_text None all text e t = cc
+same_text (Some known) all text e t = t ∙ (let k : known ≡ all = cc in k)
+
+pub told_is : (told : Option Bytes) (all : Bytes) → told ≡ Some all → IsTold told all
+told_is told all e = subst (λ (o : Option Bytes). IsTold o all) (sym e) refl
+
 module _ (prove_once : ProvesOnce) (made_once : MadeOnce) (check_once : ChecksOnce) where
   Opened : List Bytes → Told → Status → Bytes → Type 0
   Opened words told s line = ((s ≡ Usage) × (reading words ≡ None) × (line ≡ usage_line)) ⊎ ((c : Command) × (reading words ≡ Some c) × CommandPrints c told s line)
@@ -297,13 +304,6 @@ module _ (prove_once : ProvesOnce) (made_once : MadeOnce) (check_once : ChecksOn
   opened words outside Certificate line n p = inr p
   opened words outside WriteFault line n p = inr p
   opened words outside OutOfMemory line n p = inr p
-
-  same_text : (told : Option Bytes) (all text : Bytes) → told ≡ Some all → IsTold told text → text ≡ all
-  same_text None all text e t = cc
-  same_text (Some known) all text e t = t ∙ (let k : known ≡ all = cc in k)
-
-  told_is : (told : Option Bytes) (all : Bytes) → told ≡ Some all → IsTold told all
-  told_is told all e = subst (λ (o : Option Bytes). IsTold o all) (sym e) refl
 
   command_once : (words : List Bytes) (told : Told) (s t : Status) (line other : Bytes) (c d : Command) → IsTelling words told
       → reading words ≡ Some c → reading words ≡ Some d → CommandPrints c told s line → CommandPrints d told t other → Twice s t line other

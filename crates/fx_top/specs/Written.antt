@@ -1,17 +1,18 @@
 -- What a run writes of a script's certificate.
-use Rattle.std.specs.Prelude.{◌≡◌, ◌≢◌, ◌⊎◌, ℕ, List, true, Option, Some}
-use Rattle.std.specs.Io.KnownBytes.{Keeps}
+use Rattle.std.specs.Prelude.{◌≡◌, ◌≢◌, ◌≤◌, ◌⊎◌, ℕ, List, length, true, Option, Some}
+use Rattle.std.specs.Io.KnownBytes.{Appends, Keeps}
 use Rattle.goals.specs.declared.line.Line.{Line}
 use Rattle.fx_edge.specs.Outside.{Rose}
 use Rattle.script_grammar.specs.Spells.{View}
 use Rattle.settler.specs.Answers.{Options}
 use Rattle.report.specs.Lines.{Bytes}
 use Rattle.cert_writer.specs.Written.{HoldsCertificate, HoldsFront}
+use Rattle.command_line.specs.Check.{AskedCheck}
 use Rattle.command_line.specs.Reading.{Asked}
 use Rattle.fx_top.specs.Answers.{IsProvedText, options_of}
 use Rattle.fx_top.specs.Command.{reading}
-use Rattle.fx_top.specs.Command.Command.{Prove}
-use Rattle.fx_top.specs.Run.{Told, is_written}
+use Rattle.fx_top.specs.Command.Command.{Prove, Check}
+use Rattle.fx_top.specs.Run.{Told, Outside, Prints, EndsAs, Comes, is_written}
 use Rattle.fx_top.specs.declared.run.Status.{Status}
 use Rattle.fx_top.specs.declared.run.Status.TheVariants as status
 
@@ -74,6 +75,43 @@ abbrev pub PutsBehind : List Bytes → Told → Told → Faults → Faults → O
 PutsBehind words told_old told_new before after taken_old taken_new =
     (a : Asked) (name text : Bytes) → reading words ≡ Some (Prove a) → a.cert ≡ Some name → told_old a.script ≡ Some text →
     ¬ Rose before.reads after.reads → IsPutBehind (options_of a) text taken_old taken_new (told_old name) (told_new name)
+
+-- ---- what `check` answers to it
+
+-- What the clauses of a run say where `prove` was answered with these lines: its words ask for a certificate of the script with this text, and
+-- it left these bytes in the file, whose old ones were told.
+pub record HasWritten (words : List Bytes) (outside : Outside) (told_new : Told) (text lines bytes : Bytes) : Type 0 where
+  pub asked : Asked
+  pub name : Bytes
+  pub old : Bytes
+  pub before : Faults
+  pub after : Faults
+  pub reads : reading words ≡ Some (Prove asked)
+  pub names : asked.cert ≡ Some name
+  pub script : outside.told asked.script ≡ Some text
+  pub held : outside.told name ≡ Some old
+  pub holds : told_new name ≡ Some bytes
+  pub prints : Prints words outside status.Answered lines
+  pub certifies : Certifies words outside.told told_new before after status.Answered
+
+-- The words ask for a check of these files.
+pub record AskForCheck (words : List Bytes) (told : Told) (text bytes : Bytes) : Type 0 where
+  pub asked : AskedCheck
+  pub reads : reading words ≡ Some (Check asked)
+  pub script : told asked.script ≡ Some text
+  pub cert : told asked.cert ≡ Some bytes
+
+-- The words and the folder have these lines, at `Answered`; and each run that ends as they have it takes this status, with just these lines,
+-- unless a fault of the outside comes, or want of memory.
+pub record AreAnswered (words : List Bytes) (outside : Outside) (lines : Bytes) : Type 0 where
+  pub prints : Prints words outside status.Answered lines
+  pub comes : (before after : Option Bytes) (result : Status) → EndsAs (Prints words outside) before after result → Comes status.Answered result
+  pub takes : (before after : Option Bytes) → EndsAs (Prints words outside) before after status.Answered → Appends before after lines
+
+-- What `prove` wrote, `check` answers with the lines that `prove` printed, whatever else its folder has. (Byte 2^44 is one too many.)
+abbrev pub WrittenAreAnswered : Type 0
+WrittenAreAnswered = (words checking : List Bytes) (outside there : Outside) (told_new : Told) (text lines bytes : Bytes) → HasWritten words outside told_new text lines bytes
+    → length bytes ≤ 17592186044416 → AskForCheck checking there.told text bytes → AreAnswered checking there lines
 
 -- ---- before the lines are put
 

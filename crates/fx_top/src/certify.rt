@@ -49,8 +49,10 @@ fn write_proved<F: Folder>(
 ) -> Result<(), WriteStop>
     requires allowed { AreAllowed options }
     requires proved { (shown : List Line) × IsProved script.now (options_from options) shown }
-    ensures ok { OnOk result ((shown : List Line) → IsProved script.now (options_from options) shown → HoldsCertificate script.now shown (F.told folder.old name.now) (F.told folder.new name.now)) }
-    ensures err { OnErr result ((shown : List Line) → IsProved script.now (options_from options) shown → HoldsFront script.now shown (F.told folder.old name.now) (F.told folder.new name.now)) }
+    ensures ok { OnOk result ((shown : List Line) → IsProved script.now (options_from options) shown
+        → HoldsCertificate script.now shown (F.told folder.old name.now) (F.told folder.new name.now)) }
+    ensures err { OnErr result ((shown : List Line) → IsProved script.now (options_from options) shown
+        → HoldsFront script.now shown (F.told folder.old name.now) (F.told folder.new name.now)) }
     ensures others { (other : List ℕ) → other ≢ name.now → F.told folder.new other ≡ F.told folder.old other }
     ensures cause { HasWriteCause (F.write_faults folder.old) (F.write_faults folder.new) result }
     ensures quiet { F.read_faults folder.new ≡ F.read_faults folder.old }
@@ -83,8 +85,10 @@ fn certify_script<F: Folder, G: Gate, R: Threads + Wait + Sync>(
 ) -> Result<(Status, Vec<u8>), WriteStop>
     requires { AreAllowed options }
     ensures prints { IfOk result (λ r. ProvePrints (options_from options) script.now.text r.0 r.1.items) }
-    ensures ok { IfOk result (λ r. IsWritten (options_from options) script.now.text r.0 (F.told folder.old name.now) (F.told folder.new name.now)) }
-    ensures err { OnErr result (IsBrokenOff (options_from options) script.now.text (F.told folder.old name.now) (F.told folder.new name.now)) }
+    ensures ok { IfOk result (λ r. IsWritten (options_from options) script.now.text r.0
+        (F.told folder.old name.now) (F.told folder.new name.now)) }
+    ensures err { OnErr result (IsBrokenOff (options_from options) script.now.text
+        (F.told folder.old name.now) (F.told folder.new name.now)) }
     ensures others { (other : List ℕ) → other ≢ name.now → F.told folder.new other ≡ F.told folder.old other }
     ensures cause { HasWriteCause (F.write_faults folder.old) (F.write_faults folder.new) result }
     ensures quiet { F.read_faults folder.new ≡ F.read_faults folder.old }
@@ -117,8 +121,10 @@ pub fn answer_certified<F: Folder, G: Gate, R: Threads + Wait + Sync>(
 ) -> Result<(Status, Vec<u8>), WriteStop>
     requires { AreAllowed options }
     ensures prints { IfOk result (λ r. ProvePrints (options_from options) text.now r.0 r.1.items) }
-    ensures ok { IfOk result (λ r. IsWritten (options_from options) text.now r.0 (F.told folder.old name.now) (F.told folder.new name.now)) }
-    ensures err { OnErr result (IsBrokenOff (options_from options) text.now (F.told folder.old name.now) (F.told folder.new name.now)) }
+    ensures ok { IfOk result (λ r. IsWritten (options_from options) text.now r.0
+        (F.told folder.old name.now) (F.told folder.new name.now)) }
+    ensures err { OnErr result (IsBrokenOff (options_from options) text.now
+        (F.told folder.old name.now) (F.told folder.new name.now)) }
     ensures others { (other : List ℕ) → other ≢ name.now → F.told folder.new other ≡ F.told folder.old other }
     ensures cause { HasWriteCause (F.write_faults folder.old) (F.write_faults folder.new) result }
     ensures quiet { F.read_faults folder.new ≡ F.read_faults folder.old }

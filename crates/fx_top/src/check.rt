@@ -19,7 +19,8 @@ use std::alloc::{AllocError, Global};
 
 // The lines of an accepted certificate.
 fn checked_text(alloc: Global, script: &Script<'_>, lines: &Lines) -> Result<Vec<u8>, AllocError>
-    ensures { IfOk result (λ text. text.items ≡ spec.answer_text script.now.text script.now.tokens script.now.spans lines.now.rows lines.now.marks) }
+    ensures { IfOk result (λ text. text.items
+        ≡ spec.answer_text script.now.text script.now.tokens script.now.spans lines.now.rows lines.now.marks) }
 {
     answer_text(
         alloc,
@@ -39,7 +40,8 @@ fn check_certificate<F: Folder>(
     folder: &mut F,
 ) -> Result<(Status, Vec<u8>), ReadStop>
     ensures prints { IfOk result (λ r. CheckPrints script.now.text (F.told folder.old name.now) r.0 r.1.items) }
-    ensures accepted { (all : List ℕ) → F.told folder.old name.now ≡ Some all → IsAcceptable script.now.text all → IfOk result (λ r. r.0 ≡ Status.Answered) }
+    ensures accepted { (all : List ℕ) → F.told folder.old name.now ≡ Some all → IsAcceptable script.now.text all
+        → IfOk result (λ r. r.0 ≡ Status.Answered) }
     ensures told { (other : List ℕ) → F.told folder.new other ≡ F.told folder.old other }
     ensures later { F.read_faults folder.old ≤ F.read_faults folder.new }
     ensures cause { IsErrOf result ReadStop.Fault → Rose (F.read_faults folder.old) (F.read_faults folder.new) }
@@ -66,7 +68,8 @@ pub fn check_answer<F: Folder>(
     folder: &mut F,
 ) -> Result<(Status, Vec<u8>), ReadStop>
     ensures prints { IfOk result (λ r. CheckPrints text.now (F.told folder.old name.now) r.0 r.1.items) }
-    ensures accepted { (all : List ℕ) → F.told folder.old name.now ≡ Some all → IsAcceptable text.now all → IfOk result (λ r. r.0 ≡ Status.Answered) }
+    ensures accepted { (all : List ℕ) → F.told folder.old name.now ≡ Some all → IsAcceptable text.now all
+        → IfOk result (λ r. r.0 ≡ Status.Answered) }
     ensures script { IsErrOf result ReadStop.Fault → (s : View) × Spells text.now s }
     ensures told { (other : List ℕ) → F.told folder.new other ≡ F.told folder.old other }
     ensures later { F.read_faults folder.old ≤ F.read_faults folder.new }

@@ -63,12 +63,17 @@ pub fn print_certified<F: Folder, O: Sink, G: Gate, R: Threads + Wait + Sync>(
 ) -> Status
     requires { AreAllowed options }
     ensures ends { EndsAs (ProvePrints (options_from options) text.now) (O.taken out.old) (O.taken out.new) result }
-    ensures certificate { IsCertified (options_from options) text.now (faults (F.read_faults folder.old) (F.write_faults folder.old)) (faults (F.read_faults folder.new) (F.write_faults folder.new)) result
+    ensures certificate { IsCertified (options_from options) text.now
+        (faults (F.read_faults folder.old) (F.write_faults folder.old))
+        (faults (F.read_faults folder.new) (F.write_faults folder.new)) result
         (F.told folder.old name.now) (F.told folder.new name.now) }
-    ensures order { IsPutBehind (options_from options) text.now (O.taken out.old) (O.taken out.new) (F.told folder.old name.now) (F.told folder.new name.now) }
-    ensures unchanged { result ≢ Status.Answered → result ≢ Status.WriteFault → result ≢ Status.OutOfMemory → F.told folder.new name.now ≡ F.told folder.old name.now }
+    ensures order { IsPutBehind (options_from options) text.now (O.taken out.old) (O.taken out.new)
+        (F.told folder.old name.now) (F.told folder.new name.now) }
+    ensures unchanged { result ≢ Status.Answered → result ≢ Status.WriteFault → result ≢ Status.OutOfMemory
+        → F.told folder.new name.now ≡ F.told folder.old name.now }
     ensures others { (other : List ℕ) → other ≢ name.now → F.told folder.new other ≡ F.told folder.old other }
-    ensures cause { result ≡ Status.WriteFault → Rose (O.faults out.old) (O.faults out.new) ⊎ Rose (F.write_faults folder.old) (F.write_faults folder.new) }
+    ensures cause { result ≡ Status.WriteFault
+        → Rose (O.faults out.old) (O.faults out.new) ⊎ Rose (F.write_faults folder.old) (F.write_faults folder.new) }
     ensures quiet { F.read_faults folder.new ≡ F.read_faults folder.old }
 {
     match answer_certified(rt, alloc, text, options, folder, name, gate) {
@@ -125,8 +130,11 @@ pub fn print_checked<F: Folder, O: Sink>(
     folder: &mut F,
     out: &mut O,
 ) -> Status
-    ensures ends { EndsAs (CheckedPrints text.now name.now (F.told folder.old name.now) (F.read_faults folder.old) (F.read_faults folder.new)) (O.taken out.old) (O.taken out.new) result }
-    ensures accepted { (all : List ℕ) → F.told folder.old name.now ≡ Some all → IsAcceptable text.now all → Comes Status.Answered result }
+    ensures ends { EndsAs
+        (CheckedPrints text.now name.now (F.told folder.old name.now) (F.read_faults folder.old) (F.read_faults folder.new))
+        (O.taken out.old) (O.taken out.new) result }
+    ensures accepted { (all : List ℕ) → F.told folder.old name.now ≡ Some all → IsAcceptable text.now all
+        → Comes Status.Answered result }
     ensures cause { result ≡ Status.WriteFault → Rose (O.faults out.old) (O.faults out.new) }
     ensures told { (other : List ℕ) → F.told folder.new other ≡ F.told folder.old other }
     ensures later { F.read_faults folder.old ≤ F.read_faults folder.new }

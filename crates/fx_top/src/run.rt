@@ -8,11 +8,12 @@ ghost use Rattle.fx_top.specs.Command.{IsInRange, command_from, reading};
 ghost use Rattle.fx_top.specs.Command.Command.{Prove, Check, Gen};
 ghost use Rattle.fx_top.specs.Checked.{IsAcceptable};
 ghost use Rattle.fx_top.specs.Run.{Outside, Comes, EndsAs, IsComplete, IsExact, IsTelling, Prints, exit_code, is_name, is_written, seen};
-ghost use Rattle.fx_top.specs.Written.{Certifies, IsCertified, IsPutBehind, IsWriteBroken, PutsBehind, faults};
+ghost use Rattle.fx_top.specs.Written.{Certifies, IsCertified, IsPutBehind, IsWriteBroken, PutsBehind, WrittenAreAnswered, faults};
 
 use crate::options::options_of;
 use crate::outside::read_text;
 use crate::print::{print, print_answer, print_certified, print_checked, print_made, print_stop};
+use cert_checker::bytes_are_accepted;
 use command_line::{CheckRequest, Request, WordsError, read_check, read_gen, read_prove};
 use fx_edge::{Folder, Gate, Sink};
 use report::runs::usage;
@@ -109,15 +110,18 @@ fn run_prove<F: Folder, O: Sink, G: Gate, R: Threads + Wait + Sync>(
         (faults (F.read_faults folder.new) (F.write_faults folder.new)) result
         (F.told folder.old name) (F.told folder.new name) }
     ensures order { (name text : List ℕ) → (asked_of request.entry).cert ≡ Some name
-        → F.told folder.old request.entry.script.now ≡ Some text → ¬ Rose (F.read_faults folder.old) (F.read_faults folder.new)
+        → F.told folder.old request.entry.script.now ≡ Some text
+        → ¬ Rose (F.read_faults folder.old) (F.read_faults folder.new)
         → IsPutBehind (options_of (asked_of request.entry)) text (O.taken out.old) (O.taken out.new)
         (F.told folder.old name) (F.told folder.new name) }
     ensures unchanged { result ≢ Status.Answered → result ≢ Status.WriteFault → result ≢ Status.OutOfMemory
         → (name : List ℕ) → F.told folder.new name ≡ F.told folder.old name }
     ensures write_fault { result ≡ Status.WriteFault
         → Rose (O.faults out.old) (O.faults out.new)
-        ⊎ (((name : List ℕ) × ((asked_of request.entry).cert ≡ Some name)) × Rose (F.write_faults folder.old) (F.write_faults folder.new)) }
-    ensures files { (name : List ℕ) → is_name (asked_of request.entry).cert name ≡ false → F.told folder.new name ≡ F.told folder.old name }
+        ⊎ (((name : List ℕ) × ((asked_of request.entry).cert ≡ Some name))
+        × Rose (F.write_faults folder.old) (F.write_faults folder.new)) }
+    ensures files { (name : List ℕ) → is_name (asked_of request.entry).cert name ≡ false
+        → F.told folder.new name ≡ F.told folder.old name }
 {
     match read_text(alloc, folder, request.script) {
         Ok(text) => match request.cert {
@@ -211,41 +215,6 @@ fn run_words<F: Folder, O: Sink, G: Gate, R: Threads + Wait + Sync>(
     }
 }
 
-// A run, and the law that its status is exactly the defined one.
-fn run_exactly<F: Folder, O: Sink, G: Gate, R: Threads + Wait + Sync>(
-    rt: &R,
-    alloc: Global,
-    words: &[String],
-    folder: &mut F,
-    out: &mut O,
-    gate: &G,
-) -> Status
-    ensures ends { EndsAs
-        (Prints (map string_bytes words.now) (seen (F.told folder.old) (F.read_faults folder.old) (F.read_faults folder.new)))
-        (O.taken out.old) (O.taken out.new) result }
-    ensures exact { IsExact (map string_bytes words.now)
-        (seen (F.told folder.old) (F.read_faults folder.old) (F.read_faults folder.new)) result }
-    ensures accepted { IsComplete (map string_bytes words.now) (F.told folder.old) result }
-    ensures certificate { Certifies (map string_bytes words.now) (F.told folder.old) (F.told folder.new)
-        (faults (F.read_faults folder.old) (F.write_faults folder.old))
-        (faults (F.read_faults folder.new) (F.write_faults folder.new)) result }
-    ensures order { PutsBehind (map string_bytes words.now) (F.told folder.old) (F.told folder.new)
-        (faults (F.read_faults folder.old) (F.write_faults folder.old))
-        (faults (F.read_faults folder.new) (F.write_faults folder.new)) (O.taken out.old) (O.taken out.new) }
-    ensures unchanged { result ≢ Status.Answered → result ≢ Status.WriteFault → result ≢ Status.OutOfMemory
-        → (name : List ℕ) → F.told folder.new name ≡ F.told folder.old name }
-    ensures write_fault { result ≡ Status.WriteFault
-        → Rose (O.faults out.old) (O.faults out.new)
-        ⊎ IsWriteBroken (map string_bytes words.now)
-        (faults (F.read_faults folder.old) (F.write_faults folder.old))
-        (faults (F.read_faults folder.new) (F.write_faults folder.new)) }
-    ensures files { (name : List ℕ) → is_written (map string_bytes words.now) name ≡ false
-        → F.told folder.new name ≡ F.told folder.old name }
-{
-    defined_status_comes();
-    run_words(rt, alloc, words, folder, out, gate)
-}
-
 /// Runs the program on the words of its command line, without the program's name: `prove SCRIPT` reads the script's text
 /// from the folder, proves its goals, and puts the answer's lines; with `--cert FILE`, where all goals are proved, it first makes the file
 /// new and writes to it a certificate of the answer. `gen N` proves the made script of degree N. Workers, as many as the words say, settle
@@ -304,7 +273,8 @@ pub fn fx_run<R: Threads + Wait + Sync, F: Folder, O: Sink, G: Gate>(
     ensures files { (name : List ℕ) → is_written (map string_bytes words.now) name ≡ false
         → F.told folder.new name ≡ F.told folder.old name }
 {
-    run_exactly(rt, alloc, words, folder, out, gate)
+    defined_status_comes();
+    run_words(rt, alloc, words, folder, out, gate)
 }
 
 /// The law that one answer is defined, read faults aside: words with told files have one status, of those that aren't `ReadFault`, and one
@@ -319,6 +289,14 @@ pub fn answer_besides_read_faults_is_defined_once()
     answers_are_one();
     marks_are_one();
     checks_are_one();
+}
+
+/// The law that `check` answers what `prove --cert` wrote with the lines that were printed then. Nothing is done.
+pub fn written_certificates_are_answered()
+    ensures { WrittenAreAnswered }
+{
+    bytes_are_accepted();
+    answer_besides_read_faults_is_defined_once();
 }
 
 // The law that a run which ends as defined has exactly the defined status. Nothing is done.

@@ -1,6 +1,6 @@
 use Rattle.std.proofs.Common.{map, string_bytes}
 use Rattle.fx_top.specs.Run.{seen}
-use Rattle.fx_top.proofs.run.run_exactly.Goals as goal
+use Rattle.fx_top.proofs.run.fx_run.Goals as goal
 
 pub returns-clause-exact : goal.returns-clause-exact
 returns-clause-exact g c =
