@@ -4,8 +4,9 @@
     times.py PROGRAM [RUNS]
 
 PROGRAM is the program that ./fixprove built (crates/fx_main/out/fx_main). Runs it RUNS times (9 where none is named) on each script below for each number
-of workers, and prints the least processor time, the least wall clock and the greatest resident memory, start of the program included. Runs
-with `--cert` say how long the certificate is, and how long `check` takes. A loaded machine gives other times.
+of workers, and prints the least processor time and the least wall clock, start of the program included. Runs with `--cert` say how long the
+certificate is, and how long `check` takes. A loaded machine gives other times. (Memory can't be told so: what this program has would count,
+too; `tools/memory.py` looks at a run before it ends.)
 """
 
 import os
@@ -62,7 +63,7 @@ SCRIPTS = [
 
 
 def run(words):
-    """Processor seconds, wall seconds, kilobytes of resident memory, status and what is printed."""
+    """Processor seconds, wall seconds, status and what is printed."""
     read, write = os.pipe()
     began = time.monotonic()
     pid = os.fork()
@@ -75,14 +76,14 @@ def run(words):
         text = lines.read()
     _, status, used = os.wait4(pid, 0)
     wall = time.monotonic() - began
-    return used.ru_utime + used.ru_stime, wall, used.ru_maxrss, os.waitstatus_to_exitcode(status), text.decode()
+    return used.ru_utime + used.ru_stime, wall, os.waitstatus_to_exitcode(status), text.decode()
 
 
 def measured(name, words, runs):
     done = [run(words) for _ in range(runs)]
-    answers = {(status, text) for _, _, _, status, text in done}
-    processor, wall, memory = min(d[0] for d in done), min(d[1] for d in done), max(d[2] for d in done)
-    print(f"{name:52} {processor * 1000:8.1f} {wall * 1000:8.1f} {memory / 1000:7.1f}  "
+    answers = {(status, text) for _, _, status, text in done}
+    processor, wall = min(d[0] for d in done), min(d[1] for d in done)
+    print(f"{name:52} {processor * 1000:8.1f} {wall * 1000:8.1f}  "
           + " ".join(f"status {status}, {text.strip().splitlines()[-1][:60] if text.strip() else ''}" for status, text in answers))
 
 
@@ -90,7 +91,7 @@ def main(words):
     if len(words) not in (1, 2):
         sys.exit(__doc__)
     program, runs = os.path.abspath(words[0]), int(words[1]) if len(words) == 2 else 9
-    print(f"{'':52} {'ms':>8} {'wall ms':>8} {'MB':>7}")
+    print(f"{'':52} {'ms':>8} {'wall ms':>8}")
     with tempfile.TemporaryDirectory() as folder:
         for name, text, workers, options in SCRIPTS:
             path = os.path.join(folder, "script.fx")
