@@ -26,7 +26,7 @@ use Rattle.derivation.specs.Decided.{is_number, meets, answers, is_met, one_late
 use Rattle.derivation.specs.Rounds.{IsSame}
 use Rattle.derivation.specs.Parts.{none_some, some_same, not_void}
 use Rattle.derivation.specs.Best.{best_proper}
-use Rattle.facts.specs.CommonParts.{at_option}
+use Rattle.facts.specs.CommonParts.{at_option, void_is}
 
 -- ---- best tables agree
 best_below : (u : Setting) (G : Fact → Type 0) (h : ℕ) (at new : Slot → Option Fact) → IsBest u G h at → IsBest u G h new → new slot.Void ≡ None → (s : Slot) (f : Fact) → at s ≡ Some f →
@@ -36,7 +36,7 @@ best_below u G h at new b c v s f e =
     let y = c.least v f r.1 in
     (y.0, ap new (sym r.0) ∙ y.1, y.2)
 
--- VOID is in and_from of two best tables, or in none
+-- VOID is in both of two best tables, or in none
 void_agrees : (u : Setting) (G : Fact → Type 0) (h : ℕ) (at new : Slot → Option Fact) → IsBest u G h at → IsBest u G h new → at slot.Void ≡ None → new slot.Void ≡ None
 void_agrees u G h at new b c v =
     at_option (new slot.Void) (λ o. new slot.Void ≡ o → new slot.Void ≡ None) (λ n q. q)
@@ -168,17 +168,9 @@ module _ (stronger : StrongerSettles) (u : Setting) (height : ℕ) (pieces : Lis
   state_in-is goals =
       at_option (at slot.Void) (λ o. at slot.Void ≡ o → IsState u goals height pieces (state_by o (first_unmet at goals)))
       (λ n e. by_goals e (first_unmet at goals) (found e goals))
-      (λ f n e. let r = b.reached slot.Void f e in subst (Known u height pieces) (void_fact f r.0) r.1)
+      (λ f n e. let r = b.reached slot.Void f e in subst (Known u height pieces) (void_is f r.0) r.1)
       refl
     where
-      void_fact : (f : Fact) → slot_of f ≡ slot.Void → f ≡ fact.Void
-      void_fact fact.Void e = refl
-      void_fact (fact.Bnd x i) e = cc
-      void_fact (fact.Abs x i) e = cc
-      void_fact (fact.Rel x y t) e = cc
-      void_fact (fact.Fix x k) e = cc
-      void_fact (fact.Nzr x) e = cc
-
       by_goals : at slot.Void ≡ None → (o : Option ℕ) → Found goals o → IsState u goals height pieces (state_by None o)
       by_goals e None f = (λ k. void_out k e, f)
       by_goals e (Some k) f = (λ w. void_out w e, f)

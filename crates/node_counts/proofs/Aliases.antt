@@ -124,7 +124,7 @@ nothing_stands k = record {
 
 -- ---- words of a definition
 
--- or_parts names nor words of expressions
+-- neither names nor words of expressions
 abbrev IsStatic : Due → Type 0
 IsStatic d.Script = ⊥
 IsStatic d.NewName = ⊥
