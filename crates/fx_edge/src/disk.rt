@@ -1,4 +1,5 @@
-// The real outside. The folder tells no content: that a disk holds what was written to it is no clause of this crate.
+// The real outside. The folder tells no content: that a disk holds what was written to it is no
+// clause of this crate.
 ghost use Rattle.std.specs.Prelude.{◌≡◌, None, IfOk, ◌≤◌, ◌<◌, length};
 ghost use Rattle.std.specs.Io.{ReadsAtMost};
 ghost use Rattle.std.specs.Io.KnownBytes.{ReadConsumes, WriteAppends};
@@ -6,8 +7,9 @@ ghost use Rattle.fx_edge.specs.Outside.{HasCause};
 
 use crate::outside::count_failure;
 use crate::{Failed, Folder, Sink};
-use std::fs::OpenOptions;
+use std::fs::{Metadata, OpenFile, OpenOptions};
 use std::io::{ErrorKind, Read, Seek, SeekFrom, Write};
+use std::os::unix::fs::MetadataExt;
 use std::rt::Files;
 use std::{fs, io};
 
@@ -32,7 +34,8 @@ fn read_some<R: Read>(reader: &mut R, buf: &mut [u8], faults: &mut u64) -> Resul
     count_failure(faults)
 }
 
-// One write, tried again in the same way. A writer that takes nothing of a piece that isn't empty fails.
+// One write, tried again in the same way. A writer that takes nothing of a piece that isn't empty
+// fails.
 fn write_some<W: Write>(writer: &mut W, piece: &[u8], faults: &mut u64) -> Result<usize, Failed>
     ensures bound { IfOk result (λ n. n ≤ length piece.now) }
     ensures some { IfOk result (λ n. 0 < length piece.now → 0 < n) }
@@ -60,10 +63,77 @@ fn open_at<R: Files>(rt: &R, name: &str, at: u64) -> io::Result<R::File> {
     Ok(file)
 }
 
-/// The files of the folder that the program runs in. Each call opens its file.
+// A file's device and its number there: the same under each of its names. Number 0 is no file's.
+#[derive(Clone, Copy)]
+struct FileId {
+    device: u64,
+    number: u64,
+}
+
+impl FileId {
+    fn of(about: &Metadata) -> FileId {
+        FileId {
+            device: about.dev(),
+            number: about.ino(),
+        }
+    }
+
+    fn is_same(self, other: FileId) -> bool {
+        self.number != 0 && self.number == other.number && self.device == other.device
+    }
+}
+
+// The last two files that were read. No command reads more than two that it could write over.
+#[derive(Clone, Copy)]
+struct LastRead {
+    last: FileId,
+    before: FileId,
+}
+
+impl LastRead {
+    fn new() -> LastRead {
+        let none = FileId {
+            device: 0,
+            number: 0,
+        };
+        LastRead {
+            last: none,
+            before: none,
+        }
+    }
+
+    fn take(&mut self, id: FileId) {
+        if !self.last.is_same(id) {
+            self.before = self.last;
+            self.last = id;
+        }
+    }
+
+    fn has(self, id: FileId) -> bool {
+        self.last.is_same(id) || self.before.is_same(id)
+    }
+}
+
+// Opens the name to be written and empties it, or leaves it as it was where it is a file that was
+// read. What is no plain file, as a pipe or a device, has no bytes to lose.
+fn empty_new<R: Files>(rt: &R, name: &str, read: LastRead) -> io::Result<()> {
+    let file = OpenOptions::new().write(true).create(true).open(rt, name)?;
+    let about = file.metadata()?;
+    if read.has(FileId::of(&about)) {
+        return Err(io::Error::from(ErrorKind::AlreadyExists));
+    }
+    if about.is_file() {
+        file.set_len(0)?;
+    }
+    Ok(())
+}
+
+/// The files of the folder that the program runs in. Each call opens its file. A file that was read
+/// isn't made new under any of its names (the last two are known by device and number): that call fails.
 #[derive(Drop)]
 pub struct DiskFolder<R: Files + Clone + Drop> {
     rt: R,
+    read: LastRead,
     read_faults: u64,
     write_faults: u64,
 }
@@ -76,6 +146,7 @@ impl<R: Files + Clone + Drop> DiskFolder<R> {
     {
         DiskFolder {
             rt,
+            read: LastRead::new(),
             read_faults: 0,
             write_faults: 0,
         }
@@ -91,14 +162,19 @@ impl<R: Files + Clone + Drop> Folder for DiskFolder<R> {
 
     fn read(&mut self, name: &str, at: u64, buf: &mut [u8]) -> Result<usize, Failed> {
         match open_at(&self.rt, name, at) {
-            Ok(mut file) => read_some(&mut file, buf, &mut self.read_faults),
+            Ok(mut file) => {
+                if let Ok(about) = file.metadata() {
+                    self.read.take(FileId::of(&about));
+                }
+                read_some(&mut file, buf, &mut self.read_faults)
+            }
             Err(_) => count_failure(&mut self.read_faults),
         }
     }
 
     fn fresh(&mut self, name: &str) -> Result<(), Failed> {
-        match fs::create(&self.rt, name) {
-            Ok(_) => Ok(()),
+        match empty_new(&self.rt, name, self.read) {
+            Ok(()) => Ok(()),
             Err(_) => count_failure(&mut self.write_faults),
         }
     }

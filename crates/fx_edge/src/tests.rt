@@ -87,7 +87,9 @@ fn a_disk_keeps_what_is_written(rt: HostRuntime) -> Result<(), Fail> {
     assert_eq!(rt; folder.read(name, 2, &mut buf), Ok(3));
     assert_eq!(rt; &buf, b"cde\0");
     assert_eq!(rt; folder.read(name, 9, &mut buf), Ok(0), "past the end");
-    assert_eq!(rt; folder.fresh(name), Ok(()));
+    assert_eq!(rt; folder.fresh(name), Err(Failed), "it was read");
+    assert_eq!(rt; folder.read(name, 1, &mut buf), Ok(4), "and kept");
+    assert_eq!(rt; DiskFolder::new(&rt).fresh(name), Ok(()));
     assert_eq!(rt; folder.read(name, 0, &mut buf), Ok(0), "made new");
     fs::remove_file(&rt, name)?;
     assert_eq!(rt; folder.read(name, 0, &mut buf), Err(Failed));
