@@ -3,7 +3,7 @@ use Rattle.std.proofs.Common.{◌≡◌, ◌⊎◌, ℕ, List, Bool, true, false
 use Rattle.std.specs.Bool.{Decides}
 use Rattle.literal.specs.Spelling.{Spelling, Spells, IsLiteral, written, IsWithin}
 use Rattle.literal.specs.Normal.{nought, IsReading, IsPastLimits}
-use Rattle.script_nodes.specs.Literals.{parts_of, normal_of, is_read_as, literal_of, LiteralsAreTold, SpelledOnce}
+use Rattle.script_nodes.specs.Literals.{parts_of, normal_of, is_read_as, literal_of, LiteralsAreTold, LiteralsAreTested, SpelledOnce}
 use Rattle.script_nodes.proofs.LiteralReads.{parts_are}
 use Rattle.script_nodes.proofs.NormalOnce.{normal_form}
 use Rattle.script_nodes.proofs.Readable.{spelled_test, within_test, read_test}
@@ -30,3 +30,11 @@ literals_are_told text = by_tests _ _ (spelled_test text x) (within_test x.form 
 
 pub spelled_once : SpelledOnce
 spelled_once text x y s t = sym (parts_are text x s) ∙ parts_are text y t
+
+pub literals_are_tested : LiteralsAreTested
+literals_are_tested text = (
+  λ h. let p = (read_test text (parts_of text)).0 h in read_within text (parts_of text) refl p.0 p.1,
+  λ r.
+      let e : parts_of text ≡ r.spelling = parts_are text r.spelling r.spells in
+      (read_test text (parts_of text)).1 (subst (λ x. Spells text x × IsWithin x) (sym e) (r.spells, r.within)),
+)

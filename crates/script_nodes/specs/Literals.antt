@@ -1,5 +1,6 @@
 -- The literal of a text: its parts, and the normal form of the number that they stand for.
 use Rattle.std.specs.Prelude.{◌≡◌, ◌⊎◌, ℕ, ℤ, pos, int_lt, zero, suc, ◌/◌, ◌%◌, ◌==◌, ◌^◌, ◌&&◌, not, ◌+ℤ◌, negsuc, nat_lt, List, [], ◌∷◌, length, drop, Option, Some, None, Bool, true, false, if◌then◌else◌}
+use Rattle.std.specs.Bool.{Decides}
 use Rattle.std.specs.Char.{digit_value}
 use Rattle.std.specs.Str.{bytes_eq}
 use Rattle.fx_model.specs.declared.Literal.{Literal}
@@ -139,3 +140,7 @@ LiteralsAreTold = (text : List ℕ) → IsReading text (literal_of text) ⊎ (Is
 -- A text has the parts of one literal at most.
 abbrev pub SpelledOnce : Type 0
 SpelledOnce = (text : List ℕ) (x y : Spelling) → Spells text x → Spells text y → x ≡ y
+
+-- The test of a text is true exactly where it is read as its literal.
+abbrev pub LiteralsAreTested : Type 0
+LiteralsAreTested = (text : List ℕ) → Decides (is_read_as text (parts_of text)) (IsReading text (literal_of text))

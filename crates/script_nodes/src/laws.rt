@@ -1,6 +1,6 @@
 //! What the reading of words gives.
 
-ghost use Rattle.script_nodes.specs.Literals.{ReadsLiterals, LiteralsAreTold, SpelledOnce};
+ghost use Rattle.script_nodes.specs.Literals.{ReadsLiterals, LiteralsAreTold, LiteralsAreTested, SpelledOnce};
 ghost use Rattle.script_nodes.specs.ReadingLaw.{ReadsTrees};
 ghost use Rattle.script_nodes.specs.Defining.{ReadsDefinition, ReadsDefinitions};
 ghost use Rattle.script_nodes.specs.Growth.{NamesGrow, EndsGrow, WordsGrow, DefiningGrows};
@@ -20,6 +20,7 @@ pub fn reads_literals()
 pub fn literals_are_told()
     ensures told { LiteralsAreTold }
     ensures once { SpelledOnce }
+    ensures tested { LiteralsAreTested }
 {}
 
 /// Reading the words of a definition, and those of a script up to its formula, gives what the definitions mean.

@@ -4,3 +4,4 @@ pub mod LexedAll
 pub mod Marked
 pub mod ReadTo
 pub mod DigitSteps
+pub mod Quiet

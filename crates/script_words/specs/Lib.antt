@@ -5,3 +5,4 @@ pub mod Words
 pub mod Named
 pub mod Placed
 pub mod Kept
+pub mod Quiet

@@ -133,7 +133,7 @@ fn literal_len(text: &[u8]) -> usize
 }
 
 /// How many bytes at the front are blank or in a comment.
-pub(crate) fn blank_len(text: &[u8]) -> usize
+pub fn blank_len(text: &[u8]) -> usize
     ensures len { result ≡ spec.blank_len false text.now }
     ensures within { result ≤ length text.now }
 {
@@ -247,7 +247,7 @@ fn word_kind(word: &[u8]) -> TokenKind
 
 /// The token at the front, with its length.
 #[tactic(auto, unfolding(crate::specs::Lex::front))]
-pub(crate) fn front(text: &[u8]) -> Option<(TokenKind, usize)>
+pub fn front(text: &[u8]) -> Option<(TokenKind, usize)>
     ensures token { result ≡ spec.front text.now }
     ensures within { IfSome result (λ found. (0 < found.1) × (found.1 ≤ length text.now)) }
 {

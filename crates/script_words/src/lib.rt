@@ -3,6 +3,7 @@
 
 pub mod class;
 pub mod digits;
+pub mod laws;
 pub mod lex;
 pub mod list;
 #[cfg(test)]
