@@ -6,7 +6,7 @@ use Rattle.script_words.specs.declared.class.Number.TheVariants as kind
 use Rattle.script_words.specs.declared.class.Sign.TheVariants as s
 use Rattle.script_words.specs.Words.{Word, sign}
 use Rattle.script_shape.specs.declared.due.Due.TheVariants as d
-use Rattle.script_shape.specs.Tree.{unsigned, Expr, expr_words, at_most, Formula, single, formula_words, no_hint, Definition, definition_words, Script, formula, define, script_words}
+use Rattle.script_shape.specs.Tree.{unsigned, Expr, expr_words, at_most, affirmed, Formula, single, formula_words, no_hint, Definition, definition_words, Script, formula, define, script_words}
 use Rattle.script_shape.specs.Roles.{Leaf, at, expr_leaves, formula_leaves, definition_leaves, script_leaves, LeavesSpell}
 
 -- as many behind the front, and as many in all
@@ -27,4 +27,4 @@ module _ (spell : LeavesSpell) where
       front_count (formula_leaves f) _ (formula_words f) _ refl e
 
   pub expr_count : (e : Expr) → length (expr_leaves e) ≡ length (expr_words e)
-  expr_count e = front_count (expr_leaves e) _ (expr_words e) _ refl (formula_count (single (at_most e (unsigned kind.Zero []))))
+  expr_count e = front_count (expr_leaves e) _ (expr_words e) _ refl (formula_count (single (affirmed (at_most e (unsigned kind.Zero [])))))

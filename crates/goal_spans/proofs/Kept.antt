@@ -88,6 +88,7 @@ definition_kept (names_value n h e) =
 -- all but those that end a part of a formula
 abbrev IsQuiet : Due → Type 0
 IsQuiet d.Relation = ⊥
+IsQuiet d.Claim = ⊥
 IsQuiet d.In = ⊥
 IsQuiet d.Connective = ⊥
 IsQuiet d.CloseBrace = ⊥
@@ -95,6 +96,7 @@ IsQuiet r = Unit {0}
 
 inner_quiet : (r : Due) → IsInner r → IsQuiet r
 inner_quiet d.Relation i = i
+inner_quiet d.Claim i = i
 inner_quiet d.In i = i
 inner_quiet d.Connective i = i
 inner_quiet d.CloseBrace i = i
@@ -102,6 +104,7 @@ inner_quiet _ i = tt
 
 quiet_kept : (r : Due) (w : Word) → IsQuiet r → IsKept stage.Formula r w
 quiet_kept d.Relation w q st = absurd q
+quiet_kept d.Claim w q st = absurd q
 quiet_kept d.In w q st = absurd q
 quiet_kept d.Connective w q st = absurd q
 quiet_kept d.CloseBrace w q st = absurd q

@@ -1,14 +1,14 @@
 -- The words of a script are read as the spans of its tree.
-use Rattle.std.specs.Prelude.{◌≡◌, ℕ, ◌+◌, List, [], ◌∷◌, ◌++◌, length, refl}
+use Rattle.std.specs.Prelude.{◌≡◌, ℕ, suc, ◌+◌, List, [], ◌∷◌, ◌++◌, length, refl}
 use Rattle.std.proofs.Common.{ap, sym, ◌∙◌, append_assoc, append-nil, length-append, arith}
 use Rattle.script_words.specs.declared.class.Sign.TheVariants as s
 use Rattle.script_words.specs.Words.{sign}
 use Rattle.script_shape.specs.declared.due.Due.TheVariants as d
-use Rattle.script_shape.specs.Tree.{Expr, expr_words, Prop, lies_in, relative_in, at_most, at_least, multiple, Formula, single, and, implies, formula_words, Script, formula, define}
-use Rattle.script_shape.specs.Roles.{Leaf, at, bound_leaves, expr_leaves, range_leaves, prop_leaves, formula_leaves, hints_leaves, definition_leaves, script_leaves, LeavesSpell}
+use Rattle.script_shape.specs.Tree.{Expr, expr_words, Prop, lies_in, relative_in, at_most, at_least, multiple, Stated, affirmed, denied, Formula, single, and, or, implies, formula_words, Script, formula, define}
+use Rattle.script_shape.specs.Roles.{Leaf, at, bound_leaves, expr_leaves, range_leaves, prop_leaves, stated_leaves, formula_leaves, hints_leaves, definition_leaves, script_leaves, LeavesSpell}
 use Rattle.goal_spans.specs.declared.span.Span.{Span}
 use Rattle.goal_spans.specs.declared.reader.Stage.TheVariants as stage
-use Rattle.goal_spans.specs.Spans.{side_count, span_at, formula_spans, script_spans}
+use Rattle.goal_spans.specs.Spans.{side_count, stated_at, formula_spans, script_spans}
 use Rattle.goal_spans.specs.Reading.{State, read_word, read_words, ReadsSpans}
 use Rattle.goal_spans.proofs.Kept.{state, AreKept, both, kept_words, definition_kept, expr_kept, range_kept, bound_kept, multiple_kept, all_behind}
 use Rattle.goal_spans.proofs.Counts.{definition_count, formula_count, expr_count}
@@ -60,6 +60,14 @@ module _ (spell : LeavesSpell) where
       let c : n ≡ n + 0 = omega arith in
       kept_words stage.Formula ls rest n n n ss (multiple_kept f e k) ∙ ap (λ (m : ℕ). read_words rest (within (n + length ls) n m ss)) c
 
+  -- `not`, and the proposition behind it
+  stated_read : (p : Stated) (rest : List Leaf) (n : ℕ) (ss : List Span) → read_words (stated_leaves p ++ rest) (within n n n ss) ≡ read_words rest (within (n + length (stated_leaves p)) (stated_at n p).first (stated_at n p).end ss)
+  unfolding read_word read_words
+  stated_read (affirmed p) rest n ss = prop_read p rest n ss
+  stated_read (denied p) rest n ss =
+      let c : n + 1 + length (prop_leaves p) ≡ n + suc (length (prop_leaves p)) = omega arith in
+      prop_read p rest (n + 1) ss ∙ ap (λ (k : ℕ). read_words rest (within k (n + 1) (n + 1 + side_count p) ss)) c
+
   -- ---- a formula
 
   -- the last proposition is in hand, and is a goal beside those before it
@@ -71,39 +79,49 @@ module _ (spell : LeavesSpell) where
     read : (rest : List Leaf) → read_words (formula_leaves f ++ rest) (within n n n []) ≡ read_words rest (within (n + length (formula_leaves f)) first end before)
 
   -- a connective, and one more proposition
-  joined_read : (f : Formula) (p : Prop) (n : ℕ) (l : Leaf) (m : FormulaRead f n) (kept : List Span)
+  joined_read : (f : Formula) (p : Stated) (n : ℕ) (l : Leaf) (m : FormulaRead f n) (kept : List Span)
       → read_word l.role l.word (within (n + length (formula_leaves f)) m.first m.end m.before) ≡ within (n + length (formula_leaves f) + 1) (n + length (formula_leaves f) + 1) (n + length (formula_leaves f) + 1) kept
-      → (rest : List Leaf) → read_words ((formula_leaves f ++ (l ∷ prop_leaves p)) ++ rest) (within n n n []) ≡ read_words rest (within (n + length (formula_leaves f ++ (l ∷ prop_leaves p))) (n + length (formula_words f) + 1) (n + length (formula_words f) + 1 + side_count p) kept)
+      → (rest : List Leaf) → read_words ((formula_leaves f ++ (l ∷ stated_leaves p)) ++ rest) (within n n n []) ≡ read_words rest (within (n + length (formula_leaves f ++ (l ∷ stated_leaves p))) (stated_at (n + length (formula_words f) + 1) p).first (stated_at (n + length (formula_words f) + 1) p).end kept)
   unfolding read_words
   joined_read f p n l m kept h rest =
       let k = n + length (formula_leaves f) + 1 in
-      let c : k + length (prop_leaves p) ≡ n + length (formula_leaves f ++ (l ∷ prop_leaves p)) = omega (arith, length-append (formula_leaves f) (l ∷ prop_leaves p)) in
-      ap (λ (ls : List Leaf). read_words ls (within n n n [])) (append_assoc (formula_leaves f) (l ∷ prop_leaves p) rest)
-      ∙ m.read (l ∷ (prop_leaves p ++ rest))
-      ∙ ap (read_words (prop_leaves p ++ rest)) h
-      ∙ prop_read p rest k kept
-      ∙ ap (λ (i : ℕ). read_words rest (within i k (k + side_count p) kept)) c
-      ∙ ap (λ (i : ℕ). read_words rest (within (n + length (formula_leaves f ++ (l ∷ prop_leaves p))) (n + i + 1) (n + i + 1 + side_count p) kept)) (formula_count spell f)
+      let c : k + length (stated_leaves p) ≡ n + length (formula_leaves f ++ (l ∷ stated_leaves p)) = omega (arith, length-append (formula_leaves f) (l ∷ stated_leaves p)) in
+      ap (λ (ls : List Leaf). read_words ls (within n n n [])) (append_assoc (formula_leaves f) (l ∷ stated_leaves p) rest)
+      ∙ m.read (l ∷ (stated_leaves p ++ rest))
+      ∙ ap (read_words (stated_leaves p ++ rest)) h
+      ∙ stated_read p rest k kept
+      ∙ ap (λ (i : ℕ). read_words rest (within i (stated_at k p).first (stated_at k p).end kept)) c
+      ∙ ap (λ (i : ℕ). read_words rest (within (n + length (formula_leaves f ++ (l ∷ stated_leaves p))) (stated_at (n + i + 1) p).first (stated_at (n + i + 1) p).end kept)) (formula_count spell f)
 
   formula_read : (f : Formula) (n : ℕ) → FormulaRead f n
   unfolding read_word
-  formula_read (single p) n = record { first = n; end = n + side_count p; before = []; goals = refl; read = λ rest. prop_read p rest n [] }
+  formula_read (single p) n = record { first = (stated_at n p).first; end = (stated_at n p).end; before = []; goals = refl; read = λ rest. stated_read p rest n [] }
   formula_read (and f p) n =
       let m = formula_read f n in
       let k = n + length (formula_words f) + 1 in
       record {
-        first = k;
-        end = k + side_count p;
+        first = (stated_at k p).first;
+        end = (stated_at k p).end;
         before = m.before ++ (record { first = m.first; end = m.end } ∷ []);
-        goals = ap (λ (ss : List Span). ss ++ (span_at k p ∷ [])) m.goals;
+        goals = ap (λ (ss : List Span). ss ++ (stated_at k p ∷ [])) m.goals;
         read = joined_read f p n (at d.Connective (sign s.And)) m _ refl;
+      }
+  formula_read (or f p) n =
+      let m = formula_read f n in
+      let k = n + length (formula_words f) + 1 in
+      record {
+        first = (stated_at k p).first;
+        end = (stated_at k p).end;
+        before = m.before ++ (record { first = m.first; end = m.end } ∷ []);
+        goals = ap (λ (ss : List Span). ss ++ (stated_at k p ∷ [])) m.goals;
+        read = joined_read f p n (at d.Connective (sign s.Or)) m _ refl;
       }
   formula_read (implies f p) n =
       let m = formula_read f n in
       let k = n + length (formula_words f) + 1 in
       record {
-        first = k;
-        end = k + side_count p;
+        first = (stated_at k p).first;
+        end = (stated_at k p).end;
         before = [];
         goals = refl;
         read = joined_read f p n (at d.Connective (sign s.Arrow)) m [] refl;

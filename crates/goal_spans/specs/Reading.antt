@@ -20,7 +20,7 @@ pub record State : Type 0 where
   pub end : ℕ
   pub spans : List Span
 
--- a proposition begins behind the word in hand
+-- a proposition begins behind the word in hand, which is a sign between propositions or `not`
 abbrev pub begun : State → State
 begun st = record st { first = st.at + 1; end = st.at + 1 }
 
@@ -56,6 +56,7 @@ closed st = record (with_goal st) { stage = stage.Hints }
 abbrev pub in_formula : Due → Word → State → State
 in_formula d.Relation w st = related w st
 in_formula d.In w st = parted st
+in_formula d.Claim w st = begun st
 in_formula d.Connective w st = connected w st
 in_formula d.CloseBrace w st = closed st
 in_formula r w st = st

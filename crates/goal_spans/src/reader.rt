@@ -133,6 +133,7 @@ impl SpanReader {
         match role {
             Due::Relation => self.relate(word),
             Due::In => self.end = self.at,
+            Due::Claim => self.begin(),
             Due::Connective => return self.connect(word),
             Due::CloseBrace => return self.close(),
             _ => {}

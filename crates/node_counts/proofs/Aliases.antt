@@ -19,7 +19,8 @@ use Rattle.script_judge.specs.Bounds.{is_bad_bound}
 use Rattle.script_judge.specs.Numbers.{Verdict, has_no_pieces}
 use Rattle.script_judge.specs.Subject.{Subject, nothing, node_of, other, Alias, aliases_after}
 use Rattle.script_judge.specs.Splits.{is_rangeless, is_bad_point}
-use Rattle.script_judge.specs.Judge.{Seen, seen_after, has_arrow, is_empty, is_on_wrong_side, form_kind, form_refusal, limit_refusal, refusal_at, nothing_seen, fails, both_none}
+use Rattle.script_cases.specs.Parts.{nothing as nothing_read}
+use Rattle.script_judge.specs.Judge.{Seen, seen_after, has_arrow, is_on_wrong_side, form_kind, form_refusal, limit_refusal, refusal_at, nothing_seen, fails, both_none}
 use Rattle.script_nodes.specs.Known.{Known, Placed, entry_of, with_entry}
 use Rattle.script_nodes.specs.Operators.{rounding_of}
 use Rattle.script_nodes.specs.Values.{expr_value}
@@ -108,7 +109,7 @@ value_tied new p names n (b ∷ ls) a h =
 
 pub record Stands (seen : Seen) (k : Known) : Type 0 where
   pub calm : IsCalm seen
-  pub ranges : seen.splits.ranges ≡ []
+  pub ranges : seen.splits.ranges ≡ nothing_read
   pub tied : Tied k seen.splits.aliases
   pub among : AllAmong seen.names.known seen.splits.aliases
   pub kept : IsKept [] seen
@@ -119,7 +120,7 @@ nothing_stands k = record {
   ranges = refl;
   tied = tt;
   among = tt;
-  kept = record { operators = λ text h. absurd (true≢false (sym h)); subject = tt; aliases = tt; ranges = tt; nodes = omega arith };
+  kept = record { operators = λ text h. absurd (true≢false (sym h)); subject = tt; aliases = tt; ranges = record { before = tt; ended = tt; last = tt }; filled = tt; cases = omega arith; nodes = omega arith };
 }
 
 -- ---- words of a definition
@@ -150,6 +151,7 @@ static_silent r h = tt
 
 static_no_range : (r : Due) → IsStatic r → IsNoRange r
 static_no_range d.Range h = h
+static_no_range d.Connective h = h
 static_no_range r h = tt
 
 -- what the judge knows of splits stays, and so does the name that is pending
@@ -190,7 +192,7 @@ fresh_at : (v : Verdict) (seen : Seen) (r : Due) (w : Word) (behind : List Leaf)
 fresh_at v seen r w behind text e n =
     let form = both_none (form_refusal v seen r w (has_arrow behind) behind) (limit_refusal (seen_after v seen r w) r w) e in
     let named = split_name r w in
-    let used = used_test (is_on_wrong_side r w (has_arrow behind) (is_empty behind)) (is_used seen.names (defines r w) behind) (is_bad_bound seen.bounds v.number)
+    let used = used_test (is_on_wrong_side r w (has_arrow behind) behind) (is_used seen.names (defines r w) behind) (is_bad_bound seen.bounds v.number)
     (is_rangeless seen.splits.ranges (is_some_among seen.names.defined named) named) (is_some_among seen.names.defined named) (has_no_pieces r w) (is_bad_point seen.splits (nat_lt 0 seen.counts.pieces) v.number) v.past form.0 in
     (or_parts (is_among seen.names.known text) (is_used_before_end text behind) (sym (ap (λ o. is_used seen.names o behind) n) ∙ used)).0
 

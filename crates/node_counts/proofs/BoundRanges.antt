@@ -31,8 +31,8 @@ use Rattle.script_judge.specs.Names.{is_some_among, is_used, defines, split_name
 use Rattle.script_judge.specs.Bounds.{is_crossed, is_bad_bound, is_some_too_low, IsBoundOf}
 use Rattle.script_judge.specs.Numbers.{Verdict, Tells, has_no_pieces}
 use Rattle.script_judge.specs.Sides.{has_arrow}
-use Rattle.script_judge.specs.Splits.{Ends, ends_at, ends_between, ranges_after, is_rangeless, is_bad_point}
-use Rattle.script_judge.specs.Judge.{Seen, seen_after, is_empty, is_on_wrong_side, form_kind, form_refusal, limit_refusal, refusal_at, fails, both_none}
+use Rattle.script_judge.specs.Splits.{Ends, ends_at, ends_between, ranges_after, parts_after, is_rangeless, is_bad_point}
+use Rattle.script_judge.specs.Judge.{Seen, seen_after, is_on_wrong_side, form_kind, form_refusal, limit_refusal, refusal_at, fails, both_none}
 use Rattle.script_nodes.specs.Literals.{literal_of, LiteralsAreTold, SpelledOnce}
 use Rattle.script_nodes.specs.Written.{bound_written}
 use Rattle.script_bounds.specs.Bounds.{written_range, outward_of}
@@ -93,11 +93,11 @@ no_ends None = refl
 no_ends (Some low) = refl
 
 -- no range where no bound begins
-numberless : (v : Verdict) (seen : Seen) (r : Due) (w : Word) (behind : List Leaf) → Tells v r w behind → ((x : Fraction) → IsBoundOf r w behind x → ⊥) → (seen_after v seen r w).splits.ranges ≡ seen.splits.ranges
+numberless : (v : Verdict) (seen : Seen) (r : Due) (w : Word) (behind : List Leaf) → Tells v r w behind → ((x : Fraction) → IsBoundOf r w behind x → ⊥) → (seen_after v seen r w).splits.ranges ≡ parts_after seen.splits.ranges r w
 numberless v seen r w behind t f =
-    ap (λ o. ranges_after seen.splits.ranges seen.splits.subject v.arrow_behind (ends_between seen.bounds.lower o)) (no_number v r w behind t f)
-    ∙ ap (ranges_after seen.splits.ranges seen.splits.subject v.arrow_behind) (no_ends seen.bounds.lower)
-    ∙ no_range seen.splits.ranges seen.splits.subject v.arrow_behind
+    ap (λ o. parts_after (ranges_after seen.splits.ranges seen.splits.subject v.arrow_behind (ends_between seen.bounds.lower o)) r w) (no_number v r w behind t f)
+    ∙ ap (λ o. parts_after (ranges_after seen.splits.ranges seen.splits.subject v.arrow_behind o) r w) (no_ends seen.bounds.lower)
+    ∙ ap (λ p. parts_after p r w) (no_range seen.splits.ranges seen.splits.subject v.arrow_behind)
 
 -- ---- the lower bound of a range, and the upper
 
@@ -135,7 +135,7 @@ in_order : (v : Verdict) (seen : Seen) (r : Due) (w : Word) (behind : List Leaf)
 in_order v seen r w behind e x y low high =
     let form = both_none (form_refusal v seen r w (has_arrow behind) behind) (limit_refusal (seen_after v seen r w) r w) e in
     let named = split_name r w in
-    let bad = bad_test (is_on_wrong_side r w (has_arrow behind) (is_empty behind)) (is_used seen.names (defines r w) behind) (is_bad_bound seen.bounds v.number)
+    let bad = bad_test (is_on_wrong_side r w (has_arrow behind) behind) (is_used seen.names (defines r w) behind) (is_bad_bound seen.bounds v.number)
     (is_rangeless seen.splits.ranges (is_some_among seen.names.defined named) named) (is_some_among seen.names.defined named) (has_no_pieces r w) (is_bad_point seen.splits (nat_lt 0 seen.counts.pieces) v.number) v.past form.0 in
     let crossed = (or_parts (is_crossed seen.bounds.lower v.number) (seen.bounds.relative && seen.bounds.lower_due && is_some_too_low v.number) bad).0 in
     not-false (le_ℚ x y) (sym (ap (λ o. is_crossed o v.number) low ∙ ap (is_crossed (Some x)) high) ∙ crossed)

@@ -218,6 +218,8 @@ definition_counts reads (names_operator n o) rest ops k seen last m p kept b =
           subject = old.subject;
           aliases = old.aliases;
           ranges = old.ranges;
+          filled = old.filled;
+          cases = old.cases;
           nodes = old.nodes;
         };
         marked = operator_marked n o ops rest m;

@@ -8,8 +8,8 @@ use Rattle.script_words.specs.declared.class.Sign.TheVariants as s
 use Rattle.script_words.specs.Words.{Word, sign}
 use Rattle.script_shape.specs.declared.due.Due.{Due}
 use Rattle.script_shape.specs.declared.due.Due.TheVariants as d
-use Rattle.script_shape.specs.Tree.{AnyName, plain, operator, Expr, Need, nonzero, below, not_above, above, not_below, NeedList, last_need, more_needs, Needs, always, provided, Cut, Names, last_name, more_names, Halving, halved_by, with_goal, Hint, rewrite, like, split, halving, Hints, no_hint, hint, Prop, Formula, single, and, implies, How, exactly, rounded_by, rounded_apart, rounded_joined, Definition, names_operator, names_value, Script, formula, define}
-use Rattle.script_shape.specs.Roles.{Leaf, expr_leaves, name_leaves, needs_leaves, cut_leaves, names_leaves, halving_leaves, hint_leaves, hints_leaves, operator_leaves, prop_leaves, formula_leaves, how_leaves, definition_leaves, script_leaves}
+use Rattle.script_shape.specs.Tree.{AnyName, plain, operator, Expr, Need, nonzero, below, not_above, above, not_below, NeedList, last_need, more_needs, Needs, always, provided, Cut, Names, last_name, more_names, Halving, halved_by, with_goal, Hint, rewrite, like, split, halving, Hints, no_hint, hint, Prop, Stated, affirmed, denied, Formula, single, and, or, implies, How, exactly, rounded_by, rounded_apart, rounded_joined, Definition, names_operator, names_value, Script, formula, define}
+use Rattle.script_shape.specs.Roles.{Leaf, expr_leaves, name_leaves, needs_leaves, cut_leaves, names_leaves, halving_leaves, hint_leaves, hints_leaves, operator_leaves, prop_leaves, stated_leaves, formula_leaves, how_leaves, definition_leaves, script_leaves}
 use Rattle.script_shape.specs.Inner.{EachRole, IsInner, each_of_both, each_as, name_roles, operator_roles, expr_inner}
 use Rattle.script_judge.specs.Names.{Name, is_among, split_name, halved_after}
 use Rattle.script_judge.specs.Numbers.{Verdict}
@@ -35,7 +35,7 @@ all_few [] seen last p h = subst (λ (z : Seen). length z.names.halved ≤ 4) p 
 all_few (l ∷ ls) seen last p h =
     let after = seen_after p.0 seen l.role l.word in
     let limits = both_none (form_refusal p.0 seen l.role l.word (has_arrow p.1) p.1) (limit_refusal after l.role l.word) p.2 in
-    all_few ls after last p.3 (limits_hold _ (length after.names.halved) after.counts _ _ limits.1).halved
+    all_few ls after last p.3 (limits_hold _ (length after.names.halved) after.counts _ _ _ limits.1).halved
 
 -- ---- the names that are halved have numbers among those that are
 
@@ -257,10 +257,15 @@ prop_is_no_split r h = tt
 prop_quiet : (p : Prop) → EachRole IsNoSplit (prop_leaves p)
 prop_quiet p = each_as IsOfProp IsNoSplit prop_is_no_split (prop_leaves p) (prop_roles p)
 
+stated_quiet : (p : Stated) → EachRole IsNoSplit (stated_leaves p)
+stated_quiet (affirmed p) = prop_quiet p
+stated_quiet (denied p) = (tt, prop_quiet p)
+
 formula_quiet : (f : Formula) → EachRole IsNoSplit (formula_leaves f)
-formula_quiet (single p) = prop_quiet p
-formula_quiet (and f p) = each_of_both IsNoSplit (formula_leaves f) _ (formula_quiet f) (tt, prop_quiet p)
-formula_quiet (implies f p) = each_of_both IsNoSplit (formula_leaves f) _ (formula_quiet f) (tt, prop_quiet p)
+formula_quiet (single p) = stated_quiet p
+formula_quiet (and f p) = each_of_both IsNoSplit (formula_leaves f) _ (formula_quiet f) (tt, stated_quiet p)
+formula_quiet (or f p) = each_of_both IsNoSplit (formula_leaves f) _ (formula_quiet f) (tt, stated_quiet p)
+formula_quiet (implies f p) = each_of_both IsNoSplit (formula_leaves f) _ (formula_quiet f) (tt, stated_quiet p)
 
 how_quiet : (h : How) → EachRole IsNoSplit (how_leaves h)
 how_quiet exactly = (tt, tt)

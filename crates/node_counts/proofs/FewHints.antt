@@ -4,8 +4,8 @@ use Rattle.std.proofs.lemmas.Bool.{ltb-false, or_parts}
 use Rattle.script_words.specs.declared.class.Sign.TheVariants as s
 use Rattle.script_words.specs.Words.{sign}
 use Rattle.script_shape.specs.declared.due.Due.TheVariants as d
-use Rattle.script_shape.specs.Tree.{Prop, Formula, single, and, implies, Hints, no_hint, hint, Script, formula, define}
-use Rattle.script_shape.specs.Roles.{Leaf, at, prop_leaves, formula_leaves, hint_leaves, hints_leaves, definition_leaves, script_leaves}
+use Rattle.script_shape.specs.Tree.{Prop, Stated, affirmed, denied, Formula, single, and, or, implies, Hints, no_hint, hint, Script, formula, define}
+use Rattle.script_shape.specs.Roles.{Leaf, at, prop_leaves, stated_leaves, formula_leaves, hint_leaves, hints_leaves, definition_leaves, script_leaves}
 use Rattle.script_judge.specs.declared.counts.Counts.{Counts}
 use Rattle.script_judge.specs.declared.counts.Place.TheVariants as place
 use Rattle.script_judge.specs.Counts.{one_if, begins_hint, place_after}
@@ -28,8 +28,8 @@ pub record AreWithin (n : ℕ) (c : Counts) : Type 0 where
   pub halved : n ≤ 4
   pub pieces : c.pieces ≤ 64
 
-pub limits_hold : (opened halved : ℕ) (c : Counts) (lsb past : Bool) → limit_kind opened halved c lsb past ≡ None → AreWithin halved c
-limits_hold opened halved c lsb past h =
+pub limits_hold : (opened halved : ℕ) (c : Counts) (lsb past cases : Bool) → limit_kind opened halved c lsb past cases ≡ None → AreWithin halved c
+limits_hold opened halved c lsb past cases h =
     let nesting = fails (nat_lt 64 opened) _ _ h in
     let definitions = fails (nat_lt 256 c.definitions) _ _ nesting.1 in
     let propositions = fails (nat_lt 128 c.propositions) _ _ definitions.1 in
@@ -45,7 +45,7 @@ all_within [] seen last p h = subst IsWithin p h
 all_within (l ∷ ls) seen last p h =
     let after = seen_after p.0 seen l.role l.word in
     let limits = both_none (form_refusal p.0 seen l.role l.word (has_arrow p.1) p.1) (limit_refusal after l.role l.word) p.2 in
-    let holds = limits_hold _ (length after.names.halved) after.counts _ _ limits.1 in
+    let holds = limits_hold _ (length after.names.halved) after.counts _ _ _ limits.1 in
     all_within ls after last p.3 (record { hints = holds.hints; splits = holds.splits; pieces = holds.pieces })
 
 -- ---- hints are counted
@@ -81,10 +81,16 @@ hints_counted (hint h l) seen last p e =
 prop_ends : (p : Prop) (seen last : Seen) → Passes seen (prop_leaves p) last → seen.counts.place ≡ place.PropositionNext → last.counts.place ≡ place.Formula
 prop_ends p seen last passes e = first_comes IsOfProp place.PropositionNext place.Formula prop_enters prop_stays (prop_leaves p) seen last (prop_first p) (prop_roles p) passes e
 
+-- behind `not` the proposition is still to begin
+stated_ends : (p : Stated) (seen last : Seen) → Passes seen (stated_leaves p) last → seen.counts.place ≡ place.PropositionNext → last.counts.place ≡ place.Formula
+stated_ends (affirmed p) seen last passes e = prop_ends p seen last passes e
+stated_ends (denied p) seen last passes e = prop_ends p (seen_after passes.0 seen d.Claim (sign s.Not)) last passes.3 e
+
 formula_ends : (f : Formula) (seen last : Seen) → Passes seen (formula_leaves f) last → seen.counts.place ≡ place.PropositionNext → last.counts.place ≡ place.Formula
-formula_ends (single p) seen last h e = prop_ends p seen last h e
-formula_ends (and f p) seen last h e = let both = passes_both (formula_leaves f) _ seen last h in let rest = both.2 in prop_ends p (seen_after rest.0 both.0 d.Connective (sign s.And)) last rest.3 refl
-formula_ends (implies f p) seen last h e = let both = passes_both (formula_leaves f) _ seen last h in let rest = both.2 in prop_ends p (seen_after rest.0 both.0 d.Connective (sign s.Arrow)) last rest.3 refl
+formula_ends (single p) seen last h e = stated_ends p seen last h e
+formula_ends (and f p) seen last h e = let both = passes_both (formula_leaves f) _ seen last h in let rest = both.2 in stated_ends p (seen_after rest.0 both.0 d.Connective (sign s.And)) last rest.3 refl
+formula_ends (or f p) seen last h e = let both = passes_both (formula_leaves f) _ seen last h in let rest = both.2 in stated_ends p (seen_after rest.0 both.0 d.Connective (sign s.Or)) last rest.3 refl
+formula_ends (implies f p) seen last h e = let both = passes_both (formula_leaves f) _ seen last h in let rest = both.2 in stated_ends p (seen_after rest.0 both.0 d.Connective (sign s.Arrow)) last rest.3 refl
 
 -- the judge's places before and behind the hints
 pub record HintsPass (h : Hints) : Type 0 where

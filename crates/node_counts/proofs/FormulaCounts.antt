@@ -5,8 +5,8 @@ use Rattle.script_words.specs.declared.class.Sign.TheVariants as s
 use Rattle.script_words.specs.Words.{Word, sign}
 use Rattle.script_shape.specs.declared.due.Due.{Due}
 use Rattle.script_shape.specs.declared.due.Due.TheVariants as d
-use Rattle.script_shape.specs.Tree.{Prop, Formula, single, and, implies}
-use Rattle.script_shape.specs.Roles.{Leaf, at, prop_leaves, formula_leaves}
+use Rattle.script_shape.specs.Tree.{Prop, Stated, affirmed, denied, Formula, single, and, or, implies}
+use Rattle.script_shape.specs.Roles.{Leaf, at, prop_leaves, stated_leaves, formula_leaves}
 use Rattle.script_shape.specs.Inner.{EachRole, each_of_both, each_as}
 use Rattle.script_judge.specs.Counts.{nodes_at}
 use Rattle.script_judge.specs.Names.{with_some, operand_name, is_some_apart}
@@ -73,6 +73,7 @@ module _ (ops names : List Name) where
   ended_total st = ended_with_total st st.proposition.part (expr_done None st.reading st.reading.waits) (done st)
 
   connected_reading : (w : Word) (st : State) → (connected w st).reading ≡ st.reading
+  connected_reading (sign s.Or) st = refl
   connected_reading (sign s.Arrow) st = refl
   connected_reading _ st = refl
 
@@ -109,10 +110,15 @@ prop_is_body r h = tt
 prop_body : (p : Prop) → EachRole IsBody (prop_leaves p)
 prop_body p = each_as IsOfProp IsBody prop_is_body (prop_leaves p) (prop_roles p)
 
+stated_body : (p : Stated) → EachRole IsBody (stated_leaves p)
+stated_body (affirmed p) = prop_body p
+stated_body (denied p) = (tt, prop_body p)
+
 formula_body : (f : Formula) → EachRole IsBody (formula_leaves f)
-formula_body (single p) = prop_body p
-formula_body (and f p) = each_of_both IsBody (formula_leaves f) _ (formula_body f) (tt, prop_body p)
-formula_body (implies f p) = each_of_both IsBody (formula_leaves f) _ (formula_body f) (tt, prop_body p)
+formula_body (single p) = stated_body p
+formula_body (and f p) = each_of_both IsBody (formula_leaves f) _ (formula_body f) (tt, stated_body p)
+formula_body (or f p) = each_of_both IsBody (formula_leaves f) _ (formula_body f) (tt, stated_body p)
+formula_body (implies f p) = each_of_both IsBody (formula_leaves f) _ (formula_body f) (tt, stated_body p)
 
 -- with its brace
 pub braced_body : (f : Formula) → EachRole IsBody (then_brace f [])

@@ -1,3 +1,4 @@
+mod InParts
 mod There
 mod Marks
 mod Sizes

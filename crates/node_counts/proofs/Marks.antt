@@ -49,6 +49,7 @@ top_fits (Sign s.Equal) r new e = absurd (cc e)
 top_fits (Sign s.Semicolon) d.Semicolon new e = tt
 top_fits (Sign s.Semicolon) r new e = absurd (cc e)
 top_fits (Sign s.At) d.Script new e = tt
+top_fits (Sign s.At) d.Claim new e = tt
 top_fits (Sign s.At) d.Prop new e = tt
 top_fits (Sign s.At) r new e = absurd (cc e)
 top_fits c r new e = tt

@@ -72,6 +72,7 @@ hint_first (halving h) = halving_first d.HintRest h
 pub prop_enters : (r : Due) (w : Word) → IsOfProp r → place_after place.PropositionNext r w ≡ place.Formula
 prop_enters d.Script w h = absurd h
 prop_enters d.Connective w h = absurd h
+prop_enters d.Claim w h = absurd h
 prop_enters d.CloseBrace w h = absurd h
 prop_enters d.Semicolon w h = absurd h
 prop_enters r w h = refl
@@ -79,6 +80,7 @@ prop_enters r w h = refl
 pub prop_stays : (r : Due) (w : Word) → IsOfProp r → place_after place.Formula r w ≡ place.Formula
 prop_stays d.Script w h = absurd h
 prop_stays d.Connective w h = absurd h
+prop_stays d.Claim w h = absurd h
 prop_stays d.CloseBrace w h = absurd h
 prop_stays d.Semicolon w h = absurd h
 prop_stays r w h = refl
@@ -86,6 +88,7 @@ prop_stays r w h = refl
 pub hint_enters : (r : Due) (w : Word) → IsOfHint r → place_after place.HintNext r w ≡ place.Hints
 hint_enters d.Script w h = absurd h
 hint_enters d.Connective w h = absurd h
+hint_enters d.Claim w h = absurd h
 hint_enters d.CloseBrace w h = refl
 hint_enters d.Semicolon w h = absurd h
 hint_enters r w h = refl
@@ -93,6 +96,7 @@ hint_enters r w h = refl
 pub hint_stays : (r : Due) (w : Word) → IsOfHint r → place_after place.Hints r w ≡ place.Hints
 hint_stays d.Script w h = absurd h
 hint_stays d.Connective w h = absurd h
+hint_stays d.Claim w h = absurd h
 hint_stays d.CloseBrace w h = refl
 hint_stays d.Semicolon w h = absurd h
 hint_stays r w h = refl

@@ -8,7 +8,8 @@ use Rattle.script_shape.specs.Inner.{EachRole, IsInner}
 use Rattle.script_judge.specs.Names.{operand_name, is_some_among}
 use Rattle.script_judge.specs.Numbers.{Verdict}
 use Rattle.script_judge.specs.Subject.{Subject, nothing, node_of, other, Alias, aliases_after, subject_after}
-use Rattle.script_judge.specs.Splits.{SplitRange, ends_between, ranges_after}
+use Rattle.script_judge.specs.Splits.{SplitRange, ends_between, ranges_after, parts_after}
+use Rattle.script_cases.specs.Parts.{Parts}
 use Rattle.script_judge.specs.Judge.{Seen, seen_after}
 use Rattle.node_counts.proofs.Passing.{Passes}
 
@@ -18,21 +19,38 @@ pub record IsCalm (seen : Seen) : Type 0 where
   pub lower : seen.bounds.lower ≡ None
   pub due : seen.bounds.lower_due ≡ false
 
+-- neither begins a range, nor stands between propositions
 abbrev pub IsNoRange : Due → Type 0
 IsNoRange d.Range = ⊥
+IsNoRange d.Connective = ⊥
 IsNoRange r = Unit {0}
 
-pub no_range : (rs : List SplitRange) (x : Subject) (b : Bool) → ranges_after rs x b None ≡ rs
+abbrev pub IsNoBracket : Due → Type 0
+IsNoBracket d.Range = ⊥
+IsNoBracket r = Unit {0}
+
+pub no_bracket : (r : Due) → IsNoRange r → IsNoBracket r
+no_bracket d.Range h = h
+no_bracket d.Connective h = absurd h
+no_bracket r h = tt
+
+pub no_sign : (ranges : Parts SplitRange) (r : Due) (w : Word) → IsNoRange r → parts_after ranges r w ≡ ranges
+no_sign ranges d.Connective w h = absurd h
+no_sign ranges r w h = refl
+
+pub no_range : (rs : Parts SplitRange) (x : Subject) (b : Bool) → ranges_after rs x b None ≡ rs
 no_range rs nothing b = refl
 no_range rs (node_of text) true = refl
 no_range rs (node_of text) false = refl
 no_range rs other b = refl
 
 -- no upper bound gives a range where no lower one stands before
-pub word_ranges : (v : Verdict) (seen : Seen) (r : Due) (w : Word) → seen.bounds.lower ≡ None → (seen_after v seen r w).splits.ranges ≡ seen.splits.ranges
-word_ranges v seen r w e = ap (λ o. ranges_after seen.splits.ranges seen.splits.subject v.arrow_behind (ends_between o v.number)) e ∙ no_range seen.splits.ranges seen.splits.subject v.arrow_behind
+pub word_ranges : (v : Verdict) (seen : Seen) (r : Due) (w : Word) → seen.bounds.lower ≡ None → (seen_after v seen r w).splits.ranges ≡ parts_after seen.splits.ranges r w
+word_ranges v seen r w e =
+    ap (λ o. parts_after (ranges_after seen.splits.ranges seen.splits.subject v.arrow_behind (ends_between o v.number)) r w) e
+    ∙ ap (λ p. parts_after p r w) (no_range seen.splits.ranges seen.splits.subject v.arrow_behind)
 
-pub word_calm : (v : Verdict) (seen : Seen) (r : Due) (w : Word) → IsNoRange r → IsCalm seen → IsCalm (seen_after v seen r w)
+pub word_calm : (v : Verdict) (seen : Seen) (r : Due) (w : Word) → IsNoBracket r → IsCalm seen → IsCalm (seen_after v seen r w)
 word_calm v seen d.Range w h c = absurd h
 word_calm v seen d.Bound w h c = record { lower = ap (λ b. if b then v.number else None) c.due; due = refl }
 word_calm v seen r w h c = record { lower = c.lower; due = refl }
@@ -45,8 +63,8 @@ pub record KeepsRanges (seen last : Seen) : Type 0 where
 pub words_still : (ls : List Leaf) (seen last : Seen) → EachRole IsNoRange ls → Passes seen ls last → IsCalm seen → KeepsRanges seen last
 words_still [] seen last h p c = subst (KeepsRanges seen) p (record { ranges = refl; calm = c })
 words_still (l ∷ ls) seen last h p c =
-    let more = words_still ls (seen_after p.0 seen l.role l.word) last h.1 p.3 (word_calm p.0 seen l.role l.word h.0 c) in
-    record { ranges = more.ranges ∙ word_ranges p.0 seen l.role l.word c.lower; calm = more.calm }
+    let more = words_still ls (seen_after p.0 seen l.role l.word) last h.1 p.3 (word_calm p.0 seen l.role l.word (no_bracket l.role h.0) c) in
+    record { ranges = more.ranges ∙ word_ranges p.0 seen l.role l.word c.lower ∙ no_sign seen.splits.ranges l.role l.word h.0; calm = more.calm }
 
 -- ---- where no definition begins or ends
 
@@ -86,6 +104,7 @@ inner_plain r h = tt
 
 pub inner_no_range : (r : Due) → IsInner r → IsNoRange r
 inner_no_range d.Range h = h
+inner_no_range d.Connective h = absurd h
 inner_no_range r h = tt
 
 -- ---- where no word of an expression stands

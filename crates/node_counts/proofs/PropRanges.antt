@@ -1,24 +1,26 @@
 -- The ranges that the judge finds in a formula are given by its claims.
-use Rattle.std.proofs.Common.{◌≡◌, ◌⊎◌, inl, inr, List, [], ◌∷◌, ◌++◌, Option, Some, None, Bool, true, false, ◌||◌, refl, sym, ap, ◌∙◌, subst}
-use Rattle.std.specs.List.{AllByRecursion}
+use Rattle.std.proofs.Common.{◌≡◌, ◌⊎◌, inl, inr, suc, List, [], ◌∷◌, ◌++◌, length, Option, Some, None, Bool, true, false, refl, sym, ap, ◌∙◌, subst}
+use Rattle.std.specs.List.{flat_map, AllByRecursion}
 use Rattle.fx_model.specs.declared.ExprId.{ExprId}
 use Rattle.script_words.specs.declared.class.Spelled.TheVariants as spelled
 use Rattle.script_words.specs.declared.class.Sign.TheVariants as s
 use Rattle.script_words.specs.Words.{Word, sign}
 use Rattle.script_shape.specs.declared.due.Due.{Due}
 use Rattle.script_shape.specs.declared.due.Due.TheVariants as d
-use Rattle.script_shape.specs.Tree.{Whole, natural, opposite, Expr, Prop, lies_in, relative_in, at_most, at_least, multiple, Formula, single, and, implies}
-use Rattle.script_shape.specs.Roles.{Leaf, at, whole_leaves, special_leaves, expr_leaves, prop_leaves, formula_leaves}
+use Rattle.script_shape.specs.Tree.{Whole, natural, opposite, Expr, Prop, lies_in, relative_in, at_most, at_least, multiple, Stated, affirmed, denied, Formula, single, and, or, implies}
+use Rattle.script_shape.specs.Roles.{Leaf, at, whole_leaves, special_leaves, expr_leaves, prop_leaves, stated_leaves, formula_leaves}
 use Rattle.script_shape.specs.Inner.{EachRole, IsInner, each_of_both, each_as, bound_roles, digits_roles, special_roles, expr_inner}
 use Rattle.script_judge.specs.Names.{Name}
-use Rattle.script_judge.specs.Sides.{is_arrow, has_arrow}
+use Rattle.script_cases.specs.Cases.{with_first, cases}
+use Rattle.script_cases.specs.Parts.{Parts, nothing as nothing_read, with_item, part_of, behind_or, behind_arrow}
+use Rattle.script_judge.specs.Sides.{has_arrow}
 use Rattle.script_judge.specs.Subject.{Subject, nothing, node_of, other}
 use Rattle.script_judge.specs.Splits.{Ends, SplitRange, ranges_after}
 use Rattle.script_judge.specs.Judge.{Seen, seen_after}
 use Rattle.script_nodes.specs.Known.{Known}
 use Rattle.script_nodes.specs.Values.{expr_value}
 use Rattle.script_claims.specs.declared.claim.Claim.{Claim}
-use Rattle.script_claims.specs.Claims.{ranged, prop_claim, Claims, then_claimed, then_arrow, no_claims, formula_claims}
+use Rattle.script_claims.specs.Claims.{ranged, prop_claim, denial, stated, Claims, then_goal, then_claimed, then_or, then_arrow, no_claims, formula_claims}
 use Rattle.node_counts.specs.Ranges.{GivesRange, HasRange}
 use Rattle.node_counts.proofs.Numbers.{HasNumber, Keeps, keeps_both, expr_keeps}
 use Rattle.node_counts.proofs.WordRoles.{IsOfProp, prop_roles}
@@ -31,19 +33,19 @@ use Rattle.facts.specs.CommonParts.{all_as, all_last}
 -- ---- propositions
 
 -- one more range, which the claim gives
-record IsNewRange (rest : List Leaf) (k : Known) (c : Claim) (old new : List SplitRange) : Type 0 where
+record IsNewRange (rest : List Leaf) (k : Known) (c : Claim) (old new : Parts SplitRange) : Type 0 where
   variable : Name
   ends : Ends
   x : ExprId
   number : HasNumber k variable x
   gives : GivesRange x c
   arrow : has_arrow rest ≡ true
-  ranges : new ≡ old ++ (record { variable = variable; ends = ends } ∷ [])
+  ranges : new ≡ with_item old (record { variable = variable; ends = ends })
 
-abbrev Extends : List Leaf → Known → Claim → List SplitRange → List SplitRange → Type 0
+abbrev Extends : List Leaf → Known → Claim → Parts SplitRange → Parts SplitRange → Type 0
 Extends rest k c old new = (new ≡ old) ⊎ IsNewRange rest k c old new
 
-extended : (rest : List Leaf) (k : Known) (c : Claim) (n : ExprId) (old new : List SplitRange) (x : Subject) (b : Bool) (o : Option Ends) → Says (k, n) x → ((e : Ends) → o ≡ Some e → GivesRange n c) → has_arrow rest ≡ b → new ≡ ranges_after old x b o → Extends rest k c old new
+extended : (rest : List Leaf) (k : Known) (c : Claim) (n : ExprId) (old new : Parts SplitRange) (x : Subject) (b : Bool) (o : Option Ends) → Says (k, n) x → ((e : Ends) → o ≡ Some e → GivesRange n c) → has_arrow rest ≡ b → new ≡ ranges_after old x b o → Extends rest k c old new
 extended rest k c n old new nothing b o says gives a e = inl e
 extended rest k c n old new (node_of v) true None says gives a e = inl e
 extended rest k c n old new (node_of v) true (Some ends) says gives a e = inr (record { variable = v; ends = ends; x = n; number = says; gives = gives ends refl; arrow = a; ranges = e })
@@ -143,57 +145,152 @@ has_behind : (a b : List Claim) (x : ExprId) → HasRange b x → HasRange (a ++
 has_behind [] b x h = h
 has_behind (c ∷ a) b x h = inr (has_behind a b x h)
 
-no_arrow : (r : Due) (w : Word) → IsOfProp r → is_arrow r w ≡ false
-no_arrow d.Connective w h = absurd h
-no_arrow r w h = refl
+-- ---- what is held of the judge's ranges, conjunction by conjunction
 
-arrow_behind : (ls rest : List Leaf) → EachRole IsOfProp ls → has_arrow (ls ++ rest) ≡ has_arrow rest
-arrow_behind [] rest h = refl
-arrow_behind (l ∷ ls) rest h = ap (λ b. b || has_arrow (ls ++ rest)) (no_arrow l.role l.word h.0) ∙ arrow_behind ls rest h.1
+-- the range's variable has a node, to which one of the claims gives a range
+abbrev pub Ranged : Known → List Claim → SplitRange → Type 0
+Ranged k claims r = (x : ExprId) × HasNumber k r.variable x × HasRange claims x
 
--- the range's variable has a node to which a hypothesis gives a range, or a goal so far that an arrow makes a hypothesis
-abbrev pub Held : List Leaf → Claims → SplitRange → Type 0
-Held rest cs r = (x : ExprId) × HasNumber cs.known r.variable x × (HasRange cs.sides.hypotheses x ⊎ (HasRange cs.sides.goals x × (has_arrow rest ≡ true)))
+abbrev pub IsConjunction : Known → List SplitRange → List Claim → Type 0
+IsConjunction k rs cs = AllByRecursion (Ranged k cs) rs
 
-pub record Formed (rest : List Leaf) (cs : Claims) (seen : Seen) : Type 0 where
+-- one by one
+abbrev pub Each : {A B : Type 0} → (A → B → Type 0) → List A → List B → Type 0
+Each R [] [] = Unit {0}
+Each R (a ∷ xs) (b ∷ ys) = R a b × Each R xs ys
+Each R _ _ = ⊥
+
+each_later : {A B : Type 0} (R S : A → B → Type 0) → ((a : A) (b : B) → R a b → S a b) → (xs : List A) (ys : List B) → Each R xs ys → Each S xs ys
+each_later R S f [] [] h = tt
+each_later R S f (a ∷ xs) (b ∷ ys) h = (f a b h.0, each_later R S f xs ys h.1)
+each_later R S f [] (b ∷ ys) h = h
+each_later R S f (a ∷ xs) [] h = h
+
+pub each_both : {A B : Type 0} (R : A → B → Type 0) (xs vs : List A) (ys ws : List B) → Each R xs ys → Each R vs ws → Each R (xs ++ vs) (ys ++ ws)
+each_both R [] vs [] ws h k = k
+each_both R (a ∷ xs) vs (b ∷ ys) ws h k = (h.0, each_both R xs vs ys ws h.1 k)
+each_both R [] vs (b ∷ ys) ws h k = absurd h
+each_both R (a ∷ xs) vs [] ws h k = absurd h
+
+-- the parts have the same shape, and each range is given by a claim of its conjunction
+pub record AreHeld (k : Known) (ranges : Parts SplitRange) (claims : Parts Claim) : Type 0 where
+  pub before : Each (Each (IsConjunction k)) ranges.before claims.before
+  pub ended : Each (IsConjunction k) ranges.ended claims.ended
+  pub last : IsConjunction k ranges.last claims.last
+
+ranged_more : (k : Known) (cs : List Claim) (c : Claim) (r : SplitRange) → Ranged k cs r → Ranged k (cs ++ (c ∷ [])) r
+ranged_more k cs c r h = (h.0, h.1, has_before cs (c ∷ []) h.0 h.2)
+
+module _ (k j : Known) (keeps : Keeps k j) where
+  ranged_later : (cs : List Claim) (r : SplitRange) → Ranged k cs r → Ranged j cs r
+  ranged_later cs r h = (h.0, keeps r.variable h.0 h.1, h.2)
+
+  conjunction_later : (rs : List SplitRange) (cs : List Claim) → IsConjunction k rs cs → IsConjunction j rs cs
+  conjunction_later rs cs h = all_as (Ranged k cs) (Ranged j cs) (ranged_later cs) rs h
+
+  held_later : (ranges : Parts SplitRange) (claims : Parts Claim) → AreHeld k ranges claims → AreHeld j ranges claims
+  held_later ranges claims h = record {
+    before = each_later (Each (IsConjunction k)) (Each (IsConjunction j)) (each_later (IsConjunction k) (IsConjunction j) conjunction_later) ranges.before claims.before h.before;
+    ended = each_later (IsConjunction k) (IsConjunction j) conjunction_later ranges.ended claims.ended h.ended;
+    last = conjunction_later ranges.last claims.last h.last;
+  }
+
+module _ (k : Known) (ranges : Parts SplitRange) (claims : Parts Claim) (h : AreHeld k ranges claims) where
+  claim_held : (c : Claim) → AreHeld k ranges (with_item claims c)
+  claim_held c = record { before = h.before; ended = h.ended; last = all_as (Ranged k claims.last) (Ranged k (claims.last ++ (c ∷ []))) (ranged_more k claims.last c) ranges.last h.last }
+
+  both_held : (c : Claim) (r : SplitRange) → Ranged k (claims.last ++ (c ∷ [])) r → AreHeld k (with_item ranges r) (with_item claims c)
+  both_held c r one = record { before = h.before; ended = h.ended; last = all_last (Ranged k (claims.last ++ (c ∷ []))) ranges.last r (claim_held c).last one }
+
+  part_held : Each (IsConjunction k) (part_of ranges) (part_of claims)
+  part_held = each_both (IsConjunction k) ranges.ended (ranges.last ∷ []) claims.ended (claims.last ∷ []) h.ended (h.last, tt)
+
+  or_held : AreHeld k (behind_or ranges) (behind_or claims)
+  or_held = record { before = h.before; ended = part_held; last = tt }
+
+  arrow_held : AreHeld k (behind_arrow ranges) (behind_arrow claims)
+  arrow_held = record { before = each_both (Each (IsConjunction k)) ranges.before (part_of ranges ∷ []) claims.before (part_of claims ∷ []) h.before (part_held, tt); ended = tt; last = tt }
+
+-- ---- cases
+
+module _ (k : Known) where
+  joined : (a c : List SplitRange) (b d : List Claim) → IsConjunction k a b → IsConjunction k c d → IsConjunction k (a ++ c) (b ++ d)
+  joined [] c b d h g = all_as (Ranged k d) (Ranged k (b ++ d)) (λ r w. (w.0, w.1, has_behind b d w.0 w.2)) c g
+  joined (r ∷ a) c b d h g = ((h.0.0, h.0.1, has_before b d h.0.0 h.0.2), joined a c b d h.1 g)
+
+  first_held : (c : List SplitRange) (b : List Claim) (later : List (List SplitRange)) (more : List (List Claim)) → IsConjunction k c b → Each (IsConjunction k) later more → Each (IsConjunction k) (with_first later c) (with_first more b)
+  first_held c b [] [] h e = tt
+  first_held c b (l ∷ later) (m ∷ more) h e = (joined c l b m h e.0, first_held c b later more h e.1)
+  first_held c b [] (m ∷ more) h e = e
+  first_held c b (l ∷ later) [] h e = e
+
+  part_cases : (p : List (List SplitRange)) (q : List (List Claim)) (later : List (List SplitRange)) (more : List (List Claim)) → Each (IsConjunction k) p q → Each (IsConjunction k) later more
+      → Each (IsConjunction k) (flat_map (with_first later) p) (flat_map (with_first more) q)
+  part_cases [] [] later more h e = tt
+  part_cases (c ∷ p) (b ∷ q) later more h e = each_both (IsConjunction k) (with_first later c) _ (with_first more b) _ (first_held c b later more h.0 e) (part_cases p q later more h.1 e)
+  part_cases [] (b ∷ q) later more h e = absurd h
+  part_cases (c ∷ p) [] later more h e = absurd h
+
+  -- each range of a case is given by a claim of it
+  pub cases_held : (ranges : List (List (List SplitRange))) (claims : List (List (List Claim))) → Each (Each (IsConjunction k)) ranges claims → Each (IsConjunction k) (cases ranges) (cases claims)
+  cases_held [] [] h = (tt, tt)
+  cases_held (p ∷ ps) (q ∷ qs) h = part_cases p q (cases ps) (cases qs) h.0 (cases_held ps qs h.1)
+  cases_held [] (q ∷ qs) h = absurd h
+  cases_held (p ∷ ps) [] h = absurd h
+
+pub each_count : {A B : Type 0} (R : A → B → Type 0) (xs : List A) (ys : List B) → Each R xs ys → length xs ≡ length ys
+each_count R [] [] h = refl
+each_count R (a ∷ xs) (b ∷ ys) h = ap suc (each_count R xs ys h.1)
+each_count R [] (b ∷ ys) h = absurd h
+each_count R (a ∷ xs) [] h = absurd h
+
+-- ---- formulas
+
+pub record Formed (cs : Claims) (seen : Seen) : Type 0 where
   pub tied : Tied cs.known seen.splits.aliases
   pub calm : IsCalm seen
-  pub held : AllByRecursion (Held rest cs) seen.splits.ranges
+  pub held : AreHeld cs.known seen.splits.ranges cs.sides.parts
 
-then_prop : RangesAreRead → (p : Prop) (cs : Claims) (rest : List Leaf) (seen last : Seen) → Reads seen (prop_leaves p) rest last → seen.splits.subject ≡ nothing → Tied cs.known seen.splits.aliases → IsCalm seen → AllByRecursion (Held rest (then_claimed p cs)) seen.splits.ranges → Formed rest (then_claimed p cs) last
-then_prop law p cs rest seen last q none tied c held =
-    let read = prop_read law p rest cs.known seen last q none c tied in
-    let known = (prop_claim p cs.known).0 in
-    let claim = (prop_claim p cs.known).1 in
-    record {
-      tied = subst (Tied known) (sym read.aliases) (tied_later cs.known known (prop_keeps p cs.known) seen.splits.aliases tied);
-      calm = read.calm;
-      held = by_range read.extends;
-    }
-  where
-    by_range : Extends rest (prop_claim p cs.known).0 (prop_claim p cs.known).1 seen.splits.ranges last.splits.ranges → AllByRecursion (Held rest (then_claimed p cs)) last.splits.ranges
-    by_range (inl e) = subst (AllByRecursion (Held rest (then_claimed p cs))) (sym e) held
-    by_range (inr n) =
-        subst (AllByRecursion (Held rest (then_claimed p cs))) (sym n.ranges) (all_last (Held rest (then_claimed p cs)) seen.splits.ranges (record { variable = n.variable; ends = n.ends }) held
-        (n.x, n.number, inr (has_behind cs.sides.goals ((prop_claim p cs.known).1 ∷ []) n.x (inl n.gives), n.arrow)))
+-- a claim that gives a range is no bound, so it is its own denial
+denial_gives : (x : ExprId) (c : Claim) (t : Bool) → GivesRange x c → GivesRange x (stated t c)
+denial_gives x c false g = g
+denial_gives x c true g = subst (λ z. GivesRange x (denial z)) (sym g.bounded) (subst (GivesRange x) g.bounded g)
 
--- what is held stays, as one more proposition is claimed
-and_held : (p : Prop) (cs : Claims) (rest : List Leaf) (r : SplitRange) → Held (at d.Connective (sign s.And) ∷ (prop_leaves p ++ rest)) cs r → Held rest (then_claimed p cs) r
-and_held p cs rest r h = (h.0, prop_keeps p cs.known r.variable h.0 h.1, by_side h.2)
-  where
-    by_side : HasRange cs.sides.hypotheses h.0 ⊎ (HasRange cs.sides.goals h.0 × (has_arrow (prop_leaves p ++ rest) ≡ true)) → HasRange cs.sides.hypotheses h.0 ⊎ (HasRange (cs.sides.goals ++ ((prop_claim p cs.known).1 ∷ [])) h.0 × (has_arrow rest ≡ true))
-    by_side (inl a) = inl a
-    by_side (inr g) = inr (has_before cs.sides.goals _ h.0 g.0, sym (arrow_behind (prop_leaves p) rest (prop_roles p)) ∙ g.1)
+module _ (law : RangesAreRead) (t : Bool) (p : Prop) (cs : Claims) (rest : List Leaf) (seen last : Seen) where
+  known : Known
+  known = (prop_claim p cs.known).0
 
-implies_held : (p : Prop) (cs : Claims) (rest : List Leaf) (r : SplitRange) → Held (at d.Connective (sign s.Arrow) ∷ (prop_leaves p ++ rest)) cs r → Held rest (then_claimed p (then_arrow cs)) r
-implies_held p cs rest r h = (h.0, prop_keeps p cs.known r.variable h.0 h.1, by_side h.2)
-  where
-    by_side : HasRange cs.sides.hypotheses h.0 ⊎ (HasRange cs.sides.goals h.0 × (true ≡ true)) → HasRange (cs.sides.hypotheses ++ cs.sides.goals) h.0 ⊎ (HasRange ([] ++ ((prop_claim p cs.known).1 ∷ [])) h.0 × (has_arrow rest ≡ true))
-    by_side (inl a) = inl (has_before cs.sides.hypotheses cs.sides.goals h.0 a)
-    by_side (inr g) = inl (has_behind cs.sides.hypotheses cs.sides.goals h.0 g.0)
+  said : Claim
+  said = stated t (prop_claim p cs.known).1
 
-pub formula_formed : RangesAreRead → (f : Formula) (rest : List Leaf) (k : Known) (seen last : Seen) → Reads seen (formula_leaves f) rest last → seen.splits.subject ≡ nothing → Tied k seen.splits.aliases → IsCalm seen → seen.splits.ranges ≡ [] → Formed rest (formula_claims f k) last
-formula_formed law (single p) rest k seen last q none tied c empty = then_prop law p (no_claims k) rest seen last q none tied c (subst (AllByRecursion (Held rest (then_claimed p (no_claims k)))) (sym empty) tt)
+  -- its claim, and the range that it gives
+  then_prop : Reads seen (prop_leaves p) rest last → seen.splits.subject ≡ nothing → Tied cs.known seen.splits.aliases → IsCalm seen → AreHeld cs.known seen.splits.ranges cs.sides.parts → Formed (then_goal cs.sides ((prop_claim p cs.known).0, stated t (prop_claim p cs.known).1)) last
+  unfolding known said
+  then_prop q none tied c held =
+      let read = prop_read law p rest cs.known seen last q none c tied in
+      let later = held_later cs.known known (prop_keeps p cs.known) seen.splits.ranges cs.sides.parts held in
+      record {
+        tied = subst (Tied known) (sym read.aliases) (tied_later cs.known known (prop_keeps p cs.known) seen.splits.aliases tied);
+        calm = read.calm;
+        held = by_range later read.extends;
+      }
+    where
+      by_range : AreHeld known seen.splits.ranges cs.sides.parts → Extends rest (prop_claim p cs.known).0 (prop_claim p cs.known).1 seen.splits.ranges last.splits.ranges → AreHeld known last.splits.ranges (with_item cs.sides.parts said)
+      by_range later (inl e) = subst (λ r. AreHeld known r (with_item cs.sides.parts said)) (sym e) (claim_held known seen.splits.ranges cs.sides.parts later said)
+      by_range later (inr n) =
+          subst (λ r. AreHeld known r (with_item cs.sides.parts said)) (sym n.ranges)
+          (both_held known seen.splits.ranges cs.sides.parts later said (record { variable = n.variable; ends = n.ends })
+          (n.x, n.number, has_behind cs.sides.parts.last (said ∷ []) n.x (inl (denial_gives n.x (prop_claim p cs.known).1 t n.gives))))
+
+then_said : RangesAreRead → (p : Stated) (cs : Claims) (rest : List Leaf) (seen last : Seen) → Reads seen (stated_leaves p) rest last → seen.splits.subject ≡ nothing → Tied cs.known seen.splits.aliases → IsCalm seen → AreHeld cs.known seen.splits.ranges cs.sides.parts → Formed (then_claimed p cs) last
+then_said law (affirmed p) cs rest seen last q none tied c held = then_prop law false p cs rest seen last q none tied c held
+then_said law (denied p) cs rest seen last q none tied c held =
+    let next = seen_after q.0 seen d.Claim (sign s.Not) in
+    then_prop law true p cs rest next last q.3 none (subst (Tied cs.known) (sym (no_alias seen.splits.aliases seen.splits.subject)) tied) (word_calm q.0 seen d.Claim (sign s.Not) tt c)
+    (subst (λ r. AreHeld cs.known r cs.sides.parts) (sym (word_ranges q.0 seen d.Claim (sign s.Not) c.lower)) held)
+
+pub formula_formed : RangesAreRead → (f : Formula) (rest : List Leaf) (k : Known) (seen last : Seen) → Reads seen (formula_leaves f) rest last → seen.splits.subject ≡ nothing → Tied k seen.splits.aliases → IsCalm seen → seen.splits.ranges ≡ nothing_read → Formed (formula_claims f k) last
+formula_formed law (single p) rest k seen last q none tied c empty = then_said law p (no_claims k) rest seen last q none tied c (subst (λ r. AreHeld k r nothing_read) (sym empty) (record { before = tt; ended = tt; last = tt }))
 formula_formed law (and f p) rest k seen last q none tied c empty =
     let both = reads_both (formula_leaves f) _ rest seen last q in
     let cs = formula_claims f k in
@@ -201,8 +298,17 @@ formula_formed law (and f p) rest k seen last q none tied c empty =
     let m = both.2 in
     let next = seen_after m.0 both.0 d.Connective (sign s.And) in
     let ranges = word_ranges m.0 both.0 d.Connective (sign s.And) before.calm.lower in
-    then_prop law p cs rest next last m.3 refl (subst (Tied cs.known) (sym (no_alias both.0.splits.aliases both.0.splits.subject)) before.tied) (word_calm m.0 both.0 d.Connective (sign s.And) tt before.calm)
-    (subst (AllByRecursion (Held rest (then_claimed p cs))) (sym ranges) (all_as (Held (at d.Connective (sign s.And) ∷ (prop_leaves p ++ rest)) cs) (Held rest (then_claimed p cs)) (and_held p cs rest) both.0.splits.ranges before.held))
+    then_said law p cs rest next last m.3 refl (subst (Tied cs.known) (sym (no_alias both.0.splits.aliases both.0.splits.subject)) before.tied) (word_calm m.0 both.0 d.Connective (sign s.And) tt before.calm)
+    (subst (λ r. AreHeld cs.known r cs.sides.parts) (sym ranges) before.held)
+formula_formed law (or f p) rest k seen last q none tied c empty =
+    let both = reads_both (formula_leaves f) _ rest seen last q in
+    let cs = formula_claims f k in
+    let before = formula_formed law f _ k seen both.0 both.1 none tied c empty in
+    let m = both.2 in
+    let next = seen_after m.0 both.0 d.Connective (sign s.Or) in
+    let ranges = word_ranges m.0 both.0 d.Connective (sign s.Or) before.calm.lower in
+    then_said law p (then_or cs) rest next last m.3 refl (subst (Tied cs.known) (sym (no_alias both.0.splits.aliases both.0.splits.subject)) before.tied) (word_calm m.0 both.0 d.Connective (sign s.Or) tt before.calm)
+    (subst (λ r. AreHeld cs.known r (then_or cs).sides.parts) (sym ranges) (or_held cs.known both.0.splits.ranges cs.sides.parts before.held))
 formula_formed law (implies f p) rest k seen last q none tied c empty =
     let both = reads_both (formula_leaves f) _ rest seen last q in
     let cs = formula_claims f k in
@@ -210,5 +316,5 @@ formula_formed law (implies f p) rest k seen last q none tied c empty =
     let m = both.2 in
     let next = seen_after m.0 both.0 d.Connective (sign s.Arrow) in
     let ranges = word_ranges m.0 both.0 d.Connective (sign s.Arrow) before.calm.lower in
-    then_prop law p (then_arrow cs) rest next last m.3 refl (subst (Tied cs.known) (sym (no_alias both.0.splits.aliases both.0.splits.subject)) before.tied) (word_calm m.0 both.0 d.Connective (sign s.Arrow) tt before.calm)
-    (subst (AllByRecursion (Held rest (then_claimed p (then_arrow cs)))) (sym ranges) (all_as (Held (at d.Connective (sign s.Arrow) ∷ (prop_leaves p ++ rest)) cs) (Held rest (then_claimed p (then_arrow cs))) (implies_held p cs rest) both.0.splits.ranges before.held))
+    then_said law p (then_arrow cs) rest next last m.3 refl (subst (Tied cs.known) (sym (no_alias both.0.splits.aliases both.0.splits.subject)) before.tied) (word_calm m.0 both.0 d.Connective (sign s.Arrow) tt before.calm)
+    (subst (λ r. AreHeld cs.known r (then_arrow cs).sides.parts) (sym ranges) (arrow_held cs.known both.0.splits.ranges cs.sides.parts before.held))

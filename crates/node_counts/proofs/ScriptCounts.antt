@@ -62,5 +62,5 @@ module _ (trees : ReadsTrees) (formulas : ReadsFormulas) (hints : ReadsHints) wh
   pub nodes_are_counted : LeavesSpell → RolesAreUnique → NodesAreCounted
   nodes_are_counted spell once text tokens tree e j =
       script_fits tree [] nothing_known 0 nothing_seen (script_marked spell once text tokens tree e) j
-      (record { operators = λ n h. cc h; subject = tt; aliases = tt; ranges = tt; nodes = omega arith })
+      (record { operators = λ n h. cc h; subject = tt; aliases = tt; ranges = record { before = tt; ended = tt; last = tt }; filled = tt; cases = omega arith; nodes = omega arith })
       (record { pending = refl; within = omega arith })

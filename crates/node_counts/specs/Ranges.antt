@@ -1,5 +1,5 @@
 -- The split variables of a script that the judge lets pass have ranges.
-use Rattle.std.specs.Prelude.{◌≡◌, ◌⊎◌, List, [], ◌∷◌, Some, None}
+use Rattle.std.specs.Prelude.{◌≡◌, ◌⊎◌, ◌≤◌, List, [], ◌∷◌, length, Some, None}
 use Rattle.std.specs.List.{AllByRecursion}
 use Rattle.fx_model.specs.declared.ExprId.{ExprId}
 use Rattle.dyadic.specs.declared.number.Dyadic.{Dyadic}
@@ -9,6 +9,7 @@ use Rattle.facts.specs.declared.fact.Fact.TheVariants as fact
 use Rattle.literal_order.specs.declared.written.Written.{Written}
 use Rattle.script_shape.specs.Tree.{Script, formula, define}
 use Rattle.script_shape.specs.Roles.{script_leaves}
+use Rattle.script_cases.specs.Cases.{cases}
 use Rattle.script_judge.specs.Judge.{Judged, nothing_seen}
 use Rattle.script_nodes.specs.Known.{Known}
 use Rattle.script_nodes.specs.Definitions.{definition_value}
@@ -42,12 +43,20 @@ pub record HaveRanges (claims : List Claim) (l : HintList) : Type 0 where
   pub halves : AllByRecursion (HasRange claims) l.halves
   pub order : AllByRecursion (HasRange claims) l.order
 
--- the hypotheses of a script behind what is known
-abbrev pub hypotheses_behind : Script → Known → List Claim
-hypotheses_behind (formula f h) k = (formula_claims f k).sides.hypotheses
-hypotheses_behind (define x rest) k = hypotheses_behind rest (definition_value x k)
+-- in each case there is one for each of them, and there are few cases
+pub record HaveFewCases (parts : List (List (List Claim))) (l : HintList) : Type 0 where
+  pub ranges : AllByRecursion (λ claims. HaveRanges claims l) (cases parts)
+  pub few : length (cases parts) ≤ 64
 
--- In a script whose words the judge lets pass a hypothesis gives each split variable's node a range, whatever is known before.
--- (The judge goes by names, and the hypotheses by nodes: a name in parentheses and one defined as another name have its node.)
+-- the hypotheses of a script behind what is known, by parts and conjunctions
+abbrev pub parts_behind : Script → Known → List (List (List Claim))
+parts_behind (formula f h) k = (formula_claims f k).sides.parts.before
+parts_behind (define x rest) k = parts_behind rest (definition_value x k)
+
+-- In a script whose words the judge lets pass the hypotheses have 64 cases at most, and in each of
+-- them one gives each split variable's node a range, whatever is known before. (The judge goes by
+-- names, and the hypotheses by nodes: a name in parentheses and one defined as another name have
+-- its node.)
 abbrev pub SplitsHaveRanges : Type 0
-SplitsHaveRanges = (tree : Script) (k : Known) → Judged 0 nothing_seen (script_leaves tree) None → HaveRanges (hypotheses_behind tree k) (hints_behind tree k)
+SplitsHaveRanges = (tree : Script) (k : Known) → Judged 0 nothing_seen (script_leaves tree) None
+    → HaveFewCases (parts_behind tree k) (hints_behind tree k)

@@ -29,7 +29,8 @@ pub fn hints_are_counted()
     ensures { HintsAreFew }
 {}
 
-/// Nothing is done. The clause tells a caller that in a script whose words pass the judge each variable that a hint splits has a
+/// Nothing is done. The clause tells a caller that in a script whose words pass the judge the
+/// hypotheses have 64 cases at most, and in each of them each variable that a hint splits has a
 /// hypothesis on its node, with two bounds that are finite when they are rounded outward.
 pub fn splits_have_ranges()
     ensures { SplitsHaveRanges }

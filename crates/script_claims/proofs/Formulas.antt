@@ -1,5 +1,5 @@
 -- The words of a formula are read as its claims.
-use Rattle.std.specs.Prelude.{◌≡◌, ℤ, List, [], ◌∷◌, ◌++◌, Some, None, Bool, false, refl}
+use Rattle.std.specs.Prelude.{◌≡◌, ℤ, pos, List, [], ◌∷◌, ◌++◌, Some, None, Bool, true, false, refl}
 use Rattle.std.proofs.Common.{ap, sym, ◌∙◌, append_assoc, append-nil}
 use Rattle.fx_model.specs.declared.ExprId.{ExprId}
 use Rattle.script_words.specs.declared.class.Sign.TheVariants as s
@@ -7,8 +7,8 @@ use Rattle.script_words.specs.declared.class.Spelled.TheVariants as spelled
 use Rattle.script_words.specs.Words.{Word, name, rounding, literal, sign}
 use Rattle.script_shape.specs.declared.due.Due.{Due}
 use Rattle.script_shape.specs.declared.due.Due.TheVariants as d
-use Rattle.script_shape.specs.Tree.{Special, free, defined, zero_alone, digits, Whole, natural, opposite, Bound, unsigned, positive, negative, Expr, Range, asked, between, Prop, lies_in, relative_in, at_most, at_least, multiple, Formula, single, and, implies}
-use Rattle.script_shape.specs.Roles.{Leaf, at, special_leaves, whole_leaves, bound_leaves, expr_leaves, range_leaves, prop_leaves, formula_leaves}
+use Rattle.script_shape.specs.Tree.{Special, free, defined, zero_alone, digits, Whole, natural, opposite, Bound, unsigned, positive, negative, Expr, Range, asked, between, Prop, lies_in, relative_in, at_most, at_least, multiple, Stated, affirmed, denied, Formula, single, and, or, implies}
+use Rattle.script_shape.specs.Roles.{Leaf, at, special_leaves, whole_leaves, bound_leaves, expr_leaves, range_leaves, prop_leaves, stated_leaves, formula_leaves}
 use Rattle.script_shape.specs.Inner.{EachRole, IsInner, expr_inner}
 use Rattle.script_nodes.specs.Known.{Known, Placed}
 use Rattle.script_nodes.specs.Values.{expr_value}
@@ -19,7 +19,7 @@ use Rattle.script_claims.specs.declared.claim.Claim.TheVariants.{Multiple}
 use Rattle.script_claims.specs.declared.proposition.Proposition.{Proposition}
 use Rattle.script_claims.specs.declared.part.Part.{Part}
 use Rattle.script_claims.specs.declared.part.Part.TheVariants.{Nothing, Against, In, RelativeIn, AtMost, AtLeast, Made}
-use Rattle.script_claims.specs.Claims.{exponent_of, ranged, relative, Sides, Claims, no_claims, then_goal, then_arrow, then_claimed, formula_claims}
+use Rattle.script_claims.specs.Claims.{exponent_of, ranged, relative, stated, Sides, Claims, no_claims, prop_claim, then_goal, then_or, then_arrow, then_claimed, formula_claims}
 use Rattle.script_nodes.specs.Written.{bound_written}
 use Rattle.script_claims.specs.Parts.{questioned, bounded, relation_behind, in_behind}
 use Rattle.script_claims.specs.Reads.{State, from_claims, taken, read_claim, read_claims, ReadsFormulas}
@@ -73,27 +73,36 @@ record ExprRead (e : Expr) (rest : List Leaf) (k : Known) (st : State) : Type 0 
 
 data Ending : Type 0 where
   joined : Ending
+  disjoined : Ending
   parted : Ending
   closed : Ending
 
 abbrev ending_leaf : Ending → Leaf
 ending_leaf joined = at d.Connective (sign s.And)
+ending_leaf disjoined = at d.Connective (sign s.Or)
 ending_leaf parted = at d.Connective (sign s.Arrow)
 ending_leaf closed = at d.CloseBrace (sign s.CloseBrace)
 
 abbrev ended_by : Ending → Claims → Claims
 ended_by joined cs = cs
+ended_by disjoined cs = then_or cs
 ended_by parted cs = then_arrow cs
 ended_by closed cs = cs
 
-abbrev midway : Sides → Known → Part → ℤ → Bool → State
-midway sides k p n b = record { reading = record { known = k; waits = [] }; proposition = record { part = p; exponent = n; negative = b }; sides = sides }
+-- in a proposition, with a `not` before it or without
+abbrev midway : Sides → Known → Part → ℤ → Bool → Bool → State
+midway sides k p n b t = record { reading = record { known = k; waits = [] }; proposition = record { part = p; exponent = n; negative = b; denied = t }; sides = sides }
 
-made_ends : (g : Ending) (rest : List Leaf) (sides : Sides) (k : Known) (c : Claim) (n : ℤ) (b : Bool) → read_claims (ending_leaf g ∷ rest) (midway sides k (Made c) n b) ≡ read_claims rest (from_claims (ended_by g (then_goal sides (k, c))))
+-- its claim is one more goal
+abbrev then_stated : Bool → Sides → Known × Claim → Claims
+then_stated t sides p = then_goal sides (p.0, stated t p.1)
+
+made_ends : (g : Ending) (rest : List Leaf) (sides : Sides) (k : Known) (c : Claim) (n : ℤ) (b t : Bool) → read_claims (ending_leaf g ∷ rest) (midway sides k (Made c) n b t) ≡ read_claims rest (from_claims (ended_by g (then_stated t sides (k, c))))
 unfolding read read_claim read_claims
-made_ends joined rest sides k c n b = refl
-made_ends parted rest sides k c n b = refl
-made_ends closed rest sides k c n b = refl
+made_ends joined rest sides k c n b t = refl
+made_ends disjoined rest sides k c n b t = refl
+made_ends parted rest sides k c n b t = refl
+made_ends closed rest sides k c n b t = refl
 
 -- ---- bounds and ranges
 
@@ -106,18 +115,18 @@ bound_reads (unsigned k text) rest st = (_, refl)
 bound_reads (positive k text) rest st = (_, refl)
 bound_reads (negative k text) rest st = (_, refl)
 
-range_reads : (r : Range) (g : Ending) (rest : List Leaf) (sides : Sides) (k : Known) (p : Part) (claim : Range → Claim) (n : ℤ) (b : Bool) → questioned p ≡ Made (claim asked) → ((x y : Bound) → bounded (bound_written y) (bounded (bound_written x) p) ≡ Made (claim (between x y)))
-    → read_claims (range_leaves r ++ (ending_leaf g ∷ rest)) (midway sides k p n b) ≡ read_claims rest (from_claims (ended_by g (then_goal sides (k, claim r))))
+range_reads : (r : Range) (g : Ending) (rest : List Leaf) (sides : Sides) (k : Known) (p : Part) (claim : Range → Claim) (n : ℤ) (b t : Bool) → questioned p ≡ Made (claim asked) → ((x y : Bound) → bounded (bound_written y) (bounded (bound_written x) p) ≡ Made (claim (between x y)))
+    → read_claims (range_leaves r ++ (ending_leaf g ∷ rest)) (midway sides k p n b t) ≡ read_claims rest (from_claims (ended_by g (then_stated t sides (k, claim r))))
 unfolding read read_claim read_claims
-range_reads asked g rest sides k p claim n b q h = ap (λ t. read_claims (ending_leaf g ∷ rest) (midway sides k t n b)) q ∙ made_ends g rest sides k (claim asked) n b
-range_reads (between x y) g rest sides k p claim n b q h =
+range_reads asked g rest sides k p claim n b t q h = ap (λ x. read_claims (ending_leaf g ∷ rest) (midway sides k x n b t)) q ∙ made_ends g rest sides k (claim asked) n b t
+range_reads (between x y) g rest sides k p claim n b t q h =
     let close = at d.CloseBracket (sign s.CloseBracket) in
     let comma = at d.Comma (sign s.Comma) in
-    let first = bound_reads x (comma ∷ (bound_leaves y ++ (close ∷ (ending_leaf g ∷ rest)))) (midway sides k p n b) in
-    let second = bound_reads y (close ∷ (ending_leaf g ∷ rest)) (midway sides k (bounded (bound_written x) p) n first.0) in
-    regroup (bound_leaves x) _ (ending_leaf g ∷ rest) (midway sides k p n b)
-    ∙ ap (λ l. read_claims (bound_leaves x ++ (comma ∷ l)) (midway sides k p n b)) (append_assoc (bound_leaves y) (close ∷ []) (ending_leaf g ∷ rest))
-    ∙ first.1 ∙ second.1 ∙ ap (λ t. read_claims (ending_leaf g ∷ rest) (midway sides k t n second.0)) (h x y) ∙ made_ends g rest sides k (claim (between x y)) n second.0
+    let first = bound_reads x (comma ∷ (bound_leaves y ++ (close ∷ (ending_leaf g ∷ rest)))) (midway sides k p n b t) in
+    let second = bound_reads y (close ∷ (ending_leaf g ∷ rest)) (midway sides k (bounded (bound_written x) p) n first.0 t) in
+    regroup (bound_leaves x) _ (ending_leaf g ∷ rest) (midway sides k p n b t)
+    ∙ ap (λ l. read_claims (bound_leaves x ++ (comma ∷ l)) (midway sides k p n b t)) (append_assoc (bound_leaves y) (close ∷ []) (ending_leaf g ∷ rest))
+    ∙ first.1 ∙ second.1 ∙ ap (λ z. read_claims (ending_leaf g ∷ rest) (midway sides k z n second.0 t)) (h x y) ∙ made_ends g rest sides k (claim (between x y)) n second.0 t
 
 -- ---- the exponent of a multiple
 
@@ -129,11 +138,12 @@ whole_reads (opposite (zero_alone t)) rest st v k = refl
 whole_reads (opposite (digits t)) rest st v k = refl
 
 -- the expression of a multiple waits until the proposition ends
-multiple_ends : (g : Ending) (rest : List Leaf) (sides : Sides) (p : Placed) (n : ℤ) → read_claims (at d.CloseParen (sign s.CloseParen) ∷ (ending_leaf g ∷ rest)) (record { reading = waiting p []; proposition = record { part = Nothing; exponent = n; negative = false }; sides = sides }) ≡ read_claims rest (from_claims (ended_by g (then_goal sides (p.0, Multiple p.1 n))))
+multiple_ends : (g : Ending) (rest : List Leaf) (sides : Sides) (p : Placed) (n : ℤ) (t : Bool) → read_claims (at d.CloseParen (sign s.CloseParen) ∷ (ending_leaf g ∷ rest)) (record { reading = waiting p []; proposition = record { part = Nothing; exponent = n; negative = false; denied = t }; sides = sides }) ≡ read_claims rest (from_claims (ended_by g (then_stated t sides (p.0, Multiple p.1 n))))
 unfolding read read_claim read_claims
-multiple_ends joined rest sides p n = refl
-multiple_ends parted rest sides p n = refl
-multiple_ends closed rest sides p n = refl
+multiple_ends joined rest sides p n t = refl
+multiple_ends disjoined rest sides p n t = refl
+multiple_ends parted rest sides p n t = refl
+multiple_ends closed rest sides p n t = refl
 
 special_reads : (x : Special) (rest : List Leaf) (st : State) → read_claims (special_leaves d.Fix spelled.Fix x ++ rest) st ≡ read_claims rest st
 unfolding read read_claim read_claims
@@ -152,46 +162,50 @@ module _ (reads_trees : ReadsTrees) where
       let m = inner_reads (expr_leaves e) rest (record st { reading = start }) (expr_inner e) in
       record { after = l.after; exponent = m.0; same = m.1 ∙ ap (λ r. read_claims rest (reading_on st r m.0)) whole; done = l.done }
 
-  prop_reads : (p : Prop) (g : Ending) (rest : List Leaf) (cs : Claims) → read_claims (prop_leaves p ++ (ending_leaf g ∷ rest)) (from_claims cs) ≡ read_claims rest (from_claims (ended_by g (then_claimed p cs)))
+  -- before a proposition, behind a `not` or without one
+  abbrev before : Bool → Claims → State
+  before t cs = midway cs.sides cs.known Nothing (pos 0) false t
+
+  prop_reads : (p : Prop) (t : Bool) (g : Ending) (rest : List Leaf) (cs : Claims) → read_claims (prop_leaves p ++ (ending_leaf g ∷ rest)) (before t cs) ≡ read_claims rest (from_claims (ended_by g (then_stated t cs.sides (prop_claim p cs.known))))
   unfolding read read_claim read_claims
-  prop_reads (lies_in e r) g rest cs =
-      let st = from_claims cs in
+  prop_reads (lies_in e r) t g rest cs =
+      let st = before t cs in
       let more = range_leaves r ++ (ending_leaf g ∷ rest) in
       let x = expr_reads e (at d.Relation (sign s.In) ∷ more) cs.known st in
       let v = expr_value None e cs.known in
       regroup (expr_leaves e) _ _ st ∙ x.same ∙ ap (λ o. read_claims more (taken (relation_behind (sign s.In)) (reading_on st x.after x.exponent) o)) x.done
-      ∙ range_reads r g rest cs.sides v.0 (In v.1) (λ r. ranged r v.1) x.exponent false refl (λ a b. refl)
-  prop_reads (relative_in e f r) g rest cs =
-      let st = from_claims cs in
+      ∙ range_reads r g rest cs.sides v.0 (In v.1) (λ r. ranged r v.1) x.exponent false t refl (λ a b. refl)
+  prop_reads (relative_in e f r) t g rest cs =
+      let st = before t cs in
       let more = range_leaves r ++ (ending_leaf g ∷ rest) in
       let second = expr_leaves f ++ (at d.In (sign s.In) ∷ more) in
       let x = expr_reads e (at d.Relation (sign s.Against) ∷ second) cs.known st in
       let v = expr_value None e cs.known in
-      let middle = midway cs.sides v.0 (Against v.1) x.exponent false in
+      let middle = midway cs.sides v.0 (Against v.1) x.exponent false t in
       let y = expr_reads f (at d.In (sign s.In) ∷ more) v.0 middle in
       let w = expr_value None f v.0 in
       regroup (expr_leaves e) _ _ st ∙ ap (λ l. read_claims (expr_leaves e ++ (at d.Relation (sign s.Against) ∷ l)) st) (append_assoc (expr_leaves f) _ (ending_leaf g ∷ rest))
       ∙ x.same ∙ ap (λ o. read_claims second (taken (relation_behind (sign s.Against)) (reading_on st x.after x.exponent) o)) x.done
       ∙ y.same ∙ ap (λ o. read_claims more (taken in_behind (reading_on middle y.after y.exponent) o)) y.done
-      ∙ range_reads r g rest cs.sides w.0 (RelativeIn v.1 w.1) (λ r. relative r v.1 w.1) y.exponent false refl (λ a b. refl)
-  prop_reads (at_most e b) g rest cs =
-      let st = from_claims cs in
+      ∙ range_reads r g rest cs.sides w.0 (RelativeIn v.1 w.1) (λ r. relative r v.1 w.1) y.exponent false t refl (λ a b. refl)
+  prop_reads (at_most e b) t g rest cs =
+      let st = before t cs in
       let more = bound_leaves b ++ (ending_leaf g ∷ rest) in
       let x = expr_reads e (at d.Relation (sign s.LessEqual) ∷ more) cs.known st in
       let v = expr_value None e cs.known in
-      let n = bound_reads b (ending_leaf g ∷ rest) (midway cs.sides v.0 (AtMost v.1) x.exponent false) in
+      let n = bound_reads b (ending_leaf g ∷ rest) (midway cs.sides v.0 (AtMost v.1) x.exponent false t) in
       regroup (expr_leaves e) _ _ st ∙ x.same ∙ ap (λ o. read_claims more (taken (relation_behind (sign s.LessEqual)) (reading_on st x.after x.exponent) o)) x.done
-      ∙ n.1 ∙ made_ends g rest cs.sides v.0 _ x.exponent n.0
-  prop_reads (at_least e b) g rest cs =
-      let st = from_claims cs in
+      ∙ n.1 ∙ made_ends g rest cs.sides v.0 _ x.exponent n.0 t
+  prop_reads (at_least e b) t g rest cs =
+      let st = before t cs in
       let more = bound_leaves b ++ (ending_leaf g ∷ rest) in
       let x = expr_reads e (at d.Relation (sign s.GreaterEqual) ∷ more) cs.known st in
       let v = expr_value None e cs.known in
-      let n = bound_reads b (ending_leaf g ∷ rest) (midway cs.sides v.0 (AtLeast v.1) x.exponent false) in
+      let n = bound_reads b (ending_leaf g ∷ rest) (midway cs.sides v.0 (AtLeast v.1) x.exponent false t) in
       regroup (expr_leaves e) _ _ st ∙ x.same ∙ ap (λ o. read_claims more (taken (relation_behind (sign s.GreaterEqual)) (reading_on st x.after x.exponent) o)) x.done
-      ∙ n.1 ∙ made_ends g rest cs.sides v.0 _ x.exponent n.0
-  prop_reads (multiple f e w) g rest cs =
-      let st = from_claims cs in
+      ∙ n.1 ∙ made_ends g rest cs.sides v.0 _ x.exponent n.0 t
+  prop_reads (multiple f e w) t g rest cs =
+      let st = before t cs in
       let close = at d.CloseParen (sign s.CloseParen) in
       let last = close ∷ (ending_leaf g ∷ rest) in
       let behind = whole_leaves w ++ last in
@@ -200,16 +214,24 @@ module _ (reads_trees : ReadsTrees) where
       regroup (special_leaves d.Fix spelled.Fix f) _ _ st ∙ special_reads f _ st
       ∙ regroup (expr_leaves e) _ _ st ∙ ap (λ l. read_claims (expr_leaves e ++ (at d.Comma (sign s.Comma) ∷ l)) st) (append_assoc (whole_leaves w) (close ∷ []) (ending_leaf g ∷ rest))
       ∙ x.same ∙ ap (λ o. read_claims behind (reading_on st (comma_parted x.after o) x.exponent)) x.done
-      ∙ whole_reads w last (midway cs.sides v.0 Nothing x.exponent false) v.1 v.0 ∙ multiple_ends g rest cs.sides v (exponent_of w)
+      ∙ whole_reads w last (midway cs.sides v.0 Nothing x.exponent false t) v.1 v.0 ∙ multiple_ends g rest cs.sides v (exponent_of w) t
+
+  -- `not`, and the proposition behind it
+  stated_reads : (p : Stated) (g : Ending) (rest : List Leaf) (cs : Claims) → read_claims (stated_leaves p ++ (ending_leaf g ∷ rest)) (from_claims cs) ≡ read_claims rest (from_claims (ended_by g (then_claimed p cs)))
+  unfolding read read_claim read_claims
+  stated_reads (affirmed p) g rest cs = prop_reads p false g rest cs
+  stated_reads (denied p) g rest cs = prop_reads p true g rest cs
 
   -- ---- formulas
 
   formula_reads : (f : Formula) (g : Ending) (rest : List Leaf) (k : Known) → read_claims (formula_leaves f ++ (ending_leaf g ∷ rest)) (from_claims (no_claims k)) ≡ read_claims rest (from_claims (ended_by g (formula_claims f k)))
-  formula_reads (single p) g rest k = prop_reads p g rest (no_claims k)
+  formula_reads (single p) g rest k = stated_reads p g rest (no_claims k)
   formula_reads (and f p) g rest k =
-      regroup (formula_leaves f) _ _ (from_claims (no_claims k)) ∙ formula_reads f joined (prop_leaves p ++ (ending_leaf g ∷ rest)) k ∙ prop_reads p g rest (formula_claims f k)
+      regroup (formula_leaves f) _ _ (from_claims (no_claims k)) ∙ formula_reads f joined (stated_leaves p ++ (ending_leaf g ∷ rest)) k ∙ stated_reads p g rest (formula_claims f k)
+  formula_reads (or f p) g rest k =
+      regroup (formula_leaves f) _ _ (from_claims (no_claims k)) ∙ formula_reads f disjoined (stated_leaves p ++ (ending_leaf g ∷ rest)) k ∙ stated_reads p g rest (then_or (formula_claims f k))
   formula_reads (implies f p) g rest k =
-      regroup (formula_leaves f) _ _ (from_claims (no_claims k)) ∙ formula_reads f parted (prop_leaves p ++ (ending_leaf g ∷ rest)) k ∙ prop_reads p g rest (then_arrow (formula_claims f k))
+      regroup (formula_leaves f) _ _ (from_claims (no_claims k)) ∙ formula_reads f parted (stated_leaves p ++ (ending_leaf g ∷ rest)) k ∙ stated_reads p g rest (then_arrow (formula_claims f k))
 
   pub formulas_read : ReadsFormulas
   formulas_read f rest k = formula_reads f closed rest k

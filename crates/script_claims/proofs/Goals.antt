@@ -11,7 +11,7 @@ use Rattle.facts.specs.Holds.{AreZero, IsRelated}
 use Rattle.facts.specs.Held.{some-and}
 use Rattle.script_bounds.specs.Bounds.{written_range, inward_of}
 use Rattle.script_claims.specs.declared.claim.Claim.{Claim}
-use Rattle.script_claims.specs.declared.claim.Claim.TheVariants.{Bounded, Asked, Relative, RelativeAsked, Multiple}
+use Rattle.script_claims.specs.declared.claim.Claim.TheVariants.{Bounded, Asked, Relative, RelativeAsked, Above, Below, Multiple}
 use Rattle.goals.specs.declared.goal.Want.TheVariants.{Inside}
 use Rattle.goals.specs.Lies.{LiesAt, AreZeroAt}
 use Rattle.script_claims.specs.Meets.{IsRelatedWithin, IsTrueAt}
@@ -37,6 +37,8 @@ module _ (inward-within : InwardIsWithin) where
       let r = written_range (Some lower) (Some upper) in
       both (value nodes a x) (value nodes a y) (IsRelated i) (IsRelatedWithin r) (related_in r i (inside_is _ _ e)) l
   goals_inside nodes a (RelativeAsked x y) i e l = tt
+  goals_inside nodes a (Above x n) i e l = absurd (cc (inside_is _ _ e))
+  goals_inside nodes a (Below x n) i e l = absurd (cc (inside_is _ _ e))
   goals_inside nodes a (Multiple x k) i e l = absurd l
 
 pub goals_zero : (nodes : List Node) (a : Assignment) (c : Claim) → AreZeroAt nodes a (slot_of c) → IsTrueAt nodes a c
@@ -44,4 +46,6 @@ goals_zero nodes a (Bounded x lower upper) z = absurd z
 goals_zero nodes a (Asked x) z = tt
 goals_zero nodes a (Relative x y lower upper) z = both (value nodes a x) (value nodes a y) AreZero (IsRelatedWithin (written_range (Some lower) (Some upper))) (λ v w e. inl e) z
 goals_zero nodes a (RelativeAsked x y) z = tt
+goals_zero nodes a (Above x n) z = absurd z
+goals_zero nodes a (Below x n) z = absurd z
 goals_zero nodes a (Multiple x k) z = absurd z

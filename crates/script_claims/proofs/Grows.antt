@@ -30,6 +30,7 @@ ended_with_grows st Nothing (Some c) h = h
 ended_with_grows st _ o h = le_refl (count st)
 
 sign_grows : (g : Sign) (st : State) → count st ≤ count (connected (sign g) st)
+sign_grows s.Or st = le_refl (count st)
 sign_grows s.Arrow st = le_refl (count st)
 sign_grows _ st = le_refl (count st)
 

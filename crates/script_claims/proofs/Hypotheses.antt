@@ -2,7 +2,7 @@
 use Rattle.std.specs.Prelude.{◌≡◌, ℤ, List, Option, Some, None, refl}
 use Rattle.std.specs.Option.{IsSomeAnd}
 use Rattle.std.proofs.Common.{sym, subst, ap, ◌∙◌, inl, inr}
-use Rattle.fx_model.specs.Fraction.{Fraction, neg_ℚ, one_ℚ}
+use Rattle.fx_model.specs.Fraction.{Fraction, neg_ℚ, one_ℚ, ◌<ℚ◌, lt_le}
 use Rattle.fx_model.specs.Powers.{IsMultiple}
 use Rattle.fx_model.specs.Enclosure.{Range, Lies, IsOrdered, IsEnclosure, ordered_by, in_enclosure}
 use Rattle.fx_model.specs.Expression.{Assignment, value}
@@ -23,9 +23,11 @@ use Rattle.facts.specs.Conclusions.{bnd_of, fix_of}
 use Rattle.facts.specs.Holds.{IsRelated, Holds}
 use Rattle.facts.specs.Held.{some-and}
 use Rattle.facts.specs.Places.{place_from, place_from-some, place_from_out}
+use Rattle.literal_order.specs.declared.written.Written.{Written}
+use Rattle.literal_order.specs.Values.{written_value}
 use Rattle.script_bounds.specs.Bounds.{down_end, up_end, written_range, outward_of}
 use Rattle.script_claims.specs.declared.claim.Claim.{Claim}
-use Rattle.script_claims.specs.declared.claim.Claim.TheVariants.{Bounded, Asked, Relative, RelativeAsked, Multiple}
+use Rattle.script_claims.specs.declared.claim.Claim.TheVariants.{Bounded, Asked, Relative, RelativeAsked, Above, Below, Multiple}
 use Rattle.script_claims.specs.Meets.{IsRelatedWithin, IsTrueAt}
 use Rattle.script_claims.specs.Facts.{rel_of, relative_fact, hypothesis_fact, IsHypothesis}
 
@@ -48,6 +50,23 @@ module _ (outward-least : OutwardIsLeast) where
   outward_of_value : (r : Range) (o : Option Fraction) → IsSomeAnd o (Lies r) → (i : Interval) × (outward_of r ≡ Some i) × IsSomeAnd o (Lies (range_of i))
   outward_of_value r None t = absurd t
   outward_of_value r (Some x) t = outward_at r x t
+
+  -- ---- claims with a `not`
+
+  -- what is above a number, or below one, lies on that side of it
+  above_lies : (n : Written) (o : Option Fraction) → IsSomeAnd o (λ v. written_value n <ℚ v) → IsSomeAnd o (Lies (written_range (Some n) None))
+  above_lies n o t = some-and o (λ v. written_value n <ℚ v) (Lies (written_range (Some n) None)) (λ v h. (lt_le (written_value n) v h, tt)) t
+
+  below_lies : (n : Written) (o : Option Fraction) → IsSomeAnd o (λ v. v <ℚ written_value n) → IsSomeAnd o (Lies (written_range None (Some n)))
+  below_lies n o t = some-and o (λ v. v <ℚ written_value n) (Lies (written_range None (Some n))) (λ v h. (tt, lt_le v (written_value n) h)) t
+
+  range_holds : (nodes : List Node) (a : Assignment) (x : ExprId) (r : Range) (f : Fact) → bnd_of x (outward_of r) ≡ Some f → IsSomeAnd (value nodes a x) (Lies r) → Holds nodes a f
+  range_holds nodes a x r f e t =
+      let m = outward_of_value r (value nodes a x) t in
+      subst (Holds nodes a) (some-inj (fact.Bnd x m.0) f (ap (bnd_of x) (sym m.1) ∙ e)) m.2
+
+  range_given : (nodes : List Node) (a : Assignment) (x : ExprId) (r : Range) → IsSomeAnd (value nodes a x) (Lies r) → (f : Fact) × (bnd_of x (outward_of r) ≡ Some f)
+  range_given nodes a x r t = let m = outward_of_value r (value nodes a x) t in (fact.Bnd x m.0, ap (bnd_of x) m.1)
 
   -- ---- relative claims
 
@@ -80,17 +99,19 @@ module _ (outward-least : OutwardIsLeast) where
   -- ---- the laws
 
   pub facts_hold : (nodes : List Node) (a : Assignment) (c : Claim) (f : Fact) → hypothesis_fact c ≡ Some f → IsTrueAt nodes a c → Holds nodes a f
-  facts_hold nodes a (Bounded x lower upper) f e t =
-      let m = outward_of_value (written_range lower upper) (value nodes a x) t in
-      subst (Holds nodes a) (some-inj (fact.Bnd x m.0) f (ap (bnd_of x) (sym m.1) ∙ e)) m.2
+  facts_hold nodes a (Bounded x lower upper) f e t = range_holds nodes a x (written_range lower upper) f e t
   facts_hold nodes a (Asked x) f e t = cc
   facts_hold nodes a (Relative x y lower upper) f e t = relative_holds nodes a x y (written_range (Some lower) (Some upper)) f _ _ refl refl e t
   facts_hold nodes a (RelativeAsked x y) f e t = cc
+  facts_hold nodes a (Above x n) f e t = range_holds nodes a x (written_range (Some n) None) f e (above_lies n (value nodes a x) t)
+  facts_hold nodes a (Below x n) f e t = range_holds nodes a x (written_range None (Some n)) f e (below_lies n (value nodes a x) t)
   facts_hold nodes a (Multiple x k) f e t = multiple_holds nodes a x k f (place_from k) refl e t
 
   pub facts_given : (nodes : List Node) (a : Assignment) (c : Claim) → IsHypothesis c → IsTrueAt nodes a c → (f : Fact) × (hypothesis_fact c ≡ Some f)
-  facts_given nodes a (Bounded x lower upper) h t = let m = outward_of_value (written_range lower upper) (value nodes a x) t in (fact.Bnd x m.0, ap (bnd_of x) m.1)
+  facts_given nodes a (Bounded x lower upper) h t = range_given nodes a x (written_range lower upper) t
   facts_given nodes a (Asked x) h t = absurd h
   facts_given nodes a (Relative x y lower upper) h t = relative_given x y (written_range (Some lower) (Some upper)) h.0 h.1
   facts_given nodes a (RelativeAsked x y) h t = absurd h
+  facts_given nodes a (Above x n) h t = range_given nodes a x (written_range (Some n) None) (above_lies n (value nodes a x) t)
+  facts_given nodes a (Below x n) h t = range_given nodes a x (written_range None (Some n)) (below_lies n (value nodes a x) t)
   facts_given nodes a (Multiple x k) h t = (fact.Fix x (record { exponent = k; lowest = h.lowest; highest = h.highest }), ap (fix_of x) (place_from-some k h))

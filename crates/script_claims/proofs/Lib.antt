@@ -3,3 +3,4 @@ pub mod Goals
 pub mod Formulas
 pub mod NormalParts
 pub mod Grows
+pub mod FormulaParts

@@ -1,14 +1,16 @@
 -- What a formula claims, by recursion on its tree.
-use Rattle.std.specs.Prelude.{ℕ, ℤ, pos, neg_ℤ, List, [], ◌∷◌, ◌++◌, Some, None, nat_lt, if◌then◌else◌}
+use Rattle.std.specs.Prelude.{◌≡◌, ℕ, ℤ, pos, neg_ℤ, List, [], ◌∷◌, ◌++◌, Some, None, Bool, true, false, nat_lt, if◌then◌else◌}
 use Rattle.std.specs.Str.Parse.{digits_value}
 use Rattle.fx_model.specs.declared.ExprId.{ExprId}
-use Rattle.script_shape.specs.Tree.{Whole, natural, opposite, Range, asked, between, Prop, lies_in, relative_in, at_most, at_least, multiple, Formula, single, and, implies}
+use Rattle.script_shape.specs.Tree.{Whole, natural, opposite, Range, asked, between, Prop, lies_in, relative_in, at_most, at_least, multiple, Stated, affirmed, denied, Formula, single, and, or, implies}
+use Rattle.script_cases.specs.Cases.{all_items}
+use Rattle.script_cases.specs.Parts.{Parts, nothing, with_item, behind_or, behind_arrow as parts_behind_arrow}
 use Rattle.script_nodes.specs.Written.{bound_written}
 use Rattle.script_nodes.specs.Operators.{digits_text}
 use Rattle.script_nodes.specs.Known.{Known, Placed}
 use Rattle.script_nodes.specs.Values.{expr_value}
 use Rattle.script_claims.specs.declared.claim.Claim.{Claim}
-use Rattle.script_claims.specs.declared.claim.Claim.TheVariants.{Bounded, Asked, Relative, RelativeAsked, Multiple}
+use Rattle.script_claims.specs.declared.claim.Claim.TheVariants.{Bounded, Asked, Relative, RelativeAsked, Above, Below, Multiple}
 
 -- ---- numbers
 
@@ -45,22 +47,56 @@ prop_claim (at_most e b) k = of_value (λ x. Bounded x None (Some (bound_written
 prop_claim (at_least e b) k = of_value (λ x. Bounded x (Some (bound_written b)) None) (expr_value None e k)
 prop_claim (multiple f e w) k = of_value (λ x. Multiple x (exponent_of w)) (expr_value None e k)
 
+-- `not` before a bound. Before other propositions it is refused.
+abbrev pub denial : Claim → Claim
+denial (Bounded x None (Some n)) = Above x n
+denial (Bounded x (Some n) None) = Below x n
+denial c = c
+
+-- the claim with a `not` before it, or without
+abbrev pub stated : Bool → Claim → Claim
+stated true c = denial c
+stated false c = c
+
+-- the denial of a claim, with the same names
+abbrev pub denied_claim : Known × Claim → Known × Claim
+denied_claim p = (p.0, denial p.1)
+
+-- the claim of a proposition, denied or not
+abbrev pub stated_claim : Stated → Known → Known × Claim
+stated_claim (affirmed p) k = prop_claim p k
+stated_claim (denied p) k = denied_claim (prop_claim p k)
+
 -- ---- formulas
 
--- the claims of some propositions, in the order of writing
+-- the claims of some propositions, in the order of writing, and all of them by parts and
+-- conjunctions
 pub record Sides : Type 0 where
   pub hypotheses : List Claim
   pub goals : List Claim
+  pub parts : Parts Claim
 
 abbrev pub no_sides : Sides
-no_sides = record { hypotheses = []; goals = [] }
+no_sides = record { hypotheses = []; goals = []; parts = nothing }
 
 abbrev pub with_goal : Sides → Claim → Sides
-with_goal s c = record { hypotheses = s.hypotheses; goals = s.goals ++ (c ∷ []) }
+with_goal s c = record {
+  hypotheses = s.hypotheses;
+  goals = s.goals ++ (c ∷ []);
+  parts = with_item s.parts c;
+}
+
+-- a conjunction ends at `\/`
+abbrev pub behind_or_sign : Sides → Sides
+behind_or_sign s = record { hypotheses = s.hypotheses; goals = s.goals; parts = behind_or s.parts }
 
 -- an arrow makes hypotheses of the goals before it
 abbrev pub behind_arrow : Sides → Sides
-behind_arrow s = record { hypotheses = s.hypotheses ++ s.goals; goals = [] }
+behind_arrow s = record {
+  hypotheses = s.hypotheses ++ s.goals;
+  goals = [];
+  parts = parts_behind_arrow s.parts;
+}
 
 -- what is known behind some propositions, and their claims
 pub record Claims : Type 0 where
@@ -70,8 +106,13 @@ pub record Claims : Type 0 where
 abbrev pub then_goal : Sides → Known × Claim → Claims
 then_goal s p = record { known = p.0; sides = with_goal s p.1 }
 
-abbrev pub then_claimed : Prop → Claims → Claims
-then_claimed p cs = then_goal cs.sides (prop_claim p cs.known)
+-- one claim more
+abbrev pub then_claimed : Stated → Claims → Claims
+then_claimed p cs = then_goal cs.sides (stated_claim p cs.known)
+
+-- behind the sign of a disjunction
+abbrev pub then_or : Claims → Claims
+then_or cs = record { known = cs.known; sides = behind_or_sign cs.sides }
 
 abbrev pub then_arrow : Claims → Claims
 then_arrow cs = record { known = cs.known; sides = behind_arrow cs.sides }
@@ -83,4 +124,10 @@ no_claims k = record { known = k; sides = no_sides }
 abbrev pub formula_claims : Formula → Known → Claims
 formula_claims (single p) k = then_claimed p (no_claims k)
 formula_claims (and f p) k = then_claimed p (formula_claims f k)
+formula_claims (or f p) k = then_claimed p (then_or (formula_claims f k))
 formula_claims (implies f p) k = then_claimed p (then_arrow (formula_claims f k))
+
+-- The hypotheses are the claims of the parts that have ended, in their order.
+abbrev pub PartsHaveHypotheses : Type 0
+PartsHaveHypotheses = (f : Formula) (k : Known)
+    → (formula_claims f k).sides.hypotheses ≡ all_items (formula_claims f k).sides.parts.before

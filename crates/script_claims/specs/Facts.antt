@@ -17,7 +17,7 @@ use Rattle.facts.specs.Places.{IsPlace, place_from}
 use Rattle.literal_order.specs.Values.{IsWritten}
 use Rattle.script_bounds.specs.Bounds.{low_of, high_of, down_end, written_range, outward_of, inward_of}
 use Rattle.script_claims.specs.declared.claim.Claim.{Claim}
-use Rattle.script_claims.specs.declared.claim.Claim.TheVariants.{Bounded, Asked, Relative, RelativeAsked, Multiple}
+use Rattle.script_claims.specs.declared.claim.Claim.TheVariants.{Bounded, Asked, Relative, RelativeAsked, Above, Below, Multiple}
 use Rattle.goals.specs.declared.goal.Want.{Want}
 use Rattle.goals.specs.declared.goal.Want.TheVariants.{Ask, Inside}
 
@@ -25,6 +25,8 @@ use Rattle.goals.specs.declared.goal.Want.TheVariants.{Ask, Inside}
 abbrev pub HasNormalBounds : Claim → Type 0
 HasNormalBounds (Bounded x lower upper) = IsWritten lower × IsWritten upper
 HasNormalBounds (Relative x y lower upper) = IsWritten (Some lower) × IsWritten (Some upper)
+HasNormalBounds (Above x n) = IsWritten (Some n)
+HasNormalBounds (Below x n) = IsWritten (Some n)
 HasNormalBounds _ = ⊤
 
 -- a REL fact, where there is a relative error
@@ -41,6 +43,8 @@ hypothesis_fact (Bounded x lower upper) = bnd_of x (outward_of (written_range lo
 hypothesis_fact (Asked x) = None
 hypothesis_fact (Relative x y lower upper) = relative_fact x y (outward_of (written_range (Some lower) (Some upper)))
 hypothesis_fact (RelativeAsked x y) = None
+hypothesis_fact (Above x n) = bnd_of x (outward_of (written_range (Some n) None))
+hypothesis_fact (Below x n) = bnd_of x (outward_of (written_range None (Some n)))
 hypothesis_fact (Multiple x k) = fix_of x (place_from k)
 
 -- What the checks of a script leave to a hypothesis: the bounds of a relative claim are in order, and the lower one,
@@ -50,14 +54,18 @@ IsHypothesis (Bounded x lower upper) = ⊤
 IsHypothesis (Asked x) = ⊥
 IsHypothesis (Relative x y lower upper) = IsOrdered (low_of (Some lower)) (high_of (Some upper)) × IsBelow (neg_ℚ one_ℚ) (bound_of (down_end (low_of (Some lower))))
 IsHypothesis (RelativeAsked x y) = ⊥
+IsHypothesis (Above x n) = ⊤
+IsHypothesis (Below x n) = ⊤
 IsHypothesis (Multiple x k) = IsPlace k
 
--- what settles it; nothing settles a multiple, which is no goal
+-- what settles it; nothing settles what is no goal
 abbrev pub want_of : Claim → Want
 want_of (Bounded x lower upper) = Inside (inward_of (written_range lower upper))
 want_of (Asked x) = Ask
 want_of (Relative x y lower upper) = Inside (inward_of (written_range (Some lower) (Some upper)))
 want_of (RelativeAsked x y) = Ask
+want_of (Above x n) = Inside None
+want_of (Below x n) = Inside None
 want_of (Multiple x k) = Inside None
 
 -- what it is about
@@ -66,4 +74,6 @@ slot_of (Bounded x lower upper) = slot.Bnd x
 slot_of (Asked x) = slot.Bnd x
 slot_of (Relative x y lower upper) = slot.Rel x y
 slot_of (RelativeAsked x y) = slot.Rel x y
+slot_of (Above x n) = slot.Bnd x
+slot_of (Below x n) = slot.Bnd x
 slot_of (Multiple x k) = slot.Fix x

@@ -57,7 +57,7 @@ bounded b p = p
 
 -- before the first word
 abbrev pub nothing_read : Proposition
-nothing_read = record { part = Nothing; exponent = pos 0; negative = false }
+nothing_read = record { part = Nothing; exponent = pos 0; negative = false; denied = false }
 
 -- a bound, or the sign before it
 abbrev pub bound_read : Word → Proposition → Proposition
@@ -87,6 +87,7 @@ proposition_read d.Bound w p = bound_read w p
 proposition_read d.Magnitude w p = magnitude_read w p
 proposition_read d.Whole w p = whole_read w p
 proposition_read d.WholeDigits w p = opposite_read w p
+proposition_read d.Claim w p = record p { denied = true }
 proposition_read _ w p = p
 
 -- ---- what the code keeps

@@ -14,7 +14,7 @@ use Rattle.script_claims.specs.declared.claim.Claim.TheVariants.{Multiple}
 use Rattle.script_claims.specs.declared.proposition.Proposition.{Proposition}
 use Rattle.script_claims.specs.declared.part.Part.{Part}
 use Rattle.script_claims.specs.declared.part.Part.TheVariants.{Nothing, Made}
-use Rattle.script_claims.specs.Claims.{Sides, with_goal, behind_arrow, Claims, no_claims, formula_claims}
+use Rattle.script_claims.specs.Claims.{stated, Sides, with_goal, behind_or_sign, behind_arrow, Claims, no_claims, formula_claims}
 use Rattle.script_claims.specs.Parts.{nothing_read, relation_behind, in_behind, proposition_read}
 
 -- the expression in hand, the proposition in hand, and the claims so far
@@ -46,15 +46,17 @@ expr_taken f st = taken f st (expr_done None st.reading st.reading.waits)
 
 -- what was made of it, or a multiple, whose expression still waits; nothing where it isn't whole
 abbrev pub ended_with : State → Part → Option Complete → State
-ended_with st (Made c) o = state_of st.reading (with_goal st.sides c)
-ended_with st Nothing (Some c) = state_of (record { known = c.0.0; waits = c.1 }) (with_goal st.sides (Multiple c.0.1 st.proposition.exponent))
+ended_with st (Made c) o = state_of st.reading (with_goal st.sides (stated st.proposition.denied c))
+ended_with st Nothing (Some c) = state_of (record { known = c.0.0; waits = c.1 })
+    (with_goal st.sides (stated st.proposition.denied (Multiple c.0.1 st.proposition.exponent)))
 ended_with st p o = state_of st.reading st.sides
 
 abbrev pub ended : State → State
 ended st = ended_with st st.proposition.part (expr_done None st.reading st.reading.waits)
 
--- `/\`, or `->`
+-- `/\`, `\/` or `->`
 abbrev pub connected : Word → State → State
+connected (sign s.Or) st = record st { sides = behind_or_sign st.sides }
 connected (sign s.Arrow) st = record st { sides = behind_arrow st.sides }
 connected w st = st
 

@@ -1,4 +1,5 @@
 ghost use Rattle.std.specs.Prelude.{◌≡◌};
+ghost use Rattle.script_claims.specs.Claims.{denial};
 ghost use Rattle.script_claims.specs.Facts.{HasNormalBounds, hypothesis_fact, want_of, slot_of, relative_fact};
 
 use facts::{Fact, Place, RelativeError, Slot};
@@ -18,6 +19,10 @@ pub enum Claim {
     Relative(ExprId, ExprId, Written, Written),
     /// `x -/ y in ?`.
     RelativeAsked(ExprId, ExprId),
+    /// `not e <= n`: the value is above the bound.
+    Above(ExprId, Written),
+    /// `not e >= n`: the value is below the bound.
+    Below(ExprId, Written),
     /// `@FIX(e, k)`: the value is a whole multiple of 2^k. Of k past 1025 and -1025 these stand for it.
     Multiple(ExprId, i16),
 }
@@ -34,13 +39,16 @@ impl Claim {
             Claim::Relative(x, y, lower, upper) => {
                 relative_fact(x, y, outward(Some(lower), Some(upper)))
             }
+            Claim::Above(x, bound) => Fact::bnd(x, outward(Some(bound), None)),
+            Claim::Below(x, bound) => Fact::bnd(x, outward(None, Some(bound))),
             Claim::Multiple(x, exponent) => Fact::fix(x, Place::new(exponent)),
             Claim::Asked(_) => None,
             Claim::RelativeAsked(_, _) => None,
         }
     }
 
-    /// What the claim wants as a goal. Nothing settles `@FIX`, which is no goal.
+    /// What the claim wants as a goal. Nothing settles `@FIX` and what has a `not` before it, which
+    /// are no goals.
     pub fn want(self) -> Want
         requires { HasNormalBounds self }
         ensures { result ≡ want_of self }
@@ -48,6 +56,8 @@ impl Claim {
         match self {
             Claim::Bounded(_, lower, upper) => Want::Inside(inward(lower, upper)),
             Claim::Relative(_, _, lower, upper) => Want::Inside(inward(Some(lower), Some(upper))),
+            Claim::Above(_, _) => Want::Inside(None),
+            Claim::Below(_, _) => Want::Inside(None),
             Claim::Multiple(_, _) => Want::Inside(None),
             Claim::Asked(_) => Want::Ask,
             Claim::RelativeAsked(_, _) => Want::Ask,
@@ -63,7 +73,21 @@ impl Claim {
             Claim::Asked(x) => Slot::Bnd(x),
             Claim::Relative(x, y, _, _) => Slot::Rel(x, y),
             Claim::RelativeAsked(x, y) => Slot::Rel(x, y),
+            Claim::Above(x, _) => Slot::Bnd(x),
+            Claim::Below(x, _) => Slot::Bnd(x),
             Claim::Multiple(x, _) => Slot::Fix(x),
+        }
+    }
+
+    /// What it claims with a `not` before it. Only `e <= n` and `e >= n` have one in a script.
+    pub fn denial(self) -> Claim
+        ensures value { result ≡ denial self }
+        ensures normal { HasNormalBounds self → HasNormalBounds result }
+    {
+        match self {
+            Claim::Bounded(x, None, Some(bound)) => Claim::Above(x, bound),
+            Claim::Bounded(x, Some(bound), None) => Claim::Below(x, bound),
+            _ => self,
         }
     }
 }

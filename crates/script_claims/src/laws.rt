@@ -10,6 +10,7 @@ ghost use Rattle.goals.specs.declared.goal.Want.TheVariants.{Inside};
 ghost use Rattle.goals.specs.Lies.{LiesAt, AreZeroAt};
 ghost use Rattle.script_claims.specs.Meets.{IsTrueAt};
 ghost use Rattle.script_claims.specs.Facts.{hypothesis_fact, IsHypothesis, want_of, slot_of};
+ghost use Rattle.script_claims.specs.Claims.{PartsHaveHypotheses};
 ghost use Rattle.script_claims.specs.Reads.{ReadsFormulas, ClaimsGrow};
 
 use script_bounds::{inward_is_greatest, outward_is_least};
@@ -46,3 +47,9 @@ pub fn claims_only_grow()
 {
     nodes_only_grow();
 }
+
+/// Nothing is done. The clause tells a caller that the hypotheses of a formula are the claims of
+/// its parts before the last arrow.
+pub fn parts_have_hypotheses()
+    ensures { PartsHaveHypotheses }
+{}

@@ -13,7 +13,9 @@ mod tests;
 
 pub use claim::Claim;
 pub use goals::Want;
-pub use laws::{claims_only_grow, formulas_are_read, goals_are_enough, hypotheses_hold};
+pub use laws::{
+    claims_only_grow, formulas_are_read, goals_are_enough, hypotheses_hold, parts_have_hypotheses,
+};
 pub use part::Part;
 pub use proposition::{NOTHING_READ, Proposition};
 pub use reader::ClaimReader;

@@ -1,11 +1,14 @@
 //! A proposition that is being read.
 
-ghost use Rattle.std.specs.Prelude.{◌≡◌};
+ghost use Rattle.std.specs.Prelude.{◌≡◌, true};
 ghost use Rattle.script_words.specs.Named.{word_of};
 ghost use Rattle.script_nodes.specs.Literals as spec_literals;
+ghost use Rattle.script_claims.specs.Claims.{stated};
+ghost use Rattle.script_claims.specs.Facts.{HasNormalBounds};
 ghost use Rattle.script_claims.specs.Parts as spec;
 ghost use Rattle.script_claims.specs.Parts.{IsNormalPart};
 
+use crate::claim::Claim;
 use crate::numbers::exponent_size;
 use crate::part::Part;
 use script_bounds::Written;
@@ -23,6 +26,8 @@ pub struct Proposition {
     pub exponent: i16,
     /// Whether the sign before a bound is a minus.
     pub negative: bool,
+    /// Whether a `not` stands before it.
+    pub denied: bool,
 }
 
 /// Before the first word of a proposition.
@@ -30,6 +35,7 @@ pub const NOTHING_READ: Proposition = Proposition {
     part: Part::Nothing,
     exponent: 0,
     negative: false,
+    denied: false,
 };
 
 impl Proposition {
@@ -44,6 +50,7 @@ impl Proposition {
             Due::Magnitude => self.magnitude(word),
             Due::Whole => self.whole(word),
             Due::WholeDigits => self.opposite(word),
+            Due::Claim => self.denied(),
             _ => self,
         }
     }
@@ -56,6 +63,7 @@ impl Proposition {
             part,
             exponent: self.exponent,
             negative: self.negative,
+            denied: self.denied,
         }
     }
 
@@ -103,6 +111,7 @@ impl Proposition {
             part: self.part,
             exponent: self.exponent,
             negative,
+            denied: self.denied,
         }
     }
 
@@ -133,6 +142,28 @@ impl Proposition {
             part: self.part,
             exponent,
             negative: self.negative,
+            denied: self.denied,
         }
+    }
+
+    // Behind `not`.
+    fn denied(self) -> Proposition
+        ensures { result ≡ record self { denied = true } }
+    {
+        Proposition {
+            part: self.part,
+            exponent: self.exponent,
+            negative: self.negative,
+            denied: true,
+        }
+    }
+
+    /// The claim, where this is what was made of the proposition: its denial behind a `not`.
+    pub fn stated(self, claim: Claim) -> Claim
+        requires { HasNormalBounds claim }
+        ensures value { result ≡ stated self.denied claim }
+        ensures normal { HasNormalBounds result }
+    {
+        if self.denied { claim.denial() } else { claim }
     }
 }

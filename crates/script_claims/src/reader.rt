@@ -3,7 +3,7 @@
 ghost use Rattle.std.specs.Prelude.{◌≡◌, ◌<◌, All, length, None, Err, OnOk, IfErr};
 ghost use Rattle.script_words.specs.Named.{word_of};
 ghost use Rattle.script_claims.specs.Facts.{HasNormalBounds};
-ghost use Rattle.script_claims.specs.Claims.{no_sides, with_goal};
+ghost use Rattle.script_claims.specs.Claims.{stated, no_sides, with_goal, behind_or_sign, behind_arrow};
 ghost use Rattle.script_claims.specs.Parts as spec_parts;
 ghost use Rattle.script_claims.specs.Reads as spec;
 
@@ -106,10 +106,11 @@ impl<'a> ClaimReader<'a> {
     // One more goal, and the proposition has ended.
     fn add(&mut self, claim: Claim) -> Result<(), DagFault>
         requires { HasNormalBounds claim }
-        ensures added { OnOk result (self.new ≡ spec.state_of self.old.reading (with_goal self.old.sides claim)) }
+        ensures added { OnOk result (self.new ≡ spec.state_of self.old.reading
+            (with_goal self.old.sides (stated self.old.proposition.denied claim))) }
         ensures memory { IfErr result (λ fault. fault ≡ DagFault.OutOfMemory) }
     {
-        let Ok(()) = self.sides.add(claim) else {
+        let Ok(()) = self.sides.add(self.proposition.stated(claim)) else {
             return Err(DagFault::OutOfMemory);
         };
         self.proposition = NOTHING_READ;
@@ -140,10 +141,35 @@ impl<'a> ClaimReader<'a> {
         ensures full { result ≡ Err DagFault.Full → 1024 < length (spec.ended self.old).reading.known.nodes }
     {
         self.end()?;
-        if matches!(word, Word::Sign(Sign::Arrow)) {
-            self.sides.assume();
+        match word {
+            Word::Sign(Sign::Or) => self.disjoin(),
+            Word::Sign(Sign::Arrow) => self.assume(),
+            _ => Ok(()),
         }
-        Ok(())
+    }
+
+    // Ends a conjunction.
+    fn disjoin(&mut self) -> Result<(), DagFault>
+        ensures ended { OnOk result
+            (self.new ≡ record self.old { sides = behind_or_sign self.old.sides }) }
+        ensures memory { IfErr result (λ fault. fault ≡ DagFault.OutOfMemory) }
+    {
+        match self.sides.disjoin() {
+            Ok(()) => Ok(()),
+            Err(_) => Err(DagFault::OutOfMemory),
+        }
+    }
+
+    // Makes hypotheses of all goals.
+    fn assume(&mut self) -> Result<(), DagFault>
+        ensures ended { OnOk result
+            (self.new ≡ record self.old { sides = behind_arrow self.old.sides }) }
+        ensures memory { IfErr result (λ fault. fault ≡ DagFault.OutOfMemory) }
+    {
+        match self.sides.assume() {
+            Ok(()) => Ok(()),
+            Err(_) => Err(DagFault::OutOfMemory),
+        }
     }
 
     /// Takes a word of a formula, or the brace behind it, by its role. `Full` only where the meaning has more than 1,024

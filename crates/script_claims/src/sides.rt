@@ -1,17 +1,20 @@
 //! The claims of the propositions that were read.
 
-ghost use Rattle.std.specs.Prelude.{◌≡◌, All, OnOk, OnErr};
+ghost use Rattle.std.specs.Prelude.{◌≡◌, ◌<◌, ◌≤◌, All, Some, slice_get, IfOk, OnOk, OnErr};
+ghost use Rattle.script_cases.specs.Cases.{cases, case_count};
 ghost use Rattle.script_claims.specs.Claims as spec;
 ghost use Rattle.script_claims.specs.Facts.{HasNormalBounds};
 
 use crate::claim::Claim;
+use script_cases::Parts;
 use std::alloc::{AllocError, Global};
 use std::marker::Model;
 
-/// Claims in the order of writing: those before the last arrow are hypotheses, and the others goals.
+/// Claims in the order of writing, by parts and conjunctions: those before the last arrow are
+/// hypotheses, and the others goals.
 #[derive(Drop)]
 pub struct Sides {
-    claims: Vec<Claim>,
+    parts: Parts<Claim>,
     // How many are hypotheses.
     assumed: usize,
 }
@@ -23,9 +26,14 @@ impl Model for Sides {
 
     ghost Value = { View };
 
-    ghost view = { λ s. record { hypotheses = take s.assumed s.claims.items; goals = drop s.assumed s.claims.items } };
+    ghost view = { λ s. record {
+      hypotheses = take s.assumed s.parts.items;
+      goals = drop s.assumed s.parts.items;
+      parts = s.parts;
+    } };
 
-    ghost invariant = { λ s. (s.assumed ≤ length s.claims.items) × All HasNormalBounds s.claims.items };
+    ghost invariant = { λ s. (s.assumed ≤ length s.parts.items)
+        × All HasNormalBounds s.parts.items };
 }
 
 impl Sides {
@@ -34,7 +42,7 @@ impl Sides {
         ensures { result ≡ spec.no_sides }
     {
         Sides {
-            claims: Vec::new(alloc),
+            parts: Parts::new(alloc),
             assumed: 0,
         }
     }
@@ -45,15 +53,25 @@ impl Sides {
         ensures added { OnOk result (self.new ≡ spec.with_goal self.old claim) }
         ensures refused { OnErr result (self.new ≡ self.old) }
     {
-        self.claims.push(claim)?;
+        self.parts.add(claim)?;
         Ok(())
     }
 
-    /// Makes hypotheses of all goals.
-    pub fn assume(&mut self)
-        ensures { self.new ≡ spec.behind_arrow self.old }
+    /// Ends a conjunction.
+    pub fn disjoin(&mut self) -> Result<(), AllocError>
+        ensures { OnOk result (self.new ≡ spec.behind_or_sign self.old) }
     {
-        self.assumed = self.claims.len();
+        self.parts.end_conjunction()?;
+        Ok(())
+    }
+
+    /// Makes hypotheses of all goals. After an `Err` it is not to be used on.
+    pub fn assume(&mut self) -> Result<(), AllocError>
+        ensures { OnOk result (self.new ≡ spec.behind_arrow self.old) }
+    {
+        self.assumed = self.parts.items().len();
+        self.parts.end_part()?;
+        Ok(())
     }
 
     /// The hypotheses.
@@ -61,7 +79,7 @@ impl Sides {
         ensures value { result.now ≡ self.now.hypotheses }
         ensures normal { All HasNormalBounds result.now }
     {
-        &self.claims[..self.assumed]
+        &self.parts.items()[..self.assumed]
     }
 
     /// The goals.
@@ -69,6 +87,25 @@ impl Sides {
         ensures value { result.now ≡ self.now.goals }
         ensures normal { All HasNormalBounds result.now }
     {
-        &self.claims[self.assumed..]
+        &self.parts.items()[self.assumed..]
+    }
+
+    /// How many cases the hypotheses have, where they are few.
+    pub fn case_count(&self) -> usize
+        requires { case_count self.now.parts.before ≤ 64 }
+        ensures count { result ≡ case_count self.now.parts.before }
+        ensures some { 0 < result }
+    {
+        self.parts.case_count()
+    }
+
+    /// The claims of the case with this number.
+    pub fn case(&self, alloc: Global, number: usize) -> Result<Vec<Claim>, AllocError>
+        requires few { case_count self.now.parts.before ≤ 64 }
+        requires number { number < case_count self.now.parts.before }
+        ensures { IfOk result (λ case.
+            slice_get (cases self.now.parts.before) number ≡ Some case.items) }
+    {
+        self.parts.case(alloc, number)
     }
 }

@@ -182,3 +182,20 @@ fn formulas(rt: HostRuntime) -> Result<(), Fail> {
     }
     Ok(())
 }
+
+#[test]
+fn denials(rt: HostRuntime) -> Result<(), Fail> {
+    let one = written(&rt, "1");
+    let two = written(&rt, "2");
+    let reader = claimed(
+        rt.alloc(),
+        b"{ not x <= 1 /\\ x <= 2 \\/ not y >= 1 -> x in ? }",
+    )?;
+    let hypotheses = [
+        Claim::Above(X, one),
+        Claim::Bounded(X, None, Some(two)),
+        Claim::Below(Y, one),
+    ];
+    assert_eq!(rt; reader.hypotheses(), hypotheses.as_slice());
+    Ok(())
+}

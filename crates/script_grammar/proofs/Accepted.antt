@@ -41,7 +41,7 @@ reading_leaves are r text tree h e =
 
 -- what was read behind the formula
 abbrev pub behind : Sides → HintReading → Meaning
-behind sides h = record { known = h.reading.known; hypotheses = sides.hypotheses; goals = sides.goals; hints = h.draft.list }
+behind sides h = record { known = h.reading.known; hypotheses = sides.hypotheses; goals = sides.goals; parts = sides.parts; hints = h.draft.list }
 
 pub record IsAccepted (text : List ℕ) (r : Reading) (m : Meaning) : Type 0 where
   pub spells : Spells text (view_of text r.tokens m (spans_read r.leaves))

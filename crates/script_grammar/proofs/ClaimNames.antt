@@ -3,13 +3,13 @@ use Rattle.std.specs.Prelude.{ℕ, ◌≤◌, List, Some, None}
 use Rattle.std.specs.List.{AllByRecursion}
 use Rattle.std.proofs.Common.{arith}
 use Rattle.fx_model.specs.declared.ExprId.{ExprId}
-use Rattle.script_shape.specs.Tree.{Range, asked, between, Prop, lies_in, relative_in, at_most, at_least, multiple, Formula, single, and, implies}
+use Rattle.script_shape.specs.Tree.{Range, asked, between, Prop, lies_in, relative_in, at_most, at_least, multiple, Stated, affirmed, denied, Formula, single, and, or, implies}
 use Rattle.script_nodes.specs.Known.{Known, Placed}
 use Rattle.script_nodes.specs.Values.{expr_value}
 use Rattle.script_nodes.specs.Growth.{node_count}
 use Rattle.script_claims.specs.declared.claim.Claim.{Claim}
-use Rattle.script_claims.specs.declared.claim.Claim.TheVariants.{Bounded, Asked, Relative, RelativeAsked, Multiple}
-use Rattle.script_claims.specs.Claims.{Claims, exponent_of, ranged, relative, of_value, prop_claim, then_claimed, then_arrow, no_claims, formula_claims}
+use Rattle.script_claims.specs.declared.claim.Claim.TheVariants.{Bounded, Asked, Relative, RelativeAsked, Above, Below, Multiple}
+use Rattle.script_claims.specs.Claims.{Claims, exponent_of, ranged, relative, of_value, prop_claim, denial, stated_claim, then_claimed, then_or, then_arrow, no_claims, formula_claims}
 use Rattle.script_nodes.specs.Written.{bound_written}
 use Rattle.script_grammar.specs.Names.{IsNode, ClaimIsOf}
 use Rattle.script_grammar.proofs.Lists.{all_both}
@@ -21,6 +21,8 @@ claim_more n m h (Bounded x lower upper) f = omega arith
 claim_more n m h (Asked x) f = omega arith
 claim_more n m h (Relative x y lower upper) f = (let a = f.0 in omega arith, let b = f.1 in omega arith)
 claim_more n m h (RelativeAsked x y) f = (let a = f.0 in omega arith, let b = f.1 in omega arith)
+claim_more n m h (Above x w) f = omega arith
+claim_more n m h (Below x w) f = omega arith
 claim_more n m h (Multiple x k) f = omega arith
 
 -- ---- one proposition
@@ -54,6 +56,23 @@ prop_claimed (at_most e b) k f = value_claimed (λ x. Bounded x None (Some (boun
 prop_claimed (at_least e b) k f = value_claimed (λ x. Bounded x (Some (bound_written b)) None) k (expr_value None e k) (λ n x h. h) (expr_sits None e k f)
 prop_claimed (multiple g e w) k f = value_claimed (λ x. Multiple x (exponent_of w)) k (expr_value None e k) (λ n x h. h) (expr_sits None e k f)
 
+-- a claim and its denial have the same expressions
+denial_of : (n : ℕ) (c : Claim) → ClaimIsOf n c → ClaimIsOf n (denial c)
+denial_of n (Bounded x None (Some w)) h = h
+denial_of n (Bounded x (Some w) None) h = h
+denial_of n (Bounded x None None) h = h
+denial_of n (Bounded x (Some v) (Some w)) h = h
+denial_of n (Asked x) h = h
+denial_of n (Relative x y lower upper) h = h
+denial_of n (RelativeAsked x y) h = h
+denial_of n (Above x w) h = h
+denial_of n (Below x w) h = h
+denial_of n (Multiple x k) h = h
+
+stated_claimed : (p : Stated) (k : Known) → Fits k → IsClaimed k (stated_claim p k)
+stated_claimed (affirmed p) k f = prop_claimed p k f
+stated_claimed (denied p) k f = let c = prop_claimed p k f in record { grows = c.grows; claim = denial_of (node_count (prop_claim p k).0) (prop_claim p k).1 c.claim }
+
 -- ---- formulas
 
 pub record AreClaimed (k : Known) (cs : Claims) : Type 0 where
@@ -64,11 +83,11 @@ pub record AreClaimed (k : Known) (cs : Claims) : Type 0 where
 pub claims_more : (n m : ℕ) → n ≤ m → (cs : List Claim) → AllByRecursion (ClaimIsOf n) cs → AllByRecursion (ClaimIsOf m) cs
 claims_more n m h cs = all_as (ClaimIsOf n) (ClaimIsOf m) (claim_more n m h) cs
 
-then_all_claimed : (p : Prop) (k : Known) (cs : Claims) → AreClaimed k cs → AreClaimed k (then_claimed p cs)
+then_all_claimed : (p : Stated) (k : Known) (cs : Claims) → AreClaimed k cs → AreClaimed k (then_claimed p cs)
 then_all_claimed p k cs a =
-    let c = prop_claimed p cs.known a.grows.fits in
+    let c = stated_claimed p cs.known a.grows.fits in
     let n = node_count cs.known in
-    let m = node_count (prop_claim p cs.known).0 in
+    let m = node_count (stated_claim p cs.known).0 in
     record {
       grows = grows_both a.grows c.grows;
       hypotheses = claims_more n m c.grows.more cs.sides.hypotheses a.hypotheses;
@@ -78,10 +97,14 @@ then_all_claimed p k cs a =
 then_all_assumed : (k : Known) (cs : Claims) → AreClaimed k cs → AreClaimed k (then_arrow cs)
 then_all_assumed k cs a = record { grows = a.grows; hypotheses = all_both (ClaimIsOf (node_count cs.known)) cs.sides.hypotheses cs.sides.goals a.hypotheses a.goals; goals = tt }
 
+then_all_parted : (k : Known) (cs : Claims) → AreClaimed k cs → AreClaimed k (then_or cs)
+then_all_parted k cs a = record { grows = a.grows; hypotheses = a.hypotheses; goals = a.goals }
+
 none_claimed : (k : Known) → Fits k → AreClaimed k (no_claims k)
 none_claimed k f = record { grows = record { more = omega arith; fits = f }; hypotheses = tt; goals = tt }
 
 pub formula_claimed : (x : Formula) (k : Known) → Fits k → AreClaimed k (formula_claims x k)
 formula_claimed (single p) k f = then_all_claimed p k (no_claims k) (none_claimed k f)
 formula_claimed (and x p) k f = then_all_claimed p k (formula_claims x k) (formula_claimed x k f)
+formula_claimed (or x p) k f = then_all_claimed p k (then_or (formula_claims x k)) (then_all_parted k (formula_claims x k) (formula_claimed x k f))
 formula_claimed (implies x p) k f = then_all_claimed p k (then_arrow (formula_claims x k)) (then_all_assumed k (formula_claims x k) (formula_claimed x k f))

@@ -1,11 +1,11 @@
 -- Each goal of a script has its words.
 use Rattle.std.specs.Prelude.{◌≡◌, ℕ, ◌+◌, List, [], ◌∷◌, ◌++◌, length, refl}
 use Rattle.std.proofs.Common.{sym, ap, ◌∙◌, length-append}
-use Rattle.script_shape.specs.Tree.{Formula, single, and, implies, Script, formula, define, formula_words, definition_words}
+use Rattle.script_shape.specs.Tree.{Stated, Formula, single, and, or, implies, Script, formula, define, formula_words, definition_words}
 use Rattle.script_nodes.specs.Known.{Known, nothing_known}
 use Rattle.script_nodes.specs.Definitions.{definition_value}
-use Rattle.script_claims.specs.Claims.{formula_claims, prop_claim}
-use Rattle.goal_spans.specs.Spans.{span_at, formula_spans, script_spans}
+use Rattle.script_claims.specs.Claims.{formula_claims, stated_claim}
+use Rattle.goal_spans.specs.Spans.{stated_at, formula_spans, script_spans}
 use Rattle.script_grammar.specs.Meaning.{meaning_from}
 use Rattle.script_grammar.specs.Spells.{View, GoalsHaveSpans}
 
@@ -16,7 +16,10 @@ of_formula : (f : Formula) (k : Known) (n : ℕ) → length (formula_spans n f) 
 of_formula (single p) k n = refl
 of_formula (and f p) k n =
     let cs = formula_claims f k in
-    longer (formula_spans n f) (span_at (n + length (formula_words f) + 1) p) ∙ ap (λ m. m + 1) (of_formula f k n) ∙ sym (longer cs.sides.goals (prop_claim p cs.known).1)
+    longer (formula_spans n f) (stated_at (n + length (formula_words f) + 1) p) ∙ ap (λ m. m + 1) (of_formula f k n) ∙ sym (longer cs.sides.goals (stated_claim p cs.known).1)
+of_formula (or f p) k n =
+    let cs = formula_claims f k in
+    longer (formula_spans n f) (stated_at (n + length (formula_words f) + 1) p) ∙ ap (λ m. m + 1) (of_formula f k n) ∙ sym (longer cs.sides.goals (stated_claim p cs.known).1)
 of_formula (implies f p) k n = refl
 
 of_script : (tree : Script) (k : Known) (n : ℕ) → length (script_spans n tree) ≡ length (meaning_from tree k).goals

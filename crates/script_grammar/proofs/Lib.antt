@@ -8,6 +8,7 @@ mod FirstsExist
 mod LiteralWords
 mod WordsAreRead
 mod Lists
+mod CaseClaims
 mod ExpressionNames
 mod ClaimNames
 mod HintNames

@@ -9,6 +9,7 @@ use Rattle.script_judge.specs.declared.refusal.Refusal.{Refusal}
 use Rattle.script_judge.specs.Reading as reading
 use Rattle.script_judge.specs.Reading.{Reading, IsReadable, IsReadingOf, IsFaultOf, IsScriptText, fault}
 use Rattle.script_judge.specs.First.{IsFirstRefusal, unread, read, first_of, refusal_of, FirstsAreUnique}
+use Rattle.script_cases.specs.Parts.{nothing}
 use Rattle.goal_spans.specs.Spans.{goal_spans}
 use Rattle.goal_spans.specs.Reading.{spans_read, ReadsSpans}
 use Rattle.script_grammar.specs.Meaning.{Meaning, meaning_of}
@@ -18,9 +19,9 @@ use Rattle.script_grammar.specs.Spells.{view_of, SpellsOnce, NeverBoth, SpellsAl
 
 -- what was read, behind all words
 abbrev pub meaning_at : Step → Meaning
-meaning_at (defining p) = record { known = p.reading.known; hypotheses = []; goals = []; hints = record { rewrites = []; likes = []; cuts = []; halves = []; order = [] } }
-meaning_at (claiming st) = record { known = st.reading.known; hypotheses = st.sides.hypotheses; goals = st.sides.goals; hints = record { rewrites = []; likes = []; cuts = []; halves = []; order = [] } }
-meaning_at (hinting sides h) = record { known = h.reading.known; hypotheses = sides.hypotheses; goals = sides.goals; hints = h.draft.list }
+meaning_at (defining p) = record { known = p.reading.known; hypotheses = []; goals = []; parts = nothing; hints = record { rewrites = []; likes = []; cuts = []; halves = []; order = [] } }
+meaning_at (claiming st) = record { known = st.reading.known; hypotheses = st.sides.hypotheses; goals = st.sides.goals; parts = st.sides.parts; hints = record { rewrites = []; likes = []; cuts = []; halves = []; order = [] } }
+meaning_at (hinting sides h) = record { known = h.reading.known; hypotheses = sides.hypotheses; goals = sides.goals; parts = sides.parts; hints = h.draft.list }
 
 -- trees of the same words have the same leaves
 same_leaves : LeavesAreOfTrees → (a b : Script) → script_words a ≡ script_words b → script_leaves a ≡ script_leaves b

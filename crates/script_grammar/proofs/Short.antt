@@ -14,13 +14,15 @@ use Rattle.script_nodes.specs.Known.{Known, nothing_known}
 use Rattle.script_nodes.specs.Definitions.{definition_value}
 use Rattle.node_counts.specs.Counted.{known_behind, NodesAreCounted}
 use Rattle.node_counts.specs.Few.{HasFewHints, hints_behind, HintsAreFew}
-use Rattle.node_counts.specs.Ranges.{HaveRanges, hypotheses_behind, SplitsHaveRanges}
+use Rattle.node_counts.specs.Ranges.{HaveFewCases, parts_behind, SplitsHaveRanges}
 use Rattle.goal_spans.specs.Reading.{spans_read}
 use Rattle.script_grammar.specs.Meaning.{Meaning, meaning_from}
 use Rattle.script_grammar.specs.Steps.{start, nodes_at, read_words}
 use Rattle.script_grammar.specs.Spells.{View, view_of, Spells, SpelledAreShort}
 use Rattle.script_grammar.specs.Few.{SpelledHaveFewHints}
-use Rattle.script_grammar.specs.Ranges.{SpelledHaveRanges}
+use Rattle.script_cases.specs.Cases.{all_items}
+use Rattle.script_claims.specs.Claims.{PartsHaveHypotheses}
+use Rattle.script_grammar.specs.Ranges.{SpelledHaveRanges, SpelledHaveFewCases}
 use Rattle.script_grammar.proofs.Accepted.{reading_leaves, IsAccepted}
 
 known_of : (tree : Script) (k : Known) → length (meaning_from tree k).known.nodes ≡ length (known_behind tree k).nodes
@@ -61,17 +63,30 @@ pub spelled_few : HintsAreFew → LexesOnce → LeavesAreOfTrees → SpelledHave
 spelled_few few lexes are text s p =
     subst HasFewHints (sym (hints_of p.tree nothing_known) ∙ ap (λ (v : View). v.hints) (sym p.says)) (few p.tree nothing_known (spelled_judged lexes are text s p))
 
--- ---- and ranges for its splits
+-- ---- and few cases, with ranges for its splits
 
-hypotheses_of : (tree : Script) (k : Known) → (meaning_from tree k).hypotheses ≡ hypotheses_behind tree k
-hypotheses_of (formula f h) k = refl
-hypotheses_of (define x rest) k = hypotheses_of rest (definition_value x k)
+parts_of : (tree : Script) (k : Known) → (meaning_from tree k).parts.before ≡ parts_behind tree k
+parts_of (formula f h) k = refl
+parts_of (define x rest) k = parts_of rest (definition_value x k)
+
+few_cases : SplitsHaveRanges → LexesOnce → LeavesAreOfTrees → (text : List ℕ) (s : View) → Spells text s → HaveFewCases s.parts s.hints
+few_cases ranged lexes are text s p =
+    let m = meaning_from p.tree nothing_known in
+    let has : HaveFewCases m.parts.before m.hints = subst (λ cs. HaveFewCases cs m.hints) (sym (parts_of p.tree nothing_known)) (subst (HaveFewCases (parts_behind p.tree nothing_known)) (sym (hints_of p.tree nothing_known)) (ranged p.tree nothing_known (spelled_judged lexes are text s p))) in
+    subst (λ (v : View). HaveFewCases v.parts v.hints) (sym p.says) has
 
 pub spelled_ranged : SplitsHaveRanges → LexesOnce → LeavesAreOfTrees → SpelledHaveRanges
-spelled_ranged ranged lexes are text s p =
-    let m = meaning_from p.tree nothing_known in
-    let has : HaveRanges m.hypotheses m.hints = subst (λ cs. HaveRanges cs m.hints) (sym (hypotheses_of p.tree nothing_known)) (subst (HaveRanges (hypotheses_behind p.tree nothing_known)) (sym (hints_of p.tree nothing_known)) (ranged p.tree nothing_known (spelled_judged lexes are text s p))) in
-    subst (λ (v : View). HaveRanges v.hypotheses v.hints) (sym p.says) has
+spelled_ranged ranged lexes are text s p = (few_cases ranged lexes are text s p).ranges
+
+flat_of : PartsHaveHypotheses → (tree : Script) (k : Known) → (meaning_from tree k).hypotheses ≡ all_items (meaning_from tree k).parts.before
+flat_of flat (formula f h) k = flat f k
+flat_of flat (define x rest) k = flat_of flat rest (definition_value x k)
+
+pub spelled_cases : PartsHaveHypotheses → SplitsHaveRanges → LexesOnce → LeavesAreOfTrees → SpelledHaveFewCases
+spelled_cases flat ranged lexes are text s p = record {
+  hypotheses = subst (λ (v : View). v.hypotheses ≡ all_items v.parts) (sym p.says) (flat_of flat p.tree nothing_known);
+  few = (few_cases ranged lexes are text s p).few;
+}
 
 -- ---- so the list is never full
 

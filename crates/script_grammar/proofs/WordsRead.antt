@@ -6,8 +6,8 @@ use Rattle.script_words.specs.declared.class.Spelled.TheVariants as spelled
 use Rattle.script_words.specs.Words.{Word, sign}
 use Rattle.script_shape.specs.declared.due.Due.{Due}
 use Rattle.script_shape.specs.declared.due.Due.TheVariants as d
-use Rattle.script_shape.specs.Tree.{AnyName, plain, operator, Whole, Bound, Operator, Expr, Range, asked, between as range_between, Prop, lies_in, relative_in, at_most, at_least, multiple, Formula, single, and, implies, How, exactly, rounded_by, rounded_apart, rounded_joined, Definition, names_operator, names_value, Hints, Script, formula, define}
-use Rattle.script_shape.specs.Roles.{Leaf, at, name_leaves, special_leaves, whole_leaves, bound_leaves, operator_leaves, expr_leaves, range_leaves, prop_leaves, formula_leaves, hints_leaves, how_leaves, definition_leaves, script_leaves}
+use Rattle.script_shape.specs.Tree.{AnyName, plain, operator, Whole, Bound, Operator, Expr, Range, asked, between as range_between, Prop, lies_in, relative_in, at_most, at_least, multiple, Stated, affirmed, denied, Formula, single, and, or, implies, How, exactly, rounded_by, rounded_apart, rounded_joined, Definition, names_operator, names_value, Hints, Script, formula, define}
+use Rattle.script_shape.specs.Roles.{Leaf, at, name_leaves, special_leaves, whole_leaves, bound_leaves, operator_leaves, expr_leaves, range_leaves, prop_leaves, stated_leaves, formula_leaves, hints_leaves, how_leaves, definition_leaves, script_leaves}
 use Rattle.script_shape.specs.Inner.{EachRole, each_of_both, each_as, IsInner, name_roles, special_roles, bound_roles, whole_inner, operator_roles, expr_inner}
 use Rattle.script_nodes.specs.Known.{Known, nothing_known}
 use Rattle.script_nodes.specs.Definitions.{definition_value}
@@ -61,10 +61,15 @@ prop_stays (at_most e b) = both (expr_leaves e) _ (expr_stays e) (tt, bound_stay
 prop_stays (at_least e b) = both (expr_leaves e) _ (expr_stays e) (tt, bound_stays b)
 prop_stays (multiple f e k) = (tt, both (special_leaves d.Fix spelled.Fix f) _ (special_roles StaysAt d.Fix spelled.Fix f tt) (tt, both (expr_leaves e) _ (expr_stays e) (tt, both (whole_leaves k) _ (whole_stays k) (tt, tt))))
 
+stated_stays : (p : Stated) → AllStay (stated_leaves p)
+stated_stays (affirmed p) = prop_stays p
+stated_stays (denied p) = (tt, prop_stays p)
+
 formula_stays : (f : Formula) → AllStay (formula_leaves f)
-formula_stays (single p) = prop_stays p
-formula_stays (and f p) = both (formula_leaves f) _ (formula_stays f) (tt, prop_stays p)
-formula_stays (implies f p) = both (formula_leaves f) _ (formula_stays f) (tt, prop_stays p)
+formula_stays (single p) = stated_stays p
+formula_stays (and f p) = both (formula_leaves f) _ (formula_stays f) (tt, stated_stays p)
+formula_stays (or f p) = both (formula_leaves f) _ (formula_stays f) (tt, stated_stays p)
+formula_stays (implies f p) = both (formula_leaves f) _ (formula_stays f) (tt, stated_stays p)
 
 how_stays : (h : How) → AllStay (how_leaves h)
 how_stays exactly = (tt, tt)

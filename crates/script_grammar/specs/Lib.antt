@@ -5,4 +5,5 @@ pub mod Views
 pub mod Names
 pub mod Few
 pub mod Ranges
+pub mod Cases
 pub mod Read

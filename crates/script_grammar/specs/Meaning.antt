@@ -1,5 +1,6 @@
 -- What a script says, by recursion on its tree: definitions first, then the formula, then the hints.
 use Rattle.std.specs.Prelude.{List}
+use Rattle.script_cases.specs.Parts.{Parts}
 use Rattle.script_shape.specs.Tree.{Hints, Script, formula, define}
 use Rattle.script_nodes.specs.Known.{Known, nothing_known}
 use Rattle.script_nodes.specs.Definitions.{definition_value}
@@ -8,15 +9,23 @@ use Rattle.script_claims.specs.Claims.{Claims, formula_claims}
 use Rattle.script_hints.specs.declared.hint.HintList.{HintList}
 use Rattle.script_hints.specs.Hints.{HintsSoFar, no_hints, with_hints}
 
--- The nodes of all expressions and the names of variables, what the formula claims, and what the hints say.
+-- The nodes of all expressions and the names of variables, what the formula claims, all of that by
+-- parts and conjunctions too, and what the hints say.
 pub record Meaning : Type 0 where
   pub known : Known
   pub hypotheses : List Claim
   pub goals : List Claim
+  pub parts : Parts Claim
   pub hints : HintList
 
 abbrev pub with_hints_of : Claims → HintsSoFar → Meaning
-with_hints_of cs s = record { known = s.0; hypotheses = cs.sides.hypotheses; goals = cs.sides.goals; hints = s.1 }
+with_hints_of cs s = record {
+  known = s.0;
+  hypotheses = cs.sides.hypotheses;
+  goals = cs.sides.goals;
+  parts = cs.sides.parts;
+  hints = s.1;
+}
 
 abbrev pub body_meaning : Claims → Hints → Meaning
 body_meaning cs h = with_hints_of cs (with_hints h (cs.known, no_hints))

@@ -3,9 +3,9 @@ use Rattle.std.specs.Prelude.{ℕ, ◌<◌, List, length}
 use Rattle.std.specs.List.{AllByRecursion}
 use Rattle.fx_model.specs.declared.ExprId.{ExprId}
 use Rattle.script_claims.specs.declared.claim.Claim.{Claim}
-use Rattle.script_claims.specs.declared.claim.Claim.TheVariants.{Bounded, Asked, Relative, RelativeAsked, Multiple}
+use Rattle.script_claims.specs.declared.claim.Claim.TheVariants.{Bounded, Asked, Relative, RelativeAsked, Above, Below, Multiple}
 use Rattle.script_hints.specs.declared.hint.Constraint.{Constraint}
-use Rattle.script_hints.specs.declared.hint.Constraint.TheVariants.{NotZero, Below, Above}
+use Rattle.script_hints.specs.declared.hint.Constraint.TheVariants as need
 use Rattle.script_hints.specs.declared.hint.Hint.{Hint}
 use Rattle.script_hints.specs.declared.hint.HintList.{HintList}
 use Rattle.script_grammar.specs.Spells.{View, Spells}
@@ -23,13 +23,15 @@ ClaimIsOf n (Bounded x lower upper) = IsNode n x
 ClaimIsOf n (Asked x) = IsNode n x
 ClaimIsOf n (Relative x y lower upper) = AreNodes n (x, y)
 ClaimIsOf n (RelativeAsked x y) = AreNodes n (x, y)
+ClaimIsOf n (Above x w) = IsNode n x
+ClaimIsOf n (Below x w) = IsNode n x
 ClaimIsOf n (Multiple x k) = IsNode n x
 
 -- a constraint's expression
 abbrev pub ConstraintIsOf : ℕ → Constraint → Type 0
-ConstraintIsOf n (NotZero x) = IsNode n x
-ConstraintIsOf n (Below x w strict) = IsNode n x
-ConstraintIsOf n (Above x w strict) = IsNode n x
+ConstraintIsOf n (need.NotZero x) = IsNode n x
+ConstraintIsOf n (need.Below x w strict) = IsNode n x
+ConstraintIsOf n (need.Above x w strict) = IsNode n x
 
 -- both sides of a rewriting, and what it needs
 pub record HintIsOf (n : ℕ) (h : Hint) : Type 0 where

@@ -16,19 +16,32 @@ use Rattle.goal_spans.specs.Spans.{goal_spans}
 use Rattle.script_grammar.specs.Meaning.{Meaning, meaning_of}
 
 -- A script as it is read: its text, its tokens, the nodes of its expressions, the names of its variables (`Var i` is the i-th), what
--- its formula claims, which of its tokens are the expressions of the goals, and what its hints say.
+-- its formula claims, its hypotheses by parts and conjunctions (each part a list of conjunctions,
+-- and each conjunction of claims), which of its tokens are the expressions of the goals, and what
+-- its hints say.
 pub record View : Type 0 where
   pub text : List ℕ
   pub tokens : List Token
   pub nodes : List Node
   pub variables : List Name
   pub hypotheses : List Claim
+  pub parts : List (List (List Claim))
   pub goals : List Claim
   pub spans : List Span
   pub hints : HintList
 
 abbrev pub view_of : List ℕ → List Token → Meaning → List Span → View
-view_of text tokens m spans = record { text = text; tokens = tokens; nodes = m.known.nodes; variables = m.known.variables; hypotheses = m.hypotheses; goals = m.goals; spans = spans; hints = m.hints }
+view_of text tokens m spans = record {
+  text = text;
+  tokens = tokens;
+  nodes = m.known.nodes;
+  variables = m.known.variables;
+  hypotheses = m.hypotheses;
+  parts = m.parts.before;
+  goals = m.goals;
+  spans = spans;
+  hints = m.hints;
+}
 
 -- The text spells the script: it is refused nowhere, and its tokens are the words of a tree that says this.
 pub record Spells (text : List ℕ) (s : View) : Type 0 where
@@ -40,7 +53,17 @@ pub record Spells (text : List ℕ) (s : View) : Type 0 where
 
 -- The text spells the script of these parts.
 abbrev pub IsSpelled : List ℕ → List Token → Known → Sides → List Span → HintList → Type 0
-IsSpelled text tokens k sides spans hints = Spells text (record { text = text; tokens = tokens; nodes = k.nodes; variables = k.variables; hypotheses = sides.hypotheses; goals = sides.goals; spans = spans; hints = hints })
+IsSpelled text tokens k sides spans hints = Spells text (record {
+  text = text;
+  tokens = tokens;
+  nodes = k.nodes;
+  variables = k.variables;
+  hypotheses = sides.hypotheses;
+  parts = sides.parts.before;
+  goals = sides.goals;
+  spans = spans;
+  hints = hints;
+})
 
 -- the text is refused so
 abbrev pub IsRefused : List ℕ → Refusal → Type 0

@@ -50,7 +50,11 @@ nodes_at (hinting sides h) = h.reading.known.nodes
 
 -- behind all words
 abbrev pub all_read : Meaning → Step
-all_read m = hinting (record { hypotheses = m.hypotheses; goals = m.goals }) (hints_from m.known m.hints)
+all_read m = hinting (record {
+  hypotheses = m.hypotheses;
+  goals = m.goals;
+  parts = m.parts;
+}) (hints_from m.known m.hints)
 
 -- Reading the words of a script from the left gives what its tree says.
 abbrev pub ReadsScripts : Type 0

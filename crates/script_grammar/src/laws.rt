@@ -2,13 +2,13 @@
 ghost use Rattle.script_grammar.specs.Steps.{ReadsScripts};
 ghost use Rattle.script_grammar.specs.Names.{SpelledNamesNodes};
 ghost use Rattle.script_grammar.specs.Few.{SpelledHaveFewHints};
-ghost use Rattle.script_grammar.specs.Ranges.{SpelledHaveRanges};
+ghost use Rattle.script_grammar.specs.Ranges.{SpelledHaveRanges, SpelledHaveFewCases};
 ghost use Rattle.script_grammar.specs.Spells.{SpellsOnce, NeverBoth, SpellsAll, FirstsExist, GoalsHaveSpans, SpelledAreShort};
 ghost use Rattle.script_grammar.specs.Read.{SpelledAreRead};
 
 use goal_spans::spans_are_read;
 use node_counts::{hints_are_counted, nodes_are_counted, splits_have_ranges};
-use script_claims::formulas_are_read;
+use script_claims::{formulas_are_read, parts_have_hypotheses};
 use script_hints::laws::reads_hints;
 use script_judge::first::firsts_are_unique;
 use script_judge::reading::reads_scripts;
@@ -81,11 +81,23 @@ pub fn spelled_have_few_hints()
     leaves_are_of_trees();
 }
 
-/// Nothing is done. The clause tells a caller that in a script that a text spells each variable that a hint splits has a
-/// hypothesis on its node, with two bounds that are finite when they are rounded outward.
+/// Nothing is done. The clause tells a caller that in each case of a script that a text spells each
+/// variable that a hint splits has a hypothesis on its node, with two bounds that are finite when
+/// they are rounded outward.
 pub fn spelled_have_ranges()
     ensures { SpelledHaveRanges }
 {
+    splits_have_ranges();
+    lexed_once();
+    leaves_are_of_trees();
+}
+
+/// Nothing is done. The clause tells a caller that the hypotheses of a script that a text spells
+/// are the claims of its conjunctions in their order, and that they have 64 cases at most.
+pub fn spelled_have_few_cases()
+    ensures { SpelledHaveFewCases }
+{
+    parts_have_hypotheses();
     splits_have_ranges();
     lexed_once();
     leaves_are_of_trees();

@@ -1,5 +1,8 @@
 // A script as it is read.
-ghost use Rattle.std.specs.Prelude.{◌≡◌, All, slice_get};
+ghost use Rattle.std.specs.Prelude.{◌≡◌, ◌<◌, ◌≤◌, All, Some, length, slice_get, IfOk};
+ghost use Rattle.std.specs.List.{AllByRecursion};
+ghost use Rattle.script_cases.specs.Cases.{cases};
+ghost use Rattle.script_grammar.specs.Ranges.{HasFewCases};
 ghost use Rattle.std.specs.Option.{option_copied};
 ghost use Rattle.script_claims.specs.Facts.{HasNormalBounds as HasNormalClaimBounds};
 ghost use Rattle.script_hints.specs.Needs.{HasNormalBounds};
@@ -8,13 +11,16 @@ ghost use Rattle.node_counts.specs.Ranges.{HaveRanges};
 ghost use Rattle.script_grammar.specs.Names.{NamesNodes};
 ghost use Rattle.fx_model.specs.Expression.{IsOrdered};
 
-use crate::laws::{spelled_have_few_hints, spelled_have_ranges, spelled_name_nodes};
+use crate::laws::{
+    spelled_have_few_cases, spelled_have_few_hints, spelled_have_ranges, spelled_name_nodes,
+};
 use expr_dag::Dag;
 use goal_spans::Span;
 use script_claims::{Claim, Sides};
 use script_hints::hint::HintList;
 use script_nodes::reader::Reader;
 use script_words::lex::Token;
+use std::alloc::{AllocError, Global};
 use std::marker::Model;
 
 /// A script, with the text that spells it.
@@ -43,6 +49,7 @@ impl<'a> Model for Script<'a> {
       nodes = s.nodes.known.nodes;
       variables = s.nodes.known.variables;
       hypotheses = s.sides.hypotheses;
+      parts = s.sides.parts.before;
       goals = s.sides.goals;
       spans = s.spans.items;
       hints = s.hints;
@@ -54,6 +61,7 @@ impl<'a> Model for Script<'a> {
       nodes = s.nodes.known.nodes;
       variables = s.nodes.known.variables;
       hypotheses = s.sides.hypotheses;
+      parts = s.sides.parts.before;
       goals = s.sides.goals;
       spans = s.spans.items;
       hints = s.hints;
@@ -122,6 +130,29 @@ impl<'a> Script<'a> {
         self.sides.hypotheses()
     }
 
+    /// How many cases its hypotheses have: one conjunction of each part, 1 to 64.
+    pub fn case_count(&self) -> usize
+        ensures value { result ≡ length (cases self.now.parts) }
+        ensures some { 0 < result }
+        ensures few { result ≤ 64 }
+    {
+        self.laws();
+        self.sides.case_count()
+    }
+
+    /// What is claimed in the case with this number, counted from 0. They are in lexicographic
+    /// order of the conjunctions taken, the first part slowest.
+    pub fn case(&self, alloc: Global, number: usize) -> Result<Vec<Claim>, AllocError>
+        requires { number < length (cases self.now.parts) }
+        ensures value { IfOk result (λ case.
+            slice_get (cases self.now.parts) number ≡ Some case.items) }
+        ensures normal { IfOk result (λ case. All HasNormalClaimBounds case.items) }
+    {
+        self.laws();
+        self.hypotheses();
+        self.sides.case(alloc, number)
+    }
+
     /// What its formula claims behind the last arrow, or all that it claims where there is none.
     pub fn goals(&self) -> &[Claim]
         ensures value { result.now ≡ self.now.goals }
@@ -138,17 +169,22 @@ impl<'a> Script<'a> {
     }
 
     /// Nothing is done. The clauses tell a caller that the text spells the script, that each node is made of earlier ones, that
-    /// the claims and the hints speak of its nodes, that the hints are few, and that the variables that they split have ranges.
+    /// the claims and the hints speak of its nodes, that the hints are few, that the hypotheses are
+    /// those of all conjunctions and have few cases, and that in each of them the variables that
+    /// the hints split have ranges.
     pub fn laws(&self)
         ensures spelled { Spells self.now.text self.now }
         ensures ordered { IsOrdered self.now.nodes }
         ensures names { NamesNodes self.now }
         ensures few { HasFewHints self.now.hints }
-        ensures ranges { HaveRanges self.now.hypotheses self.now.hints }
+        ensures cases { HasFewCases self.now }
+        ensures ranges { AllByRecursion (λ claims.
+            HaveRanges claims self.now.hints) (cases self.now.parts) }
     {
         spelled_name_nodes();
         spelled_have_few_hints();
         spelled_have_ranges();
+        spelled_have_few_cases();
         self.nodes.dag().laws();
     }
 

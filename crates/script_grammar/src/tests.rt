@@ -1,6 +1,11 @@
 // Texts with their scripts or refusals, worked out by hand. More refusals stand in the tests of `script_judge`.
+ghost use Rattle.std.specs.Prelude.{Some};
+ghost use Rattle.literal_order.specs.Values.{IsWritten};
+
 use crate::{ParseStop, Script, parse};
 use fx_model::{Direction, ExprId, Node, Rounding};
+use literal::read;
+use literal_order::Written;
 use script_claims::Claim;
 use script_judge::refusal::{Refusal, RefusalKind};
 use std::alloc::Global;
@@ -81,6 +86,57 @@ fn hints_have_their_parts(rt: HostRuntime) {
     for (text, wanted) in rows {
         assert!(rt; has_sizes(rt.alloc(), text, wanted), "{text:?}");
     }
+}
+
+// Whether the text spells a script of so many cases, of which the one with the number has these
+// claims.
+fn has_case(
+    alloc: Global,
+    text: &[u8],
+    count: usize,
+    number: usize,
+    wanted: &[Claim],
+) -> Result<bool, Fail> {
+    let Ok(script) = parse(alloc, text) else {
+        return Ok(false);
+    };
+    if script.case_count() != count || number >= script.case_count() {
+        return Ok(false);
+    }
+    let case = script.case(alloc, number)?;
+    Ok(case.as_slice() == wanted)
+}
+
+// The bound that digits write.
+fn bound(rt: &impl Abort, digits: &str) -> Written
+    ensures { IsWritten (Some result) }
+{
+    Written {
+        literal: read(digits).expect(rt, "a literal"),
+        negative: false,
+    }
+}
+
+#[test]
+fn hypotheses_have_their_cases(rt: HostRuntime) -> Result<(), Fail> {
+    let x = ExprId(0);
+    let one = bound(&rt, "1");
+    let two = bound(&rt, "2");
+    let first = Claim::Bounded(x, Some(one), Some(two));
+    let above = Claim::Above(ExprId(1), one);
+    let below = Claim::Below(x, two);
+    let none = b"{ x in ? }";
+    assert!(rt; has_case(rt.alloc(), none, 1, 0, [].as_slice())?);
+    let conjunctions = b"{ x in [1,2] /\\ not y <= 1 \\/ not x >= 2 -> x in ? }";
+    assert!(rt; has_case(rt.alloc(), conjunctions, 2, 0, [first, above].as_slice())?);
+    assert!(rt; has_case(rt.alloc(), conjunctions, 2, 1, [below].as_slice())?);
+    let parts =
+        b"{ x in [1,2] \\/ not y <= 1 -> not x >= 2 -> not x >= 2 \\/ x in [1,2] -> x in ? }";
+    assert!(rt; has_case(rt.alloc(), parts, 4, 0, [first, below, below].as_slice())?);
+    assert!(rt; has_case(rt.alloc(), parts, 4, 1, [first, below, first].as_slice())?);
+    assert!(rt; has_case(rt.alloc(), parts, 4, 2, [above, below, below].as_slice())?);
+    assert!(rt; has_case(rt.alloc(), parts, 4, 3, [above, below, first].as_slice())?);
+    Ok(())
 }
 
 // Whether the node with the number is this one.

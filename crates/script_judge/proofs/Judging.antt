@@ -11,11 +11,14 @@ use Rattle.script_judge.specs.declared.judge.Seen.{Seen as CodeSeen}
 use Rattle.script_judge.specs.declared.counts.Counts.{Counts}
 use Rattle.script_judge.specs.Counts.{one_if}
 use Rattle.script_judge.specs.Limits.{IsWithinLimits}
-use Rattle.script_judge.specs.Names.{is_used, is_some_among, defines, split_name}
+use Rattle.script_judge.specs.Names.{is_used, is_some_among, defines, ended, operand_name, split_name}
 use Rattle.script_judge.specs.Bounds.{is_bad_bound}
-use Rattle.script_judge.specs.Splits.{is_rangeless, is_bad_point}
+use Rattle.script_cases.specs.Parts.{begun_cases}
+use Rattle.script_judge.specs.Splits.{SplitsSeen, ends_between, is_rangeless, is_bad_point}
+use Rattle.script_judge.specs.SplitViews.{splits_seen}
+use Rattle.script_judge.specs.FewCases.{still_few}
 use Rattle.script_judge.specs.Numbers.{Verdict, Tells, has_no_pieces, is_past_lsb, is_past_pieces}
-use Rattle.script_judge.specs.Judge.{Seen, nothing_seen, seen_after, is_arrow, has_arrow, arrow_count, is_empty, is_on_wrong_side, form_kind, form_refusal, limit_kind, limit_refusal, or_else, refusal_at, Judged, refused, passed, fails}
+use Rattle.script_judge.specs.Judge.{Seen, nothing_seen, seen_after, is_arrow, has_arrow, arrow_count, is_on_wrong_side, form_kind, form_refusal, limit_kind, is_past_cases, limit_refusal, or_else, refusal_at, Judged, refused, passed, fails}
 use Rattle.script_judge.specs.Views.{IsSeen}
 
 -- ---- arrows
@@ -49,8 +52,8 @@ neither : (a b : Bool) → (a || b) ≡ false → a ≡ false
 neither true b e = absurd (cc e)
 neither false b e = refl
 
-pub no_limit : (opened halved : ℕ) (c : Counts) (lsb pieces : Bool) → limit_kind opened halved c lsb pieces ≡ None → IsWithinLimits c
-no_limit opened halved c lsb pieces h =
+pub no_limit : (opened halved : ℕ) (c : Counts) (lsb pieces cases : Bool) → limit_kind opened halved c lsb pieces cases ≡ None → IsWithinLimits c × (cases ≡ false)
+no_limit opened halved c lsb pieces cases h =
     let nesting = fails _ _ _ h in
     let definitions = fails _ _ _ nesting.1 in
     let propositions = fails _ _ _ definitions.1 in
@@ -59,14 +62,17 @@ no_limit opened halved c lsb pieces h =
     let low = fails _ _ _ nodes.1 in
     let splits = fails _ _ _ low.1 in
     let cut = fails _ _ _ splits.1 in
-    record {
-      definitions = ltb-false 256 c.definitions definitions.0;
-      propositions = ltb-false 128 c.propositions propositions.0;
-      hints = ltb-false 64 c.hints hints.0;
-      nodes = ltb-false 512 c.nodes nodes.0;
-      splits = ltb-false 4 c.splits (neither _ _ splits.0);
-      pieces = ltb-false 64 c.pieces (neither _ _ cut.0);
-    }
+    let many = fails _ _ _ cut.1 in (
+      record {
+        definitions = ltb-false 256 c.definitions definitions.0;
+        propositions = ltb-false 128 c.propositions propositions.0;
+        hints = ltb-false 64 c.hints hints.0;
+        nodes = ltb-false 512 c.nodes nodes.0;
+        splits = ltb-false 4 c.splits (neither _ _ splits.0);
+        pieces = ltb-false 64 c.pieces (neither _ _ cut.0);
+      },
+      many.0,
+    )
 
 -- ---- the words that are left
 
@@ -86,11 +92,12 @@ pub record JudgedTo (all : List Leaf) (number : ℕ) (code : CodeSeen) (left : L
   pub seen : Seen
   pub stands : IsSeen code seen
   pub within : IsWithinLimits code.counts
+  pub few : begun_cases (splits_seen code.splits).ranges ≤ 64
   pub arrows_left : arrows ≡ arrow_count left
   pub rest : (found : Option Fault) → Judged number seen left found → Judged 0 nothing_seen all found
 
-pub begin_judging : (all : List Leaf) (code : CodeSeen) (arrows : ℕ) → IsSeen code nothing_seen → IsWithinLimits code.counts → arrows ≡ arrow_count all → JudgedTo all 0 code all arrows
-begin_judging all code arrows h w a = record { seen = nothing_seen; stands = h; within = w; arrows_left = a; rest = λ found k. k }
+pub begin_judging : (all : List Leaf) (code : CodeSeen) (arrows : ℕ) → IsSeen code nothing_seen → IsWithinLimits code.counts → begun_cases (splits_seen code.splits).ranges ≤ 64 → arrows ≡ arrow_count all → JudgedTo all 0 code all arrows
+begin_judging all code arrows h w f a = record { seen = nothing_seen; stands = h; within = w; few = f; arrows_left = a; rest = λ found k. k }
 
 -- what is told of one token
 pub record IsFormOf (code : CodeSeen) (v : Verdict) (arrow_behind : Bool) (r : Due) (w : Word) (behind : List Leaf) (form : Option RefusalKind) : Type 0 where
@@ -131,39 +138,29 @@ module _ (all : List Leaf) (n : ℕ) (code : CodeSeen) (r : Due) (w : Word) (beh
     goes_on g later a =
         let s = takes m.seen m.stands in
         let none : limit_refusal (seen_after v m.seen r w) r w ≡ None = sym (limits (seen_after v m.seen r w) s) ∙ g in
+        let within = no_limit (length (seen_after v m.seen r w).opened) (length (seen_after v m.seen r w).names.halved) (seen_after v m.seen r w).counts (is_past_lsb r w) (is_past_pieces r w) (is_past_cases r w (begun_cases (seen_after v m.seen r w).splits.ranges)) none in
         record {
           seen = seen_after v m.seen r w;
           stands = s;
-          within = subst IsWithinLimits (sym s.counts) (no_limit (length (seen_after v m.seen r w).opened) (length (seen_after v m.seen r w).names.halved) (seen_after v m.seen r w).counts (is_past_lsb r w) (is_past_pieces r w) none);
+          within = subst IsWithinLimits (sym s.counts) within.0;
+          few = subst (λ (x : SplitsSeen). begun_cases x.ranges ≤ 64) (sym s.splits) (still_few m.seen.splits (ended r m.seen.names.pending) (is_some_among m.seen.names.defined (operand_name r w)) v.arrow_behind (ends_between m.seen.bounds.lower v.number) v.number r w (subst (λ (x : SplitsSeen). begun_cases x.ranges ≤ 64) m.stands.splits m.few) within.1);
           arrows_left = a;
           rest = λ found h. m.rest found (passed {v = v} f.tells (at_limit ∙ g) h);
         }
 
 -- ---- what one token's tests tell
 
-pub empty_leaves : (rs : List Due) (ws : List Word) → length rs ≤ length ws → is_empty (leaves_of rs ws) ≡ nat_eq (length rs) 0
-empty_leaves [] ws h = refl
-empty_leaves (r ∷ rs) [] h = absurd (omega arith)
-empty_leaves (r ∷ rs) (w ∷ ws) h = some (length rs)
-  where
-    some : (n : ℕ) → false ≡ nat_eq (suc n) 0
-    some n = grind arith
-
-pub form_told : (v : Verdict) (arrow_behind : Bool) (seen : Seen) (r : Due) (w : Word) (rs : List Due) (ws : List Word) (is_last wrong_side used bad rangeless split no_pieces point : Bool) (answer : Option RefusalKind)
-    → is_last ≡ is_empty (leaves_of rs ws) → wrong_side ≡ is_on_wrong_side r w arrow_behind is_last → used ≡ is_used seen.names (defines r w) (leaves_of rs ws)
+pub form_told : (v : Verdict) (arrow_behind : Bool) (seen : Seen) (r : Due) (w : Word) (rs : List Due) (ws : List Word) (wrong_side used bad rangeless split no_pieces point : Bool) (answer : Option RefusalKind)
+    → wrong_side ≡ is_on_wrong_side r w arrow_behind (leaves_of rs ws) → used ≡ is_used seen.names (defines r w) (leaves_of rs ws)
     → bad ≡ is_bad_bound seen.bounds v.number → rangeless ≡ is_rangeless seen.splits.ranges split (split_name r w) → split ≡ is_some_among seen.names.defined (split_name r w) → no_pieces ≡ has_no_pieces r w
     → point ≡ is_bad_point seen.splits (nat_lt 0 seen.counts.pieces) v.number → answer ≡ form_kind wrong_side used bad rangeless split no_pieces point v.past
     → answer ≡ form_refusal v seen r w arrow_behind (leaves_of rs ws)
-form_told v arrow_behind seen r w rs ws is_last wrong_side used bad rangeless split no_pieces point answer l a b k g d p q e =
-    let side : wrong_side ≡ is_on_wrong_side r w arrow_behind (is_empty (leaves_of rs ws)) = a ∙ ap (is_on_wrong_side r w arrow_behind) l in
+form_told v arrow_behind seen r w rs ws wrong_side used bad rangeless split no_pieces point answer a b k g d p q e =
     let range : rangeless ≡ is_rangeless seen.splits.ranges (is_some_among seen.names.defined (split_name r w)) (split_name r w) = g ∙ ap (λ x. is_rangeless seen.splits.ranges x (split_name r w)) d in
-    e ∙ (λ i. form_kind (side i) (b i) (k i) (range i) (d i) (p i) (q i) v.past)
+    e ∙ (λ i. form_kind (a i) (b i) (k i) (range i) (d i) (p i) (q i) v.past)
 
-pub limit_told : (seen : Seen) (r : Due) (w : Word) (opened halved : ℕ) (counts : Counts) (lsb pieces : Bool) (answer : Option RefusalKind)
-    → opened ≡ length seen.opened → halved ≡ length seen.names.halved → counts ≡ seen.counts → lsb ≡ is_past_lsb r w → pieces ≡ is_past_pieces r w
-    → answer ≡ limit_kind opened halved counts lsb pieces → answer ≡ limit_refusal seen r w
-limit_told seen r w opened halved counts lsb pieces answer o h n l p e =
-    e ∙ ap (λ x. limit_kind x halved counts lsb pieces) o ∙ ap (λ x. limit_kind (length seen.opened) x counts lsb pieces) h
-    ∙ ap (λ x. limit_kind (length seen.opened) (length seen.names.halved) x lsb pieces) n
-    ∙ ap (λ x. limit_kind (length seen.opened) (length seen.names.halved) seen.counts x pieces) l
-    ∙ ap (λ x. limit_kind (length seen.opened) (length seen.names.halved) seen.counts (is_past_lsb r w) x) p
+pub limit_told : (seen : Seen) (r : Due) (w : Word) (opened halved : ℕ) (counts : Counts) (lsb pieces cases : Bool) (answer : Option RefusalKind)
+    → opened ≡ length seen.opened → halved ≡ length seen.names.halved → counts ≡ seen.counts → lsb ≡ is_past_lsb r w → pieces ≡ is_past_pieces r w → cases ≡ is_past_cases r w (begun_cases seen.splits.ranges)
+    → answer ≡ limit_kind opened halved counts lsb pieces cases → answer ≡ limit_refusal seen r w
+limit_told seen r w opened halved counts lsb pieces cases answer o h n l p c e =
+    e ∙ (λ i. limit_kind (o i) (h i) (n i) (l i) (p i) (c i))

@@ -6,3 +6,5 @@ pub mod Firsts
 pub mod Nested
 pub mod Unique
 pub mod Whole
+pub mod CaseRanges
+pub mod LastLeaf

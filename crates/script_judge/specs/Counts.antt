@@ -42,9 +42,10 @@ abbrev pub place_opened : Bool → Place → Place
 place_opened true p = place.PropositionNext
 place_opened false p = p
 
--- the place behind a token
+-- the place behind a token; a proposition begins behind `not`
 abbrev pub place_after : Place → Due → Word → Place
 place_after p d.Script w = place_opened (is_open_brace w) p
+place_after p d.Claim w = p
 place_after p d.Connective w = place.PropositionNext
 place_after p d.CloseBrace w = place_closed p
 place_after p d.Semicolon w = place_ended p
@@ -57,10 +58,15 @@ abbrev pub begins_definition : Due → Word → Bool
 begins_definition d.Script w = not (is_open_brace w)
 begins_definition r w = false
 
--- a proposition's first token
-abbrev pub begins_proposition : Place → Bool
-begins_proposition place.PropositionNext = true
-begins_proposition p = false
+-- a proposition's first token, which isn't the `not` before it
+abbrev pub is_first : Due → Bool
+is_first d.Claim = false
+is_first r = true
+
+-- whether it is a proposition's first token
+abbrev pub begins_proposition : Place → Due → Bool
+begins_proposition place.PropositionNext r = is_first r
+begins_proposition p r = false
 
 -- a hint's first token
 abbrev pub begins_hint : Place → Bool
@@ -133,7 +139,7 @@ counts_after c is_new r w = record {
   rounds = rounds_after c.rounds r w;
   halves = halves_after c.halves r;
   definitions = c.definitions + one_if (begins_definition r w);
-  propositions = c.propositions + one_if (begins_proposition c.place);
+  propositions = c.propositions + one_if (begins_proposition c.place r);
   hints = c.hints + one_if (begins_hint c.place);
   nodes = c.nodes + nodes_at c.rounds is_new r w;
   splits = c.splits + splits_at r;

@@ -70,10 +70,6 @@ abbrev pub is_operator_due : List Word → Bool
 is_operator_due before =
     may_follow before (class.Sign s.Fixed) && not (may_follow before (class.Sign s.Equal)) && not (may_follow before (class.Name spelled.Plain))
 
--- a proposition: `@` as well as an operand
-abbrev pub is_proposition_due : List Word → Bool
-is_proposition_due before = may_follow before (class.Sign s.At) && may_follow before (class.Sign s.OpenParen)
-
 -- ---- names with a value
 
 -- a definition begins with this name, which gets a value
@@ -105,12 +101,6 @@ is_unknown before leaves w next =
     || is_spelled w && (is_operator_due before || is_direction_due before)
     || is_unknown_op before leaves w next
 
--- `not` where a proposition is due, and `\/` where one has ended
-abbrev pub is_later_form : List Word → Word → Bool
-is_later_form before (sign s.Not) = is_proposition_due before
-is_later_form before (sign s.Or) = may_follow before (class.Sign s.And)
-is_later_form before w = false
-
 -- Why a word that has no place behind these is refused, and at which word: at the name before it where it is the `(` of
 -- a call of what is no operator, else at the word.
 abbrev pub fault_of : List Word → List Leaf → Word → Option Word → Fault
@@ -118,6 +108,6 @@ fault_of before leaves w next =
     if not (is_foreign w) && is_unknown_call (slice_get before (length before - 1)) (Some w)
     then record { kind = kind.UnsupportedOperator; word = length before - 1 }
     else record {
-      kind = if is_unknown before leaves w next then kind.UnsupportedOperator else if is_later_form before w then kind.FormulaForm else kind.Unexpected;
+      kind = if is_unknown before leaves w next then kind.UnsupportedOperator else kind.Unexpected;
       word = length before;
     }

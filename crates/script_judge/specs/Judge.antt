@@ -15,7 +15,8 @@ use Rattle.script_judge.specs.declared.fault.Fault.{Fault}
 use Rattle.script_judge.specs.Counts.{one_if, counts_after}
 use Rattle.script_judge.specs.Nesting.{opened_after}
 use Rattle.script_judge.specs.Bounds.{BoundsSeen, no_bounds, bounds_after, is_bad_bound}
-pub use Rattle.script_judge.specs.Sides.{is_arrow, has_arrow}
+use Rattle.script_cases.specs.Parts.{begun_cases}
+pub use Rattle.script_judge.specs.Sides.{is_arrow, is_or, has_arrow, begins_bound}
 use Rattle.script_judge.specs.Splits.{SplitsSeen, no_splits, splits_after, ends_between, is_rangeless, is_bad_point}
 use Rattle.script_judge.specs.Numbers.{Verdict, Tells, has_no_pieces, is_past_lsb, is_past_pieces}
 use Rattle.script_judge.specs.Names.{NamesSeen, no_names, names_after, is_new, is_used, is_some_among, defines, ended, operand_name, split_name}
@@ -48,7 +49,8 @@ seen_after v seen r w = record {
   splits = splits_after seen.splits (ended r seen.names.pending) (is_some_among seen.names.defined (operand_name r w)) v.arrow_behind (ends_between seen.bounds.lower v.number) v.number r w;
 }
 
--- ---- `?` in a hypothesis, `@FIX` in a goal: propositions with a `->` of the formula behind them are hypotheses
+-- ---- `?` in a hypothesis; `@FIX`, `\/` and `not` in a goal: propositions with a `->` of the
+-- formula behind them are hypotheses
 
 -- how many of them are
 abbrev pub arrow_count : List Leaf → ℕ
@@ -60,16 +62,18 @@ abbrev pub is_ask : Word → Bool
 is_ask (sign s.Ask) = true
 is_ask w = false
 
--- An `@` behind which the reading ends is no `@FIX`.
-abbrev pub is_on_wrong_side : Due → Word → Bool → Bool → Bool
-is_on_wrong_side d.Range w arrow_behind is_last = is_ask w && arrow_behind
-is_on_wrong_side d.Prop w arrow_behind is_last = not arrow_behind && not is_last
-is_on_wrong_side r w arrow_behind is_last = false
-
 -- no token is left
 abbrev pub is_empty : List Leaf → Bool
 is_empty [] = true
 is_empty (l ∷ ls) = false
+
+-- An `@` behind which the reading ends is no `@FIX`. A `not` stands before a bound alone.
+abbrev pub is_on_wrong_side : Due → Word → Bool → List Leaf → Bool
+is_on_wrong_side d.Range w arrow_behind behind = is_ask w && arrow_behind
+is_on_wrong_side d.Prop w arrow_behind behind = not arrow_behind && not (is_empty behind)
+is_on_wrong_side d.Connective w arrow_behind behind = is_or w && not arrow_behind
+is_on_wrong_side d.Claim w arrow_behind behind = not arrow_behind || not (begins_bound behind)
+is_on_wrong_side r w arrow_behind behind = false
 
 -- ---- one token: the kinds in the order of their numbers
 
@@ -90,13 +94,14 @@ form_kind wrong_side used bad_bound rangeless defined_split no_pieces bad_point 
 -- the tests of one token, with whether a `->` of the formula stands behind it
 abbrev pub form_refusal : Verdict → Seen → Due → Word → Bool → List Leaf → Option RefusalKind
 form_refusal v seen r w arrow_behind behind =
-    form_kind (is_on_wrong_side r w arrow_behind (is_empty behind)) (is_used seen.names (defines r w) behind) (is_bad_bound seen.bounds v.number)
+    form_kind (is_on_wrong_side r w arrow_behind behind)
+    (is_used seen.names (defines r w) behind) (is_bad_bound seen.bounds v.number)
     (is_rangeless seen.splits.ranges (is_some_among seen.names.defined (split_name r w)) (split_name r w))
     (is_some_among seen.names.defined (split_name r w)) (has_no_pieces r w) (is_bad_point seen.splits (nat_lt 0 seen.counts.pieces) v.number) v.past
 
 -- the limits that are passed with a token
-abbrev pub limit_kind : ℕ → ℕ → Counts → Bool → Bool → Option RefusalKind
-limit_kind opened halved counts past_lsb past_pieces = first_kind (
+abbrev pub limit_kind : ℕ → ℕ → Counts → Bool → Bool → Bool → Option RefusalKind
+limit_kind opened halved counts past_lsb past_pieces past_cases = first_kind (
     (nat_lt 64 opened, kind.Limit limit.Nesting)
     ∷ ((nat_lt 256 counts.definitions, kind.Limit limit.Definitions)
     ∷ ((nat_lt 128 counts.propositions, kind.Limit limit.Propositions)
@@ -104,12 +109,19 @@ limit_kind opened halved counts past_lsb past_pieces = first_kind (
     ∷ ((nat_lt 512 counts.nodes, kind.Limit limit.Nodes)
     ∷ ((past_lsb, kind.Limit limit.Lsb)
     ∷ ((nat_lt 4 counts.splits || nat_lt 4 halved, kind.Limit limit.Splits)
-    ∷ ((nat_lt 64 counts.pieces || past_pieces, kind.Limit limit.Pieces) ∷ []))))))))
+    ∷ ((nat_lt 64 counts.pieces || past_pieces, kind.Limit limit.Pieces)
+    ∷ ((past_cases, kind.Limit limit.Cases) ∷ [])))))))))
+
+-- a `\/` of the formula with which the conjunctions that have begun make too many cases
+abbrev pub is_past_cases : Due → Word → ℕ → Bool
+is_past_cases d.Connective w count = is_or w && nat_lt 64 count
+is_past_cases r w count = false
 
 -- the limits that are passed with one token, which is among those that stand before
 abbrev pub limit_refusal : Seen → Due → Word → Option RefusalKind
 limit_refusal after r w =
-    limit_kind (length after.opened) (length after.names.halved) after.counts (is_past_lsb r w) (is_past_pieces r w)
+    limit_kind (length after.opened) (length after.names.halved) after.counts
+    (is_past_lsb r w) (is_past_pieces r w) (is_past_cases r w (begun_cases after.splits.ranges))
 
 -- the first that there is
 abbrev pub or_else : Option RefusalKind → Option RefusalKind → Option RefusalKind

@@ -15,3 +15,4 @@ pub mod SplitViews
 pub mod Judge
 pub mod First
 pub mod Judgement
+pub mod FewCases

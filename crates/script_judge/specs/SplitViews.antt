@@ -9,6 +9,7 @@ use Rattle.script_judge.specs.declared.splits.Ends.{Ends as CodeEnds}
 use Rattle.script_judge.specs.declared.splits.SplitRange.{SplitRange as CodeRange}
 use Rattle.script_judge.specs.declared.splits.Splits.{Splits}
 use Rattle.script_judge.specs.Subject.{Subject, nothing, node_of, other, Alias}
+use Rattle.script_cases.specs.Mapped.{map_parts}
 use Rattle.script_judge.specs.Splits.{Ends, SplitRange, SplitsSeen}
 
 abbrev pub subject_seen : CodeSubject → Subject
@@ -29,7 +30,7 @@ abbrev pub splits_seen : Splits → SplitsSeen
 splits_seen x = record {
   subject = subject_seen x.subject;
   aliases = map alias_seen x.aliases.items;
-  ranges = map range_seen x.ranges.items;
-  cut = option_map ends_seen x.cut;
+  ranges = map_parts range_seen x.ranges;
+  cut = map (option_map ends_seen) x.cut.items;
   before = option_map value_of x.before;
 }

@@ -1,10 +1,14 @@
 -- Split ranges of variables, and points that split them.
-use Rattle.std.specs.Prelude.{◌&&◌, not, List, [], ◌∷◌, ◌++◌, Option, Some, None, Bool, true, false, if◌then◌else◌}
+use Rattle.std.specs.Prelude.{◌&&◌, not, List, [], ◌∷◌, map, Option, Some, None, Bool, true, false, if◌then◌else◌}
+use Rattle.std.specs.List.{list_any}
 use Rattle.std.specs.Str.{bytes_eq}
 use Rattle.fx_model.specs.Fraction.{Fraction}
-use Rattle.script_words.specs.Words.{Word}
+use Rattle.script_words.specs.declared.class.Sign.TheVariants as s
+use Rattle.script_words.specs.Words.{Word, sign}
 use Rattle.script_shape.specs.declared.due.Due.{Due}
 use Rattle.script_shape.specs.declared.due.Due.TheVariants as d
+use Rattle.script_cases.specs.Cases.{cases}
+use Rattle.script_cases.specs.Parts.{Parts, nothing as no_parts, with_item, behind_or, behind_arrow}
 use Rattle.bound_order.specs.Tests.{is_less, down_number, up_number}
 use Rattle.script_judge.specs.Names.{Name, split_name}
 use Rattle.script_judge.specs.Subject.{Subject, nothing, node_of, Alias, subject_after, aliases_after}
@@ -32,24 +36,46 @@ ends_between None high = None
 ends_between (Some low) None = None
 ends_between (Some low) (Some high) = ends_at (down_number low) (up_number high)
 
-abbrev pub with_range : List SplitRange → Name → Option Ends → List SplitRange
+-- one range more, where there is one
+abbrev pub with_range : Parts SplitRange → Name → Option Ends → Parts SplitRange
 with_range ranges variable None = ranges
-with_range ranges variable (Some ends) = ranges ++ (record { variable = variable; ends = ends } ∷ [])
+with_range ranges variable (Some ends) =
+    with_item ranges (record { variable = variable; ends = ends })
 
 -- a hypothesis of a variable gives a range at its upper bound
-abbrev pub ranges_after : List SplitRange → Subject → Bool → Option Ends → List SplitRange
+abbrev pub ranges_after : Parts SplitRange → Subject → Bool → Option Ends → Parts SplitRange
 ranges_after ranges (node_of variable) true ends = with_range ranges variable ends
 ranges_after ranges subject arrow_behind ends = ranges
+
+-- `\/` ends a conjunction, and `->` a part
+abbrev pub connected : Parts SplitRange → Word → Parts SplitRange
+connected ranges (sign s.Or) = behind_or ranges
+connected ranges (sign s.Arrow) = behind_arrow ranges
+connected ranges w = ranges
+
+-- the parts of ranges behind a word: only signs between propositions change them
+abbrev pub parts_after : Parts SplitRange → Due → Word → Parts SplitRange
+parts_after ranges d.Connective w = connected ranges w
+parts_after ranges r w = ranges
 
 -- the range of a variable is that of the first such hypothesis
 abbrev pub range_of : List SplitRange → Name → Option Ends
 range_of [] text = None
 range_of (r ∷ rs) text = if bytes_eq r.variable text then Some r.ends else range_of rs text
 
--- the range of the split variable that stands before
-abbrev pub cut_after : Option Ends → List SplitRange → Option Name → Option Ends
-cut_after old ranges None = old
-cut_after old ranges (Some text) = range_of ranges text
+-- its range in each case of the hypothesis parts
+abbrev pub case_ranges : Parts SplitRange → Name → List (Option Ends)
+case_ranges ranges text = map (λ case. range_of case text) (cases ranges.before)
+
+-- the ranges of the split variable, where there is one
+abbrev pub ranges_at : Parts SplitRange → Option Name → List (Option Ends)
+ranges_at ranges None = []
+ranges_at ranges (Some text) = case_ranges ranges text
+
+-- those of the split variable that stands before: of a new one these
+abbrev pub cut_after : List (Option Ends) → List (Option Ends) → Option Name → List (Option Ends)
+cut_after old found None = old
+cut_after old found (Some text) = found
 
 -- ---- points
 
@@ -69,28 +95,33 @@ abbrev pub is_after : Option Fraction → Fraction → Bool
 is_after None g = true
 is_after (Some before) g = is_less before g
 
-abbrev pub splits_at : Ends → Option Fraction → Option Fraction → Bool
-splits_at ends before None = false
-splits_at ends before (Some g) = is_less ends.low g && is_less g ends.high && is_after before g
+-- strictly inside a range
+abbrev pub is_inside : Fraction → Option Ends → Bool
+is_inside g None = false
+is_inside g (Some ends) = is_less ends.low g && is_less g ends.high
 
--- a point in a range that, rounded down, isn't inside, or not above the one before
-abbrev pub is_no_split : Option Ends → Option Fraction → Option Fraction → Bool
-is_no_split None before number = false
-is_no_split (Some ends) before None = false
-is_no_split (Some ends) before (Some x) = not (splits_at ends before (down_number x))
+-- inside the range of some case, and above the point before
+abbrev pub splits_at : List (Option Ends) → Option Fraction → Option Fraction → Bool
+splits_at cut before None = false
+splits_at cut before (Some g) = list_any (is_inside g) cut && is_after before g
+
+-- a point that, rounded down, is inside the range of no case, or not above the one before
+abbrev pub is_no_split : List (Option Ends) → Option Fraction → Option Fraction → Bool
+is_no_split cut before None = false
+is_no_split cut before (Some x) = not (splits_at cut before (down_number x))
 
 -- ---- what stands before a token
 
 pub record SplitsSeen : Type 0 where
   pub subject : Subject
   pub aliases : List Alias
-  pub ranges : List SplitRange
-  pub cut : Option Ends
+  pub ranges : Parts SplitRange
+  pub cut : List (Option Ends)
   pub before : Option Fraction
 
 -- before the first token
 abbrev pub no_splits : SplitsSeen
-no_splits = record { subject = nothing; aliases = []; ranges = []; cut = None; before = None }
+no_splits = record { subject = nothing; aliases = []; ranges = no_parts; cut = []; before = None }
 
 -- What stands behind a token: `ended` is the name whose definition it ends, `defined` says that it is an operand that has a
 -- definition, `ends` are those of a range whose upper bound begins there.
@@ -98,8 +129,8 @@ abbrev pub splits_after : SplitsSeen → Option Name → Bool → Bool → Optio
 splits_after x ended defined arrow_behind ends number r w = record {
   subject = subject_after x.subject x.aliases defined r w;
   aliases = aliases_after x.aliases x.subject ended;
-  ranges = ranges_after x.ranges x.subject arrow_behind ends;
-  cut = cut_after x.cut x.ranges (split_name r w);
+  ranges = parts_after (ranges_after x.ranges x.subject arrow_behind ends) r w;
+  cut = cut_after x.cut (ranges_at x.ranges (split_name r w)) (split_name r w);
   before = before_after x.before number r;
 }
 
@@ -109,10 +140,9 @@ abbrev pub is_none : Option Ends → Bool
 is_none None = true
 is_none (Some ends) = false
 
--- a split variable that has no definition and no range
-abbrev pub is_rangeless : List SplitRange → Bool → Option Name → Bool
-is_rangeless ranges defined None = false
-is_rangeless ranges defined (Some text) = not defined && is_none (range_of ranges text)
+-- a split variable that has no definition, and in some case no range
+abbrev pub is_rangeless : Parts SplitRange → Bool → Option Name → Bool
+is_rangeless ranges defined name = not defined && list_any is_none (ranges_at ranges name)
 
 -- a point of a list that doesn't split
 abbrev pub is_bad_point : SplitsSeen → Bool → Option Fraction → Bool

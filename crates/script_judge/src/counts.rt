@@ -92,6 +92,7 @@ fn place_after(place: Place, role: Due, word: Word<'_>) -> Place
 {
     match role {
         Due::Script => place_opened(is_open_brace(word), place),
+        Due::Claim => place,
         Due::Connective => Place::PropositionNext,
         Due::CloseBrace => place_closed(place),
         Due::Semicolon => place_ended(place),
@@ -108,10 +109,20 @@ fn begins_definition(role: Due, word: Word<'_>) -> bool
     }
 }
 
-fn begins_proposition(place: Place) -> bool
-    ensures { result ≡ spec.begins_proposition place }
+fn is_first(role: Due) -> bool
+    ensures { result ≡ spec.is_first role }
 {
-    matches!(place, Place::PropositionNext)
+    !matches!(role, Due::Claim)
+}
+
+/// Whether it is the first token of a proposition.
+fn begins_proposition(place: Place, role: Due) -> bool
+    ensures { result ≡ spec.begins_proposition place role }
+{
+    match place {
+        Place::PropositionNext => is_first(role),
+        _ => false,
+    }
 }
 
 fn begins_hint(place: Place) -> bool
@@ -231,7 +242,7 @@ pub fn counts_after(counts: Counts, is_new: bool, role: Due, word: Word<'_>) -> 
         rounds: rounds_after(counts.rounds, role, word),
         halves: halves_after(counts.halves, role),
         definitions: counts.definitions + one_if(begins_definition(role, word)),
-        propositions: counts.propositions + one_if(begins_proposition(counts.place)),
+        propositions: counts.propositions + one_if(begins_proposition(counts.place, role)),
         hints: counts.hints + one_if(begins_hint(counts.place)),
         nodes: counts.nodes + nodes_at(counts.rounds, is_new, role, word),
         splits: counts.splits + splits_at(role),

@@ -117,15 +117,6 @@ fn is_operator_due(alloc: Global, before: WordList<'_, '_>) -> Result<bool, Allo
     Ok(operator && !equal && !any_name)
 }
 
-/// Whether a proposition may begin next.
-fn is_proposition_due(alloc: Global, before: WordList<'_, '_>) -> Result<bool, AllocError>
-    ensures { IfOk result (λ due. due ≡ spec.is_proposition_due (words_in before.entry)) }
-{
-    let fix = may_follow(alloc, before, Class::Sign(Sign::At))?;
-    let operand = may_follow(alloc, before, Class::Sign(Sign::OpenParen))?;
-    Ok(fix && operand)
-}
-
 /// Whether a definition before the one that these words end with gives the name a value.
 fn has_earlier_value(words: WordList<'_, '_>, roles: &[Due], name: &[u8]) -> bool
     requires { length roles.now ≤ length (words_in words) }
@@ -178,21 +169,6 @@ fn is_unknown(
     is_unknown_op(alloc, before, roles, word, next)
 }
 
-/// Whether it is a sign of formulas that no script has yet.
-fn is_later_form(
-    alloc: Global,
-    before: WordList<'_, '_>,
-    word: Word<'_>,
-) -> Result<bool, AllocError>
-    ensures { IfOk result (λ later. later ≡ spec.is_later_form (words_in before.entry) (word_of word.entry)) }
-{
-    match word {
-        Word::Sign(Sign::Not) => is_proposition_due(alloc, before),
-        Word::Sign(Sign::Or) => may_follow(alloc, before, Class::Sign(Sign::And)),
-        _ => Ok(false),
-    }
-}
-
 /// Why the first word that has no place is refused, and where.
 pub fn fault_of(
     alloc: Global,
@@ -217,8 +193,6 @@ pub fn fault_of(
     }
     let kind = if is_unknown(alloc, before, roles, word, next)? {
         RefusalKind::UnsupportedOperator
-    } else if is_later_form(alloc, before, word)? {
-        RefusalKind::FormulaForm
     } else {
         RefusalKind::Unexpected
     };

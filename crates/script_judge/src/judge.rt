@@ -1,6 +1,12 @@
 //! The refusals that are judged on the words before the reading ends.
 
-ghost use Rattle.std.specs.Prelude.{◌≡◌, ◌≤◌, ◌<◌, ◌+◌, ◌∷◌, length, drop, IfOk, IfSome, OnOk};
+ghost use Rattle.std.specs.Prelude.{◌≡◌, ◌≤◌, ◌<◌, ◌+◌, ◌∷◌, length, drop, map, IfOk, IfSome, OnOk};
+ghost use Rattle.std.specs.Option.{option_map};
+ghost use Rattle.script_cases.specs.Cases.{case_count};
+ghost use Rattle.script_cases.specs.Parts.{begun_cases};
+ghost use Rattle.script_judge.specs.Names.{split_name};
+ghost use Rattle.script_judge.specs.Splits.{ranges_at};
+ghost use Rattle.script_judge.specs.SplitViews.{ends_seen, splits_seen};
 ghost use Rattle.script_words.specs.Named.{word_of};
 ghost use Rattle.script_words.specs.Kept.{words_in};
 ghost use Rattle.script_shape.specs.Roles.{leaves_of};
@@ -20,7 +26,7 @@ use crate::nesting::{Open, open_or_close};
 use crate::numbers::{Verdict, has_no_pieces, is_past_lsb, is_past_pieces, verdict_on};
 use crate::refusal::RefusalKind;
 use crate::sides::{arrow_count, is_arrow, is_on_wrong_side, without};
-use crate::splits::{Splits, Told, ends_between};
+use crate::splits::{Ends, Splits, Told, ends_between, is_rangeless};
 use script_shape::due::Due;
 use script_words::list::WordList;
 use script_words::words::Word;
@@ -44,20 +50,23 @@ fn form_refusal<'a>(
     arrow_behind: bool,
     words: WordList<'_, 'a>,
     roles: &[Due],
+    found: &[Option<Ends>],
 ) -> Option<RefusalKind>
     requires words { length roles.now ≤ length (words_in words) }
     requires lower { IsWritten seen.now.bounds.lower }
     requires number { IsWritten verdict.number }
+    requires found { map (option_map ends_seen) found.now
+        ≡ ranges_at (splits_seen seen.now.splits).ranges (split_name leaf.0 (word_of leaf.1)) }
     ensures { (stands : spec.Seen) → IsSeen seen.now stands → result
         ≡ spec.form_refusal (verdict_of verdict) stands leaf.entry.0 (word_of leaf.entry.1) arrow_behind
         (leaves_of roles.now (words_in words.entry)) }
 {
     let (role, word) = leaf;
-    let wrong_side = is_on_wrong_side(role, word, arrow_behind, roles.is_empty());
+    let wrong_side = is_on_wrong_side(role, word, arrow_behind, words, roles);
     let used = seen.names.is_used(role, word, words, roles);
     let bad_bound = seen.bounds.is_bad(verdict.number);
     let defined_split = seen.names.splits_defined(role, word);
-    let rangeless = seen.splits.is_rangeless(defined_split, role, word);
+    let rangeless = is_rangeless(defined_split, found);
     let bad_point = seen
         .splits
         .is_bad_point(seen.counts.pieces > 0, verdict.number);
@@ -74,7 +83,8 @@ fn form_refusal<'a>(
 }
 
 /// The limit that is passed with the token.
-fn limit_refusal(seen: &Seen<'_>, role: Due, word: Word<'_>) -> Option<RefusalKind>
+fn limit_refusal<'a>(seen: &Seen<'a>, role: Due, word: Word<'a>) -> Option<RefusalKind>
+    requires { case_count (splits_seen seen.now.splits).ranges.before ≤ 64 }
     ensures { (stands : spec.Seen) → IsSeen seen.now stands
         → result ≡ spec.limit_refusal stands role (word_of word.entry) }
 {
@@ -84,6 +94,7 @@ fn limit_refusal(seen: &Seen<'_>, role: Due, word: Word<'_>) -> Option<RefusalKi
         seen.counts,
         is_past_lsb(role, word),
         is_past_pieces(role, word),
+        seen.splits.is_past_cases(role, word),
     )
 }
 
@@ -91,6 +102,7 @@ impl<'a> Seen<'a> {
     fn new(alloc: Global) -> Seen<'a>
         ensures seen { IsSeen result spec.nothing_seen }
         ensures within { IsWithinLimits result.counts }
+        ensures few { begun_cases (splits_seen result.splits).ranges ≤ 64 }
     {
         Seen {
             names: Names::new(alloc),
@@ -111,13 +123,24 @@ impl<'a> Seen<'a> {
         }
     }
 
-    /// Takes a token. After an `Err` it is not to be used on.
-    fn take(&mut self, role: Due, word: Word<'a>, verdict: Verdict) -> Result<(), AllocError>
+    /// Takes a token, with the ranges of the split variable that it is. After an `Err` it is not to
+    /// be used on.
+    fn take(
+        &mut self,
+        role: Due,
+        word: Word<'a>,
+        verdict: Verdict,
+        found: Vec<Option<Ends>>,
+    ) -> Result<(), AllocError>
         requires counts { IsWithinLimits self.old.counts }
         requires lower { IsWritten self.old.bounds.lower }
         requires number { IsWritten verdict.number }
-        ensures { OnOk result ((stands : spec.Seen) → IsSeen self.old stands
+        requires found { map (option_map ends_seen) found.items
+            ≡ ranges_at (splits_seen self.old.splits).ranges (split_name role (word_of word)) }
+        requires few { begun_cases (splits_seen self.old.splits).ranges ≤ 64 }
+        ensures seen { OnOk result ((stands : spec.Seen) → IsSeen self.old stands
             → IsSeen self.new (spec.seen_after (verdict_of verdict) stands role (word_of word.entry))) }
+        ensures few { OnOk result (case_count (splits_seen self.new.splits).ranges.before ≤ 64) }
     {
         let is_new = self.names.is_new(role, word);
         let told = Told {
@@ -127,7 +150,7 @@ impl<'a> Seen<'a> {
             ends: ends_between(self.bounds.lower(), verdict.number),
             number: verdict.number,
         };
-        self.splits.take(told, role, word)?;
+        self.splits.take(told, found, role, word)?;
         self.names.take(self.counts.halves, role, word)?;
         open_or_close(&mut self.opened, role, word)?;
         self.counts = counts_after(self.counts, is_new, role, word);
@@ -170,6 +193,7 @@ pub fn judge<'a>(
         let later_roles = roles_from(roles, number + 1);
         let later_arrows = without(arrows, is_arrow(role, word));
         let verdict = verdict_on(role, word, later_words, later_roles, later_arrows > 0);
+        let found = seen.splits.ranges_at(alloc, role, word)?;
         let form = form_refusal(
             &seen,
             (role, word),
@@ -177,11 +201,12 @@ pub fn judge<'a>(
             later_arrows > 0,
             later_words,
             later_roles,
+            found.as_slice(),
         );
         if let Some(kind) = form {
             return Ok(Some(Fault { kind, word: number }));
         }
-        seen.take(role, word, verdict)?;
+        seen.take(role, word, verdict, found)?;
         if let Some(kind) = limit_refusal(&seen, role, word) {
             return Ok(Some(Fault { kind, word: number }));
         }

@@ -44,8 +44,9 @@ pub fn limit_kind(
     counts: Counts,
     past_lsb: bool,
     past_pieces: bool,
+    past_cases: bool,
 ) -> Option<RefusalKind>
-    ensures { result ≡ spec.limit_kind opened halved counts past_lsb past_pieces }
+    ensures { result ≡ spec.limit_kind opened halved counts past_lsb past_pieces past_cases }
 {
     if opened > 64 {
         Some(RefusalKind::Limit(LimitKind::Nesting))
@@ -63,6 +64,8 @@ pub fn limit_kind(
         Some(RefusalKind::Limit(LimitKind::Splits))
     } else if counts.pieces > 64 || past_pieces {
         Some(RefusalKind::Limit(LimitKind::Pieces))
+    } else if past_cases {
+        Some(RefusalKind::Limit(LimitKind::Cases))
     } else {
         None
     }

@@ -209,11 +209,20 @@ impl<'a> Names<'a> {
         ensures { OnOk result ((names : NamesSeen) → AreNames self.old names
             → AreNames self.new (spec.names_after names halves role (word_of word.entry))) }
     {
-        let ended = ended(role, self.pending);
-        add_some(&mut self.known, ended)?;
-        add_some(&mut self.known, operand_name(role, word))?;
-        add_some(&mut self.defined, ended)?;
-        self.pending = pending_after(self.pending, role, defines(role, word));
-        halve(&mut self.halved, halves, split_name(role, word))
+        match role {
+            Due::Semicolon => {
+                add_some(&mut self.known, self.pending)?;
+                add_some(&mut self.defined, self.pending)?;
+                self.pending = None;
+                Ok(())
+            }
+            Due::Operand => add_some(&mut self.known, plain_text(word)),
+            Due::NewName | Due::Script => {
+                self.pending = pending_after(self.pending, role, text_of(word));
+                Ok(())
+            }
+            Due::SplitName => halve(&mut self.halved, halves, text_of(word)),
+            _ => Ok(()),
+        }
     }
 }

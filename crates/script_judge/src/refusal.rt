@@ -21,6 +21,8 @@ pub enum LimitKind {
     Splits,
     /// More than 64 pieces of a cut.
     Pieces,
+    /// More than 64 cases of the hypotheses.
+    Cases,
 }
 
 /// Why a text is refused. Of two at one byte the one that stands first here is answered.
@@ -32,7 +34,8 @@ pub enum RefusalKind {
     BadToken,
     /// A token that no script has at its place, or an end before the script's.
     Unexpected,
-    /// A form of the formula on its wrong side: `?` in a hypothesis, `@FIX` in a goal; `\/` and `not`.
+    /// A form of the formula on its wrong side: `?` in a hypothesis; `@FIX`, `\/` and `not` in a
+    /// goal; `not` before another proposition than `e <= n` and `e >= n`.
     FormulaForm,
     /// A word in the place of an operator or a direction that there isn't.
     UnsupportedOperator,

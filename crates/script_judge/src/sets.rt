@@ -1,6 +1,6 @@
 //! Sets of names.
 
-ghost use Rattle.std.specs.Prelude.{◌≡◌, List, map, OnOk};
+ghost use Rattle.std.specs.Prelude.{◌≡◌, ◌∷◌, List, map, OnOk};
 ghost use Rattle.std.specs.Option.{option_copied};
 ghost use Rattle.script_words.specs.Named.{HasNames};
 ghost use Rattle.script_judge.specs.Names as spec;
@@ -38,15 +38,26 @@ pub fn lacks_some<'a>(set: &BTreeSet<&'a [u8]>, name: Option<&'a [u8]>) -> bool
     }
 }
 
+/// Adds a name.
+#[inline(never)]
+fn add<'a>(set: &mut BTreeSet<&'a [u8]>, name: &'a [u8]) -> Result<(), AllocError>
+    ensures { OnOk result ((names : List Name) → HasNames set.old names
+        → HasNames set.new (name.now ∷ names)) }
+{
+    set.insert(name)?;
+    Ok(())
+}
+
 /// Adds a name, where there is one.
+#[inline(always)]
 pub fn add_some<'a>(set: &mut BTreeSet<&'a [u8]>, name: Option<&'a [u8]>) -> Result<(), AllocError>
     ensures { OnOk result ((names : List Name) → HasNames set.old names
         → HasNames set.new (spec.with_some (option_copied name.entry) names)) }
 {
-    if let Some(name) = name {
-        set.insert(name)?;
+    match name {
+        Some(name) => add(set, name),
+        None => Ok(()),
     }
-    Ok(())
 }
 
 fn is_among(names: &[&[u8]], name: &[u8]) -> bool

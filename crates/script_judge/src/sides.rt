@@ -1,10 +1,12 @@
-//! Which propositions are hypotheses: those with a `->` of the formula behind them.
+//! Which propositions are hypotheses: those with a `->` of the formula behind them. What only a
+//! hypothesis has.
 
-ghost use Rattle.std.specs.Prelude.{◌≡◌, ◌-◌};
+ghost use Rattle.std.specs.Prelude.{◌≡◌, ◌≤◌, ◌-◌, length};
 ghost use Rattle.script_words.specs.Named.{word_of};
 ghost use Rattle.script_words.specs.Kept.{words_in};
 ghost use Rattle.script_judge.specs.Counts.{one_if};
 ghost use Rattle.script_judge.specs.Judge as spec;
+ghost use Rattle.script_judge.specs.Sides.{is_bound_sign};
 ghost use Rattle.script_shape.specs.Roles.{leaves_of};
 
 use script_shape::due::Due;
@@ -56,13 +58,65 @@ fn is_ask(word: Word<'_>) -> bool
     matches!(word, Word::Sign(Sign::Ask))
 }
 
-/// Whether it is a `?` in a hypothesis or an `@FIX` in a goal.
-pub fn is_on_wrong_side(role: Due, word: Word<'_>, arrow_behind: bool, is_last: bool) -> bool
-    ensures { result ≡ spec.is_on_wrong_side role (word_of word.entry) arrow_behind is_last }
+/// Whether it is the sign of a `\/`.
+pub fn is_or(word: Word<'_>) -> bool
+    ensures { result ≡ spec.is_or (word_of word.entry) }
+{
+    matches!(word, Word::Sign(Sign::Or))
+}
+
+fn is_bound_sign(word: Word<'_>) -> bool
+    ensures { result ≡ is_bound_sign (word_of word.entry) }
+{
+    matches!(word, Word::Sign(Sign::LessEqual | Sign::GreaterEqual))
+}
+
+/// Whether the proposition that begins with these words is `e <= n` or `e >= n`.
+fn begins_bound(words: WordList<'_, '_>, roles: &[Due]) -> bool
+    ensures { result ≡ spec.begins_bound (leaves_of roles.now (words_in words.entry)) }
+{
+    let mut words = words;
+    let mut roles = roles;
+    while let [role, later_roles @ ..] = roles {
+        let Some((word, later_words)) = words.split_first() else {
+            return false;
+        };
+        match role {
+            Due::Prop => return false,
+            Due::Relation => return is_bound_sign(word),
+            _ => {}
+        }
+        words = later_words;
+        roles = later_roles;
+    }
+    false
+}
+
+/// Whether no word is left.
+fn is_last(words: WordList<'_, '_>, roles: &[Due]) -> bool
+    requires { length roles.now ≤ length (words_in words) }
+    ensures { result ≡ spec.is_empty (leaves_of roles.now (words_in words.entry)) }
+{
+    roles.is_empty()
+}
+
+/// Whether it is a form on its wrong side, or a `not` before another proposition than a bound.
+pub fn is_on_wrong_side(
+    role: Due,
+    word: Word<'_>,
+    arrow_behind: bool,
+    words: WordList<'_, '_>,
+    roles: &[Due],
+) -> bool
+    requires { length roles.now ≤ length (words_in words) }
+    ensures { result ≡ spec.is_on_wrong_side role (word_of word.entry) arrow_behind
+        (leaves_of roles.now (words_in words.entry)) }
 {
     match role {
         Due::Range => is_ask(word) && arrow_behind,
-        Due::Prop => !arrow_behind && !is_last,
+        Due::Prop => !arrow_behind && !is_last(words, roles),
+        Due::Connective => is_or(word) && !arrow_behind,
+        Due::Claim => !arrow_behind || !begins_bound(words, roles),
         _ => false,
     }
 }

@@ -1,21 +1,29 @@
 //! Split ranges of variables, and points that split them.
 
-ghost use Rattle.std.specs.Prelude.{◌≡◌, map, OnOk};
+ghost use Rattle.std.specs.Prelude.{◌≡◌, ◌≤◌, ◌&&◌, not, nat_lt, map, IfOk, OnOk};
+ghost use Rattle.std.specs.List.{list_any};
 ghost use Rattle.std.specs.Option.{option_copied, option_map};
 ghost use Rattle.dyadic.specs.Values.{value_of as grid_value};
 ghost use Rattle.bound_order.specs.Tests.{is_less};
 ghost use Rattle.script_words.specs.Named.{word_of};
 ghost use Rattle.literal_order.specs.Values.{written_value, IsWritten};
 ghost use Rattle.script_judge.specs.SplitViews.{subject_seen, ends_seen, range_seen, splits_seen};
+ghost use Rattle.script_cases.specs.Cases.{case_count};
+ghost use Rattle.script_cases.specs.Parts.{begun_cases};
+ghost use Rattle.script_cases.specs.Mapped.{map_parts};
+ghost use Rattle.script_judge.specs.Judge.{is_past_cases};
 ghost use Rattle.script_judge.specs.Names as names;
 ghost use Rattle.script_judge.specs.Splits as spec;
 
 use crate::names::split_name;
+use crate::sides::is_or;
 use crate::subject::{Alias, Subject, add_alias, subject_after};
 use bound_order::{down, up};
 use dyadic::Dyadic;
 use literal_order::Written;
+use script_cases::Parts;
 use script_shape::due::Due;
+use script_words::class::Sign;
 use script_words::words::Word;
 use std::alloc::{AllocError, Global};
 
@@ -71,29 +79,101 @@ pub fn ends_between(lower: Option<Written>, upper: Option<Written>) -> Option<En
 
 /// Adds the range that a hypothesis of a variable gives.
 fn add_range<'a>(
-    ranges: &mut Vec<SplitRange<'a>>,
+    ranges: &mut Parts<SplitRange<'a>>,
     subject: Subject<'a>,
     arrow_behind: bool,
     ends: Option<Ends>,
 ) -> Result<(), AllocError>
-    ensures { OnOk result (map range_seen ranges.new.items
-        ≡ spec.ranges_after (map range_seen ranges.old.items) (subject_seen subject.entry) arrow_behind
+    ensures { OnOk result (map_parts range_seen ranges.new
+        ≡ spec.ranges_after (map_parts range_seen ranges.old) (subject_seen subject.entry) arrow_behind
         (option_map ends_seen ends)) }
 {
     if let (Subject::Variable(variable), true, Some(ends)) = (subject, arrow_behind, ends) {
-        ranges.push(SplitRange { variable, ends })?;
+        ranges.add(SplitRange { variable, ends })?;
     }
     Ok(())
 }
 
-fn cut_after(cut: Option<Ends>, ranges: &[SplitRange<'_>], name: Option<&[u8]>) -> Option<Ends>
-    ensures { option_map ends_seen result ≡ spec.cut_after (option_map ends_seen cut)
-        (map range_seen ranges.now) (option_copied name.entry) }
+/// Ends a conjunction or a part at a sign behind a proposition.
+fn connect(ranges: &mut Parts<SplitRange<'_>>, role: Due, word: Word<'_>) -> Result<(), AllocError>
+    ensures { OnOk result (map_parts range_seen ranges.new
+        ≡ spec.parts_after (map_parts range_seen ranges.old) role (word_of word.entry)) }
 {
-    match name {
-        Some(name) => range_of(ranges, name),
-        None => cut,
+    match (role, word) {
+        (Due::Connective, Word::Sign(Sign::Or)) => ranges.end_conjunction(),
+        (Due::Connective, Word::Sign(Sign::Arrow)) => ranges.end_part(),
+        _ => Ok(()),
     }
+}
+
+/// Adds the range that a hypothesis of a variable gives, or ends what a sign behind a proposition
+/// ends.
+fn read_range<'a>(
+    ranges: &mut Parts<SplitRange<'a>>,
+    subject: Subject<'a>,
+    arrow_behind: bool,
+    ends: Option<Ends>,
+    role: Due,
+    word: Word<'a>,
+) -> Result<(), AllocError>
+    ensures { OnOk result (map_parts range_seen ranges.new ≡ spec.parts_after
+        (spec.ranges_after (map_parts range_seen ranges.old)
+        (subject_seen subject.entry) arrow_behind
+        (option_map ends_seen ends)) role (word_of word.entry)) }
+{
+    add_range(ranges, subject, arrow_behind, ends)?;
+    connect(ranges, role, word)
+}
+
+/// Keeps the ranges of a split variable, if there is a new one.
+fn keep_ranges(cut: &mut Vec<Option<Ends>>, found: Vec<Option<Ends>>, name: Option<&[u8]>)
+    ensures { map (option_map ends_seen) cut.new.items
+        ≡ spec.cut_after (map (option_map ends_seen) cut.old.items)
+        (map (option_map ends_seen) found.items) (option_copied name.entry) }
+{
+    if name.is_some() {
+        *cut = found;
+    }
+}
+
+/// The range of a variable in each case.
+fn case_ranges(
+    alloc: Global,
+    ranges: &Parts<SplitRange<'_>>,
+    name: &[u8],
+) -> Result<Vec<Option<Ends>>, AllocError>
+    requires { case_count ranges.now.before ≤ 64 }
+    ensures { IfOk result (λ found. map (option_map ends_seen) found.items
+        ≡ spec.case_ranges (map_parts range_seen ranges.now) name.now) }
+{
+    let mut found = Vec::new(alloc);
+    for number in 0..ranges.case_count() {
+        let case = ranges.case(alloc, number)?;
+        found.push(range_of(case.as_slice(), name))?;
+    }
+    Ok(found)
+}
+
+/// Whether a range is missing.
+fn lacks_some(ranges: &[Option<Ends>]) -> bool
+    ensures { result ≡ list_any spec.is_none (map (option_map ends_seen) ranges.now) }
+{
+    let mut ranges = ranges;
+    while let [range, later @ ..] = ranges {
+        if range.is_none() {
+            return true;
+        }
+        ranges = later;
+    }
+    false
+}
+
+/// Whether the token is a split variable that has no definition, and no range in some case: these
+/// are its ranges.
+pub fn is_rangeless(defined: bool, found: &[Option<Ends>]) -> bool
+    ensures { result ≡ not defined && list_any spec.is_none (map (option_map ends_seen) found.now) }
+{
+    !defined && lacks_some(found)
 }
 
 fn some_down(number: Option<Written>) -> Option<Dyadic>
@@ -134,26 +214,49 @@ fn is_after(before: Option<Dyadic>, point: Dyadic) -> bool
     }
 }
 
-fn splits_at(ends: Ends, before: Option<Dyadic>, point: Option<Dyadic>) -> bool
-    ensures { result ≡ spec.splits_at (ends_seen ends) (option_map grid_value before)
-        (option_map grid_value point) }
+fn is_inside(point: Dyadic, range: Option<Ends>) -> bool
+    ensures { result ≡ spec.is_inside (grid_value point) (option_map ends_seen range) }
 {
-    match point {
-        Some(point) => {
-            is_under(ends.low, point) && is_under(point, ends.high) && is_after(before, point)
-        }
+    match range {
+        Some(ends) => is_under(ends.low, point) && is_under(point, ends.high),
         None => false,
     }
 }
 
-fn is_no_split(cut: Option<Ends>, before: Option<Dyadic>, number: Option<Written>) -> bool
+fn is_inside_some(point: Dyadic, ranges: &[Option<Ends>]) -> bool
+    ensures { result ≡ list_any
+        (spec.is_inside (grid_value point)) (map (option_map ends_seen) ranges.now) }
+{
+    let mut ranges = ranges;
+    while let [range, later @ ..] = ranges {
+        if is_inside(point, *range) {
+            return true;
+        }
+        ranges = later;
+    }
+    false
+}
+
+fn splits_at(cut: &[Option<Ends>], before: Option<Dyadic>, point: Option<Dyadic>) -> bool
+    ensures { result ≡ spec.splits_at
+        (map (option_map ends_seen) cut.now) (option_map grid_value before)
+        (option_map grid_value point) }
+{
+    match point {
+        Some(point) => is_inside_some(point, cut) && is_after(before, point),
+        None => false,
+    }
+}
+
+fn is_no_split(cut: &[Option<Ends>], before: Option<Dyadic>, number: Option<Written>) -> bool
     requires { IsWritten number }
-    ensures { result ≡ spec.is_no_split (option_map ends_seen cut) (option_map grid_value before)
+    ensures { result ≡ spec.is_no_split
+        (map (option_map ends_seen) cut.now) (option_map grid_value before)
         (option_map written_value number) }
 {
-    match (cut, number) {
-        (Some(ends), Some(number)) => !splits_at(ends, before, down(number)),
-        _ => false,
+    match number {
+        Some(number) => !splits_at(cut, before, down(number)),
+        None => false,
     }
 }
 
@@ -178,10 +281,10 @@ pub struct Splits<'a> {
     /// The expression that is being read.
     subject: Subject<'a>,
     aliases: Vec<Alias<'a>>,
-    /// Ranges that hypotheses give, in their order.
-    ranges: Vec<SplitRange<'a>>,
-    /// The range of the split variable that stands before.
-    cut: Option<Ends>,
+    /// Ranges that hypotheses give, by conjunctions and parts.
+    ranges: Parts<SplitRange<'a>>,
+    /// The ranges of the split variable that stands before, one for each case.
+    cut: Vec<Option<Ends>>,
     /// The point before, rounded down.
     before: Option<Dyadic>,
 }
@@ -194,21 +297,46 @@ impl<'a> Splits<'a> {
         Splits {
             subject: Subject::Nothing,
             aliases: Vec::new(alloc),
-            ranges: Vec::new(alloc),
-            cut: None,
+            ranges: Parts::new(alloc),
+            cut: Vec::new(alloc),
             before: None,
         }
     }
 
-    /// Whether the token is a split variable that has no definition and no range.
-    pub fn is_rangeless(&self, defined: bool, role: Due, word: Word<'a>) -> bool
-        ensures { result ≡ spec.is_rangeless (splits_seen self.now).ranges defined
-            (names.split_name role (word_of word.entry)) }
+    /// The range of a split variable in each case, or nothing where the token is none.
+    pub fn ranges_at(
+        &self,
+        alloc: Global,
+        role: Due,
+        word: Word<'a>,
+    ) -> Result<Vec<Option<Ends>>, AllocError>
+        requires { begun_cases (splits_seen self.now).ranges ≤ 64 }
+        ensures { IfOk result (λ found. map (option_map ends_seen) found.items
+            ≡ spec.ranges_at (splits_seen self.now).ranges (names.split_name role (word_of word.entry))) }
     {
         match split_name(role, word) {
-            Some(name) => !defined && range_of(self.ranges.as_slice(), name).is_none(),
-            None => false,
+            Some(name) => case_ranges(alloc, &self.ranges, name),
+            None => Ok(Vec::new(alloc)),
         }
+    }
+
+    /// Whether the token is a `\/` with which the conjunctions that have begun make too many cases.
+    pub fn is_past_cases(&self, role: Due, word: Word<'a>) -> bool
+        requires { case_count (splits_seen self.now).ranges.before ≤ 64 }
+        ensures { result ≡ is_past_cases role
+            (word_of word.entry) (begun_cases (splits_seen self.now).ranges) }
+    {
+        match role {
+            Due::Connective => is_or(word) && self.has_too_many_cases(),
+            _ => false,
+        }
+    }
+
+    fn has_too_many_cases(&self) -> bool
+        requires { case_count (splits_seen self.now).ranges.before ≤ 64 }
+        ensures { result ≡ nat_lt 64 (begun_cases (splits_seen self.now).ranges) }
+    {
+        self.ranges.has_too_many_cases()
     }
 
     /// Whether the point of a list doesn't split.
@@ -216,12 +344,21 @@ impl<'a> Splits<'a> {
         requires { IsWritten number }
         ensures { result ≡ spec.is_bad_point (splits_seen self.now) in_points (option_map written_value number) }
     {
-        in_points && is_no_split(self.cut, self.before, number)
+        in_points && is_no_split(self.cut.as_slice(), self.before, number)
     }
 
-    /// Takes a token. After an `Err` it is not to be used on.
-    pub fn take(&mut self, told: Told<'a>, role: Due, word: Word<'a>) -> Result<(), AllocError>
-        requires { IsWritten told.number }
+    /// Takes a token, with the ranges of the split variable that it is. After an `Err` it is not to
+    /// be used on.
+    pub fn take(
+        &mut self,
+        told: Told<'a>,
+        found: Vec<Option<Ends>>,
+        role: Due,
+        word: Word<'a>,
+    ) -> Result<(), AllocError>
+        requires number { IsWritten told.number }
+        requires found { map (option_map ends_seen) found.items
+            ≡ spec.ranges_at (splits_seen self.old).ranges (names.split_name role (word_of word)) }
         ensures { OnOk result (splits_seen self.new ≡ spec.splits_after (splits_seen self.old)
             (option_copied told.entry.ended) told.entry.defined told.entry.arrow_behind
             (option_map ends_seen told.entry.ends) (option_map written_value told.entry.number) role
@@ -236,9 +373,9 @@ impl<'a> Splits<'a> {
         } = told;
         let subject = self.subject;
         self.subject = subject_after(subject, self.aliases.as_slice(), defined, role, word);
-        self.cut = cut_after(self.cut, self.ranges.as_slice(), split_name(role, word));
+        keep_ranges(&mut self.cut, found, split_name(role, word));
         self.before = before_after(self.before, number, role);
         add_alias(&mut self.aliases, subject, ended)?;
-        add_range(&mut self.ranges, subject, arrow_behind, ends)
+        read_range(&mut self.ranges, subject, arrow_behind, ends, role, word)
     }
 }

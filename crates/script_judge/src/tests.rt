@@ -9,11 +9,81 @@ use std::test::Fail;
 
 #[test]
 fn refusals(rt: HostRuntime) -> Result<(), Fail> {
-    let rows: [(&[u8], RefusalKind, u32); 49] = [
+    let rows: [(&[u8], RefusalKind, u32); 69] = [
         (b"", RefusalKind::Unexpected, 0),
         (b"{ x in [1,2", RefusalKind::Unexpected, 11),
         (b"{ x in [0,1] \\/ x in ? }", RefusalKind::FormulaForm, 13),
         (b"{ not x <= 1 }", RefusalKind::FormulaForm, 2),
+        // of the forms that only hypotheses have
+        (b"{ not x in [0,1] -> x in ? }", RefusalKind::FormulaForm, 2),
+        (b"{ not", RefusalKind::FormulaForm, 2),
+        (b"{ not not x <= 1 -> x in ? }", RefusalKind::FormulaForm, 2),
+        (b"{ x in [0,1] \\/", RefusalKind::FormulaForm, 13),
+        (b"{ x in [0,1] \\/ } $ x;", RefusalKind::FormulaForm, 13),
+        (
+            b"{ (x \\/ y) in [0,1] -> x in ? }",
+            RefusalKind::Unexpected,
+            5,
+        ),
+        (b"{ not @FIX(x,0) -> x in ? }", RefusalKind::FormulaForm, 2),
+        (
+            b"{ not x -/ y in [0,1] -> x in ? }",
+            RefusalKind::FormulaForm,
+            2,
+        ),
+        (
+            b"{ x <= 1 -> not x >= 2 -> not x <= 0 }",
+            RefusalKind::FormulaForm,
+            26,
+        ),
+        (
+            b"{ x <= 1 -> x >= 0 \\/ x in ? }",
+            RefusalKind::FormulaForm,
+            19,
+        ),
+        (
+            b"{ x in [0,1] \\/ x in ? -> x in ? }",
+            RefusalKind::FormulaForm,
+            21,
+        ),
+        (b"{ x <= not 1 -> x in ? }", RefusalKind::Unexpected, 7),
+        (b"{ x in [0,1] not -> x in ? }", RefusalKind::Unexpected, 13),
+        (
+            b"{ x <= 1 -> x in ? } a -> b { not a <> 0 };",
+            RefusalKind::Unexpected,
+            30,
+        ),
+        // of split ranges of cases
+        (
+            b"{ x in [0,1] \\/ y in [0,1] -> x in ? } $ x;",
+            RefusalKind::SplitRange,
+            41,
+        ),
+        (
+            b"{ x in [0,1] \\/ not x >= 1 -> x in ? } $ x;",
+            RefusalKind::SplitRange,
+            41,
+        ),
+        (
+            b"{ x in [0,1] \\/ x in [2,3] -> y in [0,1] \\/ y <= 1 -> x in ? } $ x; $ y;",
+            RefusalKind::SplitRange,
+            70,
+        ),
+        (
+            b"{ x in [0,1] \\/ x in [2,3] -> x in ? } $ x in (0.5, 1.5);",
+            RefusalKind::BadSplit,
+            52,
+        ),
+        (
+            b"{ x in [0,1] \\/ x in [2,3] -> x in ? } $ x in (2.5, 0.5);",
+            RefusalKind::BadSplit,
+            52,
+        ),
+        (
+            b"{ x in [0,1] \\/ x in [2,3] -> x in ? } $ x in (1);",
+            RefusalKind::BadSplit,
+            47,
+        ),
         (b"{ sqrt(x) in ? }", RefusalKind::UnsupportedOperator, 2),
         (b"{ x in [0,1] -> x in ? } !", RefusalKind::BadToken, 25),
         (b"{ x\xff", RefusalKind::NotText, 3),
@@ -140,7 +210,7 @@ fn refusals(rt: HostRuntime) -> Result<(), Fail> {
 
 #[test]
 fn scripts(rt: HostRuntime) -> Result<(), Fail> {
-    let rows: [&[u8]; 8] = [
+    let rows: [&[u8]; 13] = [
         b"{ x in ? }",
         b"@q = fixed<-15,dn>; x = q(xx); y q= x * x; My = x * x; { xx in [0,1] -> y - My in ? }",
         b"{ @FIX(a,-15) /\\ a in [0,1] -> |a| -/ 2 in ? } a -> b { b <> 0, a < 1 }; $ a in (0.5, 0.75);",
@@ -149,6 +219,11 @@ fn scripts(rt: HostRuntime) -> Result<(), Fail> {
         b"{ x in [0.5,1b-1] /\\ y -/ x in [-0.99,-0.5] /\\ x in [-1,1] -> x in [-2,-1] /\\ x <= -1 /\\ x <= -2 }",
         b"@q = int<dn>; y q= (x); { ((y)) in [0,1] -> x in ? } $ x in (1b-3, +0.5); x $ x;",
         b"{ x in [0,999999999999999999999999999999b512] /\\ (x) in [0,1] -> x in [0,1] -> x in ? } x, x $ x, x;",
+        b"{ x in [0,1] \\/ x in [3,4] -> x * x in ? }",
+        b"{ x in [0,1] /\\ x in [2,3] \\/ x in [4,5] -> x in ? } $ x in (0.5, 4.5);",
+        b"{ x in [-1,1] /\\ not x >= 0 -> not x - y <= 1 \\/ @FIX(x,0) -> x in ? }",
+        b"{ x in [0,1] -> y <= 1 \\/ not y >= 2 -> x in ? } $ x; x $ x;",
+        b"{ x in [0,1] \\/ x in [0,1] -> x in ? } $ x in (0.25, 0.5);",
     ];
     for text in rows {
         assert_eq!(rt; first_refusal(rt.alloc(), text)?, None, "{text:?}");
@@ -200,5 +275,37 @@ fn limits(rt: HostRuntime) -> Result<(), Fail> {
         at: 1_048_576,
     };
     assert_eq!(rt; first_refusal(rt.alloc(), text.as_slice())?, Some(longer));
+    Ok(())
+}
+
+/// `{ x<=1`, so often `\\/x<=1`, and ` -> x<=1 \\/ x<=1 -> x in ? }`.
+fn disjoined(alloc: Global, more: usize) -> Result<Vec<u8>, AllocError> {
+    let mut text = Vec::new(alloc);
+    text.extend_from_slice(b"{ x<=1".as_slice())?;
+    for _ in 0..more {
+        text.extend_from_slice(b"\\/x<=1".as_slice())?;
+    }
+    text.extend_from_slice(b" -> x<=1 \\/ x<=1 -> x in ? }".as_slice())?;
+    Ok(text)
+}
+
+#[test]
+fn cases(rt: HostRuntime) -> Result<(), Fail> {
+    let within = disjoined(rt.alloc(), 31)?;
+    assert_eq!(rt; first_refusal(rt.alloc(), within.as_slice())?, None);
+    let beyond = disjoined(rt.alloc(), 32)?;
+    let refusal = |at: u32| Refusal {
+        kind: RefusalKind::Limit(LimitKind::Cases),
+        at,
+    };
+    assert_eq!(rt;
+        first_refusal(rt.alloc(), beyond.as_slice())?,
+        Some(refusal(207))
+    );
+    let more = disjoined(rt.alloc(), 80)?;
+    assert_eq!(rt;
+        first_refusal(rt.alloc(), more.as_slice())?,
+        Some(refusal(384))
+    );
     Ok(())
 }

@@ -13,7 +13,7 @@ use Rattle.script_words.specs.Lex.{front}
 use Rattle.script_words.specs.Named.{IsToken}
 use Rattle.script_shape.specs.declared.due.Due.{Due}
 use Rattle.script_shape.specs.declared.due.Due.TheVariants as due
-use Rattle.script_shape.specs.Tree.{AnyName, plain, free, Digits, digits, natural, unsigned, int, Expr, term, factor, atom, number, asked, lies_in, single, nonzero, always, in_four, last_name, halved_by, like, no_hint, exactly, formula}
+use Rattle.script_shape.specs.Tree.{AnyName, plain, free, Digits, digits, natural, unsigned, int, Expr, term, factor, atom, number, asked, lies_in, affirmed, single, nonzero, always, in_four, last_name, halved_by, like, no_hint, exactly, formula}
 use Rattle.script_shape.proofs.Parts.{Part, part_words, Parts, parts_words, apart, to_pieces, skipped}
 
 -- ---- words that tokens can be
@@ -128,7 +128,7 @@ abbrev some_digits : Digits
 some_digits = digits (codes "1")
 
 abbrev some_part : (d : Due) → Part d
-some_part due.Script = formula (single (lies_in some_expr asked)) no_hint
+some_part due.Script = formula (single (affirmed (lies_in some_expr asked))) no_hint
 some_part due.NewName = some_name
 some_part due.DefinedBy = exactly
 some_part due.Operator = int (free (codes "dn"))
@@ -136,6 +136,7 @@ some_part due.Whole = natural some_digits
 some_part due.WholeDigits = some_digits
 some_part due.Direction = free (codes "dn")
 some_part due.CloseOperator = apart
+some_part due.Claim = affirmed (lies_in some_expr asked)
 some_part due.Prop = lies_in some_expr asked
 some_part due.Operand = some_expr
 some_part due.Tail = (skipped due.Tail refl).0
@@ -184,6 +185,7 @@ part_spelled due.Whole = (one, tt)
 part_spelled due.WholeDigits = (one, tt)
 part_spelled due.Direction = (direction_dn, tt)
 part_spelled due.CloseOperator = (some_sign s.Greater, (some_sign s.Equal, tt))
+part_spelled due.Claim = (one, (some_sign s.In, (some_sign s.Ask, tt)))
 part_spelled due.Prop = (one, (some_sign s.In, (some_sign s.Ask, tt)))
 part_spelled due.Operand = (one, tt)
 part_spelled due.Tail = tt

@@ -5,8 +5,8 @@ use Rattle.script_words.specs.declared.class.Sign.TheVariants as s
 use Rattle.script_shape.specs.declared.due.Due.{Due}
 use Rattle.script_shape.specs.declared.due.Due.TheVariants as due
 use Rattle.script_words.specs.Words.{Word, name, rounding, literal, sign, class_of}
-use Rattle.script_shape.specs.Tree.{AnyName, plain, operator, Special, free, defined, zero_alone, digits, Whole, natural, opposite, Bound, unsigned, positive, negative, Operator, fixed, int, Expr, term, sum, difference, Term, factor, product, quotient, Factor, negation, atom, Atom, number, variable, parenthesized, absolute, called, rounded, fused, Range, asked, between, Prop, lies_in, relative_in, at_most, at_least, multiple, Formula, single, and, implies, Need, nonzero, below, not_above, above, not_below, NeedList, last_need, more_needs, always, provided, Points, last_point, more_points, in_four, pieces, at_points, Names, last_name, more_names, Halving, halved_by, with_goal, Hint, rewrite, like, split, halving, Hints, no_hint, hint, How, exactly, rounded_by, rounded_apart, rounded_joined, Definition, names_operator, names_value, Script, formula, define}
-use Rattle.script_shape.specs.Roles.{Leaf, at, name_leaves, special_leaves, whole_leaves, bound_leaves, operator_leaves, expr_leaves, term_leaves, factor_leaves, atom_leaves, range_leaves, prop_leaves, formula_leaves, need_leaves, need_list_leaves, points_leaves, names_leaves, halving_leaves, hint_leaves, hints_leaves, how_leaves, definition_leaves, script_leaves}
+use Rattle.script_shape.specs.Tree.{AnyName, plain, operator, Special, free, defined, zero_alone, digits, Whole, natural, opposite, Bound, unsigned, positive, negative, Operator, fixed, int, Expr, term, sum, difference, Term, factor, product, quotient, Factor, negation, atom, Atom, number, variable, parenthesized, absolute, called, rounded, fused, Range, asked, between, Prop, lies_in, relative_in, at_most, at_least, multiple, Stated, affirmed, denied, Formula, single, and, or, implies, Need, nonzero, below, not_above, above, not_below, NeedList, last_need, more_needs, always, provided, Points, last_point, more_points, in_four, pieces, at_points, Names, last_name, more_names, Halving, halved_by, with_goal, Hint, rewrite, like, split, halving, Hints, no_hint, hint, How, exactly, rounded_by, rounded_apart, rounded_joined, Definition, names_operator, names_value, Script, formula, define}
+use Rattle.script_shape.specs.Roles.{Leaf, at, name_leaves, special_leaves, whole_leaves, bound_leaves, operator_leaves, expr_leaves, term_leaves, factor_leaves, atom_leaves, range_leaves, prop_leaves, stated_leaves, formula_leaves, need_leaves, need_list_leaves, points_leaves, names_leaves, halving_leaves, hint_leaves, hints_leaves, how_leaves, definition_leaves, script_leaves}
 use Rattle.script_shape.specs.Table.{operand}
 use Rattle.script_shape.specs.Shape.{step, role_next, start}
 use Rattle.script_shape.proofs.Checked.{step_as, run_as}
@@ -81,6 +81,19 @@ range_drives (between a b) rest left = regroup (bound_leaves a) _ rest _ ∙ bou
 abbrev Same : List Due → List Due → Type 0
 Same there as_if = (r : Due) (w : Word) (new : List Due) → operand (class_of w) ≡ Some new → step_as (at r w) there ≡ step_as (at r w) as_if
 
+same_claim : (left : List Due) → Same (due.Claim ∷ left) (due.Operand ∷ due.Relation ∷ left)
+unfolding step step_as role_next
+same_claim left r (sign s.Minus) new h = refl
+same_claim left r (literal k t) new h = refl
+same_claim left r (name k t) new h = refl
+same_claim left r (sign s.OpenParen) new h = refl
+same_claim left r (sign s.Bar) new h = refl
+same_claim left r (rounding k t) new h = refl
+same_claim left r (sign s.Fixed) new h = refl
+same_claim left r (sign s.Int) new h = refl
+same_claim left r (sign s.Fma) new h = refl
+same_claim left r _ new h = absurd (cc h)
+
 same_prop : (left : List Due) → Same (due.Prop ∷ left) (due.Operand ∷ due.Relation ∷ left)
 unfolding step step_as role_next
 same_prop left r (sign s.Minus) new h = refl
@@ -142,6 +155,9 @@ module _ (there as_if : List Due) (same : Same there as_if) where
 prop_begins : (e : Expr) (rest : List Leaf) (left : List Due) → run_as (expr_leaves e ++ rest) (due.Prop ∷ left) ≡ run_as rest (due.Tail ∷ due.Relation ∷ left)
 prop_begins e rest left = expr_same _ _ (same_prop left) e rest ∙ expr_drives e rest (due.Relation ∷ left)
 
+claim_begins : (e : Expr) (rest : List Leaf) (left : List Due) → run_as (expr_leaves e ++ rest) (due.Claim ∷ left) ≡ run_as rest (due.Tail ∷ due.Relation ∷ left)
+claim_begins e rest left = expr_same _ _ (same_claim left) e rest ∙ expr_drives e rest (due.Relation ∷ left)
+
 hint_begins : (e : Expr) (rest : List Leaf) (left : List Due) → run_as (expr_leaves e ++ rest) (due.Hints ∷ left) ≡ run_as rest (due.Tail ∷ due.HintRest ∷ due.Semicolon ∷ due.Hints ∷ left)
 hint_begins e rest left = expr_same _ _ (same_hint left) e rest ∙ expr_drives e rest _
 
@@ -160,11 +176,25 @@ prop_drives (at_most e b) rest left = regroup (expr_leaves e) _ rest _ ∙ prop_
 prop_drives (at_least e b) rest left = regroup (expr_leaves e) _ rest _ ∙ prop_begins e _ left ∙ bound_drives b rest left
 prop_drives (multiple f e k) rest left = regroup (special_leaves due.Fix spelled.Fix f) _ rest _ ∙ fix_drives f _ _ ∙ regroup (expr_leaves e) _ rest _ ∙ expr_drives e _ _ ∙ regroup (whole_leaves k) _ rest _ ∙ whole_drives k _ _
 
-formula_drives : (f : Formula) (rest : List Leaf) (left : List Due) → run_as (formula_leaves f ++ rest) (due.Prop ∷ due.Connective ∷ left) ≡ run_as rest (due.Connective ∷ left)
+affirmed_drives : (p : Prop) (rest : List Leaf) (left : List Due) → run_as (prop_leaves p ++ rest) (due.Claim ∷ left) ≡ run_as rest left
 unfolding run_as step_as step role_next
-formula_drives (single p) rest left = prop_drives p rest _
-formula_drives (and f p) rest left = regroup (formula_leaves f) _ rest _ ∙ formula_drives f _ left ∙ prop_drives p rest _
-formula_drives (implies f p) rest left = regroup (formula_leaves f) _ rest _ ∙ formula_drives f _ left ∙ prop_drives p rest _
+affirmed_drives (lies_in e r) rest left = regroup (expr_leaves e) _ rest _ ∙ claim_begins e _ left ∙ range_drives r rest left
+affirmed_drives (relative_in a b r) rest left = regroup (expr_leaves a) _ rest _ ∙ claim_begins a _ left ∙ regroup (expr_leaves b) _ rest _ ∙ expr_drives b _ _ ∙ range_drives r rest left
+affirmed_drives (at_most e b) rest left = regroup (expr_leaves e) _ rest _ ∙ claim_begins e _ left ∙ bound_drives b rest left
+affirmed_drives (at_least e b) rest left = regroup (expr_leaves e) _ rest _ ∙ claim_begins e _ left ∙ bound_drives b rest left
+affirmed_drives (multiple f e k) rest left = regroup (special_leaves due.Fix spelled.Fix f) _ rest _ ∙ fix_drives f _ _ ∙ regroup (expr_leaves e) _ rest _ ∙ expr_drives e _ _ ∙ regroup (whole_leaves k) _ rest _ ∙ whole_drives k _ _
+
+stated_drives : (p : Stated) (rest : List Leaf) (left : List Due) → run_as (stated_leaves p ++ rest) (due.Claim ∷ left) ≡ run_as rest left
+unfolding run_as step_as step role_next
+stated_drives (affirmed p) rest left = affirmed_drives p rest left
+stated_drives (denied p) rest left = prop_drives p rest left
+
+formula_drives : (f : Formula) (rest : List Leaf) (left : List Due) → run_as (formula_leaves f ++ rest) (due.Claim ∷ due.Connective ∷ left) ≡ run_as rest (due.Connective ∷ left)
+unfolding run_as step_as step role_next
+formula_drives (single p) rest left = stated_drives p rest _
+formula_drives (and f p) rest left = regroup (formula_leaves f) _ rest _ ∙ formula_drives f _ left ∙ stated_drives p rest _
+formula_drives (or f p) rest left = regroup (formula_leaves f) _ rest _ ∙ formula_drives f _ left ∙ stated_drives p rest _
+formula_drives (implies f p) rest left = regroup (formula_leaves f) _ rest _ ∙ formula_drives f _ left ∙ stated_drives p rest _
 
 -- ---- hints
 

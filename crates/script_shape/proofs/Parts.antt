@@ -1,5 +1,5 @@
 -- What each thing that is due stands for, and that the stack speaks of all that can come.
-use Rattle.std.proofs.Common.{◌≡◌, ℕ, List, [], ◌∷◌, ◌++◌, Option, Some, None, option_and_then, Bool, true, false, ◌&&◌, refl, sym, ap, ◌∙◌, append_assoc, append-nil}
+use Rattle.std.proofs.Common.{◌≡◌, ℕ, List, [], ◌∷◌, ◌++◌, Option, Some, None, option_and_then, Bool, true, false, refl, sym, ap, ◌∙◌, append_assoc, append-nil}
 use Rattle.std.proofs.lemmas.Bool.{and_parts}
 use Rattle.script_words.specs.declared.class.Spelled.TheVariants as spelled
 use Rattle.script_words.specs.declared.class.Number.{Number}
@@ -9,7 +9,7 @@ use Rattle.script_words.specs.declared.class.Sign.TheVariants as s
 use Rattle.script_shape.specs.declared.due.Due.{Due}
 use Rattle.script_shape.specs.declared.due.Due.TheVariants as due
 use Rattle.script_words.specs.Words.{Word, name, rounding, literal, sign, class_of}
-use Rattle.script_shape.specs.Tree.{AnyName, plain, operator, name_words, Special, free, defined, special_words, Digits, zero_alone, digits, digits_words, Whole, natural, opposite, whole_words, Bound, unsigned, positive, negative, bound_words, Operator, fixed, int, operator_words, Expr, term, factor, atom, Atom, number, variable, parenthesized, absolute, called, rounded, fused, expr_words, atom_words, Range, asked, between, range_words, Prop, lies_in, relative_in, at_most, at_least, multiple, prop_words, Formula, single, and, implies, formula_words, Need, nonzero, below, not_above, above, not_below, need_words, NeedList, last_need, more_needs, need_list_words, Needs, always, provided, needs_words, Points, last_point, more_points, points_words, Cut, in_four, pieces, at_points, cut_words, Names, last_name, more_names, names_words, Halving, halved_by, with_goal, halving_words, Hint, rewrite, like, split, halving, hint_words, Hints, no_hint, hint, hints_words, How, exactly, rounded_by, rounded_apart, rounded_joined, how_words, names_operator, names_value, Script, formula, define, script_words}
+use Rattle.script_shape.specs.Tree.{AnyName, plain, operator, name_words, Special, free, defined, special_words, Digits, zero_alone, digits, digits_words, Whole, natural, opposite, whole_words, Bound, unsigned, positive, negative, bound_words, Operator, fixed, int, operator_words, Expr, term, factor, atom, Atom, number, variable, parenthesized, absolute, called, rounded, fused, expr_words, atom_words, Range, asked, between, range_words, Prop, lies_in, relative_in, at_most, at_least, multiple, prop_words, Stated, affirmed, denied, stated_words, Formula, single, and, or, implies, formula_words, Need, nonzero, below, not_above, above, not_below, need_words, NeedList, last_need, more_needs, need_list_words, Needs, always, provided, needs_words, Points, last_point, more_points, points_words, Cut, in_four, pieces, at_points, cut_words, Names, last_name, more_names, names_words, Halving, halved_by, with_goal, halving_words, Hint, rewrite, like, split, halving, hint_words, Hints, no_hint, hint, hints_words, How, exactly, rounded_by, rounded_apart, rounded_joined, how_words, names_operator, names_value, Script, formula, define, script_words}
 use Rattle.script_shape.specs.Table.{operand, then_due, takes, may_skip}
 use Rattle.script_shape.specs.Shape.{after_top, step, run, may_end}
 use Rattle.script_shape.proofs.Regroup.{lead_sum, lead_sum_words, lead_difference, lead_difference_words, lead_product_in, lead_product_in_words, lead_quotient_in, lead_quotient_in_words, negated_in, negated_in_words, at_first, at_first_words}
@@ -52,6 +52,7 @@ Part due.Whole = Whole
 Part due.WholeDigits = Digits
 Part due.Direction = Special
 Part due.CloseOperator = Closing
+Part due.Claim = Stated
 Part due.Prop = Prop
 Part due.Operand = Expr
 Part due.Tail = Adds Atom Expr atom_words expr_words
@@ -94,6 +95,7 @@ part_words due.Whole p = whole_words p
 part_words due.WholeDigits p = digits_words p
 part_words due.Direction p = special_words spelled.Direction p
 part_words due.CloseOperator p = closing_words p
+part_words due.Claim p = stated_words p
 part_words due.Prop p = prop_words p
 part_words due.Operand p = expr_words p
 part_words due.Tail p = p.words
@@ -231,6 +233,9 @@ taken due.Direction (rounding spelled.Direction t) p = (defined t, refl)
 taken due.CloseOperator (sign s.Greater) p = (apart, refl)
 taken due.CloseOperator (sign s.GreaterEqual) p = (joined, refl)
 taken due.Semicolon (sign s.Semicolon) p = (tt, refl)
+taken due.Claim (sign s.Not) p = (denied p.0, simp append-nil)
+taken due.Claim (sign s.At) p = (affirmed (multiple p.0 p.1.1.0 p.1.1.1.1.0), simp append-nil)
+taken due.Claim w p = let h = prop_taken w p in (affirmed h.0, h.1)
 taken due.Prop (sign s.At) p = (multiple p.0 p.1.1.0 p.1.1.1.1.0, simp append-nil)
 taken due.Prop w p = prop_taken w p
 taken due.Operand w p = operand_taken w p
@@ -257,6 +262,7 @@ taken due.Bound (sign s.Minus) p = (negative p.0.0 p.0.1, refl)
 taken due.Magnitude (literal k t) p = ((k, t), refl)
 taken due.CloseBracket (sign s.CloseBracket) p = (tt, refl)
 taken due.Connective (sign s.And) p = adds _ (λ f. p.1.0.make (and f p.0)) (λ f. p.1.0.spells (and f p.0) ∙ simp (append_assoc, append-nil))
+taken due.Connective (sign s.Or) p = adds _ (λ f. p.1.0.make (or f p.0)) (λ f. p.1.0.spells (or f p.0) ∙ simp (append_assoc, append-nil))
 taken due.Connective (sign s.Arrow) p = adds _ (λ f. p.1.0.make (implies f p.0)) (λ f. p.1.0.spells (implies f p.0) ∙ simp (append_assoc, append-nil))
 taken due.CloseBrace (sign s.CloseBrace) p = (tt, refl)
 taken due.Hints (sign s.Dollar) p = (hint (split p.0 p.1.0) p.1.1.1.0, simp (append_assoc, append-nil))

@@ -5,9 +5,10 @@ use Rattle.std.proofs.Math.Seq.{take-length}
 use Rattle.std.proofs.lemmas.Bool.{eqb-true}
 use Rattle.script_shape.specs.declared.due.Due.{Due}
 use Rattle.script_shape.specs.declared.due.Due.TheVariants as due
-use Rattle.script_words.specs.Words.{Word, class_of}
-use Rattle.script_shape.specs.Tree.{AnyName, plain, operator, name_words, Special, free, defined, special_words, Digits, zero_alone, digits, digits_words, Whole, natural, opposite, whole_words, Bound, unsigned, positive, negative, bound_words, Operator, fixed, int, operator_words, Expr, term, sum, difference, Term, factor, product, quotient, Factor, negation, atom, Atom, number, variable, parenthesized, absolute, called, rounded, fused, expr_words, term_words, factor_words, atom_words, Range, asked, between, range_words, Prop, lies_in, relative_in, at_most, at_least, multiple, prop_words, Formula, single, and, implies, formula_words, Need, nonzero, below, not_above, above, not_below, need_words, NeedList, last_need, more_needs, need_list_words, Needs, always, provided, needs_words, Points, last_point, more_points, points_words, Cut, in_four, pieces, at_points, cut_words, Names, last_name, more_names, names_words, Halving, halved_by, with_goal, halving_words, Hint, rewrite, like, split, halving, hint_words, Hints, no_hint, hint, hints_words, How, exactly, rounded_by, rounded_apart, rounded_joined, how_words, Definition, names_operator, names_value, definition_words, Script, formula, define, script_words}
-use Rattle.script_shape.specs.Roles.{Leaf, at, name_leaves, special_leaves, digits_leaves, whole_leaves, bound_leaves, operator_leaves, expr_leaves, term_leaves, factor_leaves, atom_leaves, range_leaves, prop_leaves, formula_leaves, need_leaves, need_list_leaves, needs_leaves, points_leaves, cut_leaves, names_leaves, halving_leaves, hint_leaves, hints_leaves, how_leaves, definition_leaves, script_leaves, HasRoles, LeavesAreOfTrees}
+use Rattle.script_words.specs.declared.class.Sign.TheVariants as s
+use Rattle.script_words.specs.Words.{Word, class_of, sign}
+use Rattle.script_shape.specs.Tree.{AnyName, plain, operator, name_words, Special, free, defined, special_words, Digits, zero_alone, digits, digits_words, Whole, natural, opposite, whole_words, Bound, unsigned, positive, negative, bound_words, Operator, fixed, int, operator_words, Expr, term, sum, difference, Term, factor, product, quotient, Factor, negation, atom, Atom, number, variable, parenthesized, absolute, called, rounded, fused, expr_words, term_words, factor_words, atom_words, Range, asked, between, range_words, Prop, lies_in, relative_in, at_most, at_least, multiple, prop_words, Stated, affirmed, denied, stated_words, Formula, single, and, or, implies, formula_words, Need, nonzero, below, not_above, above, not_below, need_words, NeedList, last_need, more_needs, need_list_words, Needs, always, provided, needs_words, Points, last_point, more_points, points_words, Cut, in_four, pieces, at_points, cut_words, Names, last_name, more_names, names_words, Halving, halved_by, with_goal, halving_words, Hint, rewrite, like, split, halving, hint_words, Hints, no_hint, hint, hints_words, How, exactly, rounded_by, rounded_apart, rounded_joined, how_words, Definition, names_operator, names_value, definition_words, Script, formula, define, script_words}
+use Rattle.script_shape.specs.Roles.{Leaf, at, name_leaves, special_leaves, digits_leaves, whole_leaves, bound_leaves, operator_leaves, expr_leaves, term_leaves, factor_leaves, atom_leaves, range_leaves, prop_leaves, stated_leaves, formula_leaves, need_leaves, need_list_leaves, needs_leaves, points_leaves, cut_leaves, names_leaves, halving_leaves, hint_leaves, hints_leaves, how_leaves, definition_leaves, script_leaves, HasRoles, LeavesAreOfTrees}
 use Rattle.script_shape.specs.Shape.{step, run, start}
 use Rattle.script_shape.specs.ShapeLaw.{grown, roles_from}
 use Rattle.script_shape.proofs.Checked.{number_of, same_number, role_at, checked, step_as, run_as}
@@ -79,10 +80,15 @@ prop_spells (at_most e b) = simp (map-append, expr_spells, bound_spells)
 prop_spells (at_least e b) = simp (map-append, expr_spells, bound_spells)
 prop_spells (multiple f e k) = simp (map-append, special_spells, expr_spells, whole_spells)
 
+stated_spells : (n : Stated) → words_of (stated_leaves n) ≡ stated_words n
+stated_spells (affirmed p) = prop_spells p
+stated_spells (denied p) = ap (λ l. sign s.Not ∷ l) (prop_spells p)
+
 formula_spells : (n : Formula) → words_of (formula_leaves n) ≡ formula_words n
-formula_spells (single p) = prop_spells p
-formula_spells (and f p) = simp (map-append, formula_spells f, prop_spells)
-formula_spells (implies f p) = simp (map-append, formula_spells f, prop_spells)
+formula_spells (single p) = stated_spells p
+formula_spells (and f p) = simp (map-append, formula_spells f, stated_spells)
+formula_spells (or f p) = simp (map-append, formula_spells f, stated_spells)
+formula_spells (implies f p) = simp (map-append, formula_spells f, stated_spells)
 
 need_spells : (n : Need) → words_of (need_leaves n) ≡ need_words n
 need_spells (nonzero e z) = simp (map-append, expr_spells)

@@ -27,13 +27,24 @@ prop_words (at_most e b) = expr_words e ++ (sign s.LessEqual ∷ bound_words b)
 prop_words (at_least e b) = expr_words e ++ (sign s.GreaterEqual ∷ bound_words b)
 prop_words (multiple f e k) = sign s.At ∷ (special_words spelled.Fix f ++ (sign s.OpenParen ∷ (expr_words e ++ (sign s.Comma ∷ (whole_words k ++ (sign s.CloseParen ∷ []))))))
 
--- one or more propositions with a sign between: `/\` joins, `->` begins a new part
+-- a proposition, or `not` and a proposition
+pub data Stated : Type 0 where
+  affirmed : Prop → Stated
+  denied : Prop → Stated
+
+abbrev pub stated_words : Stated → List Word
+stated_words (affirmed p) = prop_words p
+stated_words (denied p) = sign s.Not ∷ prop_words p
+
+-- one or more of these with a sign between: `/\` joins, `\/` begins a new conjunction, `->` a new part
 pub data Formula : Type 0 where
-  single : Prop → Formula
-  and : Formula → Prop → Formula
-  implies : Formula → Prop → Formula
+  single : Stated → Formula
+  and : Formula → Stated → Formula
+  or : Formula → Stated → Formula
+  implies : Formula → Stated → Formula
 
 abbrev pub formula_words : Formula → List Word
-formula_words (single p) = prop_words p
-formula_words (and f p) = formula_words f ++ (sign s.And ∷ prop_words p)
-formula_words (implies f p) = formula_words f ++ (sign s.Arrow ∷ prop_words p)
+formula_words (single p) = stated_words p
+formula_words (and f p) = formula_words f ++ (sign s.And ∷ stated_words p)
+formula_words (or f p) = formula_words f ++ (sign s.Or ∷ stated_words p)
+formula_words (implies f p) = formula_words f ++ (sign s.Arrow ∷ stated_words p)

@@ -8,7 +8,7 @@ use Rattle.script_words.specs.declared.class.Spelled.{Spelled}
 use Rattle.script_words.specs.declared.class.Spelled.TheVariants as spelled
 use Rattle.script_words.specs.declared.class.Number.TheVariants as digits_kind
 use Rattle.script_words.specs.declared.class.Sign.TheVariants as s
-use Rattle.script_shape.specs.Tree.{AnyName, plain, operator, Special, free, defined, Digits, zero_alone, digits, Whole, natural, opposite, Bound, unsigned, positive, negative, Operator, fixed, int, Expr, term, sum, difference, Term, factor, product, quotient, Factor, negation, atom, Atom, number, variable, parenthesized, absolute, called, rounded, fused, Range, asked, between, Prop, lies_in, relative_in, at_most, at_least, multiple, Formula, single, and, implies, Need, nonzero, below, not_above, above, not_below, NeedList, last_need, more_needs, Needs, always, provided, Points, last_point, more_points, Cut, in_four, pieces, at_points, Names, last_name, more_names, Halving, halved_by, with_goal, Hint, rewrite, like, split, halving, Hints, no_hint, hint, How, exactly, rounded_by, rounded_apart, rounded_joined, Definition, names_operator, names_value, Script, formula, define, script_words}
+use Rattle.script_shape.specs.Tree.{AnyName, plain, operator, Special, free, defined, Digits, zero_alone, digits, Whole, natural, opposite, Bound, unsigned, positive, negative, Operator, fixed, int, Expr, term, sum, difference, Term, factor, product, quotient, Factor, negation, atom, Atom, number, variable, parenthesized, absolute, called, rounded, fused, Range, asked, between, Prop, lies_in, relative_in, at_most, at_least, multiple, Stated, affirmed, denied, Formula, single, and, or, implies, Need, nonzero, below, not_above, above, not_below, NeedList, last_need, more_needs, Needs, always, provided, Points, last_point, more_points, Cut, in_four, pieces, at_points, Names, last_name, more_names, Halving, halved_by, with_goal, Hint, rewrite, like, split, halving, Hints, no_hint, hint, How, exactly, rounded_by, rounded_apart, rounded_joined, Definition, names_operator, names_value, Script, formula, define, script_words}
 
 pub record Leaf : Type 0 where
   pub role : Due
@@ -77,10 +77,15 @@ prop_leaves (at_most e b) = expr_leaves e ++ (at d.Relation (sign s.LessEqual) �
 prop_leaves (at_least e b) = expr_leaves e ++ (at d.Relation (sign s.GreaterEqual) ∷ bound_leaves b)
 prop_leaves (multiple f e k) = at d.Prop (sign s.At) ∷ (special_leaves d.Fix spelled.Fix f ++ (at d.OpenParen (sign s.OpenParen) ∷ (expr_leaves e ++ (at d.Comma (sign s.Comma) ∷ (whole_leaves k ++ (at d.CloseParen (sign s.CloseParen) ∷ []))))))
 
+abbrev pub stated_leaves : Stated → List Leaf
+stated_leaves (affirmed p) = prop_leaves p
+stated_leaves (denied p) = at d.Claim (sign s.Not) ∷ prop_leaves p
+
 abbrev pub formula_leaves : Formula → List Leaf
-formula_leaves (single p) = prop_leaves p
-formula_leaves (and f p) = formula_leaves f ++ (at d.Connective (sign s.And) ∷ prop_leaves p)
-formula_leaves (implies f p) = formula_leaves f ++ (at d.Connective (sign s.Arrow) ∷ prop_leaves p)
+formula_leaves (single p) = stated_leaves p
+formula_leaves (and f p) = formula_leaves f ++ (at d.Connective (sign s.And) ∷ stated_leaves p)
+formula_leaves (or f p) = formula_leaves f ++ (at d.Connective (sign s.Or) ∷ stated_leaves p)
+formula_leaves (implies f p) = formula_leaves f ++ (at d.Connective (sign s.Arrow) ∷ stated_leaves p)
 
 abbrev pub need_leaves : Need → List Leaf
 need_leaves (nonzero e zero_text) = expr_leaves e ++ (at d.NeedRelation (sign s.Unequal) ∷ (at d.Zero (literal digits_kind.Zero zero_text) ∷ []))

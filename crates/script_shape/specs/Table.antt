@@ -31,7 +31,7 @@ abbrev pub takes : Due → Class → Option (List Due)
 takes d.Script (Sign s.At) = Some (d.NewName ∷ d.Equal ∷ d.Operator ∷ d.Greater ∷ d.Semicolon ∷ d.Script ∷ [])
 takes d.Script (Name k) = Some (d.DefinedBy ∷ d.Operand ∷ d.Semicolon ∷ d.Script ∷ [])
 takes d.Script (Rounding k) = Some (d.DefinedBy ∷ d.Operand ∷ d.Semicolon ∷ d.Script ∷ [])
-takes d.Script (Sign s.OpenBrace) = Some (d.Prop ∷ d.Connective ∷ d.CloseBrace ∷ d.Hints ∷ [])
+takes d.Script (Sign s.OpenBrace) = Some (d.Claim ∷ d.Connective ∷ d.CloseBrace ∷ d.Hints ∷ [])
 takes d.NewName (Name k) = Some []
 takes d.NewName (Rounding k) = Some []
 takes d.DefinedBy (Sign s.Equal) = Some []
@@ -53,6 +53,9 @@ takes d.Direction (Rounding spelled.Direction) = Some []
 takes d.CloseOperator (Sign s.Greater) = Some (d.Equal ∷ [])
 takes d.CloseOperator (Sign s.GreaterEqual) = Some []
 takes d.Semicolon (Sign s.Semicolon) = Some []
+takes d.Claim (Sign s.Not) = Some (d.Prop ∷ [])
+takes d.Claim (Sign s.At) = Some (d.Fix ∷ d.OpenParen ∷ d.Operand ∷ d.Comma ∷ d.Whole ∷ d.CloseParen ∷ [])
+takes d.Claim c = then_due (operand c) (d.Relation ∷ [])
 takes d.Prop (Sign s.At) = Some (d.Fix ∷ d.OpenParen ∷ d.Operand ∷ d.Comma ∷ d.Whole ∷ d.CloseParen ∷ [])
 takes d.Prop c = then_due (operand c) (d.Relation ∷ [])
 takes d.Operand c = operand c
@@ -78,8 +81,9 @@ takes d.Bound (Sign s.Plus) = Some (d.Magnitude ∷ [])
 takes d.Bound (Sign s.Minus) = Some (d.Magnitude ∷ [])
 takes d.Magnitude (Literal k) = Some []
 takes d.CloseBracket (Sign s.CloseBracket) = Some []
-takes d.Connective (Sign s.And) = Some (d.Prop ∷ d.Connective ∷ [])
-takes d.Connective (Sign s.Arrow) = Some (d.Prop ∷ d.Connective ∷ [])
+takes d.Connective (Sign s.And) = Some (d.Claim ∷ d.Connective ∷ [])
+takes d.Connective (Sign s.Or) = Some (d.Claim ∷ d.Connective ∷ [])
+takes d.Connective (Sign s.Arrow) = Some (d.Claim ∷ d.Connective ∷ [])
 takes d.CloseBrace (Sign s.CloseBrace) = Some []
 takes d.Hints (Sign s.Dollar) = Some (d.SplitName ∷ d.SplitCut ∷ d.Semicolon ∷ d.Hints ∷ [])
 takes d.Hints c = then_due (operand c) (d.HintRest ∷ d.Semicolon ∷ d.Hints ∷ [])
@@ -121,6 +125,9 @@ may_skip _ = false
 
 -- The role of a token that a due thing takes: an operand that begins a proposition or a hint has that of an operand.
 abbrev pub role_of : Due → Class → Due
+role_of d.Claim (Sign s.Not) = d.Claim
+role_of d.Claim (Sign s.At) = d.Prop
+role_of d.Claim c = d.Operand
 role_of d.Prop (Sign s.At) = d.Prop
 role_of d.Prop c = d.Operand
 role_of d.Hints (Sign s.Dollar) = d.Hints

@@ -15,6 +15,7 @@ pub enum Due {
     Direction,
     CloseOperator,
     Semicolon,
+    Claim,
     Prop,
     Operand,
     Tail,

@@ -25,7 +25,10 @@ fn fault(alloc: Global, text: &[u8]) -> Result<Option<usize>, AllocError>
 
 #[test]
 fn scripts(rt: HostRuntime) -> Result<(), Fail> {
-    let rows: [&[u8]; 0] = [];
+    let rows: [&[u8]; 2] = [
+        b"{ x in [0,1] \\/ not x <= 3 -> x in ? }",
+        b"@q = fixed<0,dn>; a q= x * 1; { q(x) in ? } x -> y { x <> 0 }; $ x in (1,2);",
+    ];
     for text in rows {
         assert!(rt; text.len() < 1000);
         assert_eq!(rt; fault(rt.alloc(), text)?, None, "{text:?}");
@@ -38,7 +41,7 @@ fn faults(rt: HostRuntime) -> Result<(), Fail> {
     let rows: [(&[u8], usize); 26] = [
         (b"", 0),
         (b"{ x in [1,2", 11),
-        (b"{ x in [0,1] \\/ x in ? }", 13),
+        (b"{ x in [0,1] \\/ \\/ x in ? }", 16),
         (b"{ sqrt(x) in ? }", 2),
         (b"{ x in [0,1] -> x in ? } !", 25),
         (b"{ x in [1.,2] }", 9),

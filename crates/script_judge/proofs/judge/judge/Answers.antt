@@ -9,7 +9,7 @@ use Rattle.script_judge.proofs.Judging.{JudgedTo, begin_judging, split_at, same_
 use Rattle.script_judge.proofs.judge.judge.Goals as goal
 
 pub loop-number-init : goal.loop-number-init
-loop-number-init c = begin_judging _ c.new-seen.result c.arrow_count-arrows.result c.new-seen.ensures.seen c.new-seen.ensures.within c.arrow_count-arrows.ensures
+loop-number-init c = begin_judging _ c.new-seen.result c.arrow_count-arrows.result c.new-seen.ensures.seen c.new-seen.ensures.within c.new-seen.ensures.few c.arrow_count-arrows.ensures
 
 pub verdict_on-verdict-requires : goal.verdict_on-verdict-requires
 verdict_on-verdict-requires c =
@@ -62,7 +62,7 @@ returns-in-Some-limit_refusal-clause-judged c =
     split_at c.args.roles.now (words_in c.args.words) n r w c.role_at-role.ensures c.at-word.ensures ∙ ap (λ l. at r w ∷ l) (sym same) in
     let m : JudgedTo all n seen (at r w ∷ behind) arrows = subst (λ ls. JudgedTo all n seen ls arrows) left c.loop-number.invariant in
     let f = told seen v r w behind c.form_refusal-form.result arrows c.without-later_arrows.result c.is_arrow.result m.arrows_left c.without-later_arrows.ensures c.is_arrow.ensures c.verdict_on-verdict.ensures.tells c.form_refusal-form.ensures in
-    ends_by_limit all n seen r w behind arrows m v _ c.form_refusal-form.result f c.in_default.is c.take.new.self c.in_ok-take.ensures c.limit_refusal.result c.limit_refusal.ensures
+    ends_by_limit all n seen r w behind arrows m v _ c.form_refusal-form.result f c.in_default.is c.take.new.self c.in_ok-take.ensures.seen c.limit_refusal.result c.limit_refusal.ensures
     c.in-Some-limit_refusal.kind c.in-Some-limit_refusal.is
 
 pub loop-number-preserved : goal.loop-number-preserved
@@ -83,7 +83,7 @@ loop-number-preserved c =
     let f = told seen v r w behind c.form_refusal-form.result arrows c.without-later_arrows.result c.is_arrow.result m.arrows_left c.without-later_arrows.ensures c.is_arrow.ensures c.verdict_on-verdict.ensures.tells c.form_refusal-form.ensures in
     let later : c.without-later_arrows.result ≡ arrows - one_if (is_arrow r w) = c.without-later_arrows.ensures ∙ ap (λ b. arrows - one_if b) c.is_arrow.ensures in
     subst (λ ls. JudgedTo all (n + 1) c.take.new.self ls c.without-later_arrows.result) same
-    (goes_on all n seen r w behind arrows m v _ c.form_refusal-form.result f c.in_default.is c.take.new.self c.in_ok-take.ensures c.limit_refusal.result c.limit_refusal.ensures
+    (goes_on all n seen r w behind arrows m v _ c.form_refusal-form.result f c.in_default.is c.take.new.self c.in_ok-take.ensures.seen c.limit_refusal.result c.limit_refusal.ensures
     c.in_default-limit_refusal.is c.without-later_arrows.result (behind_arrow r w behind arrows c.without-later_arrows.result m.arrows_left later))
 
 pub returns-clause-judged : goal.returns-clause-judged
@@ -91,3 +91,9 @@ returns-clause-judged c =
     let n = c.loop-number.number in
     let ends = none_left c.args.roles.now (drop n (words_in c.args.words)) n (omega arith) in
     c.loop-number.invariant.rest None (subst (λ ls. Judged n c.loop-number.invariant.seen ls None) (sym ends) none_refused)
+
+pub ranges_at-requires : goal.ranges_at-requires
+ranges_at-requires c = c.loop-number.invariant.few
+
+pub take-requires-clause-few : goal.take-requires-clause-few
+take-requires-clause-few c = c.loop-number.invariant.few

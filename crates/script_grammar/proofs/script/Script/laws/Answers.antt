@@ -1,4 +1,7 @@
 use Rattle.std.proofs.Common.{subst}
+use Rattle.std.specs.List.{AllByRecursion}
+use Rattle.script_cases.specs.Cases.{cases}
+use Rattle.script_grammar.specs.Ranges.{HasFewCases}
 use Rattle.node_counts.specs.Few.{HasFewHints}
 use Rattle.node_counts.specs.Ranges.{HaveRanges}
 use Rattle.script_grammar.specs.Names.{NamesNodes}
@@ -12,4 +15,7 @@ pub returns-clause-few : goal.returns-clause-few
 returns-clause-few c = subst (λ (v : View). HasFewHints v.hints) c.self.view_is (c.spelled_have_few_hints.ensures _ _ c.self.invariant.0)
 
 pub returns-clause-ranges : goal.returns-clause-ranges
-returns-clause-ranges c = subst (λ (v : View). HaveRanges v.hypotheses v.hints) c.self.view_is (c.spelled_have_ranges.ensures _ _ c.self.invariant.0)
+returns-clause-ranges c = subst (λ (v : View). AllByRecursion (λ claims. HaveRanges claims v.hints) (cases v.parts)) c.self.view_is (c.spelled_have_ranges.ensures _ _ c.self.invariant.0)
+
+pub returns-clause-cases : goal.returns-clause-cases
+returns-clause-cases c = subst HasFewCases c.self.view_is (c.spelled_have_few_cases.ensures _ _ c.self.invariant.0)

@@ -1,18 +1,21 @@
-use Rattle.std.proofs.Common.{◌≡◌, ◌∙◌, ap, subst}
-use Rattle.std.specs.Option.{option_map}
+use Rattle.std.proofs.Common.{◌≡◌, ◌≤◌, ◌∙◌, sym, ap, subst}
+use Rattle.std.specs.Option.{option_map, option_copied}
 use Rattle.literal_order.specs.Values.{written_value}
 use Rattle.script_words.specs.Named.{word_of}
 use Rattle.script_judge.specs.Bounds.{BoundsSeen, bounds_after}
 use Rattle.script_judge.specs.Counts.{counts_after}
 use Rattle.script_judge.specs.Names.{names_after}
 use Rattle.script_judge.specs.Nesting.{opened_after}
-use Rattle.script_judge.specs.Splits.{splits_after, ends_between}
+use Rattle.script_judge.specs.Splits.{SplitsSeen, splits_after, ends_between}
+use Rattle.script_judge.specs.SplitViews.{splits_seen, ends_seen}
+use Rattle.script_cases.specs.Cases.{case_count}
+use Rattle.script_judge.specs.FewCases.{few_ended}
 use Rattle.script_judge.specs.BoundViews.{verdict_of}
 use Rattle.script_judge.specs.Views.{AreNames}
 use Rattle.script_judge.proofs.judge.Seen.take.Goals as goal
 
-pub returns : goal.returns
-returns c = λ stands h.
+pub returns-clause-seen : goal.returns-clause-seen
+returns-clause-seen c = λ stands h.
     let r = c.args.role in
     let w = word_of c.args.word in
     let v = verdict_of c.args.verdict in
@@ -29,3 +32,7 @@ returns c = λ stands h.
       within = c.after-self.ensures.normal c.requires.lower c.requires.number;
       splits = c.in_ok-take.ensures ∙ (λ i. splits_after (h.splits i) (ended i) (defined i) v.arrow_behind (ends i) v.number r w);
     }
+
+pub returns-clause-few : goal.returns-clause-few
+returns-clause-few c =
+    subst (λ (x : SplitsSeen). case_count x.ranges.before ≤ 64) (sym c.in_ok-take.ensures) (few_ended (splits_seen c.args.self.now.splits) (option_copied c.ends_definition.result) c.uses_defined.result c.args.verdict.arrow_behind (option_map ends_seen c.ends_between.result) (option_map written_value c.args.verdict.number) c.args.role (word_of c.args.word) c.requires.few)

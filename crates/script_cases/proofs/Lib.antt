@@ -1,0 +1,6 @@
+pub mod Pieces
+pub mod Pushed
+pub mod Lengths
+pub mod Taken
+pub mod Steps
+pub mod Counts

@@ -1,5 +1,0 @@
-use Rattle.script_judge.proofs.Grown.{added}
-use Rattle.script_judge.proofs.sets.add_some.Goals as goal
-
-pub returns-in_ok-insert : goal.returns-in_ok-insert
-returns-in_ok-insert c = added _ _ c.in-Some.name c.args.name c.in-Some.is c.in_ok-insert.ensures.updates
