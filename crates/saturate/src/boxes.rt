@@ -2,14 +2,16 @@
 ghost use Rattle.std.specs.Prelude.{◌≡◌, ◌<◌, IfOk, List, ◌∷◌, length};
 ghost use Rattle.derivation.specs.Known.{Piece, IsTableAt};
 ghost use Rattle.saturate.specs.Tables.{fact_at};
-ghost use Rattle.saturate.specs.Universes.{setting_of, HasAllPlaces};
-ghost use Rattle.saturate.specs.Boxes.{IsSomeBox, IsOfUniverse, IsTableBelow, IsCostBelow, IsItsTable, IsItsState, IsItsCost, table_of, state_of};
+ghost use Rattle.saturate.specs.Universes.{setting_by, HasAllPlaces};
+ghost use Rattle.saturate.specs.Boxes.{IsSomeBox, IsOfUniverse, IsTableBelow, IsCostBelow};
+ghost use Rattle.saturate.specs.Boxes.{IsSomeBoxIn, IsItsTableIn, IsItsStateIn, IsItsCostIn};
+ghost use Rattle.saturate.specs.Boxes.{IsItsTable, IsItsState, table_of, state_of};
 
 use crate::area::Area;
+use crate::conclusions::Concludes;
 use crate::improve::improve;
 use crate::judge::judge;
 use crate::kept::Table;
-use crate::laws::rules_are_lawful;
 use crate::root::settle_root;
 use crate::rounds::rounds;
 use crate::settled::Settled;
@@ -24,44 +26,49 @@ use std::marker::Brand;
 use std::sync::ledger::{Blank, Ledger};
 
 // The best table of a box below another, from the piece that the last cut left of a variable.
-fn settle_child<L: Ledger>(
+fn settle_child<C: Concludes>(
     alloc: Global,
     uni: &Universe,
     piece: (ExprId, Interval),
     parent: &Table,
     height: u8,
     area: &mut Area,
-    steps: &mut Steps<L>,
+    steps: &mut C,
 ) -> Result<Table, AllocError>
     requires variable { (piece.0).0 < length uni.now.nodes }
     requires places { HasAllPlaces uni.now parent.now }
-    requires parent { (above : List Piece) × IsTableAt (setting_of uni.now) height above (fact_at parent.now) }
-    ensures table { IfOk result (λ t. IsTableBelow uni.now height (piece.0, piece.1) parent.now t) }
+    requires parent { (above : List Piece) ×
+        IsTableAt (setting_by C.rules uni.now) height above (fact_at parent.now) }
+    ensures table { IfOk result (λ t.
+        IsTableBelow (setting_by C.rules uni.now) height (piece.0, piece.1) parent.now t) }
     ensures places { IfOk result (HasAllPlaces uni.now) }
-    ensures cost { IfOk result (λ _. IsCostBelow uni.now height (piece.0, piece.1) parent.now steps.old steps.new) }
+    ensures cost { IsCostBelow (setting_by C.rules uni.now) height (piece.0, piece.1) parent.now
+        (C.asked steps.old) (C.asked steps.new) }
 {
     uni.laws();
-    rules_are_lawful();
+    C::rules_are_lawful();
     let mut start = parent.copy(alloc)?;
     let _changed = improve(&mut start, Fact::Bnd(piece.0, piece.1), (piece.0).0);
     rounds(uni, start, height, area, steps)
 }
 
 // The best table of a box.
-fn best_table<L: Ledger>(
+fn best_table<C: Concludes>(
     alloc: Global,
     uni: &Universe,
     piece: Option<(ExprId, Interval)>,
     parent: Option<&Table>,
     height: u8,
     area: &mut Area,
-    steps: &mut Steps<L>,
+    steps: &mut C,
 ) -> Result<Table, AllocError>
-    requires given { IsSomeBox uni.now height piece parent }
+    requires given { IsSomeBoxIn (setting_by C.rules uni.now) height piece parent }
     requires places { IsOfUniverse uni.now piece parent }
-    ensures table { IfOk result (IsItsTable uni.now height piece parent.entry) }
+    ensures table { IfOk result
+        (IsItsTableIn (setting_by C.rules uni.now) height piece parent.entry) }
     ensures places { IfOk result (HasAllPlaces uni.now) }
-    ensures cost { IfOk result (λ _. IsItsCost uni.now height piece parent.entry steps.old steps.new) }
+    ensures cost { IsItsCostIn (setting_by C.rules uni.now) height piece parent.entry
+        (C.asked steps.old) (C.asked steps.new) }
 {
     match (piece, parent) {
         (Some(piece), Some(parent)) => settle_child(alloc, uni, piece, parent, height, area, steps),
@@ -71,25 +78,33 @@ fn best_table<L: Ledger>(
 
 /// What a box comes to, and its best table. At the root nothing is given; at any other box the piece that the last cut left
 /// and the best table of the parent, for this universe and so many rounds. The area may come from any other box, of any
-/// universe. One step is one call of `conclude`.
-pub fn settle_counted<L: Ledger>(
+/// universe.
+///
+/// A step is a conclusion that was asked for. The call has no other, and `Steps` asks `conclude`.
+pub fn settle_counted<C: Concludes>(
     alloc: Global,
     uni: &Universe,
     piece: Option<(ExprId, Interval)>,
     parent: Option<&Table>,
     rounds: u8,
     area: &mut Area,
-    steps: &mut Steps<L>,
+    steps: &mut C,
 ) -> Result<Settled, AllocError>
-    requires given { IsSomeBox uni.now rounds piece parent }
+    requires given { IsSomeBoxIn (setting_by C.rules uni.now) rounds piece parent }
     requires places { IsOfUniverse uni.now piece parent }
     // The table has the best facts that are known at the box.
-    ensures table { IfOk result (λ settled. IsItsTable uni.now rounds piece parent.entry (table_of settled)) }
-    // Void comes exactly where VOID is known, and Open exactly where the box isn't settled, with the least goal that isn't met.
-    ensures state { IfOk result (λ settled. IsItsState uni.now rounds piece parent.entry (state_of settled)) }
+    ensures table { IfOk result (λ settled.
+        IsItsTableIn (setting_by C.rules uni.now) rounds piece parent.entry (table_of settled)) }
+    // Void comes exactly where VOID is known, and Open exactly where the box isn't settled, with
+    // the least goal that isn't met.
+    ensures state { IfOk result (λ settled.
+        IsItsStateIn (setting_by C.rules uni.now) uni.now.goals rounds piece parent.entry
+        (state_of settled)) }
     ensures places { IfOk result (λ settled. HasAllPlaces uni.now (table_of settled)) }
-    // Each instance is applied once, and from the second round on only where a premise's best fact changed in the round before.
-    ensures cost { IfOk result (λ _. IsItsCost uni.now rounds piece parent.entry steps.old steps.new) }
+    // Each instance is applied once, and from the second round on only where a premise's best fact
+    // changed in the round before. No more where memory runs out.
+    ensures cost { IsItsCostIn (setting_by C.rules uni.now) rounds piece parent.entry
+        (C.asked steps.old) (C.asked steps.new) }
 {
     uni.laws();
     boxes_come_to_one_state();

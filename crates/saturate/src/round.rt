@@ -3,7 +3,6 @@ ghost use Rattle.std.specs.Prelude.{◌≡◌, Some, None, IfOk, length, slice_g
 ghost use Rattle.facts.specs.declared.fact.Slot.{Slot};
 ghost use Rattle.facts.specs.declared.fact.Slot.TheVariants as slot;
 ghost use Rattle.facts.specs.declared.instance.Instance.{Instance as Applied};
-ghost use Rattle.theorem_list.specs.Concludes.{concludes};
 ghost use Rattle.derivation.specs.Rounds.{conclusion, IsAhead, AllSeen, IsSame};
 ghost use Rattle.derivation.specs.Changes.{IsQuiet, IsListed};
 ghost use Rattle.derivation.specs.Counts.{AreRisen};
@@ -11,50 +10,33 @@ ghost use Rattle.rule_universe.specs.declared.placed.Placed.{Placed as Placement
 ghost use Rattle.rule_universe.specs.Places.{IsPlace};
 ghost use Rattle.rule_universe.specs.Placed.{slots_of};
 ghost use Rattle.saturate.specs.Tables.{fact_at, IsFoundAt, IsShaped};
-ghost use Rattle.saturate.specs.Universes.{setting_of, HasAllPlaces};
+ghost use Rattle.saturate.specs.Universes.{setting_by, HasAllPlaces};
 ghost use Rattle.saturate.specs.Visits.{IsVisit, GainsKnown, RiseOrStay, AreKnown};
 
+use crate::conclusions::Concludes;
 use crate::improve::improve;
 use crate::kept::Table;
-use crate::laws::rules_are_lawful;
-use crate::steps::Steps;
 use expr_dag::Dag;
 use facts::{Fact, HintRow, Instance};
 use rule_universe::{Placed, Universe};
 use std::alloc::AllocError;
-use std::sync::ledger::Ledger;
-use theorem_list::conclude;
-
-// What the instance concludes from these premises.
-#[inline(always)]
-fn conclude_by(dag: &Dag, hints: &[HintRow], instance: &Instance, premises: &[Fact]) -> Option<Fact>
-    ensures { result ≡ concludes dag.now hints.now instance.now.rule instance.now.arg premises.now instance.now.target }
-{
-    conclude(
-        dag,
-        hints,
-        instance.rule,
-        instance.arg,
-        premises,
-        instance.target,
-    )
-}
 
 // What the instance concludes from the table. Its premises are given with their places; the list of facts is scratch.
 #[inline(always)]
-fn apply<L: Ledger>(
+fn apply<C: Concludes>(
     dag: &Dag,
     hints: &[HintRow],
     instance: &Instance,
     placed: &[Placed],
     now: &Table,
     premises: &mut Vec<Fact>,
-    steps: &mut Steps<L>,
+    steps: &mut C,
 ) -> Result<Option<Fact>, AllocError>
     requires slots { slots_of placed.now ≡ instance.now.premises }
     requires found { (p : Placement) → Contains placed.now p → IsFoundAt now.now p.slot p.place }
-    ensures is { IfOk result (λ r. r ≡ conclusion (concludes dag.now hints.now) (fact_at now.now) instance.now) }
-    ensures cost { steps.new ≤ steps.old + 1 }
+    ensures is { IfOk result (λ r.
+        r ≡ conclusion (C.rules dag.now hints.now) (fact_at now.now) instance.now) }
+    ensures cost { C.asked steps.new ≤ C.asked steps.old + 1 }
 {
     premises.clear();
     for p in placed {
@@ -63,8 +45,7 @@ fn apply<L: Ledger>(
             None => return Ok(None),
         }
     }
-    steps.tick();
-    Ok(conclude_by(dag, hints, instance, premises))
+    Ok(steps.conclude(dag, hints, instance, premises))
 }
 
 // The instance with this number.
@@ -88,29 +69,30 @@ fn target_place(uni: &Universe, k: usize) -> u16
 // Applies the instance with this number to the one table, keeps in the other what comes of it, and lists the slot that changed,
 // if one did.
 #[inline(always)]
-fn visit<L: Ledger>(
+fn visit<C: Concludes>(
     uni: &Universe,
     k: usize,
     now: &Table,
     next: &mut Table,
     changed: &mut Vec<Placed>,
     premises: &mut Vec<Fact>,
-    steps: &mut Steps<L>,
+    steps: &mut C,
 ) -> Result<(), AllocError>
     requires within { k < length uni.now.instances }
     requires places_now { HasAllPlaces uni.now now.now }
     requires places { HasAllPlaces uni.now next.old }
     requires no_void { fact_at next.old slot.Void ≡ None }
-    ensures visit { IfOk result (λ _. (i : Applied) → slice_get uni.now.instances k ≡ Some i → IsVisit (concludes uni.now.nodes uni.now.hints) (fact_at now.now) next.old next.new i) }
+    ensures visit { IfOk result (λ _. (i : Applied) → slice_get uni.now.instances k ≡ Some i →
+        IsVisit (C.rules uni.now.nodes uni.now.hints) (fact_at now.now) next.old next.new i) }
     ensures listed { IfOk result (λ _. IsListed (slots_of changed.new.items) (fact_at next.old) (fact_at next.new)) }
     ensures kept { IfOk result (λ _. (s : Slot) → Contains (slots_of changed.old.items) s → Contains (slots_of changed.new.items) s) }
     ensures known { IfOk result (λ _. GainsKnown uni.now changed.old.items changed.new.items) }
     ensures risen { IfOk result (λ _. RiseOrStay (slots_of changed.old.items) (slots_of changed.new.items) (fact_at next.old) (fact_at next.new)) }
     ensures shape { IsShaped next.old next.new }
-    ensures cost { steps.new ≤ steps.old + 1 }
+    ensures cost { C.asked steps.new ≤ C.asked steps.old + 1 }
 {
     uni.laws();
-    rules_are_lawful();
+    C::rules_are_lawful();
     let instance = instance_at(uni, k);
     let placed = uni.premises(k);
     let place = target_place(uni, k);
@@ -131,27 +113,28 @@ fn visit<L: Ledger>(
 }
 
 // Applies each instance that is due to the one table, keeps what comes of it in the other, and lists the slots that changed.
-pub(crate) fn round<L: Ledger>(
+pub(crate) fn round<C: Concludes>(
     uni: &Universe,
     now: &Table,
     next: &mut Table,
     due: &[bool],
     changed: &mut Vec<Placed>,
     premises: &mut Vec<Fact>,
-    steps: &mut Steps<L>,
+    steps: &mut C,
 ) -> Result<(), AllocError>
     requires same { IsSame (fact_at now.now) (fact_at next.old) }
     requires no_void { fact_at now.now slot.Void ≡ None }
     requires due { length due.now ≡ length uni.now.instances }
-    requires quiet { IsQuiet (setting_of uni.now) due.now (fact_at now.now) }
+    requires quiet { IsQuiet (setting_by C.rules uni.now) due.now (fact_at now.now) }
     requires places_now { HasAllPlaces uni.now now.now }
     requires places { HasAllPlaces uni.now next.old }
-    ensures ahead { IfOk result (λ _. IsAhead (setting_of uni.now) (fact_at now.now) (fact_at next.new) AllSeen) }
+    ensures ahead { IfOk result (λ _.
+        IsAhead (setting_by C.rules uni.now) (fact_at now.now) (fact_at next.new) AllSeen) }
     ensures listed { IfOk result (λ _. IsListed (slots_of changed.new.items) (fact_at now.now) (fact_at next.new)) }
     ensures known { IfOk result (λ _. AreKnown uni.now changed.new.items) }
     ensures risen { IfOk result (λ _. AreRisen (slots_of changed.new.items) (fact_at now.now) (fact_at next.new)) }
     ensures places { HasAllPlaces uni.now next.new }
-    ensures cost { IfOk result (λ _. steps.new ≤ steps.old + count_by (λ b. b) due.now) }
+    ensures cost { C.asked steps.new ≤ C.asked steps.old + count_by (λ b. b) due.now }
 {
     uni.laws();
     changed.clear();

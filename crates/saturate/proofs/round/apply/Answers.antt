@@ -3,7 +3,6 @@ use Rattle.std.proofs.Math.Seq.{drop-cons}
 use Rattle.std.proofs.lemmas.List.{drop_all}
 use Rattle.std.proofs.lemmas.List.Elements.{Contains-get_or}
 use Rattle.facts.specs.declared.fact.Slot.TheVariants as slot
-use Rattle.theorem_list.specs.Concludes.{concludes}
 use Rattle.derivation.specs.Rounds.{all_at, with_first}
 use Rattle.rule_universe.specs.declared.placed.Placed.{Placed}
 use Rattle.rule_universe.specs.Placed.{slots_of}
@@ -36,7 +35,8 @@ returns-in-None-clause-is g c =
     let rest = all_at at (slots_of (drop (c.loop-p.p-index + 1) placed)) in
     let ps = c.loop-p.premises.items in
     let inv = subst (λ l. all_at at (slots_of placed) ≡ after ps (all_at at (slots_of l))) (rest_is placed c.loop-p.p-index c.loop-p-test.true) c.loop-p.invariant in
-    gathered_none (concludes c.args.dag.now c.args.hints.now) at c.args.instance.now (slots_of placed) c.requires.slots ps rest
+    gathered_none (g.C.Concludes.rules c.args.dag.now c.args.hints.now) at c.args.instance.now
+    (slots_of placed) c.requires.slots ps rest
     (inv ∙ ap (λ o. after ps (with_first o rest)) (sym c.strongest_at.ensures ∙ c.in-None.is))
 
 pub loop-p-preserved : goal.loop-p-preserved
@@ -57,5 +57,7 @@ returns-clause-is g c =
     let end : drop c.loop-p.p-index placed ≡ [] = drop_all c.loop-p.p-index placed (omega (arith, c.loop-p-test.false)) in
     let all = subst (λ l. all_at at (slots_of placed) ≡ after ps (all_at at (slots_of l))) end c.loop-p.invariant in
     let i = c.args.instance.now in
-    c.conclude_by.ensures ∙ ap (λ l. concludes c.args.dag.now c.args.hints.now i.rule i.arg l i.target) c.deref.ensures.value
-    ∙ gathered_all (concludes c.args.dag.now c.args.hints.now) at i (slots_of placed) c.requires.slots ps all
+    c.conclude.ensures.is ∙ ap (λ l. g.C.Concludes.rules c.args.dag.now c.args.hints.now i.rule
+    i.arg l i.target) c.deref.ensures.value
+    ∙ gathered_all (g.C.Concludes.rules c.args.dag.now c.args.hints.now) at i (slots_of placed)
+    c.requires.slots ps all

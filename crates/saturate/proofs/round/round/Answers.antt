@@ -10,7 +10,7 @@ use Rattle.derivation.specs.Ahead.{ahead_begin, ahead_fewer, ahead_void}
 use Rattle.rule_universe.specs.declared.placed.Placed.{Placed}
 use Rattle.rule_universe.specs.Placed.{slots_of}
 use Rattle.saturate.specs.Tables.{fact_at}
-use Rattle.saturate.specs.Universes.{World, setting_of}
+use Rattle.saturate.specs.Universes.{World, setting_by}
 use Rattle.saturate.specs.Visits.{GainsKnown, AreKnown}
 use Rattle.saturate.proofs.Counted.{count_taken}
 use Rattle.saturate.proofs.Places.{fact_at_proper}
@@ -26,7 +26,9 @@ known_more u before changed old more p w = elim (more p w) [ inl h ↦ old p h |
 
 pub loop-k-init : goal.loop-k-init
 loop-k-init g c = record {
-  ahead = ahead_begin (setting_of c.args.uni.now) (fact_at c.args.now.now) (fact_at c.args.next.now) (λ j. j < 0) (fact_at_proper c.args.now.now) c.requires.same (λ k l. omega arith);
+  ahead = ahead_begin (setting_by g.C.Concludes.rules c.args.uni.now) (fact_at c.args.now.now)
+      (fact_at c.args.next.now) (λ j. j < 0) (fact_at_proper c.args.now.now) c.requires.same
+      (λ k l. omega arith);
   listed = λ s. inr (c.requires.same s);
   known = λ p w. absurd (none_in p (subst (λ l. Contains l p) c.clear.ensures.items w));
   risen = λ s w. absurd (none_in s (subst (λ l. Contains (slots_of l) s) c.clear.ensures.items w));
@@ -40,7 +42,7 @@ visit-requires-clause-within g c = omega (arith, ap length c.instances-k-end.ens
 
 pub returns-then-next-clause-ahead : goal.returns-then-next-clause-ahead
 returns-then-next-clause-ahead g c =
-    let u = setting_of c.args.uni.now in
+    let u = setting_by g.C.Concludes.rules c.args.uni.now in
     let w = instance_at c.args.uni.now.instances c.loop-k.k (omega (arith, ap length c.instances-k-end.ensures, c.loop-k-test.true)) in
     ahead_void u (fact_at c.args.now.now) (fact_at c.visit.new.next) (λ j. j < c.loop-k.k + 1) AllSeen fact.Void
     (visited_ahead u (fact_at c.args.now.now) c.loop-k.next c.visit.new.next c.loop-k.k w.0 c.loop-k.invariant.ahead w.1 (c.in_ok-visit.ensures.visit w.0 w.1)) (rw c.if-next.true refl)
@@ -67,17 +69,26 @@ returns-then-next-clause-cost g c =
     let m = count_taken (λ b. b) (c.loop-k.k + 1) c.args.due.now in
     omega (arith, n, m, c.visit.ensures.cost, c.loop-k.invariant.cost)
 
+pub returns-in_err-visit-clause-cost : goal.returns-in_err-visit-clause-cost
+returns-in_err-visit-clause-cost g c =
+    let long : c.loop-k.k < length c.args.due.now = omega
+    (arith, c.requires.due, ap length c.instances-k-end.ensures, c.loop-k-test.true) in
+    let n = count_by_more_yes (λ b. b) c.args.due.now c.loop-k.k false long c.if-due-k.true in
+    let m = count_taken (λ b. b) (c.loop-k.k + 1) c.args.due.now in
+    omega (arith, n, m, c.visit.ensures.cost, c.loop-k.invariant.cost)
+
 pub returns-in_err-visit-clause-places : goal.returns-in_err-visit-clause-places
 returns-in_err-visit-clause-places g c = shaped_room (length c.args.uni.now.nodes) c.args.uni.now.pairs c.loop-k.next c.visit.new.next c.visit.ensures.shape c.loop-k.invariant.places
 
 pub returns-clause-ahead : goal.returns-clause-ahead
 returns-clause-ahead g c =
-    ahead_fewer (setting_of c.args.uni.now) (fact_at c.args.now.now) (fact_at c.loop-k.next) (λ j. j < c.loop-k.k) AllSeen c.loop-k.invariant.ahead
+    ahead_fewer (setting_by g.C.Concludes.rules c.args.uni.now) (fact_at c.args.now.now)
+    (fact_at c.loop-k.next) (λ j. j < c.loop-k.k) AllSeen c.loop-k.invariant.ahead
     (λ k i e l. let h = slice_get_within c.args.uni.now.instances k i e in omega (arith, h, ap length c.instances-k-end.ensures, c.loop-k-test.false))
 
 pub loop-k-preserved : goal.loop-k-preserved
 loop-k-preserved g c =
-    let u = setting_of c.args.uni.now in
+    let u = setting_by g.C.Concludes.rules c.args.uni.now in
     let at = fact_at c.args.now.now in
     let i = instance_at c.args.uni.now.instances c.loop-k.k (omega (arith, ap length c.instances-k-end.ensures, c.loop-k-test.true)) in
     let long : c.loop-k.k < length c.args.due.now = omega (arith, c.requires.due, ap length c.instances-k-end.ensures, c.loop-k-test.true) in
@@ -92,7 +103,13 @@ loop-k-preserved g c =
                 (c.loop-k.invariant.ahead.grows c.loop-k.invariant.no_void) c.loop-k.invariant.risen w.in_ok-visit.ensures.risen;
             cost =
                 (let n = count_by_more_yes (λ b. b) c.args.due.now c.loop-k.k false long w.if-due-k.true in
-                omega (arith, n, w.steps-is, w.visit.ensures.cost, c.loop-k.invariant.cost));
+                omega (
+                  arith,
+                  n,
+                  ap g.C.Concludes.asked w.steps-is,
+                  w.visit.ensures.cost,
+                  c.loop-k.invariant.cost,
+                ));
             no_void = rw w.if-next.false refl;
             places = shaped_room (length c.args.uni.now.nodes) c.args.uni.now.pairs c.loop-k.next w.visit.new.next w.visit.ensures.shape c.loop-k.invariant.places;
           })
@@ -105,7 +122,7 @@ loop-k-preserved g c =
             risen = c.loop-k.invariant.risen;
             cost =
                 (let n = count_by_more_no (λ b. b) c.args.due.now c.loop-k.k false long w.if-due-k.false in
-                omega (arith, n, w.steps-is, c.loop-k.invariant.cost));
+                omega (arith, n, ap g.C.Concludes.asked w.steps-is, c.loop-k.invariant.cost));
             no_void = c.loop-k.invariant.no_void;
             places = c.loop-k.invariant.places;
           })
