@@ -11,6 +11,7 @@ mod range;
 mod region;
 mod root;
 
+pub use boxes::few_cuts_end;
 pub use cut::Cut;
 pub use plan::Plan;
 pub use root::{hypotheses_are_in_the_box, pieces_are_of_hypotheses};

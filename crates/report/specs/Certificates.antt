@@ -15,6 +15,7 @@ cert_kind_text kind.BadVersion = codes "BadVersion"
 cert_kind_text kind.Truncated = codes "Truncated"
 cert_kind_text kind.BadTag = codes "BadTag"
 cert_kind_text kind.BadNumber = codes "BadNumber"
+cert_kind_text kind.BadCount = codes "BadCount"
 cert_kind_text kind.TrailingBytes = codes "TrailingBytes"
 cert_kind_text kind.TooLong = codes "TooLong"
 
@@ -31,6 +32,7 @@ check_fault_text (fault.GoalMissing section goal) = codes "GoalMissing " ++ deci
 check_fault_text (fault.HintMark hint) = codes "HintMark " ++ decimal hint
 check_fault_text (fault.WrongScript node) = codes "WrongScript " ++ decimal node
 check_fault_text (fault.BadNode node) = codes "BadNode " ++ decimal node
+check_fault_text (fault.BadCases count) = codes "BadCases " ++ decimal count
 
 -- of the first item that isn't accepted
 abbrev pub check_fault_line : CheckFault → Bytes

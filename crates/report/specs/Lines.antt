@@ -40,6 +40,7 @@ limit_text limit.Nodes = codes "Nodes"
 limit_text limit.Lsb = codes "Lsb"
 limit_text limit.Splits = codes "Splits"
 limit_text limit.Pieces = codes "Pieces"
+limit_text limit.Cases = codes "Cases"
 
 -- the kind's name; a limit's has in parentheses what there is too much of
 abbrev pub kind_text : RefusalKind → Bytes

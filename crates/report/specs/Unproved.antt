@@ -1,5 +1,5 @@
 -- The line of a goal that isn't settled in a box.
-use Rattle.std.specs.Prelude.{ℕ, ◌+◌, ◌++◌, codes, List, [], ◌∷◌, slice_get, Option, Some, None}
+use Rattle.std.specs.Prelude.{ℕ, ◌+◌, ◌++◌, codes, List, [], ◌∷◌, slice_get, Option, Some, None, nat_lt, if◌then◌else◌}
 use Rattle.std.specs.List.{join_by}
 use Rattle.std.specs.Fmt.{decimal}
 use Rattle.fx_model.specs.declared.ExprId.{ExprId}
@@ -29,6 +29,12 @@ abbrev pub box_text : View → PlanParts → List ℕ → List ExprId → Bytes
 box_text s plan path [] = codes "the whole box"
 box_text s plan path (x ∷ xs) = join_by (range_text s plan path) (codes ", ") (x ∷ xs)
 
--- Goals are counted from 0, and printed from 1. The ranges are those of the split variables, in the order in which hints first name them.
-abbrev pub unproved_text : View → PlanParts → List ℕ → ℕ → Bytes
-unproved_text s plan path goal = codes "unproved: goal " ++ decimal (goal + 1) ++ codes " at " ++ box_text s plan path s.hints.order ++ codes "\n"
+-- which case it is, where there are more than one
+abbrev pub case_text : ℕ → ℕ → Bytes
+case_text cases case = if nat_lt 1 cases then codes "case " ++ decimal (case + 1) ++ codes ", " else []
+
+-- Goals and cases are counted from 0, and printed from 1. The plan is that of the case. The ranges
+-- are those of the split variables, in the order in which hints first name them.
+abbrev pub unproved_text : View → PlanParts → ℕ → ℕ → List ℕ → ℕ → Bytes
+unproved_text s plan cases case path goal =
+    codes "unproved: goal " ++ decimal (goal + 1) ++ codes " at " ++ case_text cases case ++ box_text s plan path s.hints.order ++ codes "\n"

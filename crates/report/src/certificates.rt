@@ -17,6 +17,7 @@ fn cert_kind_text(kind: CertKind) -> &'static str
         CertKind::Truncated => "Truncated",
         CertKind::BadTag => "BadTag",
         CertKind::BadNumber => "BadNumber",
+        CertKind::BadCount => "BadCount",
         CertKind::TrailingBytes => "TrailingBytes",
         CertKind::TooLong => "TooLong",
     }
@@ -52,6 +53,7 @@ fn check_fault_text(alloc: Global, fault: CheckFault) -> Result<String, AllocErr
         CheckFault::HintMark(hint) => format!(in alloc; "HintMark {hint}"),
         CheckFault::WrongScript(node) => format!(in alloc; "WrongScript {node}"),
         CheckFault::BadNode(node) => format!(in alloc; "BadNode {node}"),
+        CheckFault::BadCases(count) => format!(in alloc; "BadCases {count}"),
     }
 }
 

@@ -20,6 +20,7 @@ fn limit_text(kind: LimitKind) -> &'static str
         LimitKind::Lsb => "Limit(Lsb)",
         LimitKind::Splits => "Limit(Splits)",
         LimitKind::Pieces => "Limit(Pieces)",
+        LimitKind::Cases => "Limit(Cases)",
     }
 }
 

@@ -177,6 +177,7 @@ fn certificates(rt: HostRuntime) -> Result<(), Fail> {
             "certificate: GoalMissing 0 1\n",
         ),
         (CheckFault::WrongScript(1), "certificate: WrongScript 1\n"),
+        (CheckFault::BadCases(2), "certificate: BadCases 2\n"),
     ] {
         let line = check_fault_line(rt.alloc(), fault)?;
         assert_eq!(rt; line.as_slice(), wanted.as_bytes(), "{wanted}");

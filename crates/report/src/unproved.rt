@@ -62,19 +62,37 @@ fn put_box(
     Ok(())
 }
 
-/// The line of the goal of this number, counted from 0, which isn't settled in the box at the path: it has the ranges of
-/// the script's split variables there, in the order in which hints first name them. `Err` only where memory runs out.
+// Appends which case it is of so many, where there are more than one.
+fn put_case(alloc: Global, line: &mut Vec<u8>, cases: usize, case: u8) -> Result<(), AllocError>
+    ensures added { OnOk result (line.new.items ≡ line.old.items ++ spec.case_text cases case) }
+{
+    if cases <= 1 {
+        return Ok(());
+    }
+    let number = u32::from(case) + 1;
+    let text = format!(in alloc; "case {number}, ")?;
+    line.extend_from_slice(text.as_bytes())
+}
+
+/// The line of the goal of this number which isn't settled in the box at the path, in this case of
+/// so many; goals and cases are counted from 0. The plan is that of the case. The line has the
+/// ranges of the script's split variables in the box, in the order in which hints first name them.
+/// `Err` only where memory runs out.
 pub fn unproved_text(
     alloc: Global,
     script: &Script<'_>,
     plan: &Plan,
+    cases: usize,
+    case: u8,
     path: &Path,
     goal: u16,
 ) -> Result<Vec<u8>, AllocError>
-    ensures { IfOk result (λ line. line.items ≡ spec.unproved_text script.now plan.now path.now goal) }
+    ensures { IfOk result (λ line.
+        line.items ≡ spec.unproved_text script.now plan.now cases case path.now goal) }
 {
     let number = u32::from(goal) + 1;
     let mut line = format!(in alloc; "unproved: goal {number} at ")?.into_bytes();
+    put_case(alloc, &mut line, cases, case)?;
     put_box(
         &mut line,
         script,

@@ -8,6 +8,7 @@ ghost use Rattle.rule_universe.specs.Worlds.{World, IsWhole, HasSlot};
 ghost use Rattle.rule_universe.specs.Places.{IsPlace};
 ghost use Rattle.rule_universe.specs.Placed.{ArePlaced, AreTargets};
 ghost use Rattle.rule_universe.specs.Users.{AreUsers};
+ghost use Rattle.rule_universe.specs.Assumed.{assuming, HaveSlots};
 
 use crate::flat_rows::{FlatRows, flat_rows};
 use crate::placed::{Placed, known_place, placed_premises, target_places};
@@ -113,6 +114,15 @@ impl Universe {
             premises,
             users,
         })
+    }
+
+    /// Has these facts as hypotheses from now on, in place of those before. All else stays, the
+    /// index too: it is of instances alone.
+    pub fn assume(&mut self, facts: Vec<Fact>)
+        requires { HaveSlots self.old facts.items }
+        ensures { self.new ≡ assuming self.old facts.items }
+    {
+        self.hypotheses = facts;
     }
 
     /// The nodes of the expressions.

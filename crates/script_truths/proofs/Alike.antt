@@ -5,7 +5,7 @@ use Rattle.std.specs.List.{AllByRecursion}
 use Rattle.std.proofs.Common.{sym, subst}
 use Rattle.fx_model.specs.declared.ExprId.{ExprId}
 use Rattle.fx_model.specs.declared.Node.{Node}
-use Rattle.fx_model.specs.Fraction.{Fraction, abs_ℚ, zero_ℚ}
+use Rattle.fx_model.specs.Fraction.{Fraction, ◌<ℚ◌, abs_ℚ, zero_ℚ}
 use Rattle.fx_model.specs.Powers.{IsMultiple}
 use Rattle.fx_model.specs.Enclosure.{Lies}
 use Rattle.fx_model.specs.Expression.{Assignment, value}
@@ -26,9 +26,10 @@ use Rattle.goals.specs.declared.line.Line.{Line}
 use Rattle.goals.specs.declared.line.Line.TheVariants as line
 use Rattle.goals.specs.Lies.{OfBoth, LiesAt, AreZeroAt}
 use Rattle.goals.specs.Holds.{LineHolds}
+use Rattle.literal_order.specs.Values.{written_value}
 use Rattle.script_bounds.specs.Bounds.{written_range}
 use Rattle.script_claims.specs.declared.claim.Claim.{Claim}
-use Rattle.script_claims.specs.declared.claim.Claim.TheVariants.{Bounded, Asked, Relative, RelativeAsked, Multiple}
+use Rattle.script_claims.specs.declared.claim.Claim.TheVariants.{Bounded, Asked, Relative, RelativeAsked, Multiple, Above, Below}
 use Rattle.script_claims.specs.Meets.{IsRelatedWithin, IsTrueAt}
 use Rattle.script_grammar.specs.Names.{AreNodes, ClaimIsOf}
 use Rattle.rule_universe.specs.Licensed.{NeedIsKnown, RowIsKnown}
@@ -77,6 +78,8 @@ module _ (ns ms : List Node) (a : Assignment) (n : ℕ) (same : (x : ExprId) →
   claim_alike (Relative x y lower upper) l = both (IsRelatedWithin (written_range (Some lower) (Some upper))) x y l
   claim_alike (RelativeAsked x y) l = refl
   claim_alike (Multiple x k) l = one (IsMultiple k) x l
+  claim_alike (Above x w) l = one (λ v. written_value w <ℚ v) x l
+  claim_alike (Below x w) l = one (λ v. v <ℚ written_value w) x l
 
   need_alike : (m : Need) → NeedIsKnown n m → IsMet ns a m ≡ IsMet ms a m
   need_alike (need.NotZero x) l = one (λ v. v ≢ zero_ℚ) x l

@@ -28,6 +28,6 @@ module _ (stay : ValuesStay) where
 
 -- the differences stand behind the script's nodes
 pub universes_extend : UniversesExtend
-universes_extend s u is =
+universes_extend s claims u is =
     let behind = is.universe.closure.order in
     record { more = map difference_of behind.differences; list = behind.list; before = is.ordered; after = is.nodes }

@@ -15,7 +15,7 @@ use Rattle.facts.specs.Conclusions.{bnd_of, fix_of}
 use Rattle.goals.specs.declared.goal.Goal.{Goal}
 use Rattle.script_bounds.specs.Bounds.{written_range, outward_of}
 use Rattle.script_claims.specs.declared.claim.Claim.{Claim}
-use Rattle.script_claims.specs.declared.claim.Claim.TheVariants.{Bounded, Asked, Relative, RelativeAsked, Multiple}
+use Rattle.script_claims.specs.declared.claim.Claim.TheVariants.{Bounded, Asked, Relative, RelativeAsked, Multiple, Above, Below}
 use Rattle.script_claims.specs.Facts.{hypothesis_fact, rel_of}
 use Rattle.script_grammar.specs.Names.{IsNode, AreNodes, ClaimIsOf, HintIsOf}
 use Rattle.pair_closure.specs.Members.{some-inj, has_all}
@@ -48,6 +48,8 @@ module _ (n : ℕ) where
   fact_named (Relative x y lower upper) l f e = from_rel x y l (error_of_part (outward_of (written_range (Some lower) (Some upper)))) f e
   fact_named (RelativeAsked x y) l f e = cc
   fact_named (Multiple x k) l f e = from_fix x l (place_from k) f e
+  fact_named (Above x w) l f e = from_bnd x l (outward_of (written_range (Some w) None)) f e
+  fact_named (Below x w) l f e = from_bnd x l (outward_of (written_range None (Some w))) f e
 
   with_named : (c : Claim) → ClaimIsOf n c → (fs : List Fact) → AllByRecursion IsNamed fs → (o : Option Fact) → hypothesis_fact c ≡ o → AllByRecursion IsNamed (with_fact o fs)
   with_named c l fs h None e = h

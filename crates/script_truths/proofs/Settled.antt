@@ -20,7 +20,7 @@ use Rattle.goals.specs.declared.goal.Want.TheVariants.{Ask, Inside}
 use Rattle.goals.specs.Lies.{LiesAt, AreZeroAt}
 use Rattle.goals.specs.Settles.{Answers}
 use Rattle.script_claims.specs.declared.claim.Claim.{Claim}
-use Rattle.script_claims.specs.declared.claim.Claim.TheVariants.{Bounded, Asked, Relative, RelativeAsked, Multiple}
+use Rattle.script_claims.specs.declared.claim.Claim.TheVariants.{Bounded, Asked, Relative, RelativeAsked, Multiple, Above, Below}
 use Rattle.script_claims.specs.Facts.{want_of, slot_of}
 use Rattle.script_claims.specs.Meets.{IsTrueAt}
 use Rattle.script_grammar.specs.Names.{ClaimIsOf}
@@ -57,8 +57,8 @@ module _ (nodes : List Node) (a : Assignment) where
 
 pub goals_true : ((nodes : List Node) (a : Assignment) (c : Claim) (i : Interval) → want_of c ≡ Inside (Some i) → LiesAt nodes a i (slot_of c) → IsTrueAt nodes a c)
     → ((nodes : List Node) (a : Assignment) (c : Claim) → AreZeroAt nodes a (slot_of c) → IsTrueAt nodes a c) → UniversesExtend → OfExtended ClaimsAreKept → OfUniverses SettledGoalsAreTrue
-goals_true inside zeros extend kept s u a is c m f settles holds =
-    (kept s.nodes u.nodes a (extend s u is) c (has_all (ClaimIsOf (length s.nodes)) s.goals is.names.goals c m)).0
+goals_true inside zeros extend kept s claims u a is c m f settles holds =
+    (kept s.nodes u.nodes a (extend s claims u is) c (has_all (ClaimIsOf (length s.nodes)) s.goals is.names.goals c m)).0
     (answered u.nodes a (inside u.nodes a) (zeros u.nodes a) c (want_of c) f refl settles.0 settles.1 holds)
 
 -- a claim about nodes is about a slot of theirs
@@ -68,7 +68,9 @@ slot_of_nodes n (Asked x) l = l
 slot_of_nodes n (Relative x y lower upper) l = l
 slot_of_nodes n (RelativeAsked x y) l = l
 slot_of_nodes n (Multiple x k) l = l
+slot_of_nodes n (Above x w) l = l
+slot_of_nodes n (Below x w) l = l
 
 pub lines_true : UniversesExtend → OfExtended LinesAreKept → OfUniverses GoalLinesHold
-lines_true extend kept s u a is c m l h =
-    (kept s.nodes u.nodes a (extend s u is) (slot_of c) l (slot_of_nodes (length s.nodes) c (has_all (ClaimIsOf (length s.nodes)) s.goals is.names.goals c m))).0 h
+lines_true extend kept s claims u a is c m l h =
+    (kept s.nodes u.nodes a (extend s claims u is) (slot_of c) l (slot_of_nodes (length s.nodes) c (has_all (ClaimIsOf (length s.nodes)) s.goals is.names.goals c m))).0 h

@@ -1,5 +1,5 @@
 -- What is true of an assignment that meets a script.
-use Rattle.std.specs.Prelude.{ℕ, List, [], Contains, length}
+use Rattle.std.specs.Prelude.{◌≡◌, ℕ, List, [], Some, Contains, length, slice_get}
 use Rattle.std.specs.List.{AllByRecursion}
 use Rattle.fx_model.specs.declared.Node.{Node}
 use Rattle.fx_model.specs.Expression.{Assignment, IsOrdered, value}
@@ -23,6 +23,7 @@ use Rattle.rewrite_hints.specs.Rows.{IsRowOf}
 use Rattle.rewrite_hints.specs.Marks.{IsMarkOf, AreRows}
 use Rattle.theorem_list.specs.Promises.{RowsAreTrue}
 use Rattle.rule_universe.specs.Worlds.{World}
+use Rattle.script_grammar.specs.Cases.{cases_of}
 use Rattle.universe.specs.Universes.{IsUniverse, goal_of, facts_of}
 use Rattle.box_tree.specs.Root.{plan_by}
 use Rattle.box_tree.specs.Covers.{LieInBox}
@@ -30,9 +31,19 @@ use Rattle.script_truths.specs.Kept.{IsExtended}
 
 -- ---- over the script's own nodes
 
--- The facts of a script's hypotheses, with bounds rounded outward, hold of each assignment that meets it.
-abbrev pub MetFactsHold : Type 0
-MetFactsHold = (s : View) (a : Assignment) → Meets a s → AllByRecursion (Holds s.nodes a) (facts_of s.hypotheses)
+-- all of the claims are true of the assignment
+abbrev pub AreTrue : View → Assignment → List Claim → Type 0
+AreTrue s a claims = AllByRecursion (IsTrueAt s.nodes a) claims
+
+-- Of an assignment that meets the script all claims of some case are true.
+abbrev pub SomeCaseIsMet : Type 0
+SomeCaseIsMet = (s : View) (a : Assignment) → Meets a s → (case : ℕ)
+    × (claims : List Claim) × (slice_get (cases_of s) case ≡ Some claims) × AreTrue s a claims
+
+-- The facts of claims as hypotheses, with bounds rounded outward, hold where the claims are true.
+abbrev pub TrueFactsHold : Type 0
+TrueFactsHold = (s : View) (a : Assignment) (claims : List Claim)
+    → AreTrue s a claims → AllByRecursion (Holds s.nodes a) (facts_of claims)
 
 -- The row of a hint that is checked, its sides being the same by their normal forms, is true of every assignment.
 abbrev pub CheckedRowsAreTrue : Type 0
@@ -44,43 +55,50 @@ MetRowsAreTrue = (s : View) (a : Assignment) → IsOrdered s.nodes → NamesNode
 
 -- ---- over the universe
 
--- u is the script's universe. What the script names is its nodes, and each node of both is made of earlier ones.
-pub record HasUniverse (s : View) (u : World) : Type 0 where
+-- u is the script's universe in which these claims are assumed. What the script names is its nodes,
+-- and each node of both is made of earlier ones.
+pub record HasUniverse (s : View) (claims : List Claim) (u : World) : Type 0 where
   pub names : NamesNodes s
   pub ordered : IsOrdered s.nodes
-  pub universe : IsUniverse s u
+  pub universe : IsUniverse s claims u
   pub nodes : IsOrdered u.nodes
 
 -- The nodes of the universe are the script's, with more behind them.
 abbrev pub UniversesExtend : Type 0
-UniversesExtend = (s : View) (u : World) → HasUniverse s u → IsExtended s.nodes u.nodes
+UniversesExtend = (s : View) (claims : List Claim) (u : World)
+    → HasUniverse s claims u → IsExtended s.nodes u.nodes
 
--- This is so of each script, its universe and every assignment.
-abbrev pub OfUniverses : (View → World → Assignment → Type 0) → Type 0
-OfUniverses P = (s : View) (u : World) (a : Assignment) → HasUniverse s u → P s u a
+-- This is so of each script, its universe in which some claims are assumed, and every assignment.
+abbrev pub OfUniverses : (View → List Claim → World → Assignment → Type 0) → Type 0
+OfUniverses P = (s : View) (claims : List Claim) (u : World) (a : Assignment)
+    → HasUniverse s claims u → P s claims u a
 
--- This is so of each assignment that meets the script.
-abbrev pub WhereMet : (View → World → Assignment → Type 0) → Type 0
-WhereMet P = OfUniverses (λ s u a. Meets a s → P s u a)
+-- This is so of each assignment that meets the script and of which these claims are true.
+abbrev pub WhereMet : (View → List Claim → World → Assignment → Type 0) → Type 0
+WhereMet P = OfUniverses (λ s claims u a. Meets a s → AreTrue s a claims → P s claims u a)
 
 -- All hypotheses of the universe hold of it;
-abbrev pub HypothesesHold : View → World → Assignment → Type 0
-HypothesesHold s u a = (f : Fact) → Contains u.hypotheses f → Holds u.nodes a f
+abbrev pub HypothesesHold : View → List Claim → World → Assignment → Type 0
+HypothesesHold s claims u a = (f : Fact) → Contains u.hypotheses f → Holds u.nodes a f
 
 -- all its rows are true of it;
-abbrev pub HintsAreTrue : View → World → Assignment → Type 0
-HintsAreTrue s u a = RowsAreTrue u.nodes a u.hints
+abbrev pub HintsAreTrue : View → List Claim → World → Assignment → Type 0
+HintsAreTrue s claims u a = RowsAreTrue u.nodes a u.hints
 
--- and its values lie in the whole box of the script's plan, however often that halves boxes.
-abbrev pub LiesInWholeBox : View → World → Assignment → Type 0
-LiesInWholeBox s u a = (depth : ℕ) → LieInBox (plan_by s.hypotheses s.hints depth) (value u.nodes a) []
+-- and its values lie in the whole box of the plan that the claims give, however often that halves
+-- boxes.
+abbrev pub LiesInWholeBox : View → List Claim → World → Assignment → Type 0
+LiesInWholeBox s claims u a = (depth : ℕ)
+    → LieInBox (plan_by claims s.hints depth) (value u.nodes a) []
 
 -- ---- goals
 
 -- Where a fact settles a goal and holds over the universe, the goal is true, with bounds exactly as they are written.
-abbrev pub SettledGoalsAreTrue : View → World → Assignment → Type 0
-SettledGoalsAreTrue s u a = (c : Claim) → Has s.goals c → (f : Fact) → Settles (goal_of c) f → Holds u.nodes a f → IsTrueAt s.nodes a c
+abbrev pub SettledGoalsAreTrue : View → List Claim → World → Assignment → Type 0
+SettledGoalsAreTrue s claims u a = (c : Claim)
+    → Has s.goals c → (f : Fact) → Settles (goal_of c) f → Holds u.nodes a f → IsTrueAt s.nodes a c
 
 -- A line of a goal that holds over the universe holds over the script.
-abbrev pub GoalLinesHold : View → World → Assignment → Type 0
-GoalLinesHold s u a = (c : Claim) → Has s.goals c → (l : Line) → LineHolds u.nodes a (slot_of c) l → LineHolds s.nodes a (slot_of c) l
+abbrev pub GoalLinesHold : View → List Claim → World → Assignment → Type 0
+GoalLinesHold s claims u a = (c : Claim) → Has s.goals c
+    → (l : Line) → LineHolds u.nodes a (slot_of c) l → LineHolds s.nodes a (slot_of c) l

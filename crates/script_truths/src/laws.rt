@@ -1,7 +1,7 @@
 // Laws for callers to cite. Nothing here is done at run time.
 ghost use Rattle.script_truths.specs.Kept.{OfExtended, ValuesAreKept, FactsAreKept, LinesAreKept, ClaimsAreKept, RowsAreKept};
 ghost use Rattle.script_truths.specs.Named.{FactsAreNamed, GoalsAreNamed, RowsAreNamed};
-ghost use Rattle.script_truths.specs.Truths.{MetFactsHold, CheckedRowsAreTrue, MetRowsAreTrue, UniversesExtend, OfUniverses, WhereMet, HypothesesHold, HintsAreTrue, LiesInWholeBox, SettledGoalsAreTrue, GoalLinesHold};
+ghost use Rattle.script_truths.specs.Truths.{SomeCaseIsMet, TrueFactsHold, CheckedRowsAreTrue, MetRowsAreTrue, UniversesExtend, OfUniverses, WhereMet, HypothesesHold, HintsAreTrue, LiesInWholeBox, SettledGoalsAreTrue, GoalLinesHold};
 
 use box_tree::hypotheses_are_in_the_box;
 use expr_dag::values_stay;
@@ -22,10 +22,17 @@ pub fn nodes_keep_what_is_said()
     values_stay();
 }
 
-/// Nothing is done. The clauses tell a caller that the row of a checked hint is true of every assignment; and that of each that
-/// meets a script the facts of its hypotheses hold and all its rows are true, over the script's own nodes.
+/// Nothing is done. The clause tells a caller that of an assignment that meets a script all claims
+/// of some case are true.
+pub fn some_case_is_met()
+    ensures { SomeCaseIsMet }
+{}
+
+/// Nothing is done. The clauses tell a caller that the row of a checked hint is true of every
+/// assignment; that the facts of claims hold where these are true; and that all rows of a script
+/// are true of each assignment that meets it, over the script's own nodes.
 pub fn what_is_written_is_true()
-    ensures facts { MetFactsHold }
+    ensures facts { TrueFactsHold }
     ensures checked { CheckedRowsAreTrue }
     ensures met { MetRowsAreTrue }
 {
@@ -48,8 +55,9 @@ pub fn universes_extend()
     ensures { UniversesExtend }
 {}
 
-/// Nothing is done. The clauses tell a caller that what derivations over the universe of a script begin with is true of each
-/// assignment that meets the script: hypotheses, rows of hints, the whole box.
+/// Nothing is done. The clauses tell a caller that what derivations over the universe of a script
+/// begin with, in which some claims are assumed, is true of each assignment that meets the script
+/// and of which these are true: hypotheses, rows of hints, the whole box.
 pub fn what_is_given_is_true()
     ensures hypotheses { WhereMet HypothesesHold }
     ensures hints { WhereMet HintsAreTrue }

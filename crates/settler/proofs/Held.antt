@@ -1,69 +1,56 @@
--- What the leaves' states say is true of assignments.
-use Rattle.std.specs.Prelude.{◌≡◌, ℕ, zero, suc, List, [], ◌∷◌, map, Option, Some, None, slice_get, refl}
-use Rattle.std.specs.List.{AllByRecursion}
-use Rattle.std.proofs.Common.{ap, ap₂, subst}
+-- What settled leaves say is true of assignments.
+use Rattle.std.specs.Prelude.{◌≡◌, ℕ, List, Some, slice_get, refl}
+use Rattle.std.proofs.Common.{sym, subst}
 use Rattle.fx_model.specs.Expression.{Assignment}
 use Rattle.facts.specs.declared.fact.Fact.{Fact}
-use Rattle.facts.specs.declared.fact.Slot.{Slot}
 use Rattle.facts.specs.declared.fact.Fact.TheVariants as fact
 use Rattle.facts.specs.Holds.{Holds}
-use Rattle.facts.specs.Order.{slot_of}
-use Rattle.goals.specs.declared.goal.Goal.{Goal}
-use Rattle.goals.specs.Holds.{IsOfGoal}
-use Rattle.goals.specs.Settles.{Settles}
-use Rattle.goals.specs.Stronger.{AreOfGoals}
-use Rattle.derivation.specs.Derivations.{Setting}
-use Rattle.derivation.specs.Known.{Piece, Known}
+use Rattle.derivation.specs.Known.{Known}
+use Rattle.script_grammar.specs.Spells.{View}
+use Rattle.script_meets.specs.Meets.{Meets}
+use Rattle.script_truths.specs.Truths.{AreTrue, HasUniverse, WhereMet, HypothesesHold, HintsAreTrue, LiesInWholeBox}
+use Rattle.rule_universe.specs.Worlds.{World}
+use Rattle.universe.specs.Universes.{UniversesAreOne}
+use Rattle.saturate.specs.Universes.{setting_of}
+use Rattle.box_tree.specs.Plans.{pieces_at}
+use Rattle.box_tree.specs.Regions.{PlanParts}
 use Rattle.bisect.specs.declared.settler.State.{State}
 use Rattle.bisect.specs.declared.settler.State.TheVariants as state
-use Rattle.bisect.specs.Trees.{Tree, child_count, IsLeaf}
-use Rattle.bisect.specs.Boxes.{AreBoxes, first_open, open_goal, or_later, not_some, first_none, later_none}
-use Rattle.bisect.specs.Gathered.{IsTrueState}
-use Rattle.settler.specs.Standing.{AreSettledBy, StandsAs}
-use Rattle.settler.proofs.Tight.{settled_fact, has_contained}
+use Rattle.bisect.specs.Trees.{Tree, IsLeaf}
+use Rattle.settler.specs.declared.cases.Case.{Case}
+use Rattle.settler.specs.Standing.{StandsAs}
+use Rattle.settler.specs.Answers.{Options, plan_of, tree_by, IsTreeOf}
+use Rattle.settler.specs.Cases.{IsCaseOf, LawfulCasesHold}
+use Rattle.settler.specs.Held.{MeetsUniverse, IsClosed, HasHeldLeaf, SettledLeavesHold}
+use Rattle.settler.proofs.Tight.{settled_fact}
 
-abbrev pub slots_of : List Goal → List Slot
-slots_of goals = map (λ (g : Goal). g.of) goals
+-- a leaf that isn't open, where what is known at its box holds
+pub held_leaf : (u : World) (plan : PlanParts) (height : ℕ) (t : Tree) (a : Assignment) (path : List ℕ) → IsLeaf t path → IsClosed t →
+    ((f : Fact) → Known (setting_of u) height (pieces_at plan path) f → Holds u.nodes a f) →
+    (s : State) → t.state_at path ≡ s → StandsAs (setting_of u) u.goals height (pieces_at plan path) s → HasHeldLeaf u t a
+held_leaf u plan height t a path leaf closed hold state.Void e w = absurd (hold fact.Void w)
+held_leaf u plan height t a path leaf closed hold (state.Open goal) e w = absurd (closed path goal (leaf, e))
+held_leaf u plan height t a path leaf closed hold (state.Settled facts) e w = record {
+  path = path;
+  is_leaf = leaf;
+  facts = facts;
+  settled = e;
+  held = λ k goal g.
+      let f = settled_fact (setting_of u) height (pieces_at plan path) u.goals facts w.1 k goal g in
+      (f.0, f.1, f.3, hold f.0 (f.2).known);
+}
 
--- the slot of goal k
-pub slot_there : (goals : List Goal) (k : ℕ) (g : Goal) → slice_get goals k ≡ Some g → slice_get (slots_of goals) k ≡ Some g.of
-slot_there [] k g e = cc
-slot_there (h ∷ hs) zero g e = let q : h ≡ g = cc in ap (λ (x : Goal). Some x.of) q
-slot_there (h ∷ hs) (suc k) g e = slot_there hs k g e
-
-module _ (kinds : AreOfGoals) (u : Setting) (a : Assignment) (height : ℕ) (pieces : List Piece) (hold : (f : Fact) → Known u height pieces f → Holds u.nodes a f) where
-  settled_true : (goals : List Goal) (facts : List Fact) → AreSettledBy u height pieces goals facts → (map slot_of facts ≡ slots_of goals) × AllByRecursion IsOfGoal facts × AllByRecursion (Holds u.nodes a) facts
-  settled_true [] [] s = (refl, tt, tt)
-  settled_true [] (f ∷ fs) s = absurd s
-  settled_true (g ∷ gs) [] s = absurd s
-  settled_true (g ∷ gs) (f ∷ fs) s =
-      let t = settled_true gs fs s.2 in
-      (ap₂ (λ x xs. x ∷ xs) (s.0).on_slot t.0, (kinds g.want f s.1.1, t.1), (hold f (s.0).known, t.2))
-
-  -- what the state says is true
-  pub state_true : (goals : List Goal) (s : State) → StandsAs u goals height pieces s → IsTrueState (Holds u.nodes a) (slots_of goals) s
-  state_true goals state.Void k = hold fact.Void k
-  state_true goals (state.Settled facts) s = settled_true goals facts s.1
-  state_true goals (state.Open k) s = tt
-
-  -- where it isn't open, some fact that settles the goal holds
-  pub goal_held : (goals : List Goal) (s : State) → StandsAs u goals height pieces s → open_goal zero s ≡ None → (k : ℕ) (g : Goal) → slice_get goals k ≡ Some g → (f : Fact) × Settles g f × Holds u.nodes a f
-  goal_held goals state.Void w n k g e = absurd (hold fact.Void w)
-  goal_held goals (state.Settled facts) w n k g e =
-      let f = settled_fact u height pieces goals facts w.1 k g e in
-      (f.0, f.3, hold f.0 (f.2).known)
-  goal_held goals (state.Open j) w n k g e = absurd (some_none j n)
-    where
-      some_none : (j : ℕ) → Some j ≡ None → ⊥
-      some_none j q = cc
-
-closed_in : (t : Tree) (ps : List (List ℕ)) (p : List ℕ) (k : ℕ) → slice_get ps k ≡ Some p → child_count t p ≡ 0 → first_open t ps ≡ None → open_goal zero (t.state_at p) ≡ None
-closed_in t [] p k e z n = cc
-closed_in t (q ∷ ps) p zero e z n =
-    let same : q ≡ p = cc in
-    let c : open_goal (child_count t q) (t.state_at q) ≡ None = first_none q (open_goal (child_count t q) (t.state_at q)) (first_open t ps) n in
-    subst (λ m. open_goal m (t.state_at p) ≡ None) z (subst (λ r. open_goal (child_count t r) (t.state_at r) ≡ None) same c)
-closed_in t (q ∷ ps) p (suc k) e z n = closed_in t ps p k e z (later_none q (open_goal (child_count t q) (t.state_at q)) (first_open t ps) n)
-
-pub leaf_closed : (t : Tree) (ps : List (List ℕ)) → AreBoxes t ps → (p : List ℕ) → IsLeaf t p → first_open t ps ≡ None → open_goal zero (t.state_at p) ≡ None
-leaf_closed t ps b p l n = let h = has_contained ps p (b.all p l.0) in closed_in t ps p h.0 h.1 l.1 n
+-- ---- of a case
+pub case_holds : UniversesAreOne → WhereMet HypothesesHold → WhereMet HintsAreTrue → WhereMet LiesInWholeBox → LawfulCasesHold
+case_holds universes hypotheses hints whole s u o case has is t a tree closed meets truth =
+    let v : World = tree.universe in
+    let plan : PlanParts = plan_of s case.claims o.depth in
+    let here : HasUniverse s case.claims v = subst (HasUniverse s case.claims) (universes s case.claims u v has.universe tree.is_universe) has in
+    let met : MeetsUniverse v plan a = record {
+      hypotheses = hypotheses s case.claims v a here meets truth;
+      rows = hints s case.claims v a here meets truth;
+      inside = whole s case.claims v a here meets truth o.depth;
+    } in
+    let hold : SettledLeavesHold plan = subst SettledLeavesHold is.plan is.lawful.hold in
+    let leaf : HasHeldLeaf v (tree_by s case.claims o tree.states) a = hold v o.rounds tree.states a here.nodes tree.are_states (subst IsClosed tree.is_tree closed) met in
+    (v, here, subst (λ x. HasHeldLeaf v x a) (sym tree.is_tree) leaf)

@@ -5,3 +5,8 @@ pub mod Unique
 pub mod Tight
 pub mod Held
 pub mod Proved
+pub mod Planned
+pub mod Onward
+pub mod Open
+pub mod One
+pub mod Comes

@@ -1,5 +1,5 @@
 -- The lines of a proved script are hulls of best known facts.
-use Rattle.std.specs.Prelude.{◌≡◌, ◌<◌, ◌↔◌, ℕ, zero, suc, List, [], ◌∷◌, length, map, Option, Some, None, slice_get, Contains, refl}
+use Rattle.std.specs.Prelude.{◌≡◌, ◌<◌, ◌↔◌, ◌+◌, ◌++◌, ℕ, zero, suc, List, [], ◌∷◌, length, map, Option, Some, None, slice_get, Contains, refl}
 use Rattle.std.proofs.Common.{sym, ◌∙◌, ap, subst, arith}
 use Rattle.std.proofs.lemmas.Option.{slice_get_within, get_or_from_slice_get, slice_get_read}
 use Rattle.std.proofs.lemmas.List.FromFn.{get_or-map-range_with_len, length-map-range_with_len}
@@ -14,6 +14,7 @@ use Rattle.pair_closure.specs.Reached.{Has}
 use Rattle.derivation.specs.Derivations.{Setting}
 use Rattle.derivation.specs.Known.{Piece}
 use Rattle.rule_universe.specs.Worlds.{World}
+use Rattle.script_grammar.specs.Cases.{cases_of}
 use Rattle.universe.specs.Universes.{goal_of}
 use Rattle.saturate.specs.Universes.{setting_of}
 use Rattle.box_tree.specs.Plans.{pieces_at}
@@ -25,8 +26,11 @@ use Rattle.bisect.specs.Trees.{Tree, child_count, IsLeaf}
 use Rattle.bisect.specs.Boxes.{AreBoxes, first_open, leaves_of, leaf_at, with_leaf, open_goal, or_later, not_some, later_none}
 use Rattle.bisect.specs.Gathered.{with_known, with_state, line_with, line_of, lines_of}
 use Rattle.settler.specs.Standing.{IsBestKnown, AreSettledBy, StandsAs, AreStates}
-use Rattle.settler.specs.Answers.{Options, plan_of, tree_by, IsProved}
-use Rattle.settler.specs.Tight.{Gives, GiveEach, hull_over, AreTight}
+use Rattle.case_trees.specs.declared.outcome.OpenLeaf.{OpenLeaf}
+use Rattle.case_trees.specs.Listed.{Listed, AreListed, first_open_from, all_leaves}
+use Rattle.case_trees.specs.Listed.{or_later as or_later_case}
+use Rattle.settler.specs.Answers.{Options, plan_of, tree_by, IsTreeOf, AreTrees, IsProved}
+use Rattle.settler.specs.Tight.{Gives, GiveEach, hull_over, LeavesOf, LeavesOfEach, GiveInEach, AreTight}
 
 -- ---- lists
 pub has_contained : (xs : List (List ℕ)) (p : List ℕ) → Contains xs p → Has xs p
@@ -144,26 +148,71 @@ line_there leaves n k h =
 same_line : (x y : Line) (o : Option Line) → o ≡ Some x → o ≡ Some y → x ≡ y
 same_line x y o e f = let g : Some x ≡ Some y = sym e ∙ f in cc
 
+-- ---- cases
+none_first : (case : ℕ) (o : Option (List ℕ × ℕ)) (later : Option OpenLeaf) → or_later_case case o later ≡ None → (o ≡ None) × (later ≡ None)
+none_first case None later e = (refl, e)
+none_first case (Some x) later e = cc
+
+given_over : (k : ℕ) (xs ys : List Leaf) → given_of k (xs ++ ys) ≡ given_of k xs ++ given_of k ys
+given_over k [] ys = refl
+given_over k (x ∷ xs) ys = ap (λ gs. given_by k x.state ∷ gs) (given_over k xs ys)
+
+-- the leaves of a case's tree, whose boxes are these
+abbrev leaves_of_case : (s : View) (o : Options) (claims : List Claim) (t : Tree) (l : Listed) → IsTreeOf s o claims t → l.tree ≡ t → AreBoxes l.tree l.boxes → LeavesOf s o claims
+leaves_of_case s o claims t l is same are = record {
+  universe = is.universe;
+  is_universe = is.is_universe;
+  states = is.states;
+  are_states = is.are_states;
+  leaves = paths_of (leaves_of l.tree l.boxes);
+  are_leaves = subst (λ v. (path : List ℕ) → Has (paths_of (leaves_of l.tree l.boxes)) path ↔ IsLeaf v path) (same ∙ is.is_tree) (leaves_are l.tree l.boxes are);
+}
+
+abbrev leaves_of_cases : (s : View) (o : Options) (cases : List (List Claim)) (ts : List Tree) (ls : List Listed) → AreTrees s o cases ts → AreListed ts ls → LeavesOfEach s o cases
+leaves_of_cases s o [] [] [] are listed = tt
+leaves_of_cases s o [] [] (l ∷ ls) are listed = absurd listed
+leaves_of_cases s o [] (t ∷ ts) ls are listed = absurd are
+leaves_of_cases s o (c ∷ cases) [] ls are listed = absurd are
+leaves_of_cases s o (c ∷ cases) (t ∷ ts) [] are listed = absurd listed
+leaves_of_cases s o (c ∷ cases) (t ∷ ts) (l ∷ ls) are listed = (leaves_of_case s o c t l are.0 listed.0 listed.1, leaves_of_cases s o cases ts ls are.1 listed.2)
+
+module _ (s : View) (o : Options) (k : ℕ) (c : Claim) (at : slice_get s.goals k ≡ Some c) where
+  -- what the leaves of one case give
+  give_case : (claims : List Claim) (t : Tree) (l : Listed) (is : IsTreeOf s o claims t) → l.tree ≡ t → first_open l.tree l.boxes ≡ None →
+      GiveEach is.universe (plan_of s claims o.depth) o.rounds (goal_of c) (paths_of (leaves_of l.tree l.boxes)) (given_of k (leaves_of l.tree l.boxes))
+  give_case claims t l is same none =
+      let here : slice_get is.universe.goals k ≡ Some (goal_of c) = ap (λ gs. slice_get gs k) is.is_universe.goals ∙ goal_there s.goals k c at in
+      subst (λ v. first_open v l.boxes ≡ None → GiveEach is.universe (plan_of s claims o.depth) o.rounds (goal_of c) (paths_of (leaves_of v l.boxes)) (given_of k (leaves_of v l.boxes)))
+      (sym (same ∙ is.is_tree)) (give_each is.universe (plan_of s claims o.depth) o.rounds (tree_by s claims o is.states) is.are_states k (goal_of c) here l.boxes) none
+
+  give_cases : (case : ℕ) (cases : List (List Claim)) (ts : List Tree) (ls : List Listed) (are : AreTrees s o cases ts) (listed : AreListed ts ls) → first_open_from case ls ≡ None →
+      GiveInEach s o cases (leaves_of_cases s o cases ts ls are listed) (goal_of c) (given_of k (all_leaves ls))
+  give_cases case [] [] [] are listed e = refl
+  give_cases case [] [] (l ∷ ls) are listed e = absurd listed
+  give_cases case [] (t ∷ ts) ls are listed e = absurd are
+  give_cases case (d ∷ cases) [] ls are listed e = absurd are
+  give_cases case (d ∷ cases) (t ∷ ts) [] are listed e = absurd listed
+  give_cases case (d ∷ cases) (t ∷ ts) (l ∷ ls) are listed e =
+      let none = none_first case (first_open l.tree l.boxes) (first_open_from (case + 1) ls) e in (
+        given_of k (leaves_of l.tree l.boxes),
+        given_of k (all_leaves ls),
+        give_case d t l are.0 listed.0 none.0,
+        give_cases (case + 1) cases ts ls are.1 listed.2 none.1,
+        given_over k (leaves_of l.tree l.boxes) (all_leaves ls),
+      )
+
 pub proved_tight : (s : View) (o : Options) (lines : List Line) → IsProved s o lines → AreTight s o lines
 proved_tight s o lines (count, (leaves, came, are)) =
-    let t = tree_by s o came.states in
-    let boxes = came.is_answer.0 in
-    let answer = came.is_answer.2 in
-    let ls = leaves_of t boxes in
+    let ls = came.is_answer.0 in
+    let by = came.is_answer.2 in
     record {
-      universe = came.universe;
-      is_universe = came.is_universe;
-      states = came.states;
-      are_states = came.are_states;
-      leaves = paths_of ls;
-      are_leaves = leaves_are t boxes came.is_answer.1;
+      leaves = leaves_of_cases s o (cases_of s) came.trees ls came.are_trees came.is_answer.1;
       count = ap length are ∙ length-map-range_with_len (line_of leaves) 0 (length s.goals);
       hulls = λ k c l g e.
-          let here : slice_get came.universe.goals k ≡ Some (goal_of c) = ap (λ gs. slice_get gs k) came.is_universe.goals ∙ goal_there s.goals k c g in
           let same : l ≡ line_of leaves k = same_line l (line_of leaves k) (slice_get lines k) e
           (ap (λ xs. slice_get xs k) are ∙ line_there leaves (length s.goals) k (slice_get_within s.goals k c g)) in (
-            given_of k ls,
-            give_each came.universe (plan_of s o.depth) o.rounds t came.are_states k (goal_of c) here boxes answer.1,
-            same ∙ ap (λ xs. line_of xs k) answer.3 ∙ hull_is k line.Empty ls,
+            given_of k (all_leaves ls),
+            give_cases s o k c g 0 (cases_of s) came.trees ls came.are_trees came.is_answer.1 by.1,
+            same ∙ ap (λ xs. line_of xs k) by.3 ∙ hull_is k line.Empty (all_leaves ls),
           );
     }

@@ -1,5 +1,5 @@
 -- What is true of assignments where no leaf is open.
-use Rattle.std.specs.Prelude.{◌≡◌, ℕ, List, [], Some, None, slice_get, Contains}
+use Rattle.std.specs.Prelude.{◌≡◌, ℕ, List, [], Some, slice_get, Contains}
 use Rattle.fx_model.specs.Expression.{Assignment, IsOrdered, value}
 use Rattle.facts.specs.declared.fact.Fact.{Fact}
 use Rattle.facts.specs.Holds.{Holds}
@@ -12,18 +12,18 @@ use Rattle.script_claims.specs.Facts.{slot_of}
 use Rattle.script_claims.specs.Meets.{IsTrueAt}
 use Rattle.script_grammar.specs.Spells.{View}
 use Rattle.script_meets.specs.Meets.{Meets}
-use Rattle.script_truths.specs.Truths.{HasUniverse}
-use Rattle.settler.specs.Answers.{Options, plan_of, IsProved}
+use Rattle.script_truths.specs.Truths.{AreTrue, HasUniverse}
+use Rattle.settler.specs.Answers.{Options, plan_of, IsTreeOf, IsProved}
 use Rattle.theorem_list.specs.Promises.{RowsAreTrue}
 use Rattle.rule_universe.specs.Worlds.{World}
+use Rattle.script_grammar.specs.Cases.{cases_of}
 use Rattle.box_tree.specs.Covers.{LieInBox}
 use Rattle.box_tree.specs.Plans.{cut_at}
 use Rattle.box_tree.specs.Regions.{PlanParts}
 use Rattle.bisect.specs.declared.settler.State.{State}
-use Rattle.bisect.specs.declared.outcome.Leaf.{Leaf}
-use Rattle.bisect.specs.Trees.{tree_of}
-use Rattle.bisect.specs.Boxes.{AreBoxes, first_open, leaves_of}
-use Rattle.bisect.specs.Gathered.{line_of}
+use Rattle.bisect.specs.declared.settler.State.TheVariants as state
+use Rattle.bisect.specs.Trees.{Tree, tree_of, IsLeaf}
+use Rattle.bisect.specs.Boxes.{IsOpenLeaf}
 use Rattle.settler.specs.Standing.{AreStates}
 
 -- Of the assignment all is true that derivations over the universe begin with, and its values lie in the whole box.
@@ -32,21 +32,44 @@ pub record MeetsUniverse (u : World) (plan : PlanParts) (a : Assignment) : Type 
   pub rows : RowsAreTrue u.nodes a u.hints
   pub inside : LieInBox plan (value u.nodes a) []
 
--- The line of each goal over the leaves holds of the assignment, and so does a fact that settles the goal.
-abbrev pub GoalsHold : World → List Leaf → Assignment → Type 0
-GoalsHold u leaves a = (k : ℕ) (goal : Goal) → slice_get u.goals k ≡ Some goal → LineHolds u.nodes a goal.of (line_of leaves k) × ((f : Fact) × Settles goal f × Holds u.nodes a f)
+-- no leaf of the tree is open
+abbrev pub IsClosed : Tree → Type 0
+IsClosed t = (path : List ℕ) (goal : ℕ) → ¬ (IsOpenLeaf t path goal)
 
--- That is so of each such assignment, where no leaf is open.
-abbrev pub SettledLinesHold : PlanParts → Type 0
-SettledLinesHold plan = (u : World) (rounds : ℕ) (states : List ℕ → State) (boxes : List (List ℕ)) (a : Assignment) → IsOrdered u.nodes
-    → AreStates u plan rounds states → AreBoxes (tree_of (cut_at plan) states) boxes → first_open (tree_of (cut_at plan) states) boxes ≡ None
-    → MeetsUniverse u plan a → GoalsHold u (leaves_of (tree_of (cut_at plan) states) boxes) a
+-- A leaf of the tree is settled, with a fact for each goal that settles it and holds of the
+-- assignment.
+pub record HasHeldLeaf (u : World) (t : Tree) (a : Assignment) : Type 0 where
+  pub path : List ℕ
+  pub is_leaf : IsLeaf t path
+  pub facts : List Fact
+  pub settled : t.state_at path ≡ state.Settled facts
+  pub held : (k : ℕ) (goal : Goal) → slice_get u.goals k ≡ Some goal
+      → (f : Fact) × (slice_get facts k ≡ Some f) × Settles goal f × Holds u.nodes a f
+
+-- Where no leaf is open, that is so of each such assignment.
+abbrev pub SettledLeavesHold : PlanParts → Type 0
+SettledLeavesHold plan = (u : World) (rounds : ℕ) (states : List ℕ
+    → State) (a : Assignment) → IsOrdered u.nodes
+    → AreStates u plan rounds states → IsClosed (tree_of (cut_at plan) states)
+    → MeetsUniverse u plan a → HasHeldLeaf u (tree_of (cut_at plan) states) a
 
 -- ---- of scripts
+-- Where no leaf of the case's tree is open, that is so of each assignment that meets the script and
+-- of which the case's claims are true.
+abbrev pub CaseHolds : View → Options → List Claim → Type 0
+CaseHolds s o claims = (t : Tree) (a : Assignment) → IsTreeOf s o claims t → IsClosed t
+    → Meets a s → AreTrue s a claims → (u : World) × HasUniverse s claims u × HasHeldLeaf u t a
+
+-- It is so in each case.
+abbrev pub CasesHold : View → Options → Type 0
+CasesHold s o = (case : ℕ) (claims : List Claim)
+    → slice_get (cases_of s) case ≡ Some claims → CaseHolds s o claims
+
 -- Each goal has a line in its place, which holds of the assignment; and the goal is true, with bounds exactly as they are written.
 abbrev pub AreHeld : View → Assignment → List Line → Type 0
 AreHeld s a lines = (k : ℕ) (c : Claim) → slice_get s.goals k ≡ Some c → (l : Line) × (slice_get lines k ≡ Some l) × LineHolds s.nodes a (slot_of c) l × IsTrueAt s.nodes a c
 
--- Where a script is proved, that is so of every assignment that meets it.
-abbrev pub ProvedHolds : PlanParts → Type 0
-ProvedHolds plan = (s : View) (u : World) (o : Options) (lines : List Line) (a : Assignment) → HasUniverse s u → plan ≡ plan_of s o.depth → IsProved s o lines → Meets a s → AreHeld s a lines
+-- Where the script is proved, that is so of every assignment that meets it.
+abbrev pub ProvedHolds : View → Options → Type 0
+ProvedHolds s o = (lines : List Line) (a : Assignment)
+    → IsProved s o lines → Meets a s → AreHeld s a lines

@@ -4,3 +4,6 @@ pub mod Frames
 pub mod Answers
 pub mod Tight
 pub mod Held
+pub mod Cases
+pub mod Open
+pub mod One

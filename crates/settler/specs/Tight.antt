@@ -1,5 +1,5 @@
 -- What the lines of a proved script are gathered from.
-use Rattle.std.specs.Prelude.{◌≡◌, ◌↔◌, ⊤, ℕ, List, [], ◌∷◌, length, Option, Some, None, slice_get}
+use Rattle.std.specs.Prelude.{◌≡◌, ◌↔◌, ◌++◌, ⊤, ℕ, List, [], ◌∷◌, length, Option, Some, None, slice_get}
 use Rattle.facts.specs.declared.fact.Fact.{Fact}
 use Rattle.facts.specs.declared.fact.Fact.TheVariants as fact
 use Rattle.goals.specs.declared.goal.Goal.{Goal}
@@ -12,6 +12,7 @@ use Rattle.pair_closure.specs.Reached.{Has}
 use Rattle.derivation.specs.Derivations.{Setting}
 use Rattle.derivation.specs.Known.{Piece, Known}
 use Rattle.rule_universe.specs.Worlds.{World}
+use Rattle.script_grammar.specs.Cases.{cases_of}
 use Rattle.universe.specs.Universes.{goal_of, IsUniverse}
 use Rattle.saturate.specs.Universes.{setting_of}
 use Rattle.box_tree.specs.Plans.{pieces_at}
@@ -38,18 +39,36 @@ abbrev pub hull_over : Line → List (Option Fact) → Line
 hull_over l [] = l
 hull_over l (given ∷ later) = hull_over (with_known l given) later
 
--- There is one line for each goal: the hull of what the leaves of the script's tree give. So no fact that is known at a leaf is stronger
--- than what the leaf gives.
-pub record AreTight (s : View) (o : Options) (lines : List Line) : Type 0 where
+-- The leaves of the tree of a case, in which these claims are assumed.
+pub record LeavesOf (s : View) (o : Options) (claims : List Claim) : Type 0 where
   pub universe : World
-  pub is_universe : IsUniverse s universe
+  pub is_universe : IsUniverse s claims universe
   pub states : List ℕ → State
-  pub are_states : AreStates universe (plan_of s o.depth) o.rounds states
+  pub are_states : AreStates universe (plan_of s claims o.depth) o.rounds states
   pub leaves : List (List ℕ)
-  pub are_leaves : (path : List ℕ) → Has leaves path ↔ IsLeaf (tree_by s o states) path
+  pub are_leaves : (path : List ℕ) → Has leaves path ↔ IsLeaf (tree_by s claims o states) path
+
+-- those of each case
+abbrev pub LeavesOfEach : View → Options → List (List Claim) → Type 0
+LeavesOfEach s o [] = ⊤
+LeavesOfEach s o (claims ∷ later) = LeavesOf s o claims × LeavesOfEach s o later
+
+-- What the leaves of the cases give to a goal's line, case by case.
+abbrev pub GiveInEach : (s : View) (o : Options) (cases : List (List Claim))
+    → LeavesOfEach s o cases → Goal → List (Option Fact) → Type 0
+GiveInEach s o [] leaves goal given = given ≡ []
+GiveInEach s o (claims ∷ later) leaves goal given = (here behind : List (Option Fact))
+    × GiveEach (leaves.0).universe (plan_of s claims o.depth) o.rounds goal (leaves.0).leaves here
+    × GiveInEach s o later leaves.1 goal behind × (given ≡ here ++ behind)
+
+-- There is one line for each goal: the hull of what the leaves of the trees of all cases give. So
+-- no fact that is known at a leaf is stronger than what the leaf gives.
+pub record AreTight (s : View) (o : Options) (lines : List Line) : Type 0 where
+  pub leaves : LeavesOfEach s o (cases_of s)
   pub count : length lines ≡ length s.goals
   pub hulls : (k : ℕ) (c : Claim) (l : Line) → slice_get s.goals k ≡ Some c → slice_get lines k ≡ Some l →
-      (given : List (Option Fact)) × GiveEach universe (plan_of s o.depth) o.rounds (goal_of c) leaves given × (l ≡ hull_over line.Empty given)
+      (given : List (Option Fact))
+      × GiveInEach s o (cases_of s) leaves (goal_of c) given × (l ≡ hull_over line.Empty given)
 
 -- Where a script is proved, its lines are so.
 abbrev pub ProvedLinesAreTight : Type 0

@@ -2,15 +2,18 @@
 #![tactic(auto)]
 
 mod boxes;
+mod cases;
 mod entry;
 mod frame;
 mod laws;
 mod run;
 
 pub use boxes::Boxes;
+pub use cases::Case;
 pub use entry::Entry;
 pub use frame::Frame;
 pub use laws::{
-    answers_are_one, plans_fit, proved_answers_hold, proved_lines_are_tight, settled_lines_hold,
+    answers_are_one, one_case_is_all, open_leaves_are_first, plans_fit, proved_answers_hold,
+    proved_lines_are_tight,
 };
 pub use run::answer;

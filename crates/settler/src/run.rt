@@ -1,26 +1,37 @@
-//! The answer of a tree of boxes.
-ghost use Rattle.std.specs.Prelude.{◌≡◌, ◌≤◌, ℕ, List, IfOk};
+//! The answer of a script: a tree of boxes for each of its cases.
+ghost use Rattle.std.specs.Prelude.{◌≡◌, ◌≤◌, ◌+◌, ℕ, List, [], IfOk, length};
 ghost use Rattle.box_tree.specs.Plans.{cut_at};
+ghost use Rattle.rule_universe.specs.Worlds.{World};
+ghost use Rattle.script_claims.specs.declared.claim.Claim.{Claim};
+ghost use Rattle.script_grammar.specs.Cases.{cases_of};
+ghost use Rattle.universe.specs.Universes.{IsTooLarge, IsUniverse};
 ghost use Rattle.bisect.specs.Trees.{tree_of};
-ghost use Rattle.bisect.specs.declared.settler.State.{State};
 ghost use Rattle.bisect.specs.Answers.{IsAnswer};
+ghost use Rattle.case_trees.specs.Answers.{IsAnswerOfAll};
+ghost use Rattle.settler.specs.Answers.{ComesTo, options};
+ghost use Rattle.settler.specs.Cases.{AreCases, trees_in};
 ghost use Rattle.settler.specs.Decided.{state_at};
 ghost use Rattle.settler.specs.Frames.{Fits};
-ghost use Rattle.settler.specs.Standing.{AreStates};
+ghost use Rattle.settler.specs.Held.{CasesHold, ProvedHolds};
 
 use crate::boxes::Boxes;
+use crate::cases::{Case, planned_cases};
 use crate::frame::Frame;
+use crate::laws::{cases_hold, plans_fit, proved_answers_hold};
 use bisect::Outcome;
 use box_tree::Plan;
 use box_workers::run;
+use case_trees::{CaseOutcome, Gathered, trees_are_gathered};
 use derivation::{best_tables_exist, boxes_come_to_one_state};
 use fx_edge::Gate;
 use goals::settling_facts;
 use saturate::{Universe, rules_are_lawful};
+use script_grammar::Script;
 use std::alloc::{AllocError, Global};
 use std::marker::Brand;
 use std::sync::Wait;
 use std::thread::Threads;
+use universe::assume;
 
 // The answer of a frame's tree.
 fn answer_in<F: Frame + Send + Sync, G: Gate, R: Threads + Wait + Sync>(
@@ -45,10 +56,8 @@ fn answer_in<F: Frame + Send + Sync, G: Gate, R: Threads + Wait + Sync>(
     run(rt, alloc, &settler, gate, plan, workers, boxes)
 }
 
-/// What the tree of the plan's boxes comes to, each settled by so many rounds (0 to 64) over the universe, where there may be so
-/// many boxes (1 to 8,192); by so many workers (1 to 16), each of which calls the gate before and after it settles a box. Neither
-/// their number nor their schedule changes the answer. It may wait. Want of memory is the only error.
-pub fn answer<G: Gate, R: Threads + Wait + Sync>(
+// What the tree of the plan's boxes comes to, each settled by so many rounds over the universe.
+fn answer_tree<G: Gate, R: Threads + Wait + Sync>(
     rt: &R,
     alloc: Global,
     universe: &Universe,
@@ -61,14 +70,87 @@ pub fn answer<G: Gate, R: Threads + Wait + Sync>(
     requires fits { Fits universe.now plan.now }
     requires workers { (1 ≤ workers) × (workers ≤ 16) }
     requires boxes { (1 ≤ boxes) × (boxes ≤ 8192) }
-    // There is one such function of states, and one such answer.
-    ensures { IfOk result (λ found. (states : List ℕ → State) × AreStates universe.now plan.now rounds states
-        × IsAnswer (tree_of (cut_at plan.now) states) boxes found) }
+    ensures { IfOk result (IsAnswer
+        (tree_of (cut_at plan.now) (state_at universe.now plan.now rounds)) boxes) }
 {
+    answer_in::<Brand, G, R>(rt, alloc, universe, gate, plan, rounds, workers, boxes)
+}
+
+// What the trees of the cases come to together, one after the other, each with the boxes that are
+// left. An open case doesn't end it: the boxes of later ones count, too.
+fn answer_cases<G: Gate, R: Threads + Wait + Sync>(
+    rt: &R,
+    alloc: Global,
+    script: &Script<'_>,
+    universe: &mut Universe,
+    gate: &G,
+    cases: &[Case],
+    rounds: u8,
+    workers: u8,
+    boxes: u32,
+) -> Result<CaseOutcome, AllocError>
+    requires universe { (before : List Claim) × IsUniverse script.now before universe.old }
+    requires cases { (depth : ℕ)
+        × ((claims : List (List Claim)) × AreCases script.now depth claims cases.now) }
+    requires few { length cases.now ≤ 64 }
+    requires workers { (1 ≤ workers) × (workers ≤ 16) }
+    requires boxes { boxes ≤ 8192 }
+    ensures { IfOk result (IsAnswerOfAll (trees_in universe.old rounds cases.now) boxes) }
+{
+    trees_are_gathered();
+    let mut gathered = Gathered::new(alloc, boxes);
+    for case in cases {
+        let left = gathered.left();
+        if left == 0 {
+            return Ok(CaseOutcome::BoxLimit);
+        }
+        assume(alloc, universe, script, case.claims.as_slice())?;
+        plans_fit(universe);
+        let plan = &case.plan;
+        let outcome = answer_tree(rt, alloc, universe, gate, plan, rounds, workers, left)?;
+        if !gathered.add(outcome)? {
+            return Ok(CaseOutcome::BoxLimit);
+        }
+    }
+    Ok(gathered.finish())
+}
+
+/// What a script comes to: each case's boxes are halved so often at most (0 to 32), and settled by
+/// so many rounds (0 to 64) over the script's universe with the case's claims assumed; all cases
+/// may have so many boxes (1 to 8,192) together. Each box is settled by one of so many workers (1
+/// to 16), each of which calls the gate before and after it settles a box. Neither their number nor
+/// their schedule changes the answer. What is assumed in the universe before and behind the call is
+/// no part of it. It may wait. Want of memory is the only error.
+pub fn answer<G: Gate, R: Threads + Wait + Sync>(
+    rt: &R,
+    alloc: Global,
+    script: &Script<'_>,
+    universe: &mut Universe,
+    gate: &G,
+    rounds: u8,
+    depth: u8,
+    workers: u8,
+    boxes: u32,
+) -> Result<CaseOutcome, AllocError>
+    requires universe { (before : List Claim) × IsUniverse script.now before universe.old }
+    requires small { ¬ IsTooLarge script.now }
+    requires depth { depth ≤ 32 }
+    requires workers { (1 ≤ workers) × (workers ≤ 16) }
+    requires boxes { (1 ≤ boxes) × (boxes ≤ 8192) }
+    ensures comes { IfOk result (ComesTo script.now (options rounds depth boxes)) }
+    // Where it is proved, its lines hold, and its goals are true.
+    ensures holds { IfOk result (λ _. ProvedHolds script.now (options rounds depth boxes)) }
+{
+    script.laws();
     universe.laws();
     rules_are_lawful();
     best_tables_exist();
     boxes_come_to_one_state();
     settling_facts();
-    answer_in::<Brand, G, R>(rt, alloc, universe, gate, plan, rounds, workers, boxes)
+    cases_hold();
+    proved_answers_hold();
+    let cases = planned_cases(alloc, script, depth)?;
+    answer_cases(
+        rt, alloc, script, universe, gate, &cases, rounds, workers, boxes,
+    )
 }

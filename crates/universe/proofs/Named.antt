@@ -20,7 +20,7 @@ use Rattle.facts.specs.Conclusions.{bnd_of, fix_of}
 use Rattle.facts.specs.Places.{place_from}
 use Rattle.script_bounds.specs.Bounds.{written_range, outward_of}
 use Rattle.script_claims.specs.declared.claim.Claim.{Claim}
-use Rattle.script_claims.specs.declared.claim.Claim.TheVariants.{Bounded, Asked, Relative, RelativeAsked, Multiple}
+use Rattle.script_claims.specs.declared.claim.Claim.TheVariants.{Bounded, Asked, Relative, RelativeAsked, Multiple, Above, Below}
 use Rattle.script_claims.specs.Facts.{hypothesis_fact, rel_of}
 use Rattle.script_hints.specs.declared.hint.Hint.{Hint}
 use Rattle.pair_closure.specs.Reached.{Has}
@@ -62,6 +62,8 @@ module _ (nodes : List Node) (n m : ℕ) (pairs : List Pair) (longer : n ≤ m) 
       subst (IsSlot m pairs) (sym (rel_slot x y (error_of_part (outward_of (written_range (Some lower) (Some upper)))) f h)) (e (x, y) (0, refl))
   claim_gives (RelativeAsked x y) k e f h = absurd (none_at f h)
   claim_gives (Multiple x j) k e f h = subst (IsSlot m pairs) (sym (fix_slot x (place_from j) f h)) (let l : x.0 < n = k in omega arith)
+  claim_gives (Above x w) k e f h = subst (IsSlot m pairs) (sym (bnd_slot x (outward_of (written_range (Some w) None)) f h)) (let l : x.0 < n = k in omega arith)
+  claim_gives (Below x w) k e f h = subst (IsSlot m pairs) (sym (bnd_slot x (outward_of (written_range None (Some w))) f h)) (let l : x.0 < n = k in omega arith)
 
   with_slots : (o : Option Fact) (fs : List Fact) → ((f : Fact) → o ≡ Some f → IsSlot m pairs (slot_of f)) → ((k : ℕ) (f : Fact) → slice_get fs k ≡ Some f → IsSlot m pairs (slot_of f))
       → (k : ℕ) (f : Fact) → slice_get (with_fact o fs) k ≡ Some f → IsSlot m pairs (slot_of f)
@@ -74,6 +76,20 @@ module _ (nodes : List Node) (n m : ℕ) (pairs : List Pair) (longer : n ≤ m) 
   facts_slots (c ∷ cs) h e k f q =
       with_slots (hypothesis_fact c) (facts_of cs) (claim_gives c h.0 (λ p w. e p (has_left (claim_pairs nodes c) (claims_pairs nodes cs) p w)))
       (facts_slots cs h.1 (λ p w. e p (has_right (claim_pairs nodes c) (claims_pairs nodes cs) p w))) k f q
+
+-- ---- claims that are among others
+pairs_of_one : (nodes : List Node) (all : List Claim) (k : ℕ) (c : Claim) → slice_get all k ≡ Some c → (p : Pair) → Has (claim_pairs nodes c) p → Has (claims_pairs nodes all) p
+pairs_of_one nodes [] k c e p h = absurd (none_at c e)
+pairs_of_one nodes (d ∷ all) zero c e p h = has_left (claim_pairs nodes d) (claims_pairs nodes all) p (subst (λ x. Has (claim_pairs nodes x) p) (sym (some-inj d c e)) h)
+pairs_of_one nodes (d ∷ all) (suc k) c e p h = has_right (claim_pairs nodes d) (claims_pairs nodes all) p (pairs_of_one nodes all k c e p h)
+
+-- their pairs are among the pairs of those
+pub pairs_of_some : (nodes : List Node) (all some : List Claim) → AllByRecursion (Has all) some → (p : Pair) → Has (claims_pairs nodes some) p → Has (claims_pairs nodes all) p
+pairs_of_some nodes all [] are p h = absurd (no_member p h)
+pairs_of_some nodes all (c ∷ some) are p h = elim (has_either (claim_pairs nodes c) (claims_pairs nodes some) p h) [
+  | inl a ↦ pairs_of_one nodes all are.0.0 c are.0.1 p a
+  | inr b ↦ pairs_of_some nodes all some are.1 p b
+]
 
 -- ---- rows of hints
 need_known : (n m : ℕ) → n ≤ m → (c : Constraint) → ConstraintIsOf n c → NeedIsKnown m (need_of c)
@@ -142,6 +158,8 @@ module _ (nodes : List Node) (ordered : IsOrdered nodes) where
   claim_known (Relative x y lower upper) k p h = sides_known x y k p h
   claim_known (RelativeAsked x y) k p h = sides_known x y k p h
   claim_known (Multiple x j) k p h = whole_known x p h
+  claim_known (Above x w) k p h = whole_known x p h
+  claim_known (Below x w) k p h = whole_known x p h
 
   claims_known : (cs : List Claim) → AllByRecursion (ClaimIsOf (length nodes)) cs → (p : Pair) → Has (claims_pairs nodes cs) p → IsKnownPair nodes p
   claims_known [] k p h = absurd (no_member p h)

@@ -59,7 +59,7 @@ marks_are_one nodes hints marks others a b = same_list marks others (a.count ∙
     one_mark nodes s.0 m n (a.each k s.0 m s.1 e) (b.each k s.0 n s.1 f))
 
 pub universes_are_one : ClosuresAreOne → UniversesAreOne
-universes_are_one closures s u v a b =
+universes_are_one closures s claims u v a b =
     let both = closures s.nodes (starting_pairs s) u.nodes v.nodes u.pairs v.pairs a.closure b.closure in
     let nodes : u.nodes ≡ v.nodes = both.0 in
     let pairs : u.pairs ≡ v.pairs = both.1 in

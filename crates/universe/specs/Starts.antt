@@ -5,7 +5,7 @@ use Rattle.fx_model.specs.declared.Node.{Node}
 use Rattle.fx_model.specs.declared.Node.TheVariants.{Sub}
 use Rattle.pair_closure.specs.Closure.{Pair}
 use Rattle.script_claims.specs.declared.claim.Claim.{Claim}
-use Rattle.script_claims.specs.declared.claim.Claim.TheVariants.{Bounded, Asked, Relative, RelativeAsked, Multiple}
+use Rattle.script_claims.specs.declared.claim.Claim.TheVariants.{Bounded, Asked, Relative, RelativeAsked, Multiple, Above, Below}
 use Rattle.script_hints.specs.declared.hint.Hint.{Hint}
 use Rattle.script_grammar.specs.Spells.{View}
 
@@ -25,6 +25,8 @@ claim_pairs nodes (Asked x) = whole_difference nodes x
 claim_pairs nodes (Relative x y lower upper) = (x, y) ∷ []
 claim_pairs nodes (RelativeAsked x y) = (x, y) ∷ []
 claim_pairs nodes (Multiple x k) = whole_difference nodes x
+claim_pairs nodes (Above x n) = whole_difference nodes x
+claim_pairs nodes (Below x n) = whole_difference nodes x
 
 abbrev pub claims_pairs : List Node → List Claim → List Pair
 claims_pairs nodes [] = []

@@ -9,8 +9,8 @@ mod starts;
 mod tests;
 mod world;
 
-pub use laws::{marks_are_one, universes_are_one};
+pub use laws::{hypotheses_have_slots, marks_are_one, universes_are_one};
 pub use marks::classify;
 pub use rule_universe::{Goal, Instance, Universe};
 pub use starts::starting_pairs;
-pub use world::{UniverseFault, build};
+pub use world::{UniverseFault, assume, build};

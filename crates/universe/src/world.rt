@@ -1,7 +1,12 @@
 //! The universe of a script.
 
-ghost use Rattle.std.specs.Prelude.{◌≡◌, Err, IfOk};
-ghost use Rattle.universe.specs.Universes.{IsUniverse, IsTooLarge};
+ghost use Rattle.std.specs.Prelude.{◌≡◌, [], List, Err, IfOk, OnOk, OnErr};
+ghost use Rattle.std.specs.List.{AllByRecursion};
+ghost use Rattle.script_claims.specs.declared.claim.Claim.{Claim};
+ghost use Rattle.script_claims.specs.Facts.{HasNormalBounds};
+ghost use Rattle.universe.specs.Cases.{AreHypotheses};
+ghost use Rattle.rule_universe.specs.Assumed.{assuming};
+ghost use Rattle.universe.specs.Universes.{IsUniverse, IsTooLarge, facts_of};
 ghost use Rattle.universe.specs.declared.world.UniverseFault.TheVariants as UniverseFault;
 
 use crate::claims::{facts_of, goals_of};
@@ -10,6 +15,7 @@ use pair_closure::{Closure, ClosureFault, closure_of};
 use rewrite_hints::rows_of;
 use rule_instances::instances_of;
 use rule_universe::Universe;
+use script_claims::Claim;
 use script_grammar::Script;
 use std::alloc::{AllocError, Global};
 
@@ -43,9 +49,10 @@ impl From<ClosureFault> for UniverseFault {
     }
 }
 
-/// The universe of a script. `ExprLimit` exactly where it has more than 1,024 expressions.
+/// The universe of a script, in which nothing is assumed yet. `ExprLimit` exactly where it has more
+/// than 1,024 expressions.
 pub fn build(alloc: Global, script: &Script<'_>) -> Result<Universe, UniverseFault>
-    ensures universe { IfOk result (IsUniverse script.now) }
+    ensures universe { IfOk result (IsUniverse script.now []) }
     // There is none exactly where it is too large, want of memory aside.
     ensures few { IfOk result (λ _. ¬ IsTooLarge script.now) }
     ensures many { result ≡ Err UniverseFault.ExprLimit → IsTooLarge script.now }
@@ -56,9 +63,30 @@ pub fn build(alloc: Global, script: &Script<'_>) -> Result<Universe, UniverseFau
     let rows = rows_of(alloc, script.nodes(), script.hints().rewrites.as_slice())?;
     let instances = instances_of(alloc, &nodes, &pairs, rows.as_slice())?;
     let goals = goals_of(alloc, script.goals())?;
-    let facts = facts_of(alloc, script.hypotheses())?;
     nodes.laws();
     pairs.laws();
-    let universe = Universe::new(alloc, nodes, pairs, goals, facts, rows, instances)?;
+    let nothing = Vec::new(alloc);
+    let universe = Universe::new(alloc, nodes, pairs, goals, nothing, rows, instances)?;
     Ok(universe)
+}
+
+/// Assumes these claims of the script in its universe, in place of what was assumed: those of a
+/// case. Want of memory is the only error, and leaves the universe as it was.
+pub fn assume(
+    alloc: Global,
+    universe: &mut Universe,
+    script: &Script<'_>,
+    claims: &[Claim],
+) -> Result<(), AllocError>
+    requires universe { (before : List Claim) × IsUniverse script.now before universe.old }
+    requires claims { AreHypotheses script.now claims.now }
+    requires normal { AllByRecursion HasNormalBounds claims.now }
+    ensures assumed { OnOk result (universe.new ≡ assuming universe.old (facts_of claims.now)) }
+    ensures universe { OnOk result (IsUniverse script.now claims.now universe.new) }
+    ensures kept { OnErr result (universe.new ≡ universe.old) }
+{
+    script.laws();
+    let facts = facts_of(alloc, claims)?;
+    universe.assume(facts);
+    Ok(())
 }

@@ -1,4 +1,4 @@
-use Rattle.std.proofs.Common.{◌≡◌, ◌≤◌, length, arith, sym, ap, ◌∙◌, subst}
+use Rattle.std.proofs.Common.{◌≡◌, [], ◌≤◌, length, arith, sym, ap, ◌∙◌, subst}
 use Rattle.std.specs.Prelude.{All}
 use Rattle.script_hints.specs.declared.hint.HintList.{HintList}
 use Rattle.script_hints.specs.Needs.{HasNormalBounds}
@@ -29,14 +29,14 @@ new-requires c =
       nodes = c.in_ok-nodes.field-0.nodes;
       pairs = c.in_ok-nodes.field-0.pairs;
       goals = c.in_ok-goals.goals.items;
-      hypotheses = c.in_ok-facts.facts.items;
+      hypotheses = c.new-nothing.result.items;
       hints = c.in_ok-rows.rows.items;
       instances = c.in_ok-instances.instances.items;
     } in
-    built c.args.script.now u c.laws.ensures.names c.laws-2.ensures.ordered c.in_ok-nodes.ensures.known c.in_ok-nodes.ensures.short
-    (universe_of c.args.script.now u c.nodes.result.now c.nodes-2.result.now c.as_slice.result.now c.as_slice-2.result.now c.as_slice-3.result.now c.goals.result.now c.hypotheses.result.now
+    built c.args.script.now u c.laws.ensures.names c.laws-2.ensures.ordered c.in_ok-nodes.ensures.known c.in_ok-nodes.ensures.short []
+    (universe_of c.args.script.now u c.nodes.result.now c.nodes-2.result.now c.as_slice.result.now c.as_slice-2.result.now c.as_slice-3.result.now c.goals.result.now
     c.nodes.ensures (c.as_slice.ensures.value ∙ c.in_ok-starts.ensures) c.in_ok-nodes.ensures.closed c.nodes-2.ensures (c.as_slice-2.ensures ∙ ap (λ (h : HintList). h.rewrites) c.hints.ensures.value) c.in_ok-rows.ensures
-    c.as_slice-3.ensures.value c.in_ok-instances.ensures.exactly c.in_ok-instances.ensures.order c.goals.ensures.value c.in_ok-goals.ensures c.hypotheses.ensures.value c.in_ok-facts.ensures)
+    c.as_slice-3.ensures.value c.in_ok-instances.ensures.exactly c.in_ok-instances.ensures.order c.goals.ensures.value c.in_ok-goals.ensures c.new-nothing.ensures.items)
 
 pub returns-clause-universe : goal.returns-clause-universe
 returns-clause-universe c =
@@ -44,14 +44,14 @@ returns-clause-universe c =
       nodes = c.in_ok-nodes.field-0.nodes;
       pairs = c.in_ok-nodes.field-0.pairs;
       goals = c.in_ok-goals.goals.items;
-      hypotheses = c.in_ok-facts.facts.items;
+      hypotheses = c.new-nothing.result.items;
       hints = c.in_ok-rows.rows.items;
       instances = c.in_ok-instances.instances.items;
     } in
-    subst (IsUniverse c.args.script.now) (sym c.in_ok-universe.ensures)
-    (universe_of c.args.script.now u c.nodes.result.now c.nodes-2.result.now c.as_slice.result.now c.as_slice-2.result.now c.as_slice-3.result.now c.goals.result.now c.hypotheses.result.now
+    subst (IsUniverse c.args.script.now []) (sym c.in_ok-universe.ensures)
+    (universe_of c.args.script.now u c.nodes.result.now c.nodes-2.result.now c.as_slice.result.now c.as_slice-2.result.now c.as_slice-3.result.now c.goals.result.now
     c.nodes.ensures (c.as_slice.ensures.value ∙ c.in_ok-starts.ensures) c.in_ok-nodes.ensures.closed c.nodes-2.ensures (c.as_slice-2.ensures ∙ ap (λ (h : HintList). h.rewrites) c.hints.ensures.value) c.in_ok-rows.ensures
-    c.as_slice-3.ensures.value c.in_ok-instances.ensures.exactly c.in_ok-instances.ensures.order c.goals.ensures.value c.in_ok-goals.ensures c.hypotheses.ensures.value c.in_ok-facts.ensures)
+    c.as_slice-3.ensures.value c.in_ok-instances.ensures.exactly c.in_ok-instances.ensures.order c.goals.ensures.value c.in_ok-goals.ensures c.new-nothing.ensures.items)
 
 pub rows_of-requires-clause-known : goal.rows_of-requires-clause-known
 rows_of-requires-clause-known c =

@@ -1,0 +1,4 @@
+pub mod Same
+pub mod Onward
+pub mod Told
+pub mod Covered

@@ -1,0 +1,4 @@
+pub mod Listed
+pub mod Answers
+pub mod Gathered
+pub mod Laws

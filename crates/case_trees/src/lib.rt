@@ -1,0 +1,13 @@
+//! Several trees of boxes, one for each case, and their one answer.
+#![tactic(auto)]
+
+mod gathered;
+mod laws;
+mod outcome;
+
+pub use gathered::Gathered;
+pub use laws::{cases_answer_once, cases_are_told, lines_cover_cases, trees_are_gathered};
+pub use outcome::{CaseOutcome, OpenLeaf};
+
+#[cfg(test)]
+mod tests;
