@@ -1,5 +1,5 @@
 -- Reading gives back what was spelled: numbers of the grid, intervals and facts.
-use Rattle.std.proofs.Common.{◌<◌, ◌^◌, ◌++◌, ◌∷◌, [], ◌==◌, if◌then◌else◌, ℕ, Option, Some, None, Ok, refl, sym, ap, arith}
+use Rattle.std.proofs.Common.{◌<◌, ◌^◌, ◌==◌, if◌then◌else◌, ℕ, Option, Some, None, Ok, refl, sym, ap, arith}
 use Rattle.std.specs.Int.{w16, w64}
 use Rattle.std.specs.Int.RustNames.{FitsSigned}
 use Rattle.std.proofs.lemmas.Int.{ints, fits_signed_from_abs}
@@ -23,6 +23,7 @@ use Rattle.cert_bytes.specs.Reading.{Cursor, Read, fault, numbered, byte_at, sig
 use Rattle.cert_bytes.specs.Spelling.{short, signed_short, signed_long, point, end, interval, error, fact_bytes}
 use Rattle.cert_bytes.specs.ReadBack.{ReadsBack}
 use Rattle.cert_bytes.proofs.Back.{then_back, last_back, byte_back, signed_short_back, signed_long_back, small_exponent, expr_back, both_back, pair_back}
+use Rattle.cert_bytes.proofs.Styled.{one, ◌⧺◌}
 
 -- ---- numbers of the grid
 
@@ -48,9 +49,9 @@ end_by at tag c = if tag == 0 then (point_at c >>= λ p. Ok (At p.0, p.1))
 
 pub end_back : (e : End) → ReadsBack end_at (end e) e
 unfolding end_at
-end_back (At d) = then_back byte_at end_by (0 ∷ []) (point d) 0 (At d) (byte_back 0) (λ at. last_back point_at (λ own p c. Ok (At p, c)) (point d) d (At d) (point_back d) (λ own c. refl))
-end_back Low = last_back byte_at end_by (1 ∷ []) 1 Low (byte_back 1) (λ at c. refl)
-end_back High = last_back byte_at end_by (2 ∷ []) 2 High (byte_back 2) (λ at c. refl)
+end_back (At d) = then_back byte_at end_by (one 0) (point d) 0 (At d) (byte_back 0) (λ at. last_back point_at (λ own p c. Ok (At p, c)) (point d) d (At d) (point_back d) (λ own c. refl))
+end_back Low = last_back byte_at end_by (one 1) 1 Low (byte_back 1) (λ at c. refl)
+end_back High = last_back byte_at end_by (one 2) 2 High (byte_back 2) (λ at c. refl)
 
 pub interval_back : (i : Interval) → ReadsBack interval_at (interval i) i
 unfolding interval_at
@@ -74,8 +75,8 @@ error_by at tag c = if tag == 0 then (relative_at c >>= λ e. Ok (Some e.0, e.1)
 
 pub error_back : (e : Option RelativeError) → ReadsBack error_at (error e) e
 unfolding error_at
-error_back (Some e) = then_back byte_at error_by (0 ∷ []) (interval e.interval) 0 (Some e) (byte_back 0) (λ at. last_back relative_at (λ own v c. Ok (Some v, c)) (interval e.interval) e (Some e) (relative_back e) (λ own c. refl))
-error_back None = last_back byte_at error_by (1 ∷ []) 1 None (byte_back 1) (λ at c. refl)
+error_back (Some e) = then_back byte_at error_by (one 0) (interval e.interval) 0 (Some e) (byte_back 0) (λ at. last_back relative_at (λ own v c. Ok (Some v, c)) (interval e.interval) e (Some e) (relative_back e) (λ own c. refl))
+error_back None = last_back byte_at error_by (one 1) 1 None (byte_back 1) (λ at c. refl)
 
 place_fits : (p : Place) → FitsSigned w16 p.exponent
 place_fits p = let l = p.lowest in let h = p.highest in small_exponent p.exponent (omega (arith, ints)) (omega (arith, ints))
@@ -86,21 +87,21 @@ place_back p = last_back signed_short_at (λ at k c. numbered at (place_from k) 
 
 -- ---- facts
 
-bnd_back : (x : ExprId) (i : Interval) → x.0 < 2 ^ 16 → ReadsBack bnd_at (short x.0 ++ interval i) (fact.Bnd x i)
+bnd_back : (x : ExprId) (i : Interval) → x.0 < 2 ^ 16 → ReadsBack bnd_at (short x.0 ⧺ interval i) (fact.Bnd x i)
 unfolding bnd_at
-bnd_back x i s = last_back (both_at expr_at interval_at) (λ at v c. Ok (fact.Bnd v.0 v.1, c)) (short x.0 ++ interval i) (x, i) (fact.Bnd x i) (both_back expr_at interval_at (short x.0) (interval i) x i (expr_back x s) (interval_back i)) (λ at c. refl)
+bnd_back x i s = last_back (both_at expr_at interval_at) (λ at v c. Ok (fact.Bnd v.0 v.1, c)) (short x.0 ⧺ interval i) (x, i) (fact.Bnd x i) (both_back expr_at interval_at (short x.0) (interval i) x i (expr_back x s) (interval_back i)) (λ at c. refl)
 
-abs_back : (x : ExprId) (z : Size) → x.0 < 2 ^ 16 → ReadsBack abs_at (short x.0 ++ interval z.interval) (fact.Abs x z)
+abs_back : (x : ExprId) (z : Size) → x.0 < 2 ^ 16 → ReadsBack abs_at (short x.0 ⧺ interval z.interval) (fact.Abs x z)
 unfolding abs_at
-abs_back x z s = last_back (both_at expr_at size_at) (λ at v c. Ok (fact.Abs v.0 v.1, c)) (short x.0 ++ interval z.interval) (x, z) (fact.Abs x z) (both_back expr_at size_at (short x.0) (interval z.interval) x z (expr_back x s) (size_back z)) (λ at c. refl)
+abs_back x z s = last_back (both_at expr_at size_at) (λ at v c. Ok (fact.Abs v.0 v.1, c)) (short x.0 ⧺ interval z.interval) (x, z) (fact.Abs x z) (both_back expr_at size_at (short x.0) (interval z.interval) x z (expr_back x s) (size_back z)) (λ at c. refl)
 
-rel_back : (x y : ExprId) (e : Option RelativeError) → x.0 < 2 ^ 16 → y.0 < 2 ^ 16 → ReadsBack rel_at (short x.0 ++ short y.0 ++ error e) (fact.Rel x y e)
+rel_back : (x y : ExprId) (e : Option RelativeError) → x.0 < 2 ^ 16 → y.0 < 2 ^ 16 → ReadsBack rel_at (short x.0 ⧺ short y.0 ⧺ error e) (fact.Rel x y e)
 unfolding rel_at
-rel_back x y e s t = last_back (both_at pair_at error_at) (λ at v c. Ok (fact.Rel v.0.0 v.0.1 v.1, c)) (short x.0 ++ short y.0 ++ error e) ((x, y), e) (fact.Rel x y e) (both_back pair_at error_at (short x.0 ++ short y.0) (error e) (x, y) e (pair_back x y s t) (error_back e)) (λ at c. refl)
+rel_back x y e s t = last_back (both_at pair_at error_at) (λ at v c. Ok (fact.Rel v.0.0 v.0.1 v.1, c)) (short x.0 ⧺ short y.0 ⧺ error e) ((x, y), e) (fact.Rel x y e) (both_back pair_at error_at (short x.0 ⧺ short y.0) (error e) (x, y) e (pair_back x y s t) (error_back e)) (λ at c. refl)
 
-fix_back : (x : ExprId) (k : Place) → x.0 < 2 ^ 16 → ReadsBack fix_at (short x.0 ++ signed_short k.exponent) (fact.Fix x k)
+fix_back : (x : ExprId) (k : Place) → x.0 < 2 ^ 16 → ReadsBack fix_at (short x.0 ⧺ signed_short k.exponent) (fact.Fix x k)
 unfolding fix_at
-fix_back x k s = last_back (both_at expr_at place_at) (λ at v c. Ok (fact.Fix v.0 v.1, c)) (short x.0 ++ signed_short k.exponent) (x, k) (fact.Fix x k) (both_back expr_at place_at (short x.0) (signed_short k.exponent) x k (expr_back x s) (place_back k)) (λ at c. refl)
+fix_back x k s = last_back (both_at expr_at place_at) (λ at v c. Ok (fact.Fix v.0 v.1, c)) (short x.0 ⧺ signed_short k.exponent) (x, k) (fact.Fix x k) (both_back expr_at place_at (short x.0) (signed_short k.exponent) x k (expr_back x s) (place_back k)) (λ at c. refl)
 
 nzr_back : (x : ExprId) → x.0 < 2 ^ 16 → ReadsBack nzr_at (short x.0) (fact.Nzr x)
 unfolding nzr_at
@@ -117,9 +118,9 @@ fact_by at tag c = if tag == 1 then bnd_at c
 
 pub facts_read_back : (f : Fact) → IsOnShort f → ReadsBack fact_at (fact_bytes f) f
 unfolding fact_at
-facts_read_back (fact.Bnd x i) s = then_back byte_at fact_by (1 ∷ []) (short x.0 ++ interval i) 1 (fact.Bnd x i) (byte_back 1) (λ at. bnd_back x i s)
-facts_read_back (fact.Abs x z) s = then_back byte_at fact_by (2 ∷ []) (short x.0 ++ interval z.interval) 2 (fact.Abs x z) (byte_back 2) (λ at. abs_back x z s)
-facts_read_back (fact.Rel x y e) s = then_back byte_at fact_by (3 ∷ []) (short x.0 ++ short y.0 ++ error e) 3 (fact.Rel x y e) (byte_back 3) (λ at. rel_back x y e s.0 s.1)
-facts_read_back (fact.Fix x k) s = then_back byte_at fact_by (4 ∷ []) (short x.0 ++ signed_short k.exponent) 4 (fact.Fix x k) (byte_back 4) (λ at. fix_back x k s)
-facts_read_back (fact.Nzr x) s = then_back byte_at fact_by (5 ∷ []) (short x.0) 5 (fact.Nzr x) (byte_back 5) (λ at. nzr_back x s)
-facts_read_back fact.Void s = last_back byte_at fact_by (6 ∷ []) 6 fact.Void (byte_back 6) (λ at c. refl)
+facts_read_back (fact.Bnd x i) s = then_back byte_at fact_by (one 1) (short x.0 ⧺ interval i) 1 (fact.Bnd x i) (byte_back 1) (λ at. bnd_back x i s)
+facts_read_back (fact.Abs x z) s = then_back byte_at fact_by (one 2) (short x.0 ⧺ interval z.interval) 2 (fact.Abs x z) (byte_back 2) (λ at. abs_back x z s)
+facts_read_back (fact.Rel x y e) s = then_back byte_at fact_by (one 3) (short x.0 ⧺ short y.0 ⧺ error e) 3 (fact.Rel x y e) (byte_back 3) (λ at. rel_back x y e s.0 s.1)
+facts_read_back (fact.Fix x k) s = then_back byte_at fact_by (one 4) (short x.0 ⧺ signed_short k.exponent) 4 (fact.Fix x k) (byte_back 4) (λ at. fix_back x k s)
+facts_read_back (fact.Nzr x) s = then_back byte_at fact_by (one 5) (short x.0) 5 (fact.Nzr x) (byte_back 5) (λ at. nzr_back x s)
+facts_read_back fact.Void s = last_back byte_at fact_by (one 6) 6 fact.Void (byte_back 6) (λ at c. refl)

@@ -1,5 +1,5 @@
 -- Reading through a folder, in whatever pieces it gives the bytes.
-use Rattle.std.specs.Prelude.{◌≡◌, ◌≤◌, ◌++◌, ℕ, Bool, true, false, List, [], length, drop, Option, Some, None, Result, Ok, Err, ⊤}
+use Rattle.std.specs.Prelude.{◌≡◌, ◌≤◌, ◌<◌, ◌∷◌, ◌++◌, ℕ, Bool, true, false, List, [], length, drop, Option, Some, None, Result, Ok, Err, ⊤}
 use Rattle.cert_bytes.specs.declared.fault.CertFault.{CertFault}
 use Rattle.cert_bytes.specs.declared.fault.Stop.{Stop}
 use Rattle.cert_bytes.specs.declared.fault.Stop.TheVariants.{Fault}
@@ -41,6 +41,16 @@ pub record IsFilled (all : List ℕ) (s : Ahead) : Type 0 where
 abbrev pub IsReady : Ahead → Bool → Type 0
 IsReady s true = ¬ (s.ahead ≡ [])
 IsReady s false = s.ahead ≡ []
+
+-- the next byte is b
+abbrev pub IsFirst : ℕ → List ℕ → Type 0
+IsFirst b [] = ⊥
+IsFirst b (x ∷ rest) = x ≡ b
+
+-- the next byte is below 128
+abbrev pub IsLow : List ℕ → Type 0
+IsLow [] = ⊥
+IsLow (b ∷ rest) = b < 128
 
 -- no further byte is there
 abbrev pub IsEnd : List ℕ → Ahead → Bool → Type 0

@@ -3,13 +3,15 @@ use Rattle.std.specs.Prelude.{◌≡◌, ◌≤◌, ◌<◌, ◌⊎◌, ◌++◌
 use Rattle.std.specs.List.{AllByRecursion}
 use Rattle.cert_bytes.specs.declared.fault.CertFault.{CertFault}
 use Rattle.cert_bytes.specs.declared.item.Item.{Item}
+use Rattle.cert_bytes.specs.declared.style.Style.{Style}
 use Rattle.cert_bytes.specs.declared.style.Style.TheVariants.{First}
+use Rattle.cert_bytes.specs.Styles.{style_after, IsStyleFor}
 use Rattle.cert_bytes.specs.declared.order.Due.{Due}
 use Rattle.cert_bytes.specs.declared.order.Due.TheVariants.{Head, Done}
 use Rattle.cert_bytes.specs.Due.{due_after, due_behind}
 use Rattle.cert_bytes.specs.Certificates.{HasSpelling, Fits, SpellsCertificate}
 use Rattle.cert_bytes.specs.Reading.{Cursor, cursor, item_at}
-use Rattle.cert_bytes.specs.Spelling.{spelling_of}
+use Rattle.cert_bytes.specs.Spelling as spell
 
 -- numbers that are bytes
 abbrev pub AreBytes : List ℕ → Type 0
@@ -17,10 +19,13 @@ AreBytes bytes = AllByRecursion (λ b. b < 256) bytes
 
 -- An item that was read is one that is due, and its spelling is what stands between the two places.
 pub record IsRead (d : Due) (c next : Cursor) (i : Item) : Type 0 where
+  pub style : Style
+  pub is_style : IsStyleFor d c.style style
+  pub styled : next.style ≡ style_after style i
   pub due : due_after d i ≡ Some (due_behind d i)
   pub spelling : HasSpelling i
   pub fits : Fits i
-  pub bytes : c.rest ≡ spelling_of i ++ next.rest
+  pub bytes : c.rest ≡ spell.spelling i style ++ next.rest
   pub behind : AreBytes next.rest
 
 abbrev pub ItemsReadOut : Type 0
@@ -42,7 +47,7 @@ abbrev pub FailsBehind : Due → Cursor → List Item → CertFault → Type 0
 FailsBehind d c [] f = item_at d c ≡ Err f
 FailsBehind d c (i ∷ items) f = (next : Cursor) × (item_at d c ≡ Ok (i, next)) × (¬ (d ≡ Done)) × FailsBehind (due_behind d i) next items f
 
--- the first fault of the bytes
+-- the first fault of the bytes; which version they have stands in them
 abbrev pub HasFault : List ℕ → CertFault → Type 0
 HasFault bytes f = (items : List Item) × FailsBehind Head (cursor First bytes 0) items f
 

@@ -1,6 +1,6 @@
 -- How bytes are read as items, field by field from the left. The first fault that is met is the fault of the bytes.
-use Rattle.std.specs.Prelude.{⊤, ◌+◌, ◌*◌, ◌==◌, not, ℕ, zero, suc, ℤ, pos, negsuc, Bool, true, false, List, [], ◌∷◌, ◌++◌, length, drop, nat_lt, nat_le, if◌then◌else◌, Option, Some, None, Result, Ok, Err}
-use Rattle.std.specs.Int.{w16, w64, cast_signed}
+use Rattle.std.specs.Prelude.{⊤, ◌+◌, ◌-◌, ◌*◌, ◌/◌, ◌%◌, ◌==◌, ◌&&◌, not, ℕ, zero, suc, ℤ, pos, negsuc, Bool, true, false, List, [], ◌∷◌, ◌++◌, length, drop, nat_lt, nat_le, if◌then◌else◌, Option, Some, None, Result, Ok, Err}
+use Rattle.std.specs.Int.{Width, w16, w64, cast_signed}
 use Rattle.std.specs.Int.RustNames.{int_lt}
 use Rattle.fx_model.specs.Fraction.{le_ℚ}
 use Rattle.fx_model.specs.declared.ExprId.{ExprId}
@@ -27,12 +27,16 @@ use Rattle.facts.specs.Parts.{size_from, error_from}
 use Rattle.facts.specs.Places.{place_from}
 use Rattle.cert_bytes.specs.declared.fault.CertFault.{CertFault}
 use Rattle.cert_bytes.specs.declared.fault.CertKind.{CertKind}
-use Rattle.cert_bytes.specs.declared.fault.CertKind.TheVariants.{BadMagic, BadVersion, Truncated, BadTag, BadNumber, TrailingBytes, TooLong}
+use Rattle.cert_bytes.specs.declared.fault.CertKind.TheVariants.{BadMagic, BadVersion, Truncated, BadTag, BadNumber, TrailingBytes, TooLong, BadCount}
 use Rattle.cert_bytes.specs.declared.item.StepRow.{StepRow}
 use Rattle.cert_bytes.specs.declared.item.Item.{Item}
 use Rattle.cert_bytes.specs.declared.item.Item.TheVariants as item
 use Rattle.cert_bytes.specs.Numbers.{number_from, is_normal}
+use Rattle.cert_bytes.specs.declared.style.Seen.{Seen}
 use Rattle.cert_bytes.specs.declared.style.Style.{Style}
+use Rattle.cert_bytes.specs.declared.style.Style.TheVariants.{First, Second}
+use Rattle.cert_bytes.specs.Styles.{none_seen, style_after}
+use Rattle.cert_bytes.specs.Spelling.{distance}
 use Rattle.cert_bytes.specs.declared.order.Due.{Due}
 use Rattle.cert_bytes.specs.declared.order.Due.TheVariants.{Head, Nodes, Marks, Sections, Done}
 
@@ -45,6 +49,10 @@ pub record Cursor : Type 0 where
 -- the place in these bytes
 abbrev pub cursor : Style → List ℕ → ℕ → Cursor
 cursor style all at = record { style = style; at = at; rest = drop at all }
+
+-- the same place, with numbers that are spelled in another way
+abbrev pub styled : Style → Cursor → Cursor
+styled style c = record { style = style; at = c.at; rest = c.rest }
 
 -- what is read, and where reading stands behind it; or the fault
 abbrev pub Read : Type 0 → Type 0
@@ -81,22 +89,76 @@ bytes_at (suc n) value c = byte_at c >>= λ b. bytes_at n (256 * value + b.0) b.
 abbrev pub number_at : ℕ → Cursor → Read ℕ
 number_at n c = bytes_at n 0 c
 
-abbrev pub short_at : Cursor → Read ℕ
-short_at c = number_at 2 c
+-- The number that ends with b, which counts `weight`, behind the digits that make `value`. There is
+-- none where b is 0 and not alone, as the number has a shorter spelling.
+abbrev pub ended_with : ℕ → ℕ → ℕ → Option ℕ
+ended_with weight value b = if (b == 0) && nat_lt 1 weight then None else Some (value + weight * b)
 
--- the number of a step
-abbrev pub reference_at : Cursor → Read ℕ
-reference_at c = number_at 8 c
+-- A number in base 128, of n bytes more at most. There is none where each of these is 128 or above.
+unfoldable pub digits_at : ℕ → ℕ → ℕ → Cursor → Read (Option ℕ)
+digits_at zero weight value c = Ok (None, c)
+digits_at (suc n) weight value c = byte_at c >>= λ b.
+    if nat_lt b.0 128 then Ok (ended_with weight value b.0, b.1) else digits_at n
+    (weight * 128) (value + weight * (b.0 - 128)) b.1
+
+-- a number that is there, where it is at most `most`
+abbrev pub at_most : ℕ → Option ℕ → Option ℕ
+at_most most None = None
+at_most most (Some n) = if nat_le n most then Some n else None
+
+-- the same, where it isn't above `most`
+unfoldable pub limited_at : ℕ → ℕ → ℕ → ℕ → Cursor → Read (Option ℕ)
+limited_at n most weight value c = digits_at n weight value c >>= λ o. Ok (at_most most o.0, o.1)
+
+unfoldable pub based_at : ℕ → ℕ → Cursor → Read ℕ
+based_at bytes most c = limited_at bytes most 1 0 c >>= λ n. numbered c.at n.0 n.1
+
+-- a number of a field by the style: of fixed width in version 1, in base 128 in version 2
+abbrev pub sized_by : Style → ℕ → ℕ → ℕ → Cursor → Read ℕ
+sized_by First width bytes most c = number_at width c
+sized_by (Second seen) width bytes most c = based_at bytes most c
+
+-- A number up to `most`: in version 1 its width is given, in version 2 how many bytes it has at
+-- most.
+unfoldable pub sized_at : ℕ → ℕ → ℕ → Cursor → Read ℕ
+sized_at width bytes most c = sized_by c.style width bytes most c
+
+-- fields of one, two and eight bytes in version 1, with the most that they may say
+abbrev pub tiny_at : Cursor → Read ℕ
+tiny_at c = sized_at 1 10 255 c
+
+abbrev pub short_at : Cursor → Read ℕ
+short_at c = sized_at 2 10 65535 c
+
+abbrev pub long_at : Cursor → Read ℕ
+long_at c = sized_at 8 10 18446744073709551615 c
 
 -- the number of a literal
 abbrev pub wide_at : Cursor → Read ℕ
-wide_at c = number_at 16 c
+wide_at c = sized_at 16 19 340282366920938463463374607431768211455 c
+
+-- the number of a step, by its field
+abbrev pub step_by : Style → ℕ → ℕ
+step_by First n = n
+step_by (Second seen) n = distance seen.steps n
+
+unfoldable pub reference_at : Cursor → Read ℕ
+reference_at c = long_at c >>= λ n. Ok (step_by c.style n.0, n.1)
+
+-- the signed number that is folded into n: even ones from 0 up, odd ones from -1 down
+abbrev pub unzigzag : ℕ → ℤ
+unzigzag n = if n % 2 == 0 then pos (n / 2) else negsuc (n / 2)
+
+-- a signed number, by its field
+abbrev pub signed_by : Style → Width → ℕ → ℤ
+signed_by First w n = cast_signed w n
+signed_by (Second seen) w n = unzigzag n
 
 unfoldable pub signed_short_at : Cursor → Read ℤ
-signed_short_at c = number_at 2 c >>= λ n. Ok (cast_signed w16 n.0, n.1)
+signed_short_at c = short_at c >>= λ n. Ok (signed_by c.style w16 n.0, n.1)
 
 unfoldable pub signed_long_at : Cursor → Read ℤ
-signed_long_at c = number_at 8 c >>= λ n. Ok (cast_signed w64 n.0, n.1)
+signed_long_at c = long_at c >>= λ n. Ok (signed_by c.style w64 n.0, n.1)
 
 unfoldable pub expr_at : Cursor → Read ExprId
 expr_at c = short_at c >>= λ n. Ok (record { 0 = n.0 }, n.1)
@@ -296,7 +358,8 @@ points_at (suc n) ds c = rising_at ds c >>= λ more. points_at n more.0 more.1
 
 -- from 1 to 63
 unfoldable pub count_at : Cursor → Read ℕ
-count_at c = byte_at c >>= λ n. if n.0 == 0 then fault BadNumber c.at else (if nat_lt 63 n.0 then fault BadNumber c.at else Ok n)
+count_at c = tiny_at c >>= λ n. if n.0 == 0 then fault BadNumber c.at else
+    (if nat_lt 63 n.0 then fault BadNumber c.at else Ok n)
 
 -- the variable, and how many points
 unfoldable pub cut_head_at : Cursor → Read (ExprId × ℕ)
@@ -331,15 +394,35 @@ section_by start tag c =
 unfoldable pub section_item_at : Cursor → Read Item
 section_item_at c = byte_at c >>= λ tag. section_by c.at tag.0 tag.1
 
+-- ---- the first item behind the marks
+
+-- how many cases there are, from 2 to 64
+unfoldable pub case_count_at : Cursor → Read ℕ
+case_count_at c = tiny_at c >>= λ n. if nat_lt n.0 2 then fault BadNumber c.at else
+    (if nat_lt 64 n.0 then fault BadNumber c.at else Ok n)
+
+unfoldable pub cases_at : Cursor → Read Item
+cases_at c = case_count_at c >>= λ n. Ok (item.Cases n.0, n.1)
+
+unfoldable pub root_by : ℕ → ℕ → Cursor → Read Item
+root_by start tag c = if tag == 5 then cases_at c else section_by start tag c
+
+unfoldable pub root_item_at : Cursor → Read Item
+root_item_at c = byte_at c >>= λ tag. root_by c.at tag.0 tag.1
+
 -- ---- items
 
 -- four bytes that are "FXPC"
 unfoldable pub magic_at : Cursor → Read ⊤
 magic_at c = number_at 4 c >>= λ n. if n.0 == 1180192835 then Ok (tt, n.1) else fault BadMagic c.at
 
--- a version that is known
+-- a version that is known, which says how the numbers behind it are spelled
 unfoldable pub version_at : Cursor → Read ⊤
-version_at c = byte_at c >>= λ n. if n.0 == 1 then Ok (tt, n.1) else fault BadVersion c.at
+version_at c = do
+  n ← byte_at c
+  if n.0 == 1 then Ok (tt, styled First n.1)
+      else if n.0 == 2 then Ok (tt, styled (Second none_seen) n.1)
+      else fault BadVersion c.at
 
 unfoldable pub preamble_at : Cursor → Read ⊤
 preamble_at c = do
@@ -374,23 +457,52 @@ is_some (b ∷ rest) = true
 unfoldable pub more_at : Cursor → Read Bool
 more_at c = Ok (is_some c.rest, c)
 
--- behind the last section nothing follows
+unfoldable pub end_item_at : Cursor → Read Item
+end_item_at c = more_at c >>= λ more.
+    if more.0 then fault TrailingBytes c.at else Ok (item.End, more.1)
+
+-- a count that is n
+unfoldable pub same_count_at : ℕ → Cursor → Read ⊤
+same_count_at n c = long_at c >>= λ k. if k.0 == n then Ok (tt, k.1) else fault BadCount c.at
+
+unfoldable pub counts_at : Seen → Cursor → Read ⊤
+counts_at seen c = do
+  sections ← same_count_at seen.sections c
+  steps ← same_count_at seen.steps sections.1
+  Ok (tt, steps.1)
+
+-- how many sections and steps there are
+unfoldable pub trailer_at : Seen → Cursor → Read ⊤
+trailer_at seen c = byte_at c >>= λ tag.
+    if tag.0 == 6 then counts_at seen tag.1 else fault BadTag c.at
+
+-- what ends a certificate, by the style: nothing in version 1, the trailer in version 2
+abbrev pub closed_by : Style → Cursor → Read Item
+closed_by First c = end_item_at c
+closed_by (Second seen) c = trailer_at seen c >>= λ trailer. end_item_at trailer.1
+
+-- behind the last section, and in version 2 behind its trailer, nothing follows
 unfoldable pub closed_at : Cursor → Read Item
-closed_at c = more_at c >>= λ more. if more.0 then fault TrailingBytes c.at else Ok (item.End, more.1)
+closed_at c = closed_by c.style c
 
 unfoldable pub node_or_marks_at : ℕ → Cursor → Read Item
 node_or_marks_at n c = if n == 0 then marks_at c else node_item_at c
 
 unfoldable pub mark_or_section_at : ℕ → Cursor → Read Item
-mark_or_section_at n c = if n == 0 then section_item_at c else mark_at c
+mark_or_section_at n c = if n == 0 then root_item_at c else mark_at c
 
 unfoldable pub section_or_end_at : ℕ → Cursor → Read Item
 section_or_end_at n c = if n == 0 then closed_at c else section_item_at c
 
--- the item that is due
+-- the bytes of the item that is due
+unfoldable pub entry_at : Due → Cursor → Read Item
+entry_at Head c = head_at c
+entry_at (Nodes n) c = node_or_marks_at n c
+entry_at (Marks n) c = mark_or_section_at n c
+entry_at (Sections n) c = section_or_end_at n c
+entry_at Done c = Ok (item.End, c)
+
+-- the item that is due, and where reading goes on: a step or a section more was seen behind it,
+-- where it is one
 unfoldable pub item_at : Due → Cursor → Read Item
-item_at Head c = head_at c
-item_at (Nodes n) c = node_or_marks_at n c
-item_at (Marks n) c = mark_or_section_at n c
-item_at (Sections n) c = section_or_end_at n c
-item_at Done c = Ok (item.End, c)
+item_at d c = entry_at d c >>= λ v. Ok (v.0, styled (style_after v.1.style v.0) v.1)

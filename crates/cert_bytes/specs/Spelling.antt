@@ -1,5 +1,6 @@
--- What each item spells. Numbers have their high byte first, and signed ones are two's complement.
-use Rattle.std.specs.Prelude.{ℕ, ℤ, List, [], ◌∷◌, ◌++◌, length, Option, Some, None}
+-- What each item spells, in either version. In version 1 numbers have their high byte first, and
+-- signed ones are two's complement.
+use Rattle.std.specs.Prelude.{◌+◌, ◌-◌, ◌*◌, ◌/◌, ◌%◌, ◌^◌, if◌then◌else◌, nat_lt, zero, suc, ℕ, ℤ, pos, negsuc, List, [], ◌∷◌, ◌++◌, length, Option, Some, None}
 use Rattle.std.specs.List.{flat_map}
 use Rattle.std.specs.Int.{w16, w64, w128, to_be_bytes, cast_unsigned}
 use Rattle.fx_model.specs.declared.Node.{Node}
@@ -18,59 +19,99 @@ use Rattle.facts.specs.declared.hint.HintMark.TheVariants.{Checked, Assumed}
 use Rattle.cert_bytes.specs.declared.item.StepRow.{StepRow}
 use Rattle.cert_bytes.specs.declared.item.Item.{Item}
 use Rattle.cert_bytes.specs.declared.item.Item.TheVariants as item
+use Rattle.cert_bytes.specs.declared.style.Style.{Style}
+use Rattle.cert_bytes.specs.declared.style.Style.TheVariants.{First, Second}
+use Rattle.cert_bytes.specs.Styles.{style_after}
+
+-- ---- version 2
+
+-- A number below 128^k in base 128, in as many bytes as it needs: the low digits first, and 128 is
+-- added to each but the last.
+unfoldable pub digits : ℕ → ℕ → List ℕ
+digits zero n = []
+digits (suc k) n = if nat_lt n 128 then n ∷ [] else (n % 128 + 128) ∷ digits k (n / 128)
+
+-- No field has a number of 128^19 or more.
+abbrev pub based : ℕ → List ℕ
+based n = digits 19 n
+
+-- a signed number as one without a sign
+abbrev pub zigzag : ℤ → ℕ
+zigzag (pos n) = 2 * n
+zigzag (negsuc n) = 2 * n + 1
+
+-- How far behind p the next step stands, modulo 2^64; and back.
+abbrev pub distance : ℕ → ℕ → ℕ
+distance steps p = (steps + (2 ^ 64 - p)) % 2 ^ 64
 
 -- ---- fields
 
-unfoldable pub short : ℕ → List ℕ
-short n = to_be_bytes w16 n
+-- up to 255
+unfoldable pub tiny : ℕ → Style → List ℕ
+tiny n First = n ∷ []
+tiny n (Second seen) = based n
 
-unfoldable pub reference : ℕ → List ℕ
-reference n = to_be_bytes w64 n
+unfoldable pub short : ℕ → Style → List ℕ
+short n First = to_be_bytes w16 n
+short n (Second seen) = based n
 
-unfoldable pub signed_short : ℤ → List ℕ
-signed_short z = to_be_bytes w16 (cast_unsigned w16 z)
+-- the number of a step
+unfoldable pub reference : ℕ → Style → List ℕ
+reference n First = to_be_bytes w64 n
+reference n (Second seen) = based (distance seen.steps n)
 
-unfoldable pub signed_long : ℤ → List ℕ
-signed_long z = to_be_bytes w64 (cast_unsigned w64 z)
+unfoldable pub signed_short : ℤ → Style → List ℕ
+signed_short z First = to_be_bytes w16 (cast_unsigned w16 z)
+signed_short z (Second seen) = based (zigzag z)
 
--- sixteen bytes
-unfoldable pub wide : ℕ → List ℕ
-wide n = to_be_bytes w128 n
+unfoldable pub signed_long : ℤ → Style → List ℕ
+signed_long z First = to_be_bytes w64 (cast_unsigned w64 z)
+signed_long z (Second seen) = based (zigzag z)
 
-abbrev pub references : List ℕ → List ℕ
-references ns = flat_map reference ns
+-- the number of a literal
+unfoldable pub wide : ℕ → Style → List ℕ
+wide n First = to_be_bytes w128 n
+wide n (Second seen) = based n
+
+-- references, one after the other
+abbrev pub references : List ℕ → Style → List ℕ
+references ns style = flat_map (λ n. reference n style) ns
 
 -- how many there are, and each
-abbrev pub counted : List ℕ → List ℕ
-counted ns = short (length ns) ++ references ns
+abbrev pub counted : List ℕ → Style → List ℕ
+counted ns style = short (length ns) style ++ references ns style
 
 -- mantissa and exponent, in the one form in which a number of the grid is kept
-abbrev pub point : Dyadic → List ℕ
-point d = signed_long d.mantissa ++ signed_short d.exponent
+abbrev pub point : Dyadic → Style → List ℕ
+point d style = signed_long d.mantissa style ++ signed_short d.exponent style
 
-abbrev pub points : List Dyadic → List ℕ
-points ds = flat_map point ds
+-- points, one after the other
+abbrev pub points : List Dyadic → Style → List ℕ
+points ds style = flat_map (λ d. point d style) ds
 
-abbrev pub end : End → List ℕ
-end (At d) = 0 ∷ point d
-end Low = 1 ∷ []
-end High = 2 ∷ []
+-- an end of an interval: its kind, and the point where it is finite
+abbrev pub end : End → Style → List ℕ
+end (At d) style = 0 ∷ point d style
+end Low style = 1 ∷ []
+end High style = 2 ∷ []
 
-abbrev pub interval : Interval → List ℕ
-interval i = end i.lo ++ end i.hi
+-- an interval: its lower end, and its upper one
+abbrev pub interval : Interval → Style → List ℕ
+interval i style = end i.lo style ++ end i.hi style
 
 -- an interval of relative errors, or that both are 0
-abbrev pub error : Option RelativeError → List ℕ
-error (Some e) = 0 ∷ interval e.interval
-error None = 1 ∷ []
+abbrev pub error : Option RelativeError → Style → List ℕ
+error (Some e) style = 0 ∷ interval e.interval style
+error None style = 1 ∷ []
 
-abbrev pub fact_bytes : Fact → List ℕ
-fact_bytes (fact.Bnd x i) = 1 ∷ (short x.0 ++ interval i)
-fact_bytes (fact.Abs x s) = 2 ∷ (short x.0 ++ interval s.interval)
-fact_bytes (fact.Rel x y e) = 3 ∷ (short x.0 ++ short y.0 ++ error e)
-fact_bytes (fact.Fix x k) = 4 ∷ (short x.0 ++ signed_short k.exponent)
-fact_bytes (fact.Nzr x) = 5 ∷ short x.0
-fact_bytes fact.Void = 6 ∷ []
+-- a fact: its kind, its expressions, and what is known of them
+abbrev pub fact_bytes : Fact → Style → List ℕ
+fact_bytes (fact.Bnd x i) style = 1 ∷ (short x.0 style ++ interval i style)
+fact_bytes (fact.Abs x s) style = 2 ∷ (short x.0 style ++ interval s.interval style)
+fact_bytes (fact.Rel x y e) style = 3 ∷ ((short x.0 style ++ short y.0 style) ++ error e style)
+fact_bytes (fact.Fix x k) style = 4 ∷ (short x.0 style ++ signed_short k.exponent style)
+fact_bytes (fact.Nzr x) style = 5 ∷ short x.0 style
+fact_bytes fact.Void style = 6 ∷ []
 
 -- ---- nodes
 
@@ -87,16 +128,19 @@ direction_byte Na = 8
 direction_byte Nd = 9
 direction_byte Nu = 10
 
-abbrev pub node_bytes : Node → List ℕ
-node_bytes (Var n) = 0 ∷ short n
-node_bytes (Lit l) = 1 ∷ (wide l.num ++ (signed_short l.two ++ signed_short l.ten))
-node_bytes (Neg x) = 2 ∷ short x.0
-node_bytes (Add x y) = 3 ∷ (short x.0 ++ short y.0)
-node_bytes (Sub x y) = 4 ∷ (short x.0 ++ short y.0)
-node_bytes (Mul x y) = 5 ∷ (short x.0 ++ short y.0)
-node_bytes (Div x y) = 6 ∷ (short x.0 ++ short y.0)
-node_bytes (Abs x) = 7 ∷ short x.0
-node_bytes (Round r x) = 8 ∷ direction_byte r.dir ∷ (signed_short r.lsb ++ short x.0)
+-- an expression: its kind, and its parts
+abbrev pub node_bytes : Node → Style → List ℕ
+node_bytes (Var n) style = 0 ∷ short n style
+node_bytes (Lit l) style = 1 ∷
+    (wide l.num style ++ (signed_short l.two style ++ signed_short l.ten style))
+node_bytes (Neg x) style = 2 ∷ short x.0 style
+node_bytes (Add x y) style = 3 ∷ (short x.0 style ++ short y.0 style)
+node_bytes (Sub x y) style = 4 ∷ (short x.0 style ++ short y.0 style)
+node_bytes (Mul x y) style = 5 ∷ (short x.0 style ++ short y.0 style)
+node_bytes (Div x y) style = 6 ∷ (short x.0 style ++ short y.0 style)
+node_bytes (Abs x) style = 7 ∷ short x.0 style
+node_bytes (Round r x) style =
+    8 ∷ direction_byte r.dir ∷ (signed_short r.lsb style ++ short x.0 style)
 
 abbrev pub mark_byte : HintMark → ℕ
 mark_byte Checked = 0
@@ -105,31 +149,52 @@ mark_byte Assumed = 1
 -- ---- items
 
 -- a flag, and behind a 1 the step
-abbrev pub optional : Option ℕ → List ℕ
-optional None = 0 ∷ []
-optional (Some n) = 1 ∷ reference n
+abbrev pub optional : Option ℕ → Style → List ℕ
+optional None style = 0 ∷ []
+optional (Some n) style = 1 ∷ reference n style
 
-abbrev pub claim_bytes : StepRow → List ℕ
-claim_bytes s = 1 ∷ s.rule ∷ (short s.arg ++ fact_bytes s.fact)
+-- what a step claims: its rule, the number of what the rule is taken of, and the fact
+abbrev pub claim_bytes : StepRow → Style → List ℕ
+claim_bytes s style = 1 ∷ s.rule ∷ (short s.arg style ++ fact_bytes s.fact style)
 
-abbrev pub cited_bytes : StepRow → List ℕ
-cited_bytes s = optional s.with ++ counted s.premises
+-- what a step rests on: the step that it meets, and its premises
+abbrev pub cited_bytes : StepRow → Style → List ℕ
+cited_bytes s style = optional s.with style ++ counted s.premises style
 
-abbrev pub step_bytes : StepRow → List ℕ
-step_bytes s = claim_bytes s ++ cited_bytes s
+-- a step: what it claims, and what it rests on
+abbrev pub step_bytes : StepRow → Style → List ℕ
+step_bytes s style = claim_bytes s style ++ cited_bytes s style
+
+-- the version's number
+abbrev pub version_byte : Style → ℕ
+version_byte First = 1
+version_byte (Second seen) = 2
 
 -- "FXPC", and the version
-abbrev pub head : List ℕ
-head = 70 ∷ 88 ∷ 80 ∷ 67 ∷ 1 ∷ []
+abbrev pub head : Style → List ℕ
+head style = 70 ∷ 88 ∷ 80 ∷ 67 ∷ version_byte style ∷ []
 
--- What an item spells. The head of a certificate belongs to its first item, the number of nodes.
-abbrev pub spelling_of : Item → List ℕ
-spelling_of (item.Nodes n) = head ++ short n
-spelling_of (item.Node n) = node_bytes n
-spelling_of (item.Marks n) = short n
-spelling_of (item.Mark m) = mark_byte m ∷ []
-spelling_of (item.Step s) = step_bytes s
-spelling_of (item.Cut x ps) = 2 ∷ (short x.0 ++ length ps ∷ points ps)
-spelling_of (item.Leaf refs) = 3 ∷ counted refs
-spelling_of (item.Dead r) = 4 ∷ reference r
-spelling_of item.End = []
+-- nothing, or how many sections and steps there are
+abbrev pub trailer : Style → List ℕ
+trailer First = []
+trailer (Second seen) = 6 ∷ (based seen.sections ++ based seen.steps)
+
+-- What an item spells. The head of a certificate belongs to its first item, the number of nodes,
+-- and the trailer to its end.
+abbrev pub spelling : Item → Style → List ℕ
+spelling (item.Nodes n) style = head style ++ short n style
+spelling (item.Node n) style = node_bytes n style
+spelling (item.Marks n) style = short n style
+spelling (item.Mark m) style = mark_byte m ∷ []
+spelling (item.Cases n) style = 5 ∷ tiny n style
+spelling (item.Step s) style = step_bytes s style
+spelling (item.Cut x ps) style =
+    2 ∷ (short x.0 style ++ (tiny (length ps) style ++ points ps style))
+spelling (item.Leaf refs) style = 3 ∷ counted refs style
+spelling (item.Dead r) style = 4 ∷ reference r style
+spelling item.End style = trailer style
+
+-- what items spell, one after the other
+abbrev pub spelled_from : Style → List Item → List ℕ
+spelled_from style [] = []
+spelled_from style (i ∷ items) = spelling i style ++ spelled_from (style_after style i) items

@@ -4,12 +4,14 @@ ghost use Rattle.fx_edge.specs.Outside.{Rose};
 ghost use Rattle.cert_bytes.specs.Reading.{magic_at, version_at, preamble_at, head_at, mark_at};
 ghost use Rattle.cert_bytes.specs.Certificates.{HasSpelling};
 ghost use Rattle.cert_bytes.specs.Due.{is_nodes, is_mark};
+ghost use Rattle.cert_bytes.specs.Styles.{Opens};
 ghost use Rattle.cert_bytes.specs.Pieces.{Gives, AgreesTold, kept_of};
 
 use crate::fault::{CertKind, Stop, fault};
 use crate::field::Field;
 use crate::item::Item;
 use crate::source::Source;
+use crate::style::{Seen, Style};
 use facts::HintMark;
 use fx_edge::Folder;
 
@@ -38,7 +40,8 @@ impl Source {
         requires agrees { AgreesTold (F.told folder.old self.old.name) self.old }
         ensures gives { (all : List ℕ) → F.told folder.old self.old.name ≡ Some all → Gives (λ _. tt) all self.old self.new result version_at }
         ensures agrees { AgreesTold (F.told folder.new self.new.name) self.new }
-        ensures kept { kept_of self.new ≡ kept_of self.old }
+        ensures name { self.new.name ≡ self.old.name }
+        ensures opens { IfOk result (λ _. Opens self.new.style) }
         ensures grows { self.old.at ≤ self.new.at }
         ensures moves { IfOk result (λ _. self.old.at < self.new.at) }
         ensures told { (other : List ℕ) → F.told folder.new other ≡ F.told folder.old other }
@@ -46,9 +49,10 @@ impl Source {
         ensures cause { IsErrOf result Stop.Failed → Rose (F.read_faults folder.old) (F.read_faults folder.new) }
     {
         let start = self.at();
-        let version = u8::read(self, folder)?;
-        if version != 1 {
-            return Err(fault(CertKind::BadVersion, start));
+        match u8::read(self, folder)? {
+            1 => self.restyle(Style::First),
+            2 => self.restyle(Style::Second(Seen::none())),
+            _ => return Err(fault(CertKind::BadVersion, start)),
         }
         Ok(())
     }
@@ -58,7 +62,8 @@ impl Source {
         requires agrees { AgreesTold (F.told folder.old self.old.name) self.old }
         ensures gives { (all : List ℕ) → F.told folder.old self.old.name ≡ Some all → Gives (λ _. tt) all self.old self.new result preamble_at }
         ensures agrees { AgreesTold (F.told folder.new self.new.name) self.new }
-        ensures kept { kept_of self.new ≡ kept_of self.old }
+        ensures name { self.new.name ≡ self.old.name }
+        ensures opens { IfOk result (λ _. Opens self.new.style) }
         ensures grows { self.old.at ≤ self.new.at }
         ensures moves { IfOk result (λ _. self.old.at < self.new.at) }
         ensures told { (other : List ℕ) → F.told folder.new other ≡ F.told folder.old other }
@@ -76,7 +81,8 @@ impl Source {
         requires agrees { AgreesTold (F.told folder.old self.old.name) self.old }
         ensures gives { (all : List ℕ) → F.told folder.old self.old.name ≡ Some all → Gives (λ x. x) all self.old self.new result head_at }
         ensures agrees { AgreesTold (F.told folder.new self.new.name) self.new }
-        ensures kept { kept_of self.new ≡ kept_of self.old }
+        ensures name { self.new.name ≡ self.old.name }
+        ensures opens { IfOk result (λ _. Opens self.new.style) }
         ensures grows { self.old.at ≤ self.new.at }
         ensures moves { IfOk result (λ _. self.old.at < self.new.at) }
         ensures kind { IfOk result (λ i. is_nodes i ≡ true) }

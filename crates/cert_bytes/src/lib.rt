@@ -1,6 +1,7 @@
 //! The bytes of certificates: the items that they spell, one spelling for each, and where they fail.
 #![tactic(auto, using(crate::proofs::Fronts::front_then, crate::proofs::Fronts::same_front))]
 
+mod based;
 mod claims;
 mod cut_points;
 mod fault;
@@ -26,5 +27,5 @@ pub use item::{Item, StepRow};
 pub use laws::{certificates_are_spelled_once, spellings_read_back};
 pub use order::Due;
 pub use reader::Reader;
-pub use style::Style;
-pub use writing::write_item;
+pub use style::{Seen, Style};
+pub use writing::{write_item, write_item2};

@@ -48,7 +48,7 @@ impl Source {
         ensures cause { IsErrOf result Stop.Failed → Rose (F.read_faults folder.old) (F.read_faults folder.new) }
     {
         let start = self.at();
-        let count = u8::read(self, folder)?;
+        let count = self.tiny(folder)?;
         if count == 0 {
             return Err(fault(CertKind::BadNumber, start));
         }

@@ -1,13 +1,14 @@
 //! Numbers, read through a folder.
-ghost use Rattle.std.specs.Prelude.{◌+◌, ◌≡◌, ◌≤◌, ◌<◌, ◌^◌, ℕ, List, Some, length, IfOk, IsErrOf};
-ghost use Rattle.std.specs.Int.{w16, w64, cast_signed};
+ghost use Rattle.std.specs.Prelude.{◌+◌, ◌*◌, ◌≡◌, ◌≤◌, ◌<◌, ◌^◌, ℕ, List, Some, length, IfOk, IfSome, IsErrOf};
 ghost use Rattle.fx_edge.specs.Outside.{Rose};
-ghost use Rattle.cert_bytes.specs.Reading.{byte_at, number_at, short_at, reference_at, wide_at, signed_short_at, signed_long_at, expr_at};
+ghost use Rattle.cert_bytes.specs.Reading.{byte_at, number_at, limited_at, based_at, sized_at, tiny_at, short_at, long_at, reference_at, wide_at, signed_short_at, signed_long_at, expr_at};
 ghost use Rattle.cert_bytes.specs.Pieces.{Gives, Agrees, AgreesTold, kept_of, cursor_of};
 
-use crate::fault::Stop;
+use crate::based::{ended_near, ended_with, signed_long_by, signed_short_by, step_by};
+use crate::fault::{CertKind, Stop, fault};
 use crate::field::Field;
 use crate::source::Source;
+use crate::style::Style;
 use fx_edge::Folder;
 use fx_model::ExprId;
 
@@ -78,6 +79,301 @@ impl Source {
         }
         self.number_over(folder, width)
     }
+
+    // A number in base 128, of so many bytes more at most, behind digits that make `value`; none
+    // where there is none up to `most`.
+    #[cold]
+    #[inline(never)]
+    fn limited_far<F: Folder>(
+        &mut self,
+        folder: &mut F,
+        bytes: usize,
+        most: u128,
+        weight: u128,
+        value: u128,
+    ) -> Result<Option<u128>, Stop>
+        requires some { 1 ≤ bytes }
+        requires before { value < weight }
+        requires room { weight * 128 ^ bytes ≤ 128 ^ 19 }
+        requires agrees { AgreesTold (F.told folder.old self.old.name) self.old }
+        ensures gives { (all : List ℕ) → F.told folder.old self.old.name ≡ Some all
+            → Gives (λ x. x) all self.old self.new result (limited_at bytes most weight value) }
+        ensures agrees { AgreesTold (F.told folder.new self.new.name) self.new }
+        ensures kept { kept_of self.new ≡ kept_of self.old }
+        ensures grows { self.old.at ≤ self.new.at }
+        ensures small { IfOk result (λ o. IfSome o (λ n. n ≤ most)) }
+        ensures moves { IfOk result (λ _. self.old.at < self.new.at) }
+        ensures told { (other : List ℕ) → F.told folder.new other ≡ F.told folder.old other }
+        ensures later { F.read_faults folder.old ≤ F.read_faults folder.new }
+        ensures cause { IsErrOf result Stop.Failed
+            → Rose (F.read_faults folder.old) (F.read_faults folder.new) }
+    {
+        let mut sum = value;
+        let mut worth = weight;
+        let mut left = bytes;
+        while left > 1 {
+            let byte = self.byte(folder)?;
+            if byte < 128 {
+                return Ok(ended_with(worth, sum, byte, most));
+            }
+            sum += worth * u128::from(byte - 128);
+            worth *= 128;
+            left -= 1;
+        }
+        let byte = self.byte(folder)?;
+        if byte < 128 {
+            return Ok(ended_with(worth, sum, byte, most));
+        }
+        Ok(None)
+    }
+
+    // A number in base 128, of so many bytes at most; none where they spell none up to `most`.
+    #[cold]
+    #[inline(never)]
+    fn limited<F: Folder>(
+        &mut self,
+        folder: &mut F,
+        bytes: usize,
+        most: u128,
+    ) -> Result<Option<u128>, Stop>
+        requires many { 10 ≤ bytes }
+        requires few { bytes ≤ 19 }
+        requires agrees { AgreesTold (F.told folder.old self.old.name) self.old }
+        ensures gives { (all : List ℕ) → F.told folder.old self.old.name ≡ Some all
+            → Gives (λ x. x) all self.old self.new result (limited_at bytes most 1 0) }
+        ensures agrees { AgreesTold (F.told folder.new self.new.name) self.new }
+        ensures kept { kept_of self.new ≡ kept_of self.old }
+        ensures grows { self.old.at ≤ self.new.at }
+        ensures small { IfOk result (λ o. IfSome o (λ n. n ≤ most)) }
+        ensures moves { IfOk result (λ _. self.old.at < self.new.at) }
+        ensures told { (other : List ℕ) → F.told folder.new other ≡ F.told folder.old other }
+        ensures later { F.read_faults folder.old ≤ F.read_faults folder.new }
+        ensures cause { IsErrOf result Stop.Failed
+            → Rose (F.read_faults folder.old) (F.read_faults folder.new) }
+    {
+        let mut value = 0u64;
+        let mut weight = 1u64;
+        let mut have = 0usize;
+        while have < 9 {
+            let byte = self.byte(folder)?;
+            if byte < 128 {
+                return Ok(ended_near(weight, value, byte, most));
+            }
+            value += weight * u64::from(byte - 128);
+            weight *= 128;
+            have += 1;
+        }
+        Ok(self.limited_far(
+            folder,
+            bytes - 9,
+            most,
+            u128::from(weight),
+            u128::from(value),
+        )?)
+    }
+
+    // The same where nine bytes are read ahead.
+    #[inline(always)]
+    fn limited_ahead<F: Folder>(
+        &mut self,
+        folder: &mut F,
+        bytes: usize,
+        most: u128,
+    ) -> Result<Option<u128>, Stop>
+        requires many { 10 ≤ bytes }
+        requires few { bytes ≤ 19 }
+        requires ahead { 9 ≤ length self.old.ahead }
+        requires room { self.old.at + 9 ≤ 2 ^ 44 }
+        requires agrees { AgreesTold (F.told folder.old self.old.name) self.old }
+        ensures gives { (all : List ℕ) → F.told folder.old self.old.name ≡ Some all
+            → Gives (λ x. x) all self.old self.new result (limited_at bytes most 1 0) }
+        ensures agrees { AgreesTold (F.told folder.new self.new.name) self.new }
+        ensures kept { kept_of self.new ≡ kept_of self.old }
+        ensures grows { self.old.at ≤ self.new.at }
+        ensures small { IfOk result (λ o. IfSome o (λ n. n ≤ most)) }
+        ensures moves { IfOk result (λ _. self.old.at < self.new.at) }
+        ensures told { (other : List ℕ) → F.told folder.new other ≡ F.told folder.old other }
+        ensures later { F.read_faults folder.old ≤ F.read_faults folder.new }
+        ensures cause { IsErrOf result Stop.Failed
+            → Rose (F.read_faults folder.old) (F.read_faults folder.new) }
+    {
+        let mut value = 0u64;
+        let mut weight = 1u64;
+        let mut have = 0usize;
+        while have < 9 {
+            let byte = self.advance();
+            if byte < 128 {
+                return Ok(ended_near(weight, value, byte, most));
+            }
+            value += weight * u64::from(byte - 128);
+            weight *= 128;
+            have += 1;
+        }
+        Ok(self.limited_far(
+            folder,
+            bytes - 9,
+            most,
+            u128::from(weight),
+            u128::from(value),
+        )?)
+    }
+
+    // The same, by either of the two.
+    #[inline(always)]
+    fn limited_either<F: Folder>(
+        &mut self,
+        folder: &mut F,
+        bytes: usize,
+        most: u128,
+    ) -> Result<Option<u128>, Stop>
+        requires many { 10 ≤ bytes }
+        requires few { bytes ≤ 19 }
+        requires agrees { AgreesTold (F.told folder.old self.old.name) self.old }
+        ensures gives { (all : List ℕ) → F.told folder.old self.old.name ≡ Some all
+            → Gives (λ x. x) all self.old self.new result (limited_at bytes most 1 0) }
+        ensures agrees { AgreesTold (F.told folder.new self.new.name) self.new }
+        ensures kept { kept_of self.new ≡ kept_of self.old }
+        ensures grows { self.old.at ≤ self.new.at }
+        ensures small { IfOk result (λ o. IfSome o (λ n. n ≤ most)) }
+        ensures moves { IfOk result (λ _. self.old.at < self.new.at) }
+        ensures told { (other : List ℕ) → F.told folder.new other ≡ F.told folder.old other }
+        ensures later { F.read_faults folder.old ≤ F.read_faults folder.new }
+        ensures cause { IsErrOf result Stop.Failed
+            → Rose (F.read_faults folder.old) (F.read_faults folder.new) }
+    {
+        if self.has(9) {
+            return Ok(self.limited_ahead(folder, bytes, most)?);
+        }
+        Ok(self.limited(folder, bytes, most)?)
+    }
+
+    // The next number in base 128, of so many bytes at most, also where more has to be read for it.
+    #[inline(never)]
+    #[tactic(auto, unfolding(crate::specs::Reading::based_at))]
+    fn based_over<F: Folder>(
+        &mut self,
+        folder: &mut F,
+        bytes: usize,
+        most: u128,
+    ) -> Result<u128, Stop>
+        requires many { 10 ≤ bytes }
+        requires few { bytes ≤ 19 }
+        requires agrees { AgreesTold (F.told folder.old self.old.name) self.old }
+        ensures gives { (all : List ℕ) → F.told folder.old self.old.name ≡ Some all
+            → Gives (λ x. x) all self.old self.new result (based_at bytes most) }
+        ensures agrees { AgreesTold (F.told folder.new self.new.name) self.new }
+        ensures kept { kept_of self.new ≡ kept_of self.old }
+        ensures grows { self.old.at ≤ self.new.at }
+        ensures small { IfOk result (λ n. n ≤ most) }
+        ensures moves { IfOk result (λ _. self.old.at < self.new.at) }
+        ensures told { (other : List ℕ) → F.told folder.new other ≡ F.told folder.old other }
+        ensures later { F.read_faults folder.old ≤ F.read_faults folder.new }
+        ensures cause { IsErrOf result Stop.Failed
+            → Rose (F.read_faults folder.old) (F.read_faults folder.new) }
+    {
+        let start = self.at();
+        match self.limited_either(folder, bytes, most)? {
+            Some(number) => Ok(number),
+            None => Err(fault(CertKind::BadNumber, start)),
+        }
+    }
+
+    // The next number in base 128, of so many bytes at most.
+    #[inline(always)]
+    fn based<F: Folder>(&mut self, folder: &mut F, bytes: usize, most: u128) -> Result<u128, Stop>
+        requires many { 10 ≤ bytes }
+        requires few { bytes ≤ 19 }
+        requires low { 127 ≤ most }
+        requires agrees { AgreesTold (F.told folder.old self.old.name) self.old }
+        ensures gives { (all : List ℕ) → F.told folder.old self.old.name ≡ Some all
+            → Gives (λ x. x) all self.old self.new result (based_at bytes most) }
+        ensures agrees { AgreesTold (F.told folder.new self.new.name) self.new }
+        ensures kept { kept_of self.new ≡ kept_of self.old }
+        ensures grows { self.old.at ≤ self.new.at }
+        ensures small { IfOk result (λ n. n ≤ most) }
+        ensures moves { IfOk result (λ _. self.old.at < self.new.at) }
+        ensures told { (other : List ℕ) → F.told folder.new other ≡ F.told folder.old other }
+        ensures later { F.read_faults folder.old ≤ F.read_faults folder.new }
+        ensures cause { IsErrOf result Stop.Failed
+            → Rose (F.read_faults folder.old) (F.read_faults folder.new) }
+    {
+        if self.has_low() {
+            return Ok(u128::from(self.advance()));
+        }
+        self.based_over(folder, bytes, most)
+    }
+
+    /// The next number up to `most`: of `width` bytes in version 1, and of so many at most in
+    /// version 2.
+    #[inline(always)]
+    #[tactic(auto, unfolding(crate::specs::Reading::sized_at))]
+    pub fn sized<F: Folder>(
+        &mut self,
+        folder: &mut F,
+        width: usize,
+        bytes: usize,
+        most: u128,
+    ) -> Result<u128, Stop>
+        requires wide { 1 ≤ width }
+        requires width { width ≤ 16 }
+        requires many { 10 ≤ bytes }
+        requires few { bytes ≤ 19 }
+        requires room { 256 ^ width ≤ most + 1 }
+        requires low { 127 ≤ most }
+        requires agrees { AgreesTold (F.told folder.old self.old.name) self.old }
+        ensures gives { (all : List ℕ) → F.told folder.old self.old.name ≡ Some all
+            → Gives (λ x. x) all self.old self.new result (sized_at width bytes most) }
+        ensures agrees { AgreesTold (F.told folder.new self.new.name) self.new }
+        ensures kept { kept_of self.new ≡ kept_of self.old }
+        ensures grows { self.old.at ≤ self.new.at }
+        ensures small { IfOk result (λ n. n ≤ most) }
+        ensures moves { IfOk result (λ _. self.old.at < self.new.at) }
+        ensures told { (other : List ℕ) → F.told folder.new other ≡ F.told folder.old other }
+        ensures later { F.read_faults folder.old ≤ F.read_faults folder.new }
+        ensures cause { IsErrOf result Stop.Failed
+            → Rose (F.read_faults folder.old) (F.read_faults folder.new) }
+    {
+        match self.style() {
+            Style::First => Ok(self.digits(folder, width)?),
+            Style::Second(_) => Ok(self.based(folder, bytes, most)?),
+        }
+    }
+
+    /// The next number up to 255.
+    #[inline(always)]
+    pub fn tiny<F: Folder>(&mut self, folder: &mut F) -> Result<u8, Stop>
+        requires agrees { AgreesTold (F.told folder.old self.old.name) self.old }
+        ensures gives { (all : List ℕ) → F.told folder.old self.old.name ≡ Some all
+            → Gives (λ x. x) all self.old self.new result tiny_at }
+        ensures agrees { AgreesTold (F.told folder.new self.new.name) self.new }
+        ensures kept { kept_of self.new ≡ kept_of self.old }
+        ensures grows { self.old.at ≤ self.new.at }
+        ensures moves { IfOk result (λ _. self.old.at < self.new.at) }
+        ensures told { (other : List ℕ) → F.told folder.new other ≡ F.told folder.old other }
+        ensures later { F.read_faults folder.old ≤ F.read_faults folder.new }
+        ensures cause { IsErrOf result Stop.Failed
+            → Rose (F.read_faults folder.old) (F.read_faults folder.new) }
+    {
+        Ok(self.sized(folder, 1, 10, 255)? as u8)
+    }
+
+    /// The next number below 2^64.
+    #[inline(always)]
+    pub fn long<F: Folder>(&mut self, folder: &mut F) -> Result<u64, Stop>
+        requires agrees { AgreesTold (F.told folder.old self.old.name) self.old }
+        ensures gives { (all : List ℕ) → F.told folder.old self.old.name ≡ Some all
+            → Gives (λ x. x) all self.old self.new result long_at }
+        ensures agrees { AgreesTold (F.told folder.new self.new.name) self.new }
+        ensures kept { kept_of self.new ≡ kept_of self.old }
+        ensures grows { self.old.at ≤ self.new.at }
+        ensures moves { IfOk result (λ _. self.old.at < self.new.at) }
+        ensures told { (other : List ℕ) → F.told folder.new other ≡ F.told folder.old other }
+        ensures later { F.read_faults folder.old ≤ F.read_faults folder.new }
+        ensures cause { IsErrOf result Stop.Failed
+            → Rose (F.read_faults folder.old) (F.read_faults folder.new) }
+    {
+        Ok(self.sized(folder, 8, 10, 18446744073709551615)? as u64)
+    }
 }
 
 impl Field for u8 {
@@ -94,8 +390,7 @@ impl Field for u16 {
 
     #[inline(always)]
     fn read<F: Folder>(source: &mut Source, folder: &mut F) -> Result<u16, Stop> {
-        let number = source.digits(folder, 2)?;
-        Ok(number as u16)
+        Ok(source.sized(folder, 2, 10, 65535)? as u16)
     }
 }
 
@@ -104,9 +399,11 @@ impl Field for u64 {
     ghost read_at = { reference_at };
 
     #[inline(always)]
+    #[tactic(auto, unfolding(crate::specs::Reading::reference_at))]
     fn read<F: Folder>(source: &mut Source, folder: &mut F) -> Result<u64, Stop> {
-        let number = source.digits(folder, 8)?;
-        Ok(number as u64)
+        let style = source.style();
+        let number = source.long(folder)?;
+        Ok(step_by(style, number))
     }
 }
 
@@ -116,7 +413,7 @@ impl Field for u128 {
 
     #[inline(always)]
     fn read<F: Folder>(source: &mut Source, folder: &mut F) -> Result<u128, Stop> {
-        source.digits(folder, 16)
+        source.sized(folder, 16, 19, 340282366920938463463374607431768211455)
     }
 }
 
@@ -126,8 +423,9 @@ impl Field for i16 {
     #[inline(always)]
     #[tactic(auto, unfolding(crate::specs::Reading::signed_short_at))]
     fn read<F: Folder>(source: &mut Source, folder: &mut F) -> Result<i16, Stop> {
+        let style = source.style();
         let number = u16::read(source, folder)?;
-        Ok(number.cast_signed())
+        Ok(signed_short_by(style, number))
     }
 }
 
@@ -137,8 +435,9 @@ impl Field for i64 {
     #[inline(always)]
     #[tactic(auto, unfolding(crate::specs::Reading::signed_long_at))]
     fn read<F: Folder>(source: &mut Source, folder: &mut F) -> Result<i64, Stop> {
-        let number = u64::read(source, folder)?;
-        Ok(number.cast_signed())
+        let style = source.style();
+        let number = source.long(folder)?;
+        Ok(signed_long_by(style, number))
     }
 }
 

@@ -1,7 +1,8 @@
 //! The item that is due, read through a folder.
 ghost use Rattle.std.specs.Prelude.{◌≡◌, ◌≤◌, ◌<◌, ℕ, List, Some, length, IsErrOf, IfOk, true};
 ghost use Rattle.fx_edge.specs.Outside.{Rose};
-ghost use Rattle.cert_bytes.specs.Reading.{more_at, closed_at, node_or_marks_at, mark_or_section_at, section_or_end_at, item_at};
+ghost use Rattle.cert_bytes.specs.Reading.{more_at, end_item_at, same_count_at, counts_at, trailer_at, closed_at, node_or_marks_at, mark_or_section_at, section_or_end_at, entry_at};
+ghost use Rattle.cert_bytes.specs.Styles.{IsStyleFor};
 ghost use Rattle.cert_bytes.specs.declared.item.Item.TheVariants as item;
 ghost use Rattle.cert_bytes.specs.Due.{is_due, is_end};
 ghost use Rattle.cert_bytes.specs.Certificates.{HasSpelling};
@@ -12,6 +13,7 @@ use crate::field::Field;
 use crate::item::Item;
 use crate::order::Due;
 use crate::source::Source;
+use crate::style::{Seen, Style};
 use fx_edge::Folder;
 use fx_model::Node;
 
@@ -30,10 +32,11 @@ impl Source {
         Ok(self.ready(folder)?)
     }
 
-    #[tactic(auto, unfolding(crate::specs::Reading::closed_at))]
-    fn closed<F: Folder>(&mut self, folder: &mut F) -> Result<Item, Stop>
+    #[tactic(auto, unfolding(crate::specs::Reading::end_item_at))]
+    fn end_item<F: Folder>(&mut self, folder: &mut F) -> Result<Item, Stop>
         requires agrees { AgreesTold (F.told folder.old self.old.name) self.old }
-        ensures gives { (all : List ℕ) → F.told folder.old self.old.name ≡ Some all → Gives (λ x. x) all self.old self.new result closed_at }
+        ensures gives { (all : List ℕ) → F.told folder.old self.old.name ≡ Some all
+            → Gives (λ x. x) all self.old self.new result end_item_at }
         ensures agrees { AgreesTold (F.told folder.new self.new.name) self.new }
         ensures kept { kept_of self.new ≡ kept_of self.old }
         ensures grows { self.old.at ≤ self.new.at }
@@ -49,6 +52,92 @@ impl Source {
             return Err(fault(CertKind::TrailingBytes, start));
         }
         Ok(Item::End)
+    }
+
+    #[tactic(auto, unfolding(crate::specs::Reading::same_count_at))]
+    fn same_count<F: Folder>(&mut self, folder: &mut F, wanted: u64) -> Result<(), Stop>
+        requires agrees { AgreesTold (F.told folder.old self.old.name) self.old }
+        ensures gives { (all : List ℕ) → F.told folder.old self.old.name ≡ Some all
+            → Gives (λ _. tt) all self.old self.new result (same_count_at wanted) }
+        ensures agrees { AgreesTold (F.told folder.new self.new.name) self.new }
+        ensures kept { kept_of self.new ≡ kept_of self.old }
+        ensures grows { self.old.at ≤ self.new.at }
+        ensures told { (other : List ℕ) → F.told folder.new other ≡ F.told folder.old other }
+        ensures later { F.read_faults folder.old ≤ F.read_faults folder.new }
+        ensures cause { IsErrOf result Stop.Failed
+            → Rose (F.read_faults folder.old) (F.read_faults folder.new) }
+    {
+        let start = self.at();
+        let count = self.long(folder)?;
+        if count != wanted {
+            return Err(fault(CertKind::BadCount, start));
+        }
+        Ok(())
+    }
+
+    #[tactic(auto, unfolding(crate::specs::Reading::counts_at))]
+    fn counts<F: Folder>(&mut self, folder: &mut F, seen: Seen) -> Result<(), Stop>
+        requires agrees { AgreesTold (F.told folder.old self.old.name) self.old }
+        ensures gives { (all : List ℕ) → F.told folder.old self.old.name ≡ Some all
+            → Gives (λ _. tt) all self.old self.new result (counts_at seen) }
+        ensures agrees { AgreesTold (F.told folder.new self.new.name) self.new }
+        ensures kept { kept_of self.new ≡ kept_of self.old }
+        ensures grows { self.old.at ≤ self.new.at }
+        ensures told { (other : List ℕ) → F.told folder.new other ≡ F.told folder.old other }
+        ensures later { F.read_faults folder.old ≤ F.read_faults folder.new }
+        ensures cause { IsErrOf result Stop.Failed
+            → Rose (F.read_faults folder.old) (F.read_faults folder.new) }
+    {
+        self.same_count(folder, seen.sections)?;
+        self.same_count(folder, seen.steps)?;
+        Ok(())
+    }
+
+    #[tactic(auto, unfolding(crate::specs::Reading::trailer_at))]
+    fn trailer<F: Folder>(&mut self, folder: &mut F, seen: Seen) -> Result<(), Stop>
+        requires agrees { AgreesTold (F.told folder.old self.old.name) self.old }
+        ensures gives { (all : List ℕ) → F.told folder.old self.old.name ≡ Some all
+            → Gives (λ _. tt) all self.old self.new result (trailer_at seen) }
+        ensures agrees { AgreesTold (F.told folder.new self.new.name) self.new }
+        ensures kept { kept_of self.new ≡ kept_of self.old }
+        ensures grows { self.old.at ≤ self.new.at }
+        ensures told { (other : List ℕ) → F.told folder.new other ≡ F.told folder.old other }
+        ensures later { F.read_faults folder.old ≤ F.read_faults folder.new }
+        ensures cause { IsErrOf result Stop.Failed
+            → Rose (F.read_faults folder.old) (F.read_faults folder.new) }
+    {
+        let start = self.at();
+        let tag = u8::read(self, folder)?;
+        if tag != 6 {
+            return Err(fault(CertKind::BadTag, start));
+        }
+        self.counts(folder, seen)?;
+        Ok(())
+    }
+
+    #[tactic(auto, unfolding(crate::specs::Reading::closed_at))]
+    fn closed<F: Folder>(&mut self, folder: &mut F) -> Result<Item, Stop>
+        requires agrees { AgreesTold (F.told folder.old self.old.name) self.old }
+        ensures gives { (all : List ℕ) → F.told folder.old self.old.name ≡ Some all
+            → Gives (λ x. x) all self.old self.new result closed_at }
+        ensures agrees { AgreesTold (F.told folder.new self.new.name) self.new }
+        ensures kept { kept_of self.new ≡ kept_of self.old }
+        ensures grows { self.old.at ≤ self.new.at }
+        ensures reads { IfOk result (λ i. ¬ (i ≡ item.End) → self.old.at < self.new.at) }
+        ensures kind { IfOk result (λ i. is_end i ≡ true) }
+        ensures spelled { IfOk result HasSpelling }
+        ensures told { (other : List ℕ) → F.told folder.new other ≡ F.told folder.old other }
+        ensures later { F.read_faults folder.old ≤ F.read_faults folder.new }
+        ensures cause { IsErrOf result Stop.Failed
+            → Rose (F.read_faults folder.old) (F.read_faults folder.new) }
+    {
+        match self.style() {
+            Style::First => Ok(self.end_item(folder)?),
+            Style::Second(seen) => {
+                self.trailer(folder, seen)?;
+                Ok(self.end_item(folder)?)
+            }
+        }
     }
 
     #[tactic(auto, unfolding(crate::specs::Reading::node_or_marks_at, crate::specs::Reading::marks_at, crate::specs::Reading::node_item_at))]
@@ -86,7 +175,7 @@ impl Source {
         ensures cause { IsErrOf result Stop.Failed → Rose (F.read_faults folder.old) (F.read_faults folder.new) }
     {
         if marks == 0 {
-            return Ok(self.section_item(folder)?);
+            return Ok(self.root_item(folder)?);
         }
         Ok(self.mark(folder)?)
     }
@@ -112,14 +201,16 @@ impl Source {
         Ok(self.section_item(folder)?)
     }
 
-    /// The item that is due.
+    /// The item that is due. The style is that of its numbers.
     #[inline(always)]
-    #[tactic(auto, unfolding(crate::specs::Reading::item_at))]
-    pub fn item<F: Folder>(&mut self, folder: &mut F, due: Due) -> Result<Item, Stop>
+    #[tactic(auto, unfolding(crate::specs::Reading::entry_at))]
+    pub fn entry<F: Folder>(&mut self, folder: &mut F, due: Due) -> Result<Item, Stop>
         requires agrees { AgreesTold (F.told folder.old self.old.name) self.old }
-        ensures gives { (all : List ℕ) → F.told folder.old self.old.name ≡ Some all → Gives (λ x. x) all self.old self.new result (item_at due) }
+        ensures gives { (all : List ℕ) → F.told folder.old self.old.name ≡ Some all
+            → Gives (λ x. x) all self.old self.new result (entry_at due) }
         ensures agrees { AgreesTold (F.told folder.new self.new.name) self.new }
-        ensures kept { kept_of self.new ≡ kept_of self.old }
+        ensures name { self.new.name ≡ self.old.name }
+        ensures style { IfOk result (λ _. IsStyleFor due self.old.style self.new.style) }
         ensures grows { self.old.at ≤ self.new.at }
         ensures reads { IfOk result (λ i. ¬ (i ≡ item.End) → self.old.at < self.new.at) }
         ensures due { IfOk result (λ i. is_due due i ≡ true) }

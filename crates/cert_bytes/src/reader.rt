@@ -1,5 +1,5 @@
 //! A certificate, read item by item.
-ghost use Rattle.std.specs.Prelude.{◌^◌, ◌≡◌, ◌≤◌, ◌<◌, [], ℕ, List, Option, Some, None, IfOk, IsErrOf, length, true};
+ghost use Rattle.std.specs.Prelude.{◌^◌, ◌≡◌, ◌≤◌, ◌<◌, [], ℕ, List, Option, Some, None, IfOk, IsErr, IsErrOf, length, true};
 ghost use Rattle.fx_edge.specs.Outside.{Rose};
 ghost use Rattle.cert_bytes.specs.declared.item.Item.TheVariants as item;
 ghost use Rattle.cert_bytes.specs.Reading.{item_at};
@@ -32,7 +32,7 @@ impl Model for Reader {
 
     ghost view = { λ r. record { ahead = r.source; due = r.due; fault = r.fault } };
 
-    ghost invariant = { λ r. IsPaced r.due r.source.at };
+    ghost invariant = { λ r. IsPaced r.due r.source.style r.source.at };
 }
 
 impl Reader {
@@ -52,7 +52,7 @@ impl Reader {
 
     // The next item, where no fault was met.
     #[inline(always)]
-    #[tactic(auto, using(crate::proofs::Paced::paced_on, crate::proofs::Paced::agrees_back))]
+    #[tactic(auto, using(crate::proofs::Paced::paced_on, crate::proofs::Paced::few_seen, crate::proofs::Paced::agrees_back))]
     fn advance<F: Folder>(&mut self, folder: &mut F) -> Result<Item, Stop>
         requires sound { self.old.fault ≡ None }
         requires agrees { AgreesTold (F.told folder.old self.old.ahead.name) self.old.ahead }
@@ -66,35 +66,40 @@ impl Reader {
         ensures few { length self.new.ahead.ahead ≤ 4096 }
         ensures agrees { AgreesTold (F.told folder.new self.new.ahead.name) self.new.ahead }
         ensures name { self.new.ahead.name ≡ self.old.ahead.name }
-        ensures style { self.new.ahead.style ≡ self.old.ahead.style }
+        ensures style { IsErr result → self.new.ahead.style ≡ self.old.ahead.style }
         ensures told { (other : List ℕ) → F.told folder.new other ≡ F.told folder.old other }
         ensures later { F.read_faults folder.old ≤ F.read_faults folder.new }
         ensures cause { IsErrOf result Stop.Failed → Rose (F.read_faults folder.old) (F.read_faults folder.new) }
     {
         let start = self.source.at();
-        let read = self.source.item(folder, self.due);
+        let style = self.source.style();
+        let read = self.source.entry(folder, self.due);
         self.source.bounded();
         match read {
             Ok(item) => {
+                let behind = self.source.style().after(&item);
+                self.source.restyle(behind);
                 self.due = due_behind(self.due, &item);
                 Ok(item)
             }
             Err(Stop::Fault(fault)) => {
+                self.source.restyle(style);
                 self.fault = Some(fault);
                 Err(Stop::Fault(fault))
             }
             Err(Stop::Failed) => {
-                self.source.back(start);
+                self.source.back(start, style);
                 Err(Stop::Failed)
             }
             Err(Stop::OutOfMemory) => {
-                self.source.back(start);
+                self.source.back(start, style);
                 Err(Stop::OutOfMemory)
             }
         }
     }
 
-    /// The next item. A fault is answered again at each later call, and the end behind the end.
+    /// The next item, of a certificate in either version: its steps are named by their numbers in
+    /// both. A fault is answered again at each later call, and the end behind the end.
     #[inline(always)]
     pub fn next<F: Folder>(&mut self, folder: &mut F) -> Result<Item, Stop>
         requires agrees { AgreesTold (F.told folder.old self.old.ahead.name) self.old.ahead }
@@ -109,7 +114,7 @@ impl Reader {
         ensures few { length self.new.ahead.ahead ≤ 4096 }
         ensures agrees { AgreesTold (F.told folder.new self.new.ahead.name) self.new.ahead }
         ensures name { self.new.ahead.name ≡ self.old.ahead.name }
-        ensures style { self.new.ahead.style ≡ self.old.ahead.style }
+        ensures style { IsErr result → self.new.ahead.style ≡ self.old.ahead.style }
         ensures told { (other : List ℕ) → F.told folder.new other ≡ F.told folder.old other }
         ensures later { F.read_faults folder.old ≤ F.read_faults folder.new }
         ensures cause { IsErrOf result Stop.Failed → Rose (F.read_faults folder.old) (F.read_faults folder.new) }

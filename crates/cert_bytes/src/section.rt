@@ -1,8 +1,8 @@
 //! Items of sections, read through a folder.
 ghost use Rattle.std.specs.Prelude.{◌≡◌, ◌≤◌, ◌<◌, ℕ, List, Some, length, IsErrOf, IfOk, true};
 ghost use Rattle.fx_edge.specs.Outside.{Rose};
-ghost use Rattle.cert_bytes.specs.Reading.{step_at, cut_head_at, cut_at, section_by, section_item_at};
-ghost use Rattle.cert_bytes.specs.Due.{is_of_section};
+ghost use Rattle.cert_bytes.specs.Reading.{step_at, cut_head_at, cut_at, section_by, section_item_at, case_count_at, cases_at, root_by, root_item_at};
+ghost use Rattle.cert_bytes.specs.Due.{is_of_section, is_of_root};
 ghost use Rattle.cert_bytes.specs.Certificates.{HasSpelling, IsCounted};
 ghost use Rattle.cert_bytes.specs.Pieces.{Gives, AgreesTold, kept_of};
 
@@ -113,5 +113,74 @@ impl Source {
         let start = self.at();
         let tag = u8::read(self, folder)?;
         Ok(self.section_by(folder, start, tag)?)
+    }
+
+    #[tactic(auto, unfolding(crate::specs::Reading::case_count_at))]
+    fn case_count<F: Folder>(&mut self, folder: &mut F) -> Result<u8, Stop>
+        requires agrees { AgreesTold (F.told folder.old self.old.name) self.old }
+        ensures gives { (all : List ℕ) → F.told folder.old self.old.name ≡ Some all
+            → Gives (λ x. x) all self.old self.new result case_count_at }
+        ensures agrees { AgreesTold (F.told folder.new self.new.name) self.new }
+        ensures kept { kept_of self.new ≡ kept_of self.old }
+        ensures grows { self.old.at ≤ self.new.at }
+        ensures within { IfOk result (λ n. (2 ≤ n) × (n ≤ 64)) }
+        ensures told { (other : List ℕ) → F.told folder.new other ≡ F.told folder.old other }
+        ensures later { F.read_faults folder.old ≤ F.read_faults folder.new }
+        ensures cause { IsErrOf result Stop.Failed
+            → Rose (F.read_faults folder.old) (F.read_faults folder.new) }
+    {
+        let start = self.at();
+        let count = self.tiny(folder)?;
+        if count < 2 {
+            return Err(fault(CertKind::BadNumber, start));
+        }
+        if count > 64 {
+            return Err(fault(CertKind::BadNumber, start));
+        }
+        Ok(count)
+    }
+
+    #[tactic(auto, unfolding(crate::specs::Reading::root_by, crate::specs::Reading::cases_at))]
+    fn root_by<F: Folder>(&mut self, folder: &mut F, start: u64, tag: u8) -> Result<Item, Stop>
+        requires agrees { AgreesTold (F.told folder.old self.old.name) self.old }
+        ensures gives { (all : List ℕ) → F.told folder.old self.old.name ≡ Some all
+            → Gives (λ x. x) all self.old self.new result (root_by start tag) }
+        ensures agrees { AgreesTold (F.told folder.new self.new.name) self.new }
+        ensures kept { kept_of self.new ≡ kept_of self.old }
+        ensures grows { self.old.at ≤ self.new.at }
+        ensures kind { IfOk result (λ i. is_of_root i ≡ true) }
+        ensures spelled { IfOk result HasSpelling }
+        ensures told { (other : List ℕ) → F.told folder.new other ≡ F.told folder.old other }
+        ensures later { F.read_faults folder.old ≤ F.read_faults folder.new }
+        ensures cause { IsErrOf result Stop.Failed
+            → Rose (F.read_faults folder.old) (F.read_faults folder.new) }
+    {
+        if tag == 5 {
+            return Ok(Item::Cases(self.case_count(folder)?));
+        }
+        Ok(self.section_by(folder, start, tag)?)
+    }
+
+    /// The item with which the sections begin: their number, or the first item of the one that
+    /// there is.
+    #[tactic(auto, unfolding(crate::specs::Reading::root_item_at))]
+    pub fn root_item<F: Folder>(&mut self, folder: &mut F) -> Result<Item, Stop>
+        requires agrees { AgreesTold (F.told folder.old self.old.name) self.old }
+        ensures gives { (all : List ℕ) → F.told folder.old self.old.name ≡ Some all
+            → Gives (λ x. x) all self.old self.new result root_item_at }
+        ensures agrees { AgreesTold (F.told folder.new self.new.name) self.new }
+        ensures kept { kept_of self.new ≡ kept_of self.old }
+        ensures grows { self.old.at ≤ self.new.at }
+        ensures kind { IfOk result (λ i. is_of_root i ≡ true) }
+        ensures spelled { IfOk result HasSpelling }
+        ensures moves { IfOk result (λ _. self.old.at < self.new.at) }
+        ensures told { (other : List ℕ) → F.told folder.new other ≡ F.told folder.old other }
+        ensures later { F.read_faults folder.old ≤ F.read_faults folder.new }
+        ensures cause { IsErrOf result Stop.Failed
+            → Rose (F.read_faults folder.old) (F.read_faults folder.new) }
+    {
+        let start = self.at();
+        let tag = u8::read(self, folder)?;
+        Ok(self.root_by(folder, start, tag)?)
     }
 }

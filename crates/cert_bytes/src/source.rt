@@ -2,7 +2,7 @@
 ghost use Rattle.std.specs.Prelude.{◌≡◌, ◌≤◌, ◌<◌, ◌+◌, ◌^◌, ◌↔◌, ◌∷◌, ℕ, List, [], Some, length, IfOk, IsTrue, IsErrOf};
 ghost use Rattle.fx_edge.specs.Outside.{Rose, HasCause};
 ghost use Rattle.cert_bytes.specs.Reading.{byte_at};
-ghost use Rattle.cert_bytes.specs.Pieces.{Gives, Agrees, IsFilled, IsReady, IsEnd, kept_of};
+ghost use Rattle.cert_bytes.specs.Pieces.{Gives, Agrees, IsFilled, IsReady, IsEnd, IsFirst, IsLow, kept_of};
 
 use crate::fault::{CertFault, CertKind, Stop};
 use crate::style::Style;
@@ -81,6 +81,27 @@ impl Source {
         self.alloc
     }
 
+    /// How numbers are spelled.
+    #[inline(always)]
+    pub fn style(&self) -> Style
+        ensures { result ≡ self.now.style }
+    {
+        self.style
+    }
+
+    /// From here on numbers are spelled in this way.
+    #[inline(always)]
+    pub fn restyle(&mut self, style: Style)
+        ensures { self.new ≡ record {
+          name = self.old.name;
+          style = style;
+          at = self.old.at;
+          ahead = self.old.ahead;
+        } }
+    {
+        self.style = style;
+    }
+
     /// The offset.
     #[inline(always)]
     pub fn at(&self) -> u64
@@ -98,11 +119,12 @@ impl Source {
         let _ = buffer.len();
     }
 
-    /// Goes back to an earlier offset.
-    pub fn back(&mut self, at: u64)
+    /// Goes back to an earlier offset, where numbers are spelled in this way.
+    pub fn back(&mut self, at: u64, style: Style)
         requires { at ≤ self.old.at }
-        ensures { self.new ≡ record { name = self.old.name; style = self.old.style; at = at; ahead = [] } }
+        ensures { self.new ≡ record { name = self.old.name; style = style; at = at; ahead = [] } }
     {
+        self.style = style;
         self.at = at;
         self.begin = 0;
         self.end = 0;
@@ -162,6 +184,28 @@ impl Source {
         ensures room { IsTrue result → self.now.at + width ≤ 2 ^ 44 }
     {
         width <= self.end - self.begin && self.at <= LIMIT - 16
+    }
+
+    // The next byte of those that were read ahead, which stays.
+    #[inline(always)]
+    fn first(&self) -> u8
+        requires some { ¬ (self.now.ahead ≡ []) }
+        ensures { IsFirst result self.now.ahead }
+    {
+        let buffer: &[u8] = &self.buffer;
+        buffer[self.begin]
+    }
+
+    /// Whether the next byte is read ahead, is below 128, and isn't byte 2^44.
+    #[inline(always)]
+    pub fn has_low(&self) -> bool
+        ensures low { IsTrue result → IsLow self.now.ahead }
+        ensures room { IsTrue result → self.now.at < 2 ^ 44 }
+    {
+        if self.is_dry() || self.at >= LIMIT {
+            return false;
+        }
+        self.first() < 128
     }
 
     /// The next byte of those that were read ahead.
