@@ -1,16 +1,12 @@
 -- The cuts that a plan makes: of a variable with a range, at a few points that rise and lie in it.
-use Rattle.std.specs.Prelude.{◌≡◌, ◌≤◌, ◌<◌, ◌+◌, ◌-◌, ◌==◌, ◌&&◌, nat_lt, not, ⊤, ℕ, zero, suc, Bool, true, false, List, [], ◌∷◌, ◌++◌, length, drop, Option, Some, None, if◌then◌else◌, refl}
+use Rattle.std.specs.Prelude.{◌≡◌, ◌≤◌, ◌+◌, ◌-◌, ◌&&◌, nat_lt, ⊤, ℕ, zero, suc, List, [], ◌∷◌, ◌++◌, length, drop, Option, Some, None, if◌then◌else◌, refl}
 use Rattle.std.specs.List.{AllByRecursion}
-use Rattle.std.proofs.Common.{sym, ◌∙◌, ap, subst, arith, ⊎_elim}
-use Rattle.std.proofs.Math.ListN.{get_or-append}
-use Rattle.std.proofs.Math.Seq.{get_or-append_seam}
+use Rattle.std.proofs.Common.{subst, arith}
 use Rattle.std.proofs.lemmas.List.{length-append}
-use Rattle.std.proofs.lemmas.Bool.{cases_lt, eqb-true, and_parts, or_cases}
+use Rattle.std.proofs.lemmas.Bool.{and_parts}
 use Rattle.fx_model.specs.declared.ExprId.{ExprId}
-use Rattle.fx_model.specs.Fraction.{le_ℚ, ◌<ℚ◌, lt_le, le_lt_trans}
 use Rattle.dyadic.specs.declared.number.Dyadic.{Dyadic}
-use Rattle.dyadic.specs.Values.{value_of, zero_number}
-use Rattle.dyadic.specs.Rising.{point_of, IsRising, IsAboveLast, rising_more}
+use Rattle.dyadic.specs.Rising.{IsRising, rising_more}
 use Rattle.script_hints.specs.declared.hint.Cutting.{Cutting}
 use Rattle.script_hints.specs.declared.hint.Cutting.TheVariants as cutting
 use Rattle.script_hints.specs.declared.hint.Split.{Split}
@@ -18,7 +14,7 @@ use Rattle.script_hints.specs.Few.{HasFewPieces, HaveFewPieces}
 use Rattle.box_tree.specs.declared.next.Next.{Next}
 use Rattle.box_tree.specs.declared.next.Next.TheVariants as next
 use Rattle.box_tree.specs.declared.range.SplitRange.{SplitRange}
-use Rattle.box_tree.specs.Ranges.{IsWithin, is_less, is_inside, range_in}
+use Rattle.box_tree.specs.Ranges.{IsWithin, is_inside, range_in}
 use Rattle.box_tree.specs.Points.{is_above_last, with_point, with_points, parts_from, asked_points, cut_points, middle, half_point}
 use Rattle.box_tree.specs.Regions.{PlanParts, Region, points_in, forced_or, next_forced, half_in, halved_or, next_half, turned, half_of, else_next, next_of}
 use Rattle.box_traces.specs.Trees.{ArePoints}

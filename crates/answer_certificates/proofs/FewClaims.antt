@@ -1,18 +1,19 @@
 -- A script has few claims: the judge counts them.
-use Rattle.std.specs.Prelude.{◌≡◌, ℕ, ◌+◌, ◌≤◌, List, [], ◌∷◌, ◌++◌, length, None, Bool, true, false}
-use Rattle.std.proofs.Common.{arith, length-append}
+use Rattle.std.specs.Prelude.{◌≡◌, ℕ, ◌+◌, ◌≤◌, List, [], ◌∷◌, ◌++◌, length, None, true, refl}
+use Rattle.std.proofs.Common.{sym, subst, arith, length-append}
 use Rattle.script_words.specs.declared.class.Sign.TheVariants as s
 use Rattle.script_words.specs.Words.{Word, sign}
 use Rattle.script_shape.specs.declared.due.Due.{Due}
 use Rattle.script_shape.specs.declared.due.Due.TheVariants as d
-use Rattle.script_shape.specs.Tree.{Formula, single, and, implies, Script, formula, define}
-use Rattle.script_shape.specs.Roles.{Leaf, at, prop_leaves, formula_leaves, hints_leaves, definition_leaves, script_leaves}
+use Rattle.script_shape.specs.Tree.{Formula, single, and, or, implies, Script, formula, define}
+use Rattle.script_shape.specs.Roles.{Leaf, at, stated_leaves, formula_leaves, hints_leaves, definition_leaves, script_leaves}
 use Rattle.script_judge.specs.declared.counts.Place.{Place}
-use Rattle.script_judge.specs.Counts.{one_if, begins_proposition, place_after}
+use Rattle.script_judge.specs.declared.counts.Place.TheVariants as place
+use Rattle.script_judge.specs.Counts.{one_if, is_first, begins_proposition, place_after}
 use Rattle.script_judge.specs.Judge.{Seen, seen_after, Judged, nothing_seen}
 use Rattle.script_nodes.specs.Known.{Known}
 use Rattle.script_nodes.specs.Definitions.{definition_value}
-use Rattle.script_claims.specs.Claims.{prop_claim, formula_claims}
+use Rattle.script_claims.specs.Claims.{stated_claim, formula_claims}
 use Rattle.script_grammar.specs.Meaning.{meaning_from}
 use Rattle.answer_certificates.proofs.Passed.{one_passed, within_limits}
 
@@ -31,16 +32,30 @@ both_counted (l ∷ a) b = omega (arith, both_counted a b)
 
 -- ---- the judge counts a proposition behind each
 
-begins_next : (p : Place) (r : Due) (w : Word) → connective r ≤ one_if (begins_proposition (place_after p r w))
-begins_next p d.Connective w = omega arith
-begins_next p r w = omega arith
+-- whether a proposition is to begin, which a `not` before it puts off
+abbrev pending : Place → ℕ
+pending place.PropositionNext = 1
+pending p = 0
 
-one_most : (b : Bool) → one_if b ≤ 1
-one_most true = omega arith
-one_most false = omega arith
+pending_most : (p : Place) → pending p ≤ 1
+pending_most place.PropositionNext = omega arith
+pending_most p = omega arith
 
-connectives_counted : (ls : List Leaf) (i : ℕ) (seen : Seen) → Judged i seen ls None → seen.counts.propositions ≤ 128 → connectives ls + one_if (begins_proposition seen.counts.place) + seen.counts.propositions ≤ 129
-connectives_counted [] i seen j h = omega (arith, h, one_most (begins_proposition seen.counts.place))
+pending_first : (p : Place) (r : Due) → is_first r ≡ true
+    → pending p ≤ one_if (begins_proposition p r)
+pending_first place.PropositionNext r e = subst (λ b. 1 ≤ one_if b) (sym e) (omega arith)
+pending_first p r e = omega arith
+
+begins_next : (p : Place) (r : Due) (w : Word)
+    → connective r + pending p ≤ pending (place_after p r w) + one_if (begins_proposition p r)
+begins_next p d.Claim w = omega arith
+begins_next p d.Connective w = omega (arith, pending_first p d.Connective refl)
+begins_next p r w = omega (arith, pending_first p r refl)
+
+connectives_counted : (ls : List Leaf) (i : ℕ) (seen : Seen) → Judged i seen ls None
+    → seen.counts.propositions ≤ 128
+    → connectives ls + pending seen.counts.place + seen.counts.propositions ≤ 129
+connectives_counted [] i seen j h = omega (arith, h, pending_most seen.counts.place)
 connectives_counted (l ∷ ls) i seen j h =
     let o = one_passed i seen l ls j in
     let after = seen_after o.verdict seen l.role l.word in
@@ -53,10 +68,30 @@ formula_counted : (f : Formula) (k : Known) → length (formula_claims f k).side
 formula_counted (single p) k = omega arith
 formula_counted (and f p) k =
     let before = formula_claims f k in
-    omega (arith, formula_counted f k, length-append before.sides.goals ((prop_claim p before.known).1 ∷ []), both_counted (formula_leaves f) (at d.Connective (sign s.And) ∷ prop_leaves p))
+    let goals = length-append before.sides.goals ((stated_claim p before.known).1 ∷ []) in
+    omega (
+      arith,
+      goals,
+      formula_counted f k,
+      both_counted (formula_leaves f) (at d.Connective (sign s.And) ∷ stated_leaves p),
+    )
+formula_counted (or f p) k =
+    let before = formula_claims f k in
+    let goals = length-append before.sides.goals ((stated_claim p before.known).1 ∷ []) in
+    omega (
+      arith,
+      goals,
+      formula_counted f k,
+      both_counted (formula_leaves f) (at d.Connective (sign s.Or) ∷ stated_leaves p),
+    )
 formula_counted (implies f p) k =
     let before = formula_claims f k in
-    omega (arith, formula_counted f k, length-append before.sides.hypotheses before.sides.goals, both_counted (formula_leaves f) (at d.Connective (sign s.Arrow) ∷ prop_leaves p))
+    omega (
+      arith,
+      formula_counted f k,
+      length-append before.sides.hypotheses before.sides.goals,
+      both_counted (formula_leaves f) (at d.Connective (sign s.Arrow) ∷ stated_leaves p),
+    )
 
 script_counted : (tree : Script) (k : Known) → length (meaning_from tree k).hypotheses + length (meaning_from tree k).goals ≤ 1 + connectives (script_leaves tree)
 script_counted (formula f h) k = omega (arith, formula_counted f k, both_counted (formula_leaves f) (at d.CloseBrace (sign s.CloseBrace) ∷ hints_leaves h))

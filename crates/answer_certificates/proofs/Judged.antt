@@ -1,7 +1,7 @@
 -- A script's subject is what derivations over its universe use.
-use Rattle.std.specs.Prelude.{◌≡◌, ◌<◌, ◌≤◌, ◌^◌, ℕ, suc, List, [], ◌∷◌, ◌++◌, length, map, Option, Some, None, slice_get, refl}
+use Rattle.std.specs.Prelude.{◌≡◌, ◌<◌, ◌≤◌, ◌^◌, ℕ, zero, suc, List, [], ◌∷◌, ◌++◌, length, map, Option, Some, None, slice_get, refl}
 use Rattle.std.proofs.Common.{sym, ◌∙◌, ap, subst, inl, inr, arith}
-use Rattle.std.proofs.lemmas.List.{append_assoc}
+use Rattle.std.proofs.lemmas.List.{append_assoc, length-append}
 use Rattle.std.proofs.lemmas.Bool.{cases_lt}
 use Rattle.std.proofs.lemmas.Option.{slice_get_within}
 use Rattle.fx_model.specs.declared.ExprId.{ExprId}
@@ -15,6 +15,7 @@ use Rattle.script_claims.specs.declared.claim.Claim.{Claim}
 use Rattle.script_claims.specs.Facts.{hypothesis_fact}
 use Rattle.script_hints.specs.declared.hint.Hint.{Hint}
 use Rattle.script_grammar.specs.Spells.{View}
+use Rattle.script_grammar.specs.Cases.{cases_of}
 use Rattle.script_truths.specs.Truths.{HasUniverse}
 use Rattle.rewrite_hints.specs.Rows.{IsRowOf}
 use Rattle.rewrite_hints.specs.Marks.{AreRows}
@@ -24,6 +25,7 @@ use Rattle.rule_universe.specs.Worlds.{World}
 use Rattle.universe.specs.Universes as universe
 use Rattle.cert_bytes.specs.Certificates.{HasShortParts}
 use Rattle.cert_checker.specs.declared.subject.Subject.{Subject}
+use Rattle.cert_checker.specs.Steps.{case_facts}
 use Rattle.cert_checker.specs.Faults.{IsVariableBelow, IsFurther, JudgesNode}
 use Rattle.script_checker.specs.Subjects as checker
 use Rattle.box_traces.specs.Trees.{AreTaken}
@@ -46,7 +48,8 @@ children_short k (Round r a) l c h = omega (arith, l, c)
 not_variable : (a b : ExprId) (v : ℕ) → Sub a b ≡ Var v → ⊥
 not_variable a b v e = cc
 
-module _ (s : View) (u : World) (has : HasUniverse s u) (room : HasRoom s u) where
+module _ (s : View) (claims : List Claim) (u : World) (has : HasUniverse s claims u)
+    (room : HasRoom s u) where
   followed : IsFollowed s.nodes u.nodes
   followed = has.universe.closure.order
 
@@ -145,17 +148,25 @@ same_rows nodes (h ∷ hints) (r ∷ rows) (o ∷ others) p q a b =
 rows_same : (nodes : List Node) (hints : List Hint) (rows others : List HintRow) → AreRows nodes hints rows → AreRows nodes hints others → rows ≡ others
 rows_same nodes hints rows others a b = same_rows nodes hints rows others a.count b.count a.each b.each
 
+-- the facts of the case in a place
+case_at : (cs : List (List Claim)) (k : ℕ) (claims : List Claim) → slice_get cs k ≡ Some claims
+    → case_facts (map checker.facts_of cs) k ≡ checker.facts_of claims
+case_at [] k claims e = cc
+case_at (c ∷ cs) zero claims e = let same : c ≡ claims = cc in ap checker.facts_of same
+case_at (c ∷ cs) (suc k) claims e = case_at cs k claims e
+
 pub subjects_are_of_universes : SubjectsAreOfUniverses
-subjects_are_of_universes s u has room t is = record {
-  cases = is.cases ∙ ap (λ (fs : List Fact). fs ∷ []) (facts_same s.hypotheses ∙ sym has.universe.hypotheses);
+subjects_are_of_universes s claims u has room case there t is = record {
+  facts = ap (λ (cs : List (List Fact)). case_facts cs case) is.cases
+      ∙ (case_at (cases_of s) case claims there
+      ∙ (facts_same claims ∙ sym has.universe.hypotheses));
   rows = rows_same s.nodes s.hints.rewrites t.hints u.hints is.hints has.universe.hints;
   wanted = is.goals ∙ sym has.universe.goals;
   few_goals = room.goals;
   few_marks = let few = room.hints.rewrites in let count = is.marks.count in omega (arith, few, count);
-  own = let same = ap length is.nodes in let list = ap length (nodes_are s u has room) in let l = longer s.nodes (further_nodes s u has room) in omega (arith, same, list, l);
-  taken = nodes_taken s u has room t is.nodes [] u.nodes refl;
+  own =
+      let same = ap length is.nodes in
+      let list = ap length (nodes_are s claims u has room) in
+      omega (arith, same, list, length-append s.nodes (further_nodes s claims u has room));
+  taken = nodes_taken s claims u has room t is.nodes [] u.nodes refl;
 }
-  where
-    longer : (xs ys : List Node) → length xs ≤ length (xs ++ ys)
-    longer [] ys = omega arith
-    longer (x ∷ xs) ys = let h = longer xs ys in omega (arith, h)

@@ -4,14 +4,14 @@ use Rattle.fx_model.specs.declared.Rounding.{Rounding}
 use Rattle.fx_model.specs.declared.ExprId.{ExprId}
 use Rattle.fx_model.specs.declared.Node.{Node}
 use Rattle.fx_model.specs.declared.Node.TheVariants.{Lit, Neg, Add, Sub, Mul, Div, Abs, Round}
-use Rattle.script_shape.specs.Tree.{Expr, term, sum, difference, Term, factor, product, quotient, Factor, negation, atom, Atom, number, variable, parenthesized, absolute, called, rounded, fused, Prop, lies_in, relative_in, at_most, at_least, multiple, Formula, single, and, implies, Need, nonzero, below, not_above, above, not_below, NeedList, last_need, more_needs, Needs, always, provided, Names, last_name, more_names, Halving, halved_by, with_goal, Hint, rewrite, like, split, halving, Hints, no_hint, hint}
+use Rattle.script_shape.specs.Tree.{Expr, term, sum, difference, Term, factor, product, quotient, Factor, negation, atom, Atom, number, variable, parenthesized, absolute, called, rounded, fused, Prop, lies_in, relative_in, at_most, at_least, multiple, Stated, affirmed, denied, Formula, single, and, or, implies, Need, nonzero, below, not_above, above, not_below, NeedList, last_need, more_needs, Needs, always, provided, Names, last_name, more_names, Halving, halved_by, with_goal, Hint, rewrite, like, split, halving, Hints, no_hint, hint}
 use Rattle.script_nodes.specs.Literals.{literal_of}
 use Rattle.script_nodes.specs.Operators.{rounding_of}
 use Rattle.script_nodes.specs.Known.{Name, Known, Placed, put, named, operator_named}
 use Rattle.script_nodes.specs.Values.{then_rounded, fused_sum, expr_value, term_value, factor_value, atom_value}
 use Rattle.script_nodes.specs.Definitions.{name_text}
 use Rattle.script_nodes.specs.Sound.{IsMade}
-use Rattle.script_claims.specs.Claims.{prop_claim, formula_claims}
+use Rattle.script_claims.specs.Claims.{prop_claim, stated_claim, formula_claims}
 use Rattle.script_hints.specs.Hints.{NeedsSoFar, with_need, with_need_list, needs_value, HintsSoFar, with_halved, with_names, with_halving, with_hint, with_hints}
 
 module _ (P : Known → Type 0) (puts : (k : Known) (n : Node) → IsMade n → P k → P (put k n).0) (names : (k : Known) (text : Name) → P k → P (named k text).0) where
@@ -74,10 +74,15 @@ module _ (P : Known → Type 0) (puts : (k : Known) (n : Node) → IsMade n → 
   prop_so (at_least e b) k h = expr_so None e k h
   prop_so (multiple f e w) k h = expr_so None e k h
 
+  stated_so : (p : Stated) (k : Known) → P k → P (stated_claim p k).0
+  stated_so (affirmed p) k h = prop_so p k h
+  stated_so (denied p) k h = prop_so p k h
+
   pub formula_so : (f : Formula) (k : Known) → P k → P (formula_claims f k).known
-  formula_so (single p) k h = prop_so p k h
-  formula_so (and f p) k h = prop_so p (formula_claims f k).known (formula_so f k h)
-  formula_so (implies f p) k h = prop_so p (formula_claims f k).known (formula_so f k h)
+  formula_so (single p) k h = stated_so p k h
+  formula_so (and f p) k h = stated_so p (formula_claims f k).known (formula_so f k h)
+  formula_so (or f p) k h = stated_so p (formula_claims f k).known (formula_so f k h)
+  formula_so (implies f p) k h = stated_so p (formula_claims f k).known (formula_so f k h)
 
   -- ---- hints
   need_so : (n : Need) (s : NeedsSoFar) → P s.0 → P (with_need n s).0

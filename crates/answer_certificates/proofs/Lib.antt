@@ -16,4 +16,6 @@ mod Numbered
 mod Passed
 mod FewClaims
 mod SplitNames
+mod InCases
 mod Spelled
+mod Rooted

@@ -1,8 +1,9 @@
 -- Words that the judge lets pass.
-use Rattle.std.specs.Prelude.{◌≡◌, ℕ, ◌+◌, ◌≤◌, nat_lt, List, ◌∷◌, length, Option, Some, None, Bool, true, false, ◌||◌, if◌then◌else◌, take, refl}
+use Rattle.std.specs.Prelude.{◌≡◌, ℕ, ◌+◌, ◌≤◌, nat_lt, List, ◌∷◌, length, Option, None, Bool, true, false, ◌||◌, take, refl}
 use Rattle.std.proofs.Common.{ap, ◌∙◌, subst}
 use Rattle.std.proofs.Math.Seq.{take-length}
 use Rattle.std.proofs.lemmas.Bool.{ltb-false, or_parts}
+use Rattle.script_cases.specs.Parts.{begun_cases}
 use Rattle.script_words.specs.Lex.{LexesOnce}
 use Rattle.script_words.specs.Words.{Word}
 use Rattle.script_words.specs.Named.{words_of}
@@ -10,16 +11,15 @@ use Rattle.script_shape.specs.Tree.{script_words, IsScript}
 use Rattle.script_shape.specs.Roles.{Leaf, script_leaves, HasRoles, LeavesAreOfTrees}
 use Rattle.script_shape.specs.ShapeLaw.{IsShapeOf}
 use Rattle.script_judge.specs.declared.refusal.Refusal.{Refusal}
-use Rattle.script_judge.specs.declared.refusal.RefusalKind.{RefusalKind}
 use Rattle.script_judge.specs.declared.counts.Counts.{Counts}
 use Rattle.script_judge.specs.declared.fault.Fault.{Fault}
 use Rattle.script_judge.specs.Names.{is_some_among, is_used, defines, split_name}
 use Rattle.script_judge.specs.Bounds.{is_bad_bound}
 use Rattle.script_judge.specs.Splits.{is_rangeless, is_bad_point}
 use Rattle.script_judge.specs.Numbers.{Verdict, has_no_pieces, is_past_lsb, is_past_pieces}
-use Rattle.script_judge.specs.Judge.{Seen, seen_after, has_arrow, is_empty, is_on_wrong_side, form_kind, form_refusal, limit_kind, limit_refusal, or_else, refusal_at, Judged, refused, passed, nothing_seen, fails, both_none}
+use Rattle.script_judge.specs.Judge.{Seen, seen_after, has_arrow, is_on_wrong_side, is_past_cases, form_kind, form_refusal, limit_kind, limit_refusal, refusal_at, Judged, refused, passed, nothing_seen, fails, both_none}
 use Rattle.script_judge.specs.Reading.{Reading, IsReadingOf, fault}
-use Rattle.script_judge.specs.First.{IsFirstRefusal, unread, read, first_of, refusal_of, second_none, none_found}
+use Rattle.script_judge.specs.First.{IsFirstRefusal, unread, read, refusal_of, second_none, none_found}
 use Rattle.script_grammar.specs.Spells.{View, Spells}
 
 -- ---- one word
@@ -39,8 +39,9 @@ one_passed i seen l ls j = found_passed l ls j refl
 
 -- ---- what isn't refused of it
 
-few_propositions : (opened halved : ℕ) (c : Counts) (lsb pieces : Bool) → limit_kind opened halved c lsb pieces ≡ None → c.propositions ≤ 128
-few_propositions opened halved c lsb pieces h =
+few_propositions : (opened halved : ℕ) (c : Counts) (lsb pieces cases : Bool)
+    → limit_kind opened halved c lsb pieces cases ≡ None → c.propositions ≤ 128
+few_propositions opened halved c lsb pieces cases h =
     let nesting = fails (nat_lt 64 opened) _ _ h in
     let definitions = fails (nat_lt 256 c.definitions) _ _ nesting.1 in
     let propositions = fails (nat_lt 128 c.propositions) _ _ definitions.1 in
@@ -61,14 +62,17 @@ pub within_limits : (v : Verdict) (seen : Seen) (l : Leaf) (ls : List Leaf) → 
 within_limits v seen l ls e =
     let after = seen_after v seen l.role l.word in
     let limits = both_none (form_refusal v seen l.role l.word (has_arrow ls) ls) (limit_refusal after l.role l.word) e in
-    few_propositions (length after.opened) (length after.names.halved) after.counts (is_past_lsb l.role l.word) (is_past_pieces l.role l.word) limits.1
+    few_propositions (length after.opened) (length after.names.halved) after.counts
+    (is_past_lsb l.role l.word) (is_past_pieces l.role l.word)
+    (is_past_cases l.role l.word (begun_cases after.splits.ranges)) limits.1
 
 -- a name that is split has no definition
 pub split_plain : (v : Verdict) (seen : Seen) (l : Leaf) (ls : List Leaf) → refusal_at v seen l.role l.word ls ≡ None → is_some_among seen.names.defined (split_name l.role l.word) ≡ false
 split_plain v seen l ls e =
     let named = split_name l.role l.word in
     let form = both_none (form_refusal v seen l.role l.word (has_arrow ls) ls) (limit_refusal (seen_after v seen l.role l.word) l.role l.word) e in
-    not_defined (is_on_wrong_side l.role l.word (has_arrow ls) (is_empty ls)) (is_used seen.names (defines l.role l.word) ls) (is_bad_bound seen.bounds v.number)
+    not_defined (is_on_wrong_side l.role l.word (has_arrow ls) ls)
+    (is_used seen.names (defines l.role l.word) ls) (is_bad_bound seen.bounds v.number)
     (is_rangeless seen.splits.ranges (is_some_among seen.names.defined named) named) (is_some_among seen.names.defined named) (has_no_pieces l.role l.word) (is_bad_point seen.splits (nat_lt 0 seen.counts.pieces) v.number) v.past form.0
 
 -- ---- the words of a text that spells a script

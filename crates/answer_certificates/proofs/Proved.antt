@@ -41,12 +41,12 @@ use Rattle.cert_checker.specs.Contexts.{piece_fact}
 use Rattle.cert_checker.specs.Faults.{IsVariable}
 use Rattle.box_traces.specs.Traces.{IsCutTo}
 use Rattle.box_traces.specs.Trees.{Tree, Trees, leaf, cut, cut_of, IsProved, AreProved, lines_of_tree, lines_of_trees, steps_in, steps_in_each}
-use Rattle.answer_certificates.specs.Boxes.{range_of_piece, pieces_from, cut_into, boxes_below}
+use Rattle.answer_certificates.specs.Boxes.{range_of_piece, pieces_from, cut_into, boxes_below, rows_from}
 use Rattle.answer_certificates.proofs.Cuts.{IsCutAlong, IsCut, next_cut as cuts_so}
 use Rattle.answer_certificates.proofs.Known.{region_of_piece, pieces_of_piece, piece_there, AreRangesAt, range_here, interval_is, ranges_below}
 use Rattle.answer_certificates.proofs.CutTo.{piece_ordered, checker_piece, checker_fact, cut_to}
 use Rattle.answer_certificates.proofs.Leaves.{no_void, settled_leaf}
-use Rattle.answer_certificates.proofs.Shown.{rows_from, rows_both, rows_none, rows_length, leaf_rows, leaves_both}
+use Rattle.answer_certificates.proofs.Shown.{rows_both, rows_none, rows_length, leaf_rows, leaves_both}
 use Rattle.box_tree.specs.InRanges.{range_var}
 
 -- ---- what is cut along what

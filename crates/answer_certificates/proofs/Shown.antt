@@ -21,13 +21,9 @@ use Rattle.bisect.specs.Gathered.{with_known, with_state, line_with, line_of}
 use Rattle.settler.specs.Standing.{StandsAs}
 use Rattle.box_traces.specs.Trees.{lines_at, leaf_lines}
 use Rattle.cert_checker.specs.After.{with_cited}
+use Rattle.answer_certificates.specs.Boxes.{rows_from}
 use Rattle.answer_certificates.proofs.Leaves.{AreAt, no_void, facts_at}
 use Rattle.facts.specs.CommonParts.{at_option}
-
--- the lines of the goals from number k on, with what more leaves know
-abbrev pub rows_from : ℕ → List Line → List Leaf → List Line
-rows_from k [] leaves = []
-rows_from k (l ∷ lines) leaves = line_with k l leaves ∷ rows_from (k + 1) lines leaves
 
 line_both : (k : ℕ) (l : Line) (xs ys : List Leaf) → line_with k l (xs ++ ys) ≡ line_with k (line_with k l xs) ys
 line_both k l [] ys = refl

@@ -1,32 +1,38 @@
 -- A script that a text spells has room for its certificates, and its goals are about slots of its universe.
-use Rattle.std.specs.Prelude.{ℕ, ◌+◌, ◌≤◌, List, [], ◌∷◌, ◌++◌, length, map, Option, Some, None, refl}
+use Rattle.std.specs.Prelude.{ℕ, ◌+◌, ◌<◌, ◌≤◌, List, [], ◌∷◌, ◌++◌, length, map, Option, Some, None, refl}
 use Rattle.std.specs.List.{AllByRecursion}
 use Rattle.std.proofs.Common.{sym, ap, subst, inr, arith, length-append}
 use Rattle.std.proofs.lemmas.List.{length-map}
 use Rattle.fx_model.specs.declared.Node.{Node}
 use Rattle.facts.specs.declared.fact.Fact.{Fact}
 use Rattle.goals.specs.declared.goal.Goal.{Goal}
+use Rattle.node_counts.specs.Few.{HasFewHints}
 use Rattle.script_words.specs.Lex.{LexesOnce}
 use Rattle.script_shape.specs.Roles.{LeavesAreOfTrees}
 use Rattle.script_nodes.specs.Known.{nothing_known}
 use Rattle.script_claims.specs.declared.claim.Claim.{Claim}
-use Rattle.script_claims.specs.declared.claim.Claim.TheVariants.{Bounded, Asked, Relative, RelativeAsked, Multiple}
+use Rattle.script_claims.specs.declared.claim.Claim.TheVariants.{Bounded, Asked, Relative, RelativeAsked, Multiple, Above, Below}
 use Rattle.script_claims.specs.Facts.{hypothesis_fact, slot_of}
 use Rattle.script_grammar.specs.Spells.{View, SpelledAreShort}
 use Rattle.script_grammar.specs.Names.{ClaimIsOf}
+use Rattle.script_grammar.specs.Cases.{cases_of}
+use Rattle.script_grammar.specs.Ranges.{SpelledHaveFewCases}
 use Rattle.script_grammar.specs.Few.{SpelledHaveFewHints}
 use Rattle.pair_closure.specs.Reached.{Has}
 use Rattle.pair_closure.specs.Reached.IsReached.{begin}
 use Rattle.pair_closure.specs.Closure.{Pair, difference_of}
 use Rattle.pair_closure.specs.Members.{has_left, has_right}
-use Rattle.rule_universe.specs.Worlds.{IsSlot, HasSlot}
+use Rattle.script_truths.specs.Truths.{HasUniverse}
+use Rattle.rule_universe.specs.Worlds.{World, IsSlot, HasSlot, IsWhole}
 use Rattle.universe.specs.Starts.{claim_pairs, claims_pairs, hints_pairs}
-use Rattle.universe.specs.Universes.{goal_of, with_fact, facts_of}
+use Rattle.universe.specs.Cases.{AreHypotheses, cases_have_hypotheses}
+use Rattle.universe.specs.Universes.{HypothesesHaveSlots, assumed, goal_of, with_fact, facts_of}
 use Rattle.cert_checker.specs.Faults.{IsVariable}
-use Rattle.answer_certificates.specs.Scripts.{ScriptsHaveRoom, GoalsHaveSlots}
+use Rattle.answer_certificates.specs.Scripts.{in_case, IsCaseOf, IsBuilt, ScriptsHaveRoom, GoalsHaveSlots}
 use Rattle.answer_certificates.proofs.Numbered.{AreNumbered, script_numbered}
 use Rattle.answer_certificates.proofs.Passed.{spelled_passes}
 use Rattle.answer_certificates.proofs.FewClaims.{claims_few}
+use Rattle.answer_certificates.proofs.InCases.{cases_short, some_case}
 use Rattle.answer_certificates.proofs.SplitNames.{splits_are_variables}
 
 -- ---- a hypothesis gives one fact at most
@@ -46,6 +52,8 @@ module _ (nodes : List Node) (n m : ℕ) (pairs : List Pair) (longer : n ≤ m) 
   claim_slot (Relative x y lower upper) k e = e (x, y) (0, refl)
   claim_slot (RelativeAsked x y) k e = e (x, y) (0, refl)
   claim_slot (Multiple x j) k e = omega (arith, k, longer)
+  claim_slot (Above x w) k e = omega (arith, k, longer)
+  claim_slot (Below x w) k e = omega (arith, k, longer)
 
   goal_slots : (cs : List Claim) → AllByRecursion (ClaimIsOf n) cs → ((p : Pair) → Has (claims_pairs nodes cs) p → Has pairs p) → AllByRecursion (λ (g : Goal). IsSlot m pairs g.of) (map goal_of cs)
   goal_slots [] k e = tt
@@ -55,7 +63,7 @@ module _ (nodes : List Node) (n m : ℕ) (pairs : List Pair) (longer : n ≤ m) 
   )
 
 pub goals_have_slots : GoalsHaveSlots
-goals_have_slots s u names universe =
+goals_have_slots s before u names universe =
     let closure = universe.closure in
     let followed = closure.order in
     let longer : length s.nodes ≤ length u.nodes = omega (arith, ap length followed.list, length-append s.nodes (map difference_of followed.differences)) in
@@ -67,21 +75,73 @@ goals_have_slots s u names universe =
     subst (AllByRecursion (λ (g : Goal). HasSlot u g.of)) (sym universe.goals) (goal_slots s.nodes (length s.nodes) (length u.nodes) u.pairs longer s.goals names.goals there)
 
 -- ---- room
-pub scripts_have_room : SpelledAreShort → SpelledHaveFewHints → LexesOnce → LeavesAreOfTrees → ScriptsHaveRoom
-scripts_have_room short few lexes are text s u p universe built =
-    let passes = spelled_passes lexes are text s p in
-    let claims : length s.hypotheses + length s.goals ≤ 130 = subst (λ (v : View). length v.hypotheses + length v.goals ≤ 130) (sym p.says) (claims_few p.tree nothing_known passes) in
-    let numbered : AreNumbered s.nodes s.variables = subst (λ (v : View). AreNumbered v.nodes v.variables) (sym p.says) (script_numbered p.tree) in
-    let splits : AllByRecursion (IsVariable s.nodes) s.hints.order = subst (λ (v : View). AllByRecursion (IsVariable v.nodes) v.hints.order) (sym p.says) (splits_are_variables p.tree passes) in
-    let names = numbered.few in
-    let nodes = short text s p in
+module _ (s : View) (before : List Claim) (u : World) (has : HasUniverse s before u)
+    (built : IsBuilt u) (few : HasFewHints s.hints) (slots : HypothesesHaveSlots)
+    (numbered : AreNumbered s.nodes s.variables) (short : length s.nodes ≤ 512)
+    (splits : AllByRecursion (IsVariable s.nodes) s.hints.order)
+    (claimed : length s.hypotheses + length s.goals ≤ 130) where
+  case_whole : (claims : List Claim) → AreHypotheses s claims → IsWhole (in_case u claims)
+  case_whole claims are = record {
+    once = built.whole.once;
+    few = built.whole.few;
+    closed = built.whole.closed;
+    targets = built.whole.targets;
+    premises = built.whole.premises;
+    hypotheses = slots s before claims u has.names has.universe are;
+  }
+
+  case_room : (claims : List Claim) → AreHypotheses s claims
+      → length claims ≤ length s.hypotheses → IsCaseOf s u claims
+  case_room claims are fewer = (
     record {
-      whole = built.whole;
+      names = has.names;
+      ordered = has.ordered;
+      universe = assumed s u before claims has.universe are;
+      nodes = has.nodes;
+    },
+    record {
+      whole = case_whole claims are;
       lawful = built.lawful;
       short = built.short;
-      goals = omega (arith, claims, ap length universe.goals, length-map s.goals goal_of);
-      hints = few text s p;
-      hypotheses = omega (arith, claims, ap length universe.hypotheses, facts_counted s.hypotheses);
-      numbers = λ x v e. let low = numbered.below x v e in omega (arith, low, names, nodes);
+      goals = omega (arith, claimed, ap length has.universe.goals, length-map s.goals goal_of);
+      hints = few;
+      hypotheses = omega (arith, claimed, fewer, facts_counted claims);
+      numbers = λ x v e.
+          let low = numbered.below x v e in
+          let names = numbered.few in
+          omega (arith, low, names, short);
       splits = splits;
-    }
+    },
+  )
+
+  each_room : (cs : List (List Claim)) → AllByRecursion (AreHypotheses s) cs
+      → AllByRecursion (λ c. length c ≤ length s.hypotheses) cs → AllByRecursion (IsCaseOf s u) cs
+  each_room [] are fewer = tt
+  each_room (c ∷ cs) are fewer = (case_room c are.0 fewer.0, each_room cs are.1 fewer.1)
+
+-- what the script's tree says of it
+abbrev AreFewClaims : View → Type 0
+AreFewClaims v = length v.hypotheses + length v.goals ≤ 130
+
+abbrev SplitsAreVariables : View → Type 0
+SplitsAreVariables v = AllByRecursion (IsVariable v.nodes) v.hints.order
+
+pub scripts_have_room : SpelledAreShort → SpelledHaveFewHints → SpelledHaveFewCases
+    → LexesOnce → LeavesAreOfTrees → HypothesesHaveSlots → ScriptsHaveRoom
+scripts_have_room short hints cases lexes are slots text s before u p has built =
+    let passes = spelled_passes lexes are text s p in
+    let few = cases text s p in
+    let claimed : AreFewClaims s =
+    subst AreFewClaims (sym p.says) (claims_few p.tree nothing_known passes) in
+    let numbered : AreNumbered s.nodes s.variables =
+    subst (λ (v : View). AreNumbered v.nodes v.variables) (sym p.says) (script_numbered p.tree) in
+    let splits : SplitsAreVariables s =
+    subst SplitsAreVariables (sym p.says) (splits_are_variables p.tree passes) in
+    let fewer : AllByRecursion (λ c. length c ≤ length s.hypotheses) (cases_of s) =
+    subst (λ (cs : List Claim). AllByRecursion (λ c. length c ≤ length cs) (cases_of s))
+    (sym few.hypotheses) (cases_short s.parts) in
+    let some : 0 < length (cases_of s) =
+    subst (λ (v : View). 0 < length (cases_of v)) (sym p.says) (some_case p.tree nothing_known) in
+    let each = each_room s before u has built (hints text s p) slots numbered (short text s p)
+    splits claimed (cases_of s) (cases_have_hypotheses s few) fewer in
+    record { some = some; few = few.few; each = each }

@@ -1,11 +1,10 @@
 -- The tree of a script's boxes, as a certificate goes over it.
-use Rattle.std.specs.Prelude.{◌≡◌, ◌+◌, ◌*◌, ◌++◌, ℕ, zero, suc, List, [], ◌∷◌, Option, Some, None, map}
+use Rattle.std.specs.Prelude.{◌≡◌, ◌+◌, ◌*◌, ◌++◌, ℕ, zero, suc, List, [], ◌∷◌, length, Option, Some, None}
 use Rattle.fx_model.specs.declared.ExprId.{ExprId}
 use Rattle.interval.specs.declared.interval.Interval.{Interval}
 use Rattle.interval.specs.Results.{whole_interval}
 use Rattle.derivation.specs.Known.{Piece}
 use Rattle.goals.specs.declared.line.Line.{Line}
-use Rattle.goals.specs.declared.line.Line.TheVariants as line
 use Rattle.rule_universe.specs.Worlds.{World}
 use Rattle.saturate.specs.Universes.{setting_of}
 use Rattle.box_tree.specs.declared.cut.Cut.{Cut}
@@ -13,6 +12,8 @@ use Rattle.box_tree.specs.declared.cut.Cut.TheVariants.{Forced, Half, Bottom}
 use Rattle.box_tree.specs.Plans.{cut_at, piece_at}
 use Rattle.box_tree.specs.Regions.{PlanParts}
 use Rattle.bisect.specs.declared.settler.State.{State}
+use Rattle.bisect.specs.declared.outcome.Leaf.{Leaf}
+use Rattle.bisect.specs.Gathered.{line_with}
 use Rattle.bisect.specs.Trees.{children}
 use Rattle.box_traces.specs.Trees.{Tree, Trees, leaf, cut, last, next, IsProved, lines_of_tree, steps_in}
 
@@ -48,8 +49,17 @@ boxes_below plan states (suc cuts) path = cut_into (cut_at plan path) (children 
 abbrev pub boxes_of : PlanParts → (List ℕ → State) → Tree
 boxes_of plan states = boxes_below plan states 36 []
 
--- The tree has so many boxes and a certificate, and its leaves show these lines.
-pub record IsProvedTree (u : World) (height : ℕ) (tree : Tree) (count : ℕ) (lines : List Line) : Type 0 where
+-- ---- what its leaves show
+-- the lines of the goals from number k on, with what more leaves know
+abbrev pub rows_from : ℕ → List Line → List Leaf → List Line
+rows_from k [] leaves = []
+rows_from k (l ∷ lines) leaves = line_with k l leaves ∷ rows_from (k + 1) lines leaves
+
+-- The tree has so many boxes and these leaves, each of them settled or void, and they show in lines
+-- what is known there.
+pub record IsProvedTree (u : World) (height : ℕ) (tree : Tree) (count : ℕ) (leaves : List Leaf)
+    : Type 0 where
   pub proved : IsProved (setting_of u) height u.goals tree [] 0
-  pub shown : lines ≡ lines_of_tree (setting_of u) height u.goals tree [] (map (λ g. line.Empty) u.goals)
+  pub shown : (lines : List Line) → length lines ≡ length u.goals
+      → lines_of_tree (setting_of u) height u.goals tree [] lines ≡ rows_from 0 lines leaves
   pub steps : (most : ℕ) → steps_in most tree ≡ most * count

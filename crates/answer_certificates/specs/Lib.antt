@@ -1,3 +1,4 @@
 pub mod Scripts
 pub mod Boxes
+pub mod Roots
 pub mod Laws

@@ -4,5 +4,7 @@
 mod laws;
 mod room;
 
-pub use laws::{answers_have_certificates, subjects_are_written};
+pub use laws::{
+    answers_have_certificates, pieces_are_of_cuts, scripts_have_roots, subjects_are_written,
+};
 pub use room::{script_has_room, scripts_have_room};

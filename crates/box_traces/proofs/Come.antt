@@ -22,7 +22,7 @@ use Rattle.theorem_list.specs.Concludes.{concludes}
 use Rattle.facts.specs.declared.instance.Instance.{Instance}
 use Rattle.derivation.specs.Derivations.{Setting, At}
 use Rattle.derivation.specs.Known.{Piece}
-use Rattle.derivation.specs.Rounds.{IsProper, Reads, conclusion}
+use Rattle.derivation.specs.Rounds.{IsProper, conclusion}
 use Rattle.derivation.specs.Parts.{conclusion_reads}
 use Rattle.derivation.specs.Exists.{joined, with_fact, with_fact-improves, with_conclusion, conclusion_of, after_instances, after_round, after_rounds, blank, with_hypotheses, line_of, with_lines, table_at}
 use Rattle.derivation.specs.Steps.{improved_proper}
@@ -32,7 +32,7 @@ use Rattle.cert_checker.specs.Open.{Numbered, with_step}
 use Rattle.cert_checker.specs.Steps.{step_facts, gives, met_with, IsEnough, target_of, whole_line, variable_fact}
 use Rattle.box_traces.specs.Sections.{behind, ArePlaces, AreBelow}
 use Rattle.box_traces.specs.Writing.{IsSlotKnown, IsWritable, givens_of}
-use Rattle.box_traces.specs.Traces.{HasFields, HaveFields, Trace, IsCutTo, most_steps}
+use Rattle.box_traces.specs.Traces.{Trace, IsCutTo, most_steps}
 use Rattle.box_traces.specs.Cited.{step_kept, behind_both, premises_found, fields_more, mapped, reads_length}
 use Rattle.box_traces.specs.Coming.{met_by, coming, aims, enough, coming_accepted, placed_at, traced_more, met_by_interval}
 use Rattle.facts.specs.CommonParts.{at_option}

@@ -5,7 +5,6 @@ use Rattle.std.proofs.lemmas.Option.{slice_get_within, get_or_from_slice_get}
 use Rattle.std.proofs.lemmas.Bool.{and_from}
 use Rattle.fx_model.specs.declared.ExprId.{ExprId}
 use Rattle.fx_model.specs.declared.Node.{Node}
-use Rattle.fx_model.specs.declared.Node.TheVariants as node
 use Rattle.fx_model.specs.Expression.{ChildrenBelow, IsOrdered, children_later}
 use Rattle.interval.specs.declared.interval.Interval.{Interval}
 use Rattle.expr_dag.specs.Shapes.{is_at, is_at_out, is_known, are_known}
@@ -15,7 +14,6 @@ use Rattle.facts.specs.declared.fact.Fact.{Fact}
 use Rattle.facts.specs.declared.fact.Slot.{Slot}
 use Rattle.facts.specs.declared.fact.Fact.TheVariants as fact
 use Rattle.facts.specs.declared.fact.Slot.TheVariants as slot
-use Rattle.facts.specs.Order.{is_same}
 use Rattle.facts.specs.Promises.{Rule}
 use Rattle.facts.specs.Conclusions.{only_if, given_if, bnd_of, abs_of, fix_of}
 

@@ -1,12 +1,10 @@
 -- Every tree whose leaves are settled has a certificate that is accepted with the lines of its leaves.
-use Rattle.std.specs.Prelude.{◌≡◌, ◌≤◌, ◌+◌, ◌^◌, ⊤, ℕ, zero, false, List, [], ◌∷◌, ◌++◌, length, map, Option, Some, slice_get, refl}
+use Rattle.std.specs.Prelude.{◌≡◌, ◌≤◌, ◌+◌, ◌^◌, ⊤, ℕ, zero, suc, false, List, [], ◌∷◌, ◌++◌, length, map, Some, slice_get, refl}
 use Rattle.std.proofs.Common.{sym, ◌∙◌, ap, subst, arith}
 use Rattle.fx_model.specs.declared.Node.{Node}
-use Rattle.facts.specs.declared.fact.Fact.{Fact}
 use Rattle.facts.specs.declared.hint.HintMark.{HintMark}
 use Rattle.facts.specs.declared.hint.HintRow.{HintRow}
 use Rattle.derivation.specs.Derivations.{Setting}
-use Rattle.derivation.specs.Exists.{table_at}
 use Rattle.goals.specs.declared.goal.Goal.{Goal}
 use Rattle.goals.specs.declared.line.Line.{Line}
 use Rattle.goals.specs.declared.line.Line.TheVariants as line
@@ -15,16 +13,15 @@ use Rattle.cert_bytes.specs.declared.item.Item.TheVariants as item
 use Rattle.cert_bytes.specs.Certificates.{AreDue}
 use Rattle.cert_bytes.specs.declared.order.Due.TheVariants.{Nodes, Marks, Sections}
 use Rattle.cert_checker.specs.declared.subject.Subject.{Subject}
-use Rattle.cert_checker.specs.Contexts.{Context, first, open_piece}
-use Rattle.cert_checker.specs.After.{after, around_of, cuts_behind}
+use Rattle.cert_checker.specs.Contexts.{Context, first}
+use Rattle.cert_checker.specs.After.{after}
 use Rattle.cert_checker.specs.Accepted.{LeadsTo, Accepts}
-use Rattle.box_traces.specs.Sections.{AllBelow}
-use Rattle.box_traces.specs.Writing.{IsWritable, givens_of}
-use Rattle.box_traces.specs.Traces.{Trace, most_steps}
-use Rattle.box_traces.specs.Trees.{Tree, IsProved, lines_of_tree, steps_in, AreTaken, IsSubjectOf}
-use Rattle.box_traces.specs.Walks.{numbered, IsOpen}
-use Rattle.box_traces.proofs.Come.{root_trace}
-use Rattle.box_traces.proofs.Treed.{walk_goes_on}
+use Rattle.box_traces.specs.Writing.{IsWritable}
+use Rattle.box_traces.specs.Trees.{AreTaken}
+use Rattle.box_traces.specs.Walks.{Ending}
+use Rattle.box_traces.specs.Roots.{Root, AreRoots, roots_are_counted, steps_in_roots, lines_of_roots}
+use Rattle.box_traces.proofs.Treed.{may_go_on}
+use Rattle.box_traces.proofs.Rooted.{IsAtRoot, roots_end}
 use Rattle.box_traces.specs.Moves.{lead_both, marks_due, root_due}
 
 -- ---- the head
@@ -34,7 +31,7 @@ behind_nodes c (n ∷ rest) = behind_nodes (after c (item.Node n)) rest
 
 nodes_lead : (subject : Subject) (c : Context) (rest : List Node) → AreTaken subject c.nodes rest → LeadsTo subject c (map item.Node rest) (behind_nodes c rest)
 nodes_lead subject c [] t = refl
-nodes_lead subject c (n ∷ rest) t = (t.0, nodes_lead subject (after c (item.Node n)) rest t.3)
+nodes_lead subject c (n ∷ rest) t = (((λ b r. cc), t.0), nodes_lead subject (after c (item.Node n)) rest t.3)
 
 abbrev behind_marks : Context → List HintMark → Context
 behind_marks c [] = c
@@ -47,16 +44,17 @@ AreFrom all k (m ∷ rest) = (slice_get all k ≡ Some m) × AreFrom all (k + 1)
 
 marks_lead : (subject : Subject) (c : Context) (rest : List HintMark) → AreFrom subject.marks c.marked rest → LeadsTo subject c (map item.Mark rest) (behind_marks c rest)
 marks_lead subject c [] t = refl
-marks_lead subject c (m ∷ rest) t = (t.0, marks_lead subject (after c (item.Mark m)) rest t.1)
+marks_lead subject c (m ∷ rest) t = (((λ b r. cc), t.0), marks_lead subject (after c (item.Mark m)) rest t.1)
 
--- what the head leaves for the root section
-record IsAtRoot (c : Context) (ns : List Node) (shown : List Line) : Type 0 where
+-- what the head leaves for the sections
+record IsBehindHead (c : Context) (ns : List Node) (shown : List Line) : Type 0 where
   nodes : c.nodes ≡ ns
   next : c.next ≡ 0
   steps : c.steps ≡ []
   cuts : c.cuts ≡ []
   case : c.case ≡ 0
   lines : c.lines ≡ shown
+  begun : c.begun ≡ false
   ended : c.ended ≡ false
 
 -- what nodes leave as it is
@@ -67,6 +65,7 @@ record IsPastNodes (c d : Context) (rest : List Node) : Type 0 where
   steps : d.steps ≡ c.steps
   cuts : d.cuts ≡ c.cuts
   case : d.case ≡ c.case
+  begun : d.begun ≡ c.begun
   lines : d.lines ≡ c.lines
 
 append_none : (xs : List Node) → xs ≡ xs ++ []
@@ -78,14 +77,14 @@ append_more [] ys zs = refl
 append_more (x ∷ xs) ys zs = ap (λ l. x ∷ l) (append_more xs ys zs)
 
 past_nodes : (c : Context) (rest : List Node) → IsPastNodes c (behind_nodes c rest) rest
-past_nodes c [] = record { nodes = append_none c.nodes; marked = refl; next = refl; steps = refl; cuts = refl; case = refl; lines = refl }
+past_nodes c [] = record { nodes = append_none c.nodes; marked = refl; next = refl; steps = refl; cuts = refl; case = refl; begun = refl; lines = refl }
 past_nodes c (n ∷ rest) =
     let p = past_nodes (after c (item.Node n)) rest in
-    record { nodes = p.nodes ∙ append_more c.nodes (n ∷ []) rest; marked = p.marked; next = p.next; steps = p.steps; cuts = p.cuts; case = p.case; lines = p.lines }
+    record { nodes = p.nodes ∙ append_more c.nodes (n ∷ []) rest; marked = p.marked; next = p.next; steps = p.steps; cuts = p.cuts; case = p.case; begun = p.begun; lines = p.lines }
 
-past_marks : (c : Context) (rest : List HintMark) (ns : List Node) (lines : List Line) → IsAtRoot c ns lines → IsAtRoot (behind_marks c rest) ns lines
+past_marks : (c : Context) (rest : List HintMark) (ns : List Node) (lines : List Line) → IsBehindHead c ns lines → IsBehindHead (behind_marks c rest) ns lines
 past_marks c [] ns lines r = r
-past_marks c (m ∷ rest) ns lines r = past_marks (after c (item.Mark m)) rest ns lines (record { nodes = r.nodes; next = r.next; steps = r.steps; cuts = r.cuts; case = r.case; lines = r.lines; ended = refl })
+past_marks c (m ∷ rest) ns lines r = past_marks (after c (item.Mark m)) rest ns lines (record { nodes = r.nodes; next = r.next; steps = r.steps; cuts = r.cuts; case = r.case; lines = r.lines; begun = r.begun; ended = refl })
 
 -- ---- which items are due
 nodes_due : (subject : Subject) (before rest : List Node) (more : List Item) → AreTaken subject before rest → AreDue (Some (Nodes zero)) more → AreDue (Some (Nodes (length rest))) (map item.Node rest ++ more)
@@ -110,47 +109,72 @@ from_all before (m ∷ rest) =
     one_longer [] m = omega arith
     one_longer (x ∷ before) m = let h = one_longer before m in omega (arith, h)
 
--- ---- the certificate
-end_leads : (subject : Subject) (c : Context) → LeadsTo subject c (item.End ∷ []) (after c item.End)
-end_leads subject c = (refl, refl)
+-- ---- the sections
+abbrev AreSections : Subject → Context → List Line → Type 0
+AreSections subject r lines = (tail : List Item) × (f : Context) × LeadsTo subject r tail f × AreDue (Some (Marks zero)) tail × (f.case ≡ length subject.cases) × (f.lines ≡ lines)
 
--- A tree whose leaves are settled has a certificate that is accepted, with the lines of its leaves.
-pub certificate_exists : (u : Setting) (hints : List HintRow) → IsWritable u hints → (height : ℕ) (goals : List Goal) (subject : Subject) → IsSubjectOf subject u hints goals →
-    (tree : Tree) → IsProved u height goals tree [] 0 → steps_in (most_steps u height) tree ≤ 2 ^ 64 →
-    (items : List Item) × Accepts subject items (lines_of_tree u height goals tree [] (map (λ g. line.Empty) subject.goals))
-certificate_exists u hints w height goals subject same tree proved room =
+end_leads : (subject : Subject) (c : Context) → LeadsTo subject c (item.End ∷ []) (after c item.End)
+end_leads subject c = (((λ b r. cc), refl), refl)
+
+-- the items of the root sections, and the end
+closed : (subject : Subject) (r : Context) (n : ℕ) (lines : List Line) → Ending subject r n lines →
+    (tail : List Item) × (f : Context) × LeadsTo subject r tail f × AreDue (Some (Sections n)) tail × (f.case ≡ length subject.cases) × (f.lines ≡ lines)
+closed subject r n lines e = (
+  e.items ++ item.End ∷ [],
+  after e.behind item.End,
+  lead_both subject r e.behind (after e.behind item.End) e.items (item.End ∷ []) e.leads (end_leads subject e.behind),
+  e.due (item.End ∷ []) ((tt, tt), refl),
+  e.cases,
+  e.shown,
+)
+
+module _ (subject : Subject) (hints : List HintRow) (height most : ℕ) (goals : List Goal) (nodes : List Node) (c : Context) (lines : List Line) (at : IsBehindHead c nodes lines) where
+  sections : (root : Root) (later : List Root) → AreRoots subject hints height most goals nodes 0 (root ∷ later) → length subject.cases ≤ 64 → steps_in_roots most (root ∷ later) ≤ 2 ^ 64 →
+      AreSections subject c (lines_of_roots height goals (root ∷ later) lines)
+  sections root [] are few room =
+      let none = at.next in
+      let one : 1 ≡ length subject.cases = let e = roots_are_counted subject hints height most goals nodes (root ∷ []) 0 are in omega (arith, e) in
+      let here : IsAtRoot subject nodes 0 c = record { nodes_are = at.nodes; steps = at.steps; cuts = at.cuts; case_is = at.case; begun = λ b. one; ended = at.ended } in
+      let s = closed subject c 1 _ (roots_end subject hints height most goals nodes (root ∷ []) 0 c here are (omega (arith, none, room))) in
+      (s.0, s.1, s.2, root_due s.0 s.3, s.4, s.5 ∙ ap (lines_of_roots height goals (root ∷ [])) at.lines)
+  sections root (second ∷ later) are few room =
+      let none = at.next in
+      let n : ℕ = suc (suc (length later)) in
+      let many : n ≡ length subject.cases = let e = roots_are_counted subject hints height most goals nodes (root ∷ second ∷ later) 0 are in omega (arith, e) in
+      let d : Context = after c (item.Cases n) in
+      let here : IsAtRoot subject nodes 0 d = record { nodes_are = at.nodes; steps = at.steps; cuts = at.cuts; case_is = at.case; begun = may_go_on subject d refl; ended = refl } in
+      let s = closed subject d n _ (roots_end subject hints height most goals nodes (root ∷ second ∷ later) 0 d here are (omega (arith, none, room))) in
+      (item.Cases n ∷ s.0, s.1, (((λ b r. many), refl), s.2), (((omega arith, omega (arith, many, few)), tt), s.3), s.4, s.5 ∙ ap (lines_of_roots height goals (root ∷ second ∷ later)) at.lines)
+
+-- ---- the certificate
+-- Trees whose leaves are settled, one for each case, have a certificate that is accepted, with the lines of their leaves.
+pub certificate_exists : (hints : List HintRow) (height most : ℕ) (goals : List Goal) (subject : Subject) (r : Root) (later : List Root) → AreRoots subject hints height most goals r.setting.nodes 0 (r ∷ later) →
+    length subject.cases ≤ 64 → steps_in_roots most (r ∷ later) ≤ 2 ^ 64 →
+    (items : List Item) × Accepts subject items (lines_of_roots height goals (r ∷ later) (map (λ g. line.Empty) subject.goals))
+certificate_exists hints height most goals subject root later are few room =
+    let u : Setting = root.setting in
+    let w : IsWritable u hints = are.0.writable in
+    let same = are.0.subject_is in
     let start : Context = first subject in
     let lines : List Line = map (λ g. line.Empty) subject.goals in
     let c : Context = behind_nodes start u.nodes in
     let p = past_nodes start u.nodes in
     let m : Context = after c (item.Marks (length subject.marks)) in
     let r : Context = behind_marks m subject.marks in
-    let most : ℕ = most_steps u height in
-    let at_root : IsAtRoot r u.nodes lines = past_marks m subject.marks u.nodes lines (record { nodes = p.nodes; next = p.next; steps = p.steps; cuts = p.cuts; case = p.case; lines = p.lines; ended = refl }) in
-    let below = subst (λ x. AllBelow r.next x) (sym at_root.steps) tt in
-    let P : Option Fact → Type 0 = λ o. Trace (givens_of u hints o) (numbered r) (table_at u height []) most in
-    let open_root : IsOpen u hints height most r [] = record {
-      nodes = at_root.nodes;
-      case = at_root.case;
-      below = below;
-      ended = at_root.ended;
-      room = subst (λ y. around_of (cuts_behind y) ≤ length r.steps) (sym at_root.cuts) (omega arith);
-      trace = subst P (sym (ap open_piece at_root.cuts)) (root_trace u hints w (numbered r) below height);
-    } in
-    let none = at_root.next in
-    let s = walk_goes_on u hints w height most (omega arith) goals subject same tree r [] 0 [] open_root (ap length at_root.cuts) proved (at_root.cuts, at_root.case) (omega (arith, none, room)) in
-    let f : Context = after s.behind item.End in
-    let tail : List Item = s.items ++ item.End ∷ [] in
+    let at : IsBehindHead r u.nodes lines =
+    past_marks m subject.marks u.nodes lines (record { nodes = p.nodes; next = p.next; steps = p.steps; cuts = p.cuts; case = p.case; lines = p.lines; begun = p.begun; ended = refl }) in
+    let s = sections subject hints height most goals u.nodes r lines at root later are few room in
+    let tail : List Item = s.0 in
+    let f : Context = s.1 in
     let marked : List Item = item.Marks (length subject.marks) ∷ (map item.Mark subject.marks ++ tail) in
     let marks_from : AreFrom subject.marks m.marked subject.marks = subst (λ k. AreFrom subject.marks k subject.marks) (sym p.marked) (from_all [] subject.marks) in
-    let tail_leads : LeadsTo subject r tail f = lead_both subject r s.behind f s.items (item.End ∷ []) s.leads (end_leads subject s.behind) in
-    let marks_then : LeadsTo subject m (map item.Mark subject.marks ++ tail) f = lead_both subject m r f (map item.Mark subject.marks) tail (marks_lead subject m subject.marks marks_from) tail_leads in (
+    let marks_then : LeadsTo subject m (map item.Mark subject.marks ++ tail) f = lead_both subject m r f (map item.Mark subject.marks) tail (marks_lead subject m subject.marks marks_from) s.2 in (
       item.Nodes (length u.nodes) ∷ (map item.Node u.nodes ++ marked),
       record {
-        certificate = ((tt, w.few_nodes), nodes_due subject [] u.nodes marked same.taken ((tt, same.few_marks), marks_due subject.marks tail (root_due tail (s.due (item.End ∷ []) ((tt, tt), refl)))));
+        certificate = ((tt, w.few_nodes), nodes_due subject [] u.nodes marked same.taken ((tt, same.few_marks), marks_due subject.marks tail s.3));
         end = f;
-        leads = (same.own, lead_both subject start c f (map item.Node u.nodes) marked (nodes_lead subject start u.nodes same.taken) (refl, marks_then));
-        cases = s.cases;
-        shown = s.shown ∙ ap (lines_of_tree u height goals tree []) at_root.lines;
+        leads = (((λ b x. cc), same.own), lead_both subject start c f (map item.Node u.nodes) marked (nodes_lead subject start u.nodes same.taken) (((λ b x. cc), refl), marks_then));
+        cases = s.4;
+        shown = s.5;
       },
     )

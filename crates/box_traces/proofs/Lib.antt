@@ -1,6 +1,7 @@
 mod Come
 mod Written
 mod Treed
+mod Rooted
 mod Head
 mod Fitting
 mod FitArith

@@ -38,7 +38,7 @@ use Rattle.box_traces.specs.Sections.{behind, AreAccepted, ArePlaces, AreBelow, 
 use Rattle.box_traces.specs.Writing.{IsWritable, givens_of}
 use Rattle.box_traces.specs.Traces.{HaveFields, Trace, IsCutTo, most_steps}
 use Rattle.box_traces.specs.Trees.{Tree, Trees, leaf, cut, last, next, lines_at, leaf_lines, lines_of_tree, lines_of_trees, steps_in, steps_in_each, AllSettled, cut_of, IsProved, AreProved, IsSubjectOf}
-use Rattle.box_traces.specs.Walks.{numbered, behind_steps, IsLater, IsOpen, IsBehind, IsEndOf, IsInCut, Frame, LiesIn, lines_behind, left_in, steps_behind, IsDue, Ending}
+use Rattle.box_traces.specs.Walks.{numbered, behind_steps, IsLater, MayBegin, IsOpen, IsBehind, IsEndOf, IsInCut, Frame, LiesIn, IsDue}
 use Rattle.box_traces.specs.Moves.{AreSteps, IsEntered, frame_of, turned, lead_both, next_behind}
 use Rattle.box_traces.specs.Cited.{below_behind, found_long}
 use Rattle.box_traces.proofs.Come.{child_trace}
@@ -46,9 +46,13 @@ use Rattle.box_traces.proofs.Written.{AreWritten, rows_written, settled_long}
 use Rattle.facts.specs.CommonParts.{void_is}
 
 -- ---- contexts
-steps_lead : (subject : Subject) (c : Context) (rows : List StepRow) → AreAccepted (givens subject c) (numbered c) rows → LeadsTo subject c (map item.Step rows) (behind_steps c rows)
-steps_lead subject c [] a = refl
-steps_lead subject c (row ∷ rows) a = (a.0, steps_lead subject (after c (item.Step row)) rows a.1)
+-- where the sections have begun, the number of cases was judged
+pub may_go_on : (subject : Subject) (c : Context) → c.begun ≡ true → MayBegin subject c
+may_go_on subject c e b = let f : true ≡ false = sym e ∙ b in cc
+
+steps_lead : (subject : Subject) (c : Context) (rows : List StepRow) → MayBegin subject c → AreAccepted (givens subject c) (numbered c) rows → LeadsTo subject c (map item.Step rows) (behind_steps c rows)
+steps_lead subject c [] m a = refl
+steps_lead subject c (row ∷ rows) m a = ((λ b r. m b, a.0), steps_lead subject (after c (item.Step row)) rows (may_go_on subject (after c (item.Step row)) refl) a.1)
 
 append_none : (xs : List Citable) → xs ≡ xs ++ []
 append_none [] = refl
@@ -59,7 +63,7 @@ append_more [] ys zs = refl
 append_more (x ∷ xs) ys zs = ap (λ l. x ∷ l) (append_more xs ys zs)
 
 steps_later : (c : Context) (rows : List StepRow) → IsLater c (behind_steps c rows)
-steps_later c [] = record { nodes = refl; cuts = refl; case = refl; lines = refl; ended = λ e. e; more = []; steps = append_none c.steps; next = omega arith }
+steps_later c [] = record { nodes = refl; cuts = refl; case = refl; lines = refl; begun = λ e. e; ended = λ e. e; more = []; steps = append_none c.steps; next = omega arith }
 steps_later c (row ∷ rows) =
     let l = steps_later (after c (item.Step row)) rows in
     record {
@@ -67,6 +71,7 @@ steps_later c (row ∷ rows) =
       cuts = l.cuts;
       case = l.case;
       lines = l.lines;
+      begun = λ e. let f : true ≡ false = l.begun e in cc;
       ended = λ e. l.ended refl;
       more = record { number = c.next; fact = row.fact } ∷ l.more;
       steps = l.steps ∙ append_more c.steps (record { number = c.next; fact = row.fact } ∷ []) l.more;
@@ -84,7 +89,7 @@ take_front (suc n) [] ys h = absurd (omega arith)
 take_front (suc n) (x ∷ xs) ys h = ap (λ l. x ∷ l) (take_front n xs ys (omega arith))
 
 -- behind the last item of a section
-ends : (c d : Context) (lines : List Line) → IsLater c d → around_of (cuts_behind c.cuts) ≤ length c.steps → IsEndOf c (record (behind_section (record d { lines = lines })) { ended = false }) lines
+ends : (c d : Context) (lines : List Line) → IsLater c d → around_of (cuts_behind c.cuts) ≤ length c.steps → IsEndOf c (record (behind_section (record d { lines = lines })) { begun = true; ended = false }) lines
 ends c d lines l room = record {
   nodes = l.nodes;
   cuts = ap cuts_behind l.cuts;
@@ -92,6 +97,7 @@ ends c d lines l room = record {
   steps = ap (λ x. take (around_of (cuts_behind x)) d.steps) l.cuts ∙ (ap (take (around_of (cuts_behind c.cuts))) l.steps ∙ take_front (around_of (cuts_behind c.cuts)) c.steps l.more room);
   next = l.next;
   shown = refl;
+  begun = refl;
   ended = refl;
 }
 
@@ -119,7 +125,7 @@ steps_due : (n : ℕ) (rows : List StepRow) (items rest : List Item) → AreWrit
 steps_due n [] items rest c d = d
 steps_due n (row ∷ rows) items rest c d = (c.0, steps_due n rows items rest c.1 d)
 
-append_items : (xs ys zs : List Item) → (xs ++ ys) ++ zs ≡ xs ++ (ys ++ zs)
+pub append_items : (xs ys zs : List Item) → (xs ++ ys) ++ zs ≡ xs ++ (ys ++ zs)
 append_items [] ys zs = refl
 append_items (x ∷ xs) ys zs = ap (λ l. x ∷ l) (append_items xs ys zs)
 
@@ -153,7 +159,7 @@ piece_room x points k n cuts h r =
     ]
 
 -- behind the last piece the box ends
-last_ends : (d e f : Context) (x : ExprId) (points : List Dyadic) (k : ℕ) (lines : List Line) → IsInCut d x points k e → k ≡ length points → IsEndOf e f lines → IsEndOf d f lines
+pub last_ends : (d e f : Context) (x : ExprId) (points : List Dyadic) (k : ℕ) (lines : List Line) → IsInCut d x points k e → k ≡ length points → IsEndOf e f lines → IsEndOf d f lines
 last_ends d e f x points k lines c h n =
     let q : cuts_behind e.cuts ≡ cuts_behind d.cuts = ap cuts_behind c.cuts ∙ cuts_last x points k (length d.steps) d.cuts h in
     record {
@@ -163,11 +169,12 @@ last_ends d e f x points k lines c h n =
       steps = n.steps ∙ (ap (λ y. take (around_of y) e.steps) q ∙ ap (take (around_of (cuts_behind d.cuts))) c.steps);
       next = let a = c.next in let b = n.next in omega (arith, a, b);
       shown = n.shown;
+      begun = n.begun;
       ended = n.ended;
     }
 
 -- behind another piece the next is entered
-next_enters : (d e f : Context) (x : ExprId) (points : List Dyadic) (k : ℕ) (lines : List Line) → IsInCut d x points k e → k < length points → IsEndOf e f lines → IsInCut d x points (k + 1) f
+pub next_enters : (d e f : Context) (x : ExprId) (points : List Dyadic) (k : ℕ) (lines : List Line) → IsInCut d x points k e → k < length points → IsEndOf e f lines → IsInCut d x points (k + 1) f
 next_enters d e f x points k lines c h n =
     let q : cuts_behind e.cuts ≡ cut_of x points (k + 1 + 1) (length d.steps) ∷ d.cuts = ap cuts_behind c.cuts ∙ cuts_more x points k (length d.steps) d.cuts h in
     record {
@@ -176,11 +183,12 @@ next_enters d e f x points k lines c h n =
       cuts = n.cuts ∙ q;
       steps = n.steps ∙ (ap (λ y. take (around_of y) e.steps) q ∙ (ap (take (length d.steps)) c.steps ∙ take_whole d.steps));
       next = let a = c.next in let b = n.next in omega (arith, a, b);
+      begun = n.begun;
       ended = n.ended;
     }
 
 -- what is behind the steps is the end of the box
-end_behind : (c d f : Context) (lines : List Line) → IsLater c d → around_of (cuts_behind c.cuts) ≤ length c.steps → IsEndOf d f lines → IsEndOf c f lines
+pub end_behind : (c d f : Context) (lines : List Line) → IsLater c d → around_of (cuts_behind c.cuts) ≤ length c.steps → IsEndOf d f lines → IsEndOf c f lines
 end_behind c d f lines l r n = record {
   nodes = n.nodes ∙ l.nodes;
   cuts = n.cuts ∙ ap cuts_behind l.cuts;
@@ -188,6 +196,7 @@ end_behind c d f lines l r n = record {
   steps = n.steps ∙ (ap (λ y. take (around_of (cuts_behind y)) d.steps) l.cuts ∙ (ap (take (around_of (cuts_behind c.cuts))) l.steps ∙ take_front (around_of (cuts_behind c.cuts)) c.steps l.more r));
   next = let a = l.next in let b = n.next in omega (arith, a, b);
   shown = n.shown;
+  begun = n.begun;
   ended = n.ended;
 }
 
@@ -207,7 +216,7 @@ variable_short : (nodes : List Node) (x : ExprId) → length nodes < 2 ^ 16 → 
 variable_short nodes x h v = let l = slice_get_within nodes x.0 (node.Var v.0) v.1 in omega (arith, h, l)
 
 -- ---- sections
-module _ (u : Setting) (hints : List HintRow) (w : IsWritable u hints) (height most : ℕ) (enough : most_steps u height ≤ most) (goals : List Goal) (subject : Subject) (same : IsSubjectOf subject u hints goals) where
+module _ (u : Setting) (hints : List HintRow) (w : IsWritable u hints) (height most : ℕ) (enough : most_steps u height ≤ most) (goals : List Goal) (subject : Subject) (case : ℕ) (same : IsSubjectOf subject case u hints goals) where
   -- The items of a section that begins here, with the context behind it, and no more steps than that.
   pub record Section (c : Context) (count : ℕ) (lines : List Line) : Type 0 where
     pub items : List Item
@@ -229,10 +238,13 @@ module _ (u : Setting) (hints : List HintRow) (w : IsWritable u hints) (height m
     proper : IsProper (table_at u height pieces)
     found : (t : Slot) (f : Fact) → table_at u height pieces t ≡ Some f → step_fact (behind_steps c rows).steps (place t) ≡ Some f
 
-  facts_same : (c : Context) → c.case ≡ 0 → u.hypotheses ≡ case_facts subject.cases c.case
-  facts_same c e = sym (ap (λ z. case_facts z c.case) same.cases ∙ ap (case_facts (u.hypotheses ∷ [])) e)
+  facts_same : (c : Context) → c.case ≡ case → u.hypotheses ≡ case_facts subject.cases c.case
+  facts_same c e = sym (ap (case_facts subject.cases) e ∙ same.facts)
 
-  begun : (c : Context) (pieces : List Piece) → IsOpen u hints height most c pieces → c.next + most ≤ 2 ^ 64 → Begun c pieces
+  may_later : (c d : Context) → MayBegin subject c → IsLater c d → MayBegin subject d
+  may_later c d m l b = m (l.begun b)
+
+  begun : (c : Context) (pieces : List Piece) → IsOpen u hints height most subject case c pieces → c.next + most ≤ 2 ^ 64 → Begun c pieces
   begun c pieces o room =
       let t = o.trace in
       let few = t.few in
@@ -246,7 +258,7 @@ module _ (u : Setting) (hints : List HintRow) (w : IsWritable u hints) (height m
         rows = t.rows;
         written = rows_written (givens_of u hints (open_piece c.cuts)) (numbered c) t.rows o.below (omega (arith, few, room)) w.few_nodes t.traced.accepted t.fields;
         place = t.place;
-        leads = steps_lead subject c t.rows accepted;
+        leads = steps_lead subject c t.rows o.begun accepted;
         later = steps_later c t.rows;
         far = omega (arith, ahead, few);
         below = subst AreBelow n (below_behind (numbered c) t.rows o.below);
@@ -255,7 +267,7 @@ module _ (u : Setting) (hints : List HintRow) (w : IsWritable u hints) (height m
       }
 
   -- ---- a leaf
-  leaf_section : (c : Context) (pieces : List Piece) (depth : ℕ) → IsOpen u hints height most c pieces → IsProved u height goals leaf pieces depth → c.next + most ≤ 2 ^ 64 →
+  leaf_section : (c : Context) (pieces : List Piece) (depth : ℕ) → IsOpen u hints height most subject case c pieces → IsProved u height goals leaf pieces depth → c.next + most ≤ 2 ^ 64 →
       Section c most (lines_of_tree u height goals leaf pieces c.lines)
   leaf_section c pieces depth o p room =
       let b = begun c pieces o room in
@@ -271,8 +283,8 @@ module _ (u : Setting) (hints : List HintRow) (w : IsWritable u hints) (height m
             subst P shown (record {
               items = map item.Step b.rows ++ item.Dead (b.place slot.Void) ∷ [];
               behind = after d (item.Dead (b.place slot.Void));
-              leads = lead_both subject c d (after d (item.Dead (b.place slot.Void))) (map item.Step b.rows) (item.Dead (b.place slot.Void) ∷ []) b.leads (is, refl);
-              end = let e = ends c d d.lines b.later o.room in record { nodes = e.nodes; cuts = e.cuts; case = e.case; steps = e.steps; next = e.next; shown = b.later.lines; ended = refl };
+              leads = lead_both subject c d (after d (item.Dead (b.place slot.Void))) (map item.Step b.rows) (item.Dead (b.place slot.Void) ∷ []) b.leads ((λ e r. may_later c d o.begun b.later e, is), refl);
+              end = let e = ends c d d.lines b.later o.room in record { nodes = e.nodes; cuts = e.cuts; case = e.case; steps = e.steps; next = e.next; shown = b.later.lines; begun = refl; ended = refl };
               far = far;
               due = λ n rest r. steps_due n b.rows (item.Dead (b.place slot.Void) ∷ []) rest b.written ((tt, found_long d.steps (b.place slot.Void) d.next fact.Void b.below long is), r);
             })
@@ -285,8 +297,8 @@ module _ (u : Setting) (hints : List HintRow) (w : IsWritable u hints) (height m
             record {
               items = map item.Step b.rows ++ item.Leaf refs ∷ [];
               behind = after d (item.Leaf refs);
-              leads = lead_both subject c d (after d (item.Leaf refs)) (map item.Step b.rows) (item.Leaf refs ∷ []) b.leads (settled, refl);
-              end = let e = ends c d (lines_with d.steps d.lines refs) b.later o.room in record { nodes = e.nodes; cuts = e.cuts; case = e.case; steps = e.steps; next = e.next; shown = shown; ended = refl };
+              leads = lead_both subject c d (after d (item.Leaf refs)) (map item.Step b.rows) (item.Leaf refs ∷ []) b.leads ((λ e r. may_later c d o.begun b.later e, settled), refl);
+              end = let e = ends c d (lines_with d.steps d.lines refs) b.later o.room in record { nodes = e.nodes; cuts = e.cuts; case = e.case; steps = e.steps; next = e.next; shown = shown; begun = refl; ended = refl };
               far = far;
               due = λ n rest r. steps_due n b.rows (item.Leaf refs ∷ []) rest b.written ((counted, settled_long d.steps d.next subject.goals refs b.below long settled), r);
             }
@@ -302,8 +314,8 @@ module _ (u : Setting) (hints : List HintRow) (w : IsWritable u hints) (height m
     pub far : behind.next ≤ e.next + count
     pub due : (n : ℕ) → IsDue (n + left) n items
 
-  piece_is_open : (d e : Context) (pieces : List Piece) (x : ExprId) (points : List Dyadic) (k : ℕ) (i : Interval) (p : Fact) → IsBehind u height d pieces → IsInCut d x points k e → IsVariable u.nodes x →
-      k ≤ length points → piece_fact (cut_of x points 0 0) k ≡ Some p → IsCutTo (table_at u height pieces) p (x, i) → IsOpen u hints height most e ((x, i) ∷ pieces)
+  piece_is_open : (d e : Context) (pieces : List Piece) (x : ExprId) (points : List Dyadic) (k : ℕ) (i : Interval) (p : Fact) → IsBehind u height case d pieces → IsInCut d x points k e → IsVariable u.nodes x →
+      k ≤ length points → piece_fact (cut_of x points 0 0) k ≡ Some p → IsCutTo (table_at u height pieces) p (x, i) → IsOpen u hints height most subject case e ((x, i) ∷ pieces)
   piece_is_open d e pieces x points k i p b c v h q t =
       let below : AreBelow (numbered e) = subst (λ r. AllBelow e.next r) (sym c.steps) (below_later d.steps d.next e.next c.next b.below) in
       let placed : ArePlaces (numbered e) (table_at u height pieces) b.place = λ s f y. subst (λ r. step_fact r (b.place s) ≡ Some f) (sym c.steps) (b.found s f y) in
@@ -316,6 +328,7 @@ module _ (u : Setting) (hints : List HintRow) (w : IsWritable u hints) (height m
       record {
         nodes = c.nodes ∙ b.nodes;
         case = c.case ∙ b.case;
+        begun = may_go_on subject e c.begun;
         below = below;
         ended = c.ended;
         room = subst (λ y. around_of (cuts_behind y) ≤ length e.steps) (sym c.cuts)
@@ -324,12 +337,12 @@ module _ (u : Setting) (hints : List HintRow) (w : IsWritable u hints) (height m
       }
 
   -- behind the last piece no other comes
-  no_more : (trees : Trees) (x : ExprId) (points : List Dyadic) (k : ℕ) (pieces : List Piece) (depth : ℕ) (lines : List Line) → k ≡ length points → AreProved u height goals x points trees (k + 1) pieces depth →
+  pub no_more : (trees : Trees) (x : ExprId) (points : List Dyadic) (k : ℕ) (pieces : List Piece) (depth : ℕ) (lines : List Line) → k ≡ length points → AreProved u height goals x points trees (k + 1) pieces depth →
       lines ≡ lines_of_trees u height goals x trees pieces lines
   no_more last x points k pieces depth lines h p = refl
   no_more (next i tree trees) x points k pieces depth lines h p = let l : k + 1 ≤ length points = p.0 in absurd (omega (arith, h, l))
 
-  behind_steps_of : (c : Context) (pieces : List Piece) (o : IsOpen u hints height most c pieces) → (b : Begun c pieces) → IsBehind u height (behind_steps c b.rows) pieces
+  behind_steps_of : (c : Context) (pieces : List Piece) (o : IsOpen u hints height most subject case c pieces) → (b : Begun c pieces) → IsBehind u height case (behind_steps c b.rows) pieces
   behind_steps_of c pieces o b = record {
     nodes = b.later.nodes ∙ o.nodes;
     case = b.later.case ∙ o.case;
@@ -343,7 +356,7 @@ module _ (u : Setting) (hints : List HintRow) (w : IsWritable u hints) (height m
 
   mutual
     -- A tree whose leaves are settled has a section that is accepted.
-    pub tree_section : (t : Tree) (c : Context) (pieces : List Piece) (depth : ℕ) → IsOpen u hints height most c pieces → length c.cuts ≡ depth → IsProved u height goals t pieces depth →
+    pub tree_section : (t : Tree) (c : Context) (pieces : List Piece) (depth : ℕ) → IsOpen u hints height most subject case c pieces → length c.cuts ≡ depth → IsProved u height goals t pieces depth →
         c.next + steps_in most t ≤ 2 ^ 64 → Section c (steps_in most t) (lines_of_tree u height goals t pieces c.lines)
     tree_section leaf c pieces depth o l p room = leaf_section c pieces depth o p room
     tree_section (cut x points trees) c pieces depth o l p room =
@@ -353,7 +366,7 @@ module _ (u : Setting) (hints : List HintRow) (w : IsWritable u hints) (height m
         let far = b.far in
         let deep : length d.cuts ≡ depth = ap length b.later.cuts ∙ l in
         let variable : IsVariable d.nodes x = subst (λ n. IsVariable n x) (sym (b.later.nodes ∙ o.nodes)) p.0 in
-        let in_cut : IsInCut d x points 0 e = record { nodes = refl; case = refl; cuts = refl; steps = refl; next = omega arith; ended = refl } in
+        let in_cut : IsInCut d x points 0 e = record { nodes = refl; case = refl; cuts = refl; steps = refl; next = omega arith; begun = refl; ended = refl } in
         let rest = trees_section trees x points 0 d e pieces (depth + 1) (behind_steps_of c pieces o b) in_cut p.0 (omega (arith, deep)) (omega arith) p.3 (omega (arith, far, room)) in
         let beyond = rest.far in
         let shown : lines_of_trees u height goals x trees pieces d.lines ≡ lines_of_trees u height goals x trees pieces c.lines = ap (lines_of_trees u height goals x trees pieces) b.later.lines in
@@ -362,7 +375,7 @@ module _ (u : Setting) (hints : List HintRow) (w : IsWritable u hints) (height m
           items = map item.Step b.rows ++ item.Cut x points ∷ rest.items;
           behind = rest.behind;
           leads = lead_both subject c d rest.behind (map item.Step b.rows) (item.Cut x points ∷ rest.items) b.leads
-              ((variable, subst (λ n. n < 64) (sym deep) p.1), rest.leads);
+              ((λ y r. may_later c d o.begun b.later y, (variable, subst (λ n. n < 64) (sym deep) p.1)), rest.leads);
           end = end_behind c d rest.behind (lines_of_trees u height goals x trees pieces d.lines) b.later o.room rest.end;
           far = omega (arith, far, beyond);
           due = λ n more r. steps_due n b.rows (item.Cut x points ∷ rest.items) more b.written
@@ -370,7 +383,7 @@ module _ (u : Setting) (hints : List HintRow) (w : IsWritable u hints) (height m
         })
 
     -- The pieces of a box from number k on, behind its steps and the pieces before, end the box.
-    pub trees_section : (trees : Trees) (x : ExprId) (points : List Dyadic) (k : ℕ) (d e : Context) (pieces : List Piece) (depth : ℕ) → IsBehind u height d pieces → IsInCut d x points k e → IsVariable u.nodes x →
+    pub trees_section : (trees : Trees) (x : ExprId) (points : List Dyadic) (k : ℕ) (d e : Context) (pieces : List Piece) (depth : ℕ) → IsBehind u height case d pieces → IsInCut d x points k e → IsVariable u.nodes x →
         length d.cuts + 1 ≡ depth → k ≤ length points → AreProved u height goals x points trees k pieces depth → e.next + steps_in_each most trees ≤ 2 ^ 64 →
         Rest d e (length points + 1 - k) (steps_in_each most trees) (lines_of_trees u height goals x trees pieces e.lines)
     trees_section last x points k d e pieces depth b c v l h p room = let q : k ≡ length points + 1 = p in absurd (omega (arith, h, q))
@@ -406,85 +419,12 @@ module _ (u : Setting) (hints : List HintRow) (w : IsWritable u hints) (height m
               })
         ]
 
-  -- ---- a walk that stands somewhere
-  one_case : length subject.cases ≡ 1
-  one_case = ap length same.cases
-
-  -- Behind each section there are items that end all boxes in which it lies.
-  pub walk_ends : (frames : List Frame) (c f : Context) (lines : List Line) → LiesIn u height goals c frames → IsEndOf c f lines → f.next + steps_behind most frames ≤ 2 ^ 64 →
-      Ending subject f (left_in frames) (lines_behind u height goals frames lines)
-  walk_ends [] c f lines l n room = record {
-    items = [];
-    behind = f;
-    leads = refl;
-    cases = n.case ∙ (ap (λ y. case_behind c.case (cuts_behind y)) l.0 ∙ (ap (λ y. case_behind y []) l.1 ∙ sym one_case));
-    shown = n.shown;
-    due = λ rest r. r;
-  }
-  walk_ends (fr ∷ frames) c f lines l n room =
-      let here = l.0 in
-      elim (cases_lt fr.piece (length fr.points)) [
-        | inl m ↦
-            let rest = trees_section fr.later fr.var fr.points (fr.piece + 1) fr.steps f fr.pieces fr.depth here.behind (next_enters fr.steps c f fr.var fr.points fr.piece lines here.entered m n) here.variable here.deep (omega arith) here.proved
-            (omega (arith, room)) in
-            let far = rest.far in
-            let e = end_behind fr.begin fr.steps rest.behind (lines_of_trees u height goals fr.var fr.later fr.pieces f.lines) here.after here.room rest.end in
-            let up = walk_ends frames fr.begin rest.behind (lines_of_trees u height goals fr.var fr.later fr.pieces f.lines) l.1 e (omega (arith, far, room)) in
-            let P : List Line → Type 0 = λ y. Ending subject f (left_in (fr ∷ frames)) y in
-            subst P (ap (λ y. lines_behind u height goals frames (lines_of_trees u height goals fr.var fr.later fr.pieces y)) n.shown) (record {
-              items = rest.items ++ up.items;
-              behind = up.behind;
-              leads = lead_both subject f rest.behind up.behind rest.items up.items rest.leads up.leads;
-              cases = up.cases;
-              shown = up.shown;
-              due = λ more r. walk_due (left_in frames) (left_in frames + (length fr.points + 1 - (fr.piece + 1))) (left_in (fr ∷ frames)) rest.items up.items more (omega (arith, m)) (rest.due (left_in frames)) (up.due more r);
-            })
-        | inr m ↦
-            let whole : fr.piece ≡ length fr.points = let h = here.within in omega (arith, h) in
-            let e = end_behind fr.begin fr.steps f lines here.after here.room (last_ends fr.steps c f fr.var fr.points fr.piece lines here.entered whole n) in
-            let up = walk_ends frames fr.begin f lines l.1 e (omega (arith, room)) in
-            let P : List Line → Type 0 = λ y. Ending subject f (left_in (fr ∷ frames)) y in
-            subst P (ap (lines_behind u height goals frames) (no_more fr.later fr.var fr.points fr.piece fr.pieces fr.depth lines whole here.proved)) (record {
-              items = up.items;
-              behind = up.behind;
-              leads = up.leads;
-              cases = up.cases;
-              shown = up.shown;
-              due = λ more r. subst (λ y. AreDue (Some (Sections y)) (up.items ++ more)) (left_same fr frames whole) (up.due more r);
-            })
-      ]
-    where
-      walk_due : (n m k : ℕ) (items more rest : List Item) → m ≡ k → IsDue m n items → AreDue (Some (Sections n)) (more ++ rest) → AreDue (Some (Sections k)) ((items ++ more) ++ rest)
-      walk_due n m k items more rest e d r =
-          let Q : List Item → Type 0 = λ y. AreDue (Some (Sections k)) y in
-          subst Q (sym (append_items items more rest)) (subst (λ y. AreDue (Some (Sections y)) (items ++ (more ++ rest))) e (d (more ++ rest) r))
-
-      left_same : (fr : Frame) (frames : List Frame) → fr.piece ≡ length fr.points → left_in frames ≡ left_in (fr ∷ frames)
-      left_same fr frames e = omega (arith, e)
-
-  -- Where the section of a box may begin, there are items that end it and all boxes in which it lies: whatever was written so far begins a certificate that is accepted.
-  pub walk_goes_on : (t : Tree) (c : Context) (pieces : List Piece) (depth : ℕ) (frames : List Frame) → IsOpen u hints height most c pieces → length c.cuts ≡ depth → IsProved u height goals t pieces depth →
-      LiesIn u height goals c frames → c.next + (steps_in most t + steps_behind most frames) ≤ 2 ^ 64 →
-      Ending subject c (suc (left_in frames)) (lines_behind u height goals frames (lines_of_tree u height goals t pieces c.lines))
-  walk_goes_on t c pieces depth frames o d p l room =
-      let s = tree_section t c pieces depth o d p (omega (arith, room)) in
-      let far = s.far in
-      let up = walk_ends frames c s.behind (lines_of_tree u height goals t pieces c.lines) l s.end (omega (arith, far, room)) in
-      record {
-        items = s.items ++ up.items;
-        behind = up.behind;
-        leads = lead_both subject c s.behind up.behind s.items up.items s.leads up.leads;
-        cases = up.cases;
-        shown = up.shown;
-        due = λ more r. subst (λ y. AreDue (Some (Sections (suc (left_in frames)))) y) (sym (append_items s.items up.items more)) (s.due (left_in frames) (up.items ++ more) (up.due more r));
-      }
-
   -- ---- a walk moves
   rows_due : (n : ℕ) (rows : List StepRow) (rest : List Item) → AreWritten rows → AreDue (Some (Sections (suc n))) rest → AreDue (Some (Sections (suc n))) (map item.Step rows ++ rest)
   rows_due n [] rest c d = d
   rows_due n (row ∷ rows) rest c d = (c.0, rows_due n rows rest c.1 d)
 
-  pub rows_lead : (c : Context) (pieces : List Piece) (rows : List StepRow) → IsOpen u hints height most c pieces → AreAccepted (givens_of u hints (open_piece c.cuts)) (numbered c) rows → HaveFields rows →
+  pub rows_lead : (c : Context) (pieces : List Piece) (rows : List StepRow) → IsOpen u hints height most subject case c pieces → AreAccepted (givens_of u hints (open_piece c.cuts)) (numbered c) rows → HaveFields rows →
       c.next + length rows ≤ 2 ^ 64 → AreSteps subject c rows
   rows_lead c pieces rows o a fields room =
       let facts : u.hypotheses ≡ case_facts subject.cases c.case = facts_same c o.case in
@@ -492,13 +432,13 @@ module _ (u : Setting) (hints : List HintRow) (w : IsWritable u hints) (height m
       (λ k. record { facts = facts k; hints = sym same.rows k; nodes = sym o.nodes k; piece = open_piece c.cuts }) in
       let written = rows_written (givens_of u hints (open_piece c.cuts)) (numbered c) rows o.below room w.few_nodes a fields in
       record {
-        leads = steps_lead subject c rows (subst (λ g. AreAccepted g (numbered c) rows) same_givens a);
+        leads = steps_lead subject c rows o.begun (subst (λ g. AreAccepted g (numbered c) rows) same_givens a);
         later = steps_later c rows;
         due = λ n rest r. rows_due n rows rest written r;
       }
 
-  pub rows_placed : (c : Context) (pieces : List Piece) (rows : List StepRow) (place : Slot → ℕ) → IsOpen u hints height most c pieces → ArePlaces (behind (numbered c) rows) (table_at u height pieces) place →
-      IsBehind u height (behind_steps c rows) pieces
+  pub rows_placed : (c : Context) (pieces : List Piece) (rows : List StepRow) (place : Slot → ℕ) → IsOpen u hints height most subject case c pieces → ArePlaces (behind (numbered c) rows) (table_at u height pieces) place →
+      IsBehind u height case (behind_steps c rows) pieces
   rows_placed c pieces rows place o p =
       let n : behind (numbered c) rows ≡ numbered (behind_steps c rows) = sym (numbered_behind c rows) in
       let l = steps_later c rows in
@@ -514,9 +454,9 @@ module _ (u : Setting) (hints : List HintRow) (w : IsWritable u hints) (height m
       }
 
   pub cut_enters : (c : Context) (rows : List StepRow) (x : ExprId) (points : List Dyadic) (i : Interval) (tree : Tree) (trees : Trees) (pieces : List Piece) (depth : ℕ) (frames : List Frame) →
-      IsEntered u hints height most goals c (cut x points (next i tree trees)) pieces depth frames → AreSteps subject c rows → IsBehind u height (behind_steps c rows) pieces →
+      IsEntered u hints height most goals subject case c (cut x points (next i tree trees)) pieces depth frames → AreSteps subject c rows → IsBehind u height case (behind_steps c rows) pieces →
       JudgesItem subject (behind_steps c rows) (item.Cut x points) None
-      × IsEntered u hints height most goals (after (behind_steps c rows) (item.Cut x points)) tree ((x, i) ∷ pieces) (depth + 1) (frame_of c rows x points trees pieces (depth + 1) ∷ frames)
+      × IsEntered u hints height most goals subject case (after (behind_steps c rows) (item.Cut x points)) tree ((x, i) ∷ pieces) (depth + 1) (frame_of c rows x points trees pieces (depth + 1) ∷ frames)
   cut_enters c rows x points i tree trees pieces depth frames n a b =
       let d : Context = behind_steps c rows in
       let e : Context = after d (item.Cut x points) in
@@ -526,9 +466,9 @@ module _ (u : Setting) (hints : List HintRow) (w : IsWritable u hints) (height m
       let at = n.deep in
       let deep : length d.cuts ≡ depth = omega (arith, same, at) in
       let variable : IsVariable d.nodes x = subst (λ ns. IsVariable ns x) (sym b.nodes) p.0 in
-      let in_cut : IsInCut d x points 0 e = record { nodes = refl; case = refl; cuts = refl; steps = refl; next = omega arith; ended = refl } in
+      let in_cut : IsInCut d x points 0 e = record { nodes = refl; case = refl; cuts = refl; steps = refl; next = omega arith; begun = refl; ended = refl } in
       let here = each.1 in (
-        (variable, subst (λ k. k < 64) (sym deep) p.1),
+        ((λ y r. may_later c d n.opened.begun a.later y), (variable, subst (λ k. k < 64) (sym deep) p.1)),
         record {
           opened = piece_is_open d e pieces x points 0 i here.0 b in_cut p.0 (omega arith) here.1 here.2;
           deep = omega (arith, deep);
@@ -549,26 +489,26 @@ module _ (u : Setting) (hints : List HintRow) (w : IsWritable u hints) (height m
         },
       )
 
-  pub leaf_ends : (c : Context) (pieces : List Piece) (rows : List StepRow) (refs : List ℕ) → IsOpen u hints height most c pieces → AreSteps subject c rows →
+  pub leaf_ends : (c : Context) (pieces : List Piece) (rows : List StepRow) (refs : List ℕ) → IsOpen u hints height most subject case c pieces → AreSteps subject c rows →
       AreSettled (behind_steps c rows).steps subject.goals refs →
       JudgesItem subject (behind_steps c rows) (item.Leaf refs) None × IsEndOf c (after (behind_steps c rows) (item.Leaf refs)) (lines_with (behind_steps c rows).steps c.lines refs)
   leaf_ends c pieces rows refs o a s =
       let d : Context = behind_steps c rows in
       let shown : lines_with d.steps d.lines refs ≡ lines_with d.steps c.lines refs = ap (λ l. lines_with d.steps l refs) a.later.lines in
       let e = ends c d (lines_with d.steps d.lines refs) a.later o.room in
-      (s, record { nodes = e.nodes; cuts = e.cuts; case = e.case; steps = e.steps; next = e.next; shown = shown; ended = refl })
+      ((λ y r. may_later c d o.begun a.later y, s), record { nodes = e.nodes; cuts = e.cuts; case = e.case; steps = e.steps; next = e.next; shown = shown; begun = refl; ended = refl })
 
-  pub dead_ends : (c : Context) (pieces : List Piece) (rows : List StepRow) (r : ℕ) → IsOpen u hints height most c pieces → AreSteps subject c rows →
+  pub dead_ends : (c : Context) (pieces : List Piece) (rows : List StepRow) (r : ℕ) → IsOpen u hints height most subject case c pieces → AreSteps subject c rows →
       step_fact (behind_steps c rows).steps r ≡ Some fact.Void →
       JudgesItem subject (behind_steps c rows) (item.Dead r) None × IsEndOf c (after (behind_steps c rows) (item.Dead r)) c.lines
   dead_ends c pieces rows r o a s =
       let d : Context = behind_steps c rows in
       let e = ends c d d.lines a.later o.room in
-      (s, record { nodes = e.nodes; cuts = e.cuts; case = e.case; steps = e.steps; next = e.next; shown = a.later.lines; ended = refl })
+      ((λ y r. may_later c d o.begun a.later y, s), record { nodes = e.nodes; cuts = e.cuts; case = e.case; steps = e.steps; next = e.next; shown = a.later.lines; begun = refl; ended = refl })
 
-  follows_as : (c d : Context) (lines : List Line) (fr : Frame) (i : Interval) (tree : Tree) (trees : Trees) (frames : List Frame) → LiesIn u height goals c (fr ∷ frames) →
+  follows_as : (c d : Context) (lines : List Line) (fr : Frame) (i : Interval) (tree : Tree) (trees : Trees) (frames : List Frame) → LiesIn u height goals case c (fr ∷ frames) →
       AreProved u height goals fr.var fr.points (next i tree trees) (fr.piece + 1) fr.pieces fr.depth → IsEndOf c d lines →
-      IsEntered u hints height most goals d tree ((fr.var, i) ∷ fr.pieces) fr.depth (turned fr trees ∷ frames)
+      IsEntered u hints height most goals subject case d tree ((fr.var, i) ∷ fr.pieces) fr.depth (turned fr trees ∷ frames)
   follows_as c d lines fr i tree trees frames l p n =
       let here = l.0 in
       let in_cut : IsInCut fr.steps fr.var fr.points (fr.piece + 1) d = next_enters fr.steps c d fr.var fr.points fr.piece lines here.entered (let q : fr.piece + 1 ≤ length fr.points = p.0 in omega (arith, q)) n in
@@ -585,12 +525,12 @@ module _ (u : Setting) (hints : List HintRow) (w : IsWritable u hints) (height m
         );
       }
 
-  pub piece_follows : (c d : Context) (lines : List Line) (fr : Frame) (i : Interval) (tree : Tree) (trees : Trees) (frames : List Frame) → LiesIn u height goals c (fr ∷ frames) →
-      fr.later ≡ next i tree trees → IsEndOf c d lines → IsEntered u hints height most goals d tree ((fr.var, i) ∷ fr.pieces) fr.depth (turned fr trees ∷ frames)
+  pub piece_follows : (c d : Context) (lines : List Line) (fr : Frame) (i : Interval) (tree : Tree) (trees : Trees) (frames : List Frame) → LiesIn u height goals case c (fr ∷ frames) →
+      fr.later ≡ next i tree trees → IsEndOf c d lines → IsEntered u hints height most goals subject case d tree ((fr.var, i) ∷ fr.pieces) fr.depth (turned fr trees ∷ frames)
   piece_follows c d lines fr i tree trees frames l e n =
       follows_as c d lines fr i tree trees frames l (subst (λ ts. AreProved u height goals fr.var fr.points ts (fr.piece + 1) fr.pieces fr.depth) e (l.0).proved) n
 
-  pub box_ends : (c d : Context) (lines : List Line) (fr : Frame) (frames : List Frame) → LiesIn u height goals c (fr ∷ frames) → fr.later ≡ last → IsEndOf c d lines → IsEndOf fr.begin d lines
+  pub box_ends : (c d : Context) (lines : List Line) (fr : Frame) (frames : List Frame) → LiesIn u height goals case c (fr ∷ frames) → fr.later ≡ last → IsEndOf c d lines → IsEndOf fr.begin d lines
   box_ends c d lines fr frames l e n =
       let here = l.0 in
       let q : fr.piece + 1 ≡ length fr.points + 1 = subst (λ ts. AreProved u height goals fr.var fr.points ts (fr.piece + 1) fr.pieces fr.depth) e here.proved in

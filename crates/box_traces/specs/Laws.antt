@@ -1,5 +1,5 @@
 -- What is promised of steps and certificates.
-use Rattle.std.specs.Prelude.{◌≤◌, ◌^◌, ℕ, List, [], ◌∷◌, map, Some, None}
+use Rattle.std.specs.Prelude.{◌≤◌, ◌^◌, ℕ, List, [], ◌∷◌, length, map, Some, None}
 use Rattle.fx_model.specs.declared.Node.{Node}
 use Rattle.fx_model.specs.Expression.{IsOrdered}
 use Rattle.facts.specs.declared.fact.Fact.{Fact}
@@ -20,7 +20,7 @@ use Rattle.cert_checker.specs.Accepted.{Accepts}
 use Rattle.box_traces.specs.Sections.{ArePlaces, AreBelow}
 use Rattle.box_traces.specs.Writing.{IsSlotKnown, IsWritable, IsVoidFitting, IsFromFew, IsNumberedLow, givens_of}
 use Rattle.box_traces.specs.Traces.{Trace, IsCutTo, most_steps}
-use Rattle.box_traces.specs.Trees.{Tree, IsProved, lines_of_tree, steps_in, IsSubjectOf}
+use Rattle.box_traces.specs.Roots.{Root, AreRoots, steps_in_roots, lines_of_roots}
 
 -- Behind any steps there are further ones that are accepted, and conclude each of the root's best facts; below the root the same wherever each fact of the
 -- parent has its place.
@@ -30,11 +30,16 @@ pub record TracesExist : Type 0 where
       IsSlotKnown u.nodes (slot.Bnd piece.0) → IsProper (table_at u height above) → ArePlaces s (table_at u height above) place → IsCutTo (table_at u height above) p piece →
       Trace (givens_of u hints (Some p)) s (table_at u height (piece ∷ above)) (most_steps u height)
 
--- A tree of boxes whose leaves are settled, and whose steps can be numbered, has a certificate that the checker accepts, with the lines that its leaves show.
+-- Trees of boxes whose leaves are settled, one for each case, 1 to 64, and whose steps can be
+-- numbered, have a certificate that the checker accepts, with the lines that the leaves of all
+-- trees show.
 abbrev pub CertificatesExist : Type 0
-CertificatesExist = (u : Setting) (hints : List HintRow) → IsWritable u hints → (height : ℕ) (goals : List Goal) (subject : Subject) → IsSubjectOf subject u hints goals →
-    (tree : Tree) → IsProved u height goals tree [] 0 → steps_in (most_steps u height) tree ≤ 2 ^ 64 →
-    (items : List Item) × Accepts subject items (lines_of_tree u height goals tree [] (map (λ g. line.Empty) subject.goals))
+CertificatesExist = (hints : List HintRow)
+    (height most : ℕ) (goals : List Goal) (subject : Subject) (r : Root) (later : List Root)
+    → AreRoots subject hints height most goals r.setting.nodes 0 (r ∷ later) →
+    length subject.cases ≤ 64 → steps_in_roots most (r ∷ later) ≤ 2 ^ 64 →
+    (items : List Item) × Accepts subject items
+    (lines_of_roots height goals (r ∷ later) (map (λ g. line.Empty) subject.goals))
 
 -- What the list of rules gives can be written as steps: VOID is given also where VOID is aimed at, from premises that have room in a step, by
 -- rules with numbers below 100.

@@ -4,6 +4,7 @@ pub mod Traces
 pub mod Cited
 pub mod Coming
 pub mod Trees
+pub mod Roots
 pub mod Walks
 pub mod Moves
 pub mod Laws

@@ -24,25 +24,32 @@ use Rattle.box_traces.specs.Sections.{behind, AreAccepted, ArePlaces}
 use Rattle.box_traces.specs.Writing.{IsWritable, givens_of}
 use Rattle.box_traces.specs.Traces.{HaveFields, most_steps}
 use Rattle.box_traces.specs.Trees.{Tree, Trees, cut, last, next, IsProved, lines_of_tree, steps_in, IsSubjectOf}
+use Rattle.box_traces.specs.Roots.{Root, IsRoot, AreRoots, steps_in_roots, lines_of_roots}
 use Rattle.box_traces.specs.Walks.{numbered, behind_steps, IsLater, IsOpen, IsBehind, IsEndOf, Frame, LiesIn, left_in, lines_behind, steps_behind, IsDue, Ending}
-use Rattle.fx_model.specs.declared.Node.{Node}
 use Rattle.facts.specs.declared.hint.HintMark.{HintMark}
 use Rattle.cert_bytes.specs.declared.item.Item.{Item}
 use Rattle.cert_bytes.specs.Certificates.{AreDue}
-use Rattle.cert_bytes.specs.declared.order.Due.TheVariants.{Nodes, Marks, Sections}
+use Rattle.cert_bytes.specs.declared.order.Due.TheVariants.{Marks, Sections}
 
 -- This is so of everything that can be written, of so many steps a box, with what certificates are judged against.
-abbrev pub OfWalks : (Setting → List HintRow → ℕ → ℕ → List Goal → Subject → Type 0) → Type 0
-OfWalks P = (u : Setting) (hints : List HintRow) → IsWritable u hints → (height most : ℕ) → most_steps u height ≤ most → (goals : List Goal) (subject : Subject) → IsSubjectOf subject u hints goals →
-    P u hints height most goals subject
+abbrev pub OfWalks : (Setting → List HintRow → ℕ → ℕ → List Goal → Subject → ℕ → Type 0) → Type 0
+OfWalks P = (u : Setting) (hints : List HintRow)
+    → IsWritable u hints → (height most : ℕ) → most_steps u height ≤ most
+    → (goals : List Goal) (subject : Subject) (case : ℕ) → IsSubjectOf subject case u hints goals →
+    P u hints height most goals subject case
 
 -- A walk over the boxes in the order of their paths can always go on: where the section of a box may begin, there are items from there to the
--- end of the root section that are accepted, with the lines of all leaves that are still to come. So what was written before begins an accepted certificate.
+-- end of the last root section that are accepted, with the lines of all leaves that are still to
+-- come, those of later cases among them. So what was written before begins an accepted certificate.
 abbrev pub WalksGoOn : Type 0
-WalksGoOn = OfWalks (λ u hints height most goals subject.
-    (tree : Tree) (c : Context) (pieces : List Piece) (depth : ℕ) (frames : List Frame) → IsOpen u hints height most c pieces → length c.cuts ≡ depth →
-    IsProved u height goals tree pieces depth → LiesIn u height goals c frames → c.next + (steps_in most tree + steps_behind most frames) ≤ 2 ^ 64 →
-    Ending subject c (suc (left_in frames)) (lines_behind u height goals frames (lines_of_tree u height goals tree pieces c.lines)))
+WalksGoOn = OfWalks (λ u hints height most goals subject case.
+    (tree : Tree) (c : Context) (pieces : List Piece) (depth : ℕ) (frames : List Frame)
+    → IsOpen u hints height most subject case c pieces → length c.cuts ≡ depth →
+    IsProved u height goals tree pieces depth → LiesIn u height goals case c frames
+    → (later : List Root) → AreRoots subject hints height most goals u.nodes (case + 1) later →
+    c.next + (steps_in most tree + steps_behind most frames + steps_in_roots most later) ≤ 2 ^ 64 →
+    Ending subject c (suc (left_in frames + length later)) (lines_of_roots height goals later
+    (lines_behind u height goals frames (lines_of_tree u height goals tree pieces c.lines))))
 
 -- The steps may be written where c stands: nothing is wrong with them, and they are due there.
 pub record AreSteps (subject : Subject) (c : Context) (rows : List StepRow) : Type 0 where
@@ -59,41 +66,74 @@ abbrev pub turned : Frame → Trees → Frame
 turned fr later = record fr { piece = fr.piece + 1; later = later }
 
 -- The section of a box may begin here, in these boxes.
-pub record IsEntered (u : Setting) (hints : List HintRow) (height most : ℕ) (goals : List Goal) (c : Context) (tree : Tree) (pieces : List Piece) (depth : ℕ) (frames : List Frame) : Type 0 where
-  pub opened : IsOpen u hints height most c pieces
+pub record IsEntered (u : Setting) (hints : List HintRow)
+    (height most : ℕ) (goals : List Goal) (subject : Subject) (case : ℕ) (c : Context)
+    (tree : Tree) (pieces : List Piece) (depth : ℕ) (frames : List Frame) : Type 0 where
+  pub opened : IsOpen u hints height most subject case c pieces
   pub deep : length c.cuts ≡ depth
   pub proved : IsProved u height goals tree pieces depth
-  pub lies : LiesIn u height goals c frames
+  pub lies : LiesIn u height goals case c frames
 
 -- How a walk moves on.
 pub record WalksMove : Type 0 where
   -- steps that are accepted may be written in the section of a box;
-  pub written : OfWalks (λ u hints height most goals subject. (c : Context) (pieces : List Piece) (rows : List StepRow) → IsOpen u hints height most c pieces →
+  pub written : OfWalks (λ u hints height most goals subject case.
+      (c : Context) (pieces : List Piece) (rows : List StepRow)
+      → IsOpen u hints height most subject case c pieces →
       AreAccepted (givens_of u hints (open_piece c.cuts)) (numbered c) rows → HaveFields rows → c.next + length rows ≤ 2 ^ 64 → AreSteps subject c rows)
   -- where they conclude each of its best facts, the box stands behind them
-  pub placed : OfWalks (λ u hints height most goals subject. (c : Context) (pieces : List Piece) (rows : List StepRow) (place : Slot → ℕ) → IsOpen u hints height most c pieces →
-      ArePlaces (behind (numbered c) rows) (table_at u height pieces) place → IsBehind u height (behind_steps c rows) pieces)
+  pub placed : OfWalks (λ u hints height most goals subject case.
+      (c : Context) (pieces : List Piece) (rows : List StepRow) (place : Slot → ℕ)
+      → IsOpen u hints height most subject case c pieces →
+      ArePlaces (behind (numbered c) rows) (table_at u height pieces) place
+      → IsBehind u height case (behind_steps c rows) pieces)
   -- a box that is cut is cut behind its steps, and its first piece is entered
-  pub enters : OfWalks (λ u hints height most goals subject. (c : Context) (rows : List StepRow) (x : ExprId) (points : List Dyadic) (i : Interval) (tree : Tree) (trees : Trees) (pieces : List Piece) (depth : ℕ) (frames : List Frame) →
-      IsEntered u hints height most goals c (cut x points (next i tree trees)) pieces depth frames → AreSteps subject c rows → IsBehind u height (behind_steps c rows) pieces →
+  pub enters : OfWalks (λ u hints height most goals subject case.
+      (c : Context) (rows : List StepRow) (x : ExprId) (points : List Dyadic) (i : Interval)
+      (tree : Tree) (trees : Trees) (pieces : List Piece) (depth : ℕ) (frames : List Frame) →
+      IsEntered u hints height most goals subject case c
+      (cut x points (next i tree trees)) pieces depth frames
+      → AreSteps subject c rows → IsBehind u height case (behind_steps c rows) pieces →
       JudgesItem subject (behind_steps c rows) (item.Cut x points) None
-      × IsEntered u hints height most goals (after (behind_steps c rows) (item.Cut x points)) tree ((x, i) ∷ pieces) (depth + 1) (frame_of c rows x points trees pieces (depth + 1) ∷ frames))
+      × IsEntered u hints height most goals subject case
+      (after (behind_steps c rows) (item.Cut x points)) tree ((x, i) ∷ pieces)
+      (depth + 1) (frame_of c rows x points trees pieces (depth + 1) ∷ frames))
   -- a leaf ends the section of its box
-  pub settled : OfWalks (λ u hints height most goals subject. (c : Context) (pieces : List Piece) (rows : List StepRow) (refs : List ℕ) → IsOpen u hints height most c pieces → AreSteps subject c rows →
+  pub settled : OfWalks (λ u hints height most goals subject case.
+      (c : Context) (pieces : List Piece) (rows : List StepRow) (refs : List ℕ)
+      → IsOpen u hints height most subject case c pieces → AreSteps subject c rows →
       AreSettled (behind_steps c rows).steps subject.goals refs →
       JudgesItem subject (behind_steps c rows) (item.Leaf refs) None × IsEndOf c (after (behind_steps c rows) (item.Leaf refs)) (lines_with (behind_steps c rows).steps c.lines refs))
-  pub void : OfWalks (λ u hints height most goals subject. (c : Context) (pieces : List Piece) (rows : List StepRow) (r : ℕ) → IsOpen u hints height most c pieces → AreSteps subject c rows →
+  pub void : OfWalks (λ u hints height most goals subject case.
+      (c : Context) (pieces : List Piece) (rows : List StepRow) (r : ℕ)
+      → IsOpen u hints height most subject case c pieces → AreSteps subject c rows →
       step_fact (behind_steps c rows).steps r ≡ Some fact.Void →
       JudgesItem subject (behind_steps c rows) (item.Dead r) None × IsEndOf c (after (behind_steps c rows) (item.Dead r)) c.lines)
   -- behind a section the next piece is entered,
-  pub follows : OfWalks (λ u hints height most goals subject. (c d : Context) (lines : List Line) (fr : Frame) (i : Interval) (tree : Tree) (trees : Trees) (frames : List Frame) → LiesIn u height goals c (fr ∷ frames) →
-      fr.later ≡ next i tree trees → IsEndOf c d lines → IsEntered u hints height most goals d tree ((fr.var, i) ∷ fr.pieces) fr.depth (turned fr trees ∷ frames))
+  pub follows : OfWalks (λ u hints height most goals subject case.
+      (c d : Context) (lines : List Line) (fr : Frame) (i : Interval) (tree : Tree)
+      (trees : Trees) (frames : List Frame) → LiesIn u height goals case c (fr ∷ frames) →
+      fr.later ≡ next i tree trees
+      → IsEndOf c d lines → IsEntered u hints height most goals subject case d tree
+      ((fr.var, i) ∷ fr.pieces) fr.depth (turned fr trees ∷ frames))
   -- or, behind the last, its box has ended
-  pub ends : OfWalks (λ u hints height most goals subject. (c d : Context) (lines : List Line) (fr : Frame) (frames : List Frame) → LiesIn u height goals c (fr ∷ frames) →
+  pub ends : OfWalks (λ u hints height most goals subject case. (c d : Context) (lines : List Line)
+      (fr : Frame) (frames : List Frame) → LiesIn u height goals case c (fr ∷ frames) →
       fr.later ≡ last → IsEndOf c d lines → IsEndOf fr.begin d lines)
-  -- behind each section there are items to the end of the root section
-  pub rest : OfWalks (λ u hints height most goals subject. (c d : Context) (lines : List Line) (frames : List Frame) → LiesIn u height goals c frames → IsEndOf c d lines →
-      d.next + steps_behind most frames ≤ 2 ^ 64 → Ending subject d (left_in frames) (lines_behind u height goals frames lines))
+  -- behind each section there are items to the end of the last root section;
+  pub rest : OfWalks (λ u hints height most goals subject case. (c d : Context) (lines : List Line)
+      (frames : List Frame) → LiesIn u height goals case c frames → IsEndOf c d lines →
+      (later : List Root) → AreRoots subject hints height most goals u.nodes (case + 1) later
+      → d.next + (steps_behind most frames + steps_in_roots most later) ≤ 2 ^ 64 →
+      Ending subject d (left_in frames + length later)
+      (lines_of_roots height goals later (lines_behind u height goals frames lines)))
+  -- and behind the root section of a case that of the next is entered.
+  pub next_case : OfWalks (λ u hints height most goals subject case.
+      (c d : Context) (lines : List Line) (later : Setting) (tree : Tree)
+      → LiesIn u height goals case c [] → IsEndOf c d lines →
+      IsRoot subject hints height most goals u.nodes
+      (case + 1) (record { setting = later; tree = tree })
+      → IsEntered later hints height most goals subject (case + 1) d tree [] 0 [])
 
 -- ---- laws
 pub lead_both : (subject : Subject) (c d e : Context) (items more : List Item) → LeadsTo subject c items d → LeadsTo subject d more e → LeadsTo subject c (items ++ more) e
@@ -118,4 +158,5 @@ root_due (item.Nodes n ∷ items) d = absurd d.1
 root_due (item.Node n ∷ items) d = absurd d.1
 root_due (item.Marks n ∷ items) d = absurd d.1
 root_due (item.Mark m ∷ items) d = absurd d.1
+root_due (item.Cases n ∷ items) d = absurd d.1
 root_due (item.End ∷ items) d = absurd d.1

@@ -20,6 +20,7 @@ use Rattle.cert_checker.specs.declared.open.OpenCut.{OpenCut}
 use Rattle.cert_checker.specs.declared.subject.Subject.{Subject}
 use Rattle.cert_checker.specs.Contexts.{piece_fact}
 use Rattle.cert_checker.specs.Faults.{IsVariable, JudgesNode}
+use Rattle.cert_checker.specs.Steps.{case_facts}
 use Rattle.cert_checker.specs.After.{with_cited}
 use Rattle.box_traces.specs.Traces.{IsCutTo}
 
@@ -106,10 +107,11 @@ abbrev pub AreTaken : Subject → List Node → List Node → Type 0
 AreTaken subject before [] = ⊤
 AreTaken subject before (n ∷ rest) = JudgesNode subject.nodes subject.variables before n None × IsInLimits n × HasShortParts n × AreTaken subject (before ++ n ∷ []) rest
 
--- The subject is what derivations use: their hypotheses are its one case, their nodes begin with its own, and its goals and marks can be
--- counted.
-pub record IsSubjectOf (subject : Subject) (u : Setting) (hints : List HintRow) (goals : List Goal) : Type 0 where
-  pub cases : subject.cases ≡ u.hypotheses ∷ []
+-- The subject is what derivations of the case with this number use: their hypotheses are that case,
+-- their nodes begin with its own, and its goals and marks can be counted.
+pub record IsSubjectOf (subject : Subject)
+    (case : ℕ) (u : Setting) (hints : List HintRow) (goals : List Goal) : Type 0 where
+  pub facts : case_facts subject.cases case ≡ u.hypotheses
   pub rows : subject.hints ≡ hints
   pub wanted : subject.goals ≡ goals
   pub few_goals : length goals ≤ 65535

@@ -1,5 +1,5 @@
 -- A walk over a tree of boxes that stands somewhere: what the items so far come to.
-use Rattle.std.specs.Prelude.{◌≡◌, ◌≤◌, ◌+◌, ◌-◌, ℕ, false, List, [], ◌∷◌, ◌++◌, length, take, Some}
+use Rattle.std.specs.Prelude.{◌≡◌, ◌≤◌, ◌+◌, ◌-◌, ℕ, true, false, List, [], ◌∷◌, ◌++◌, length, take, Some}
 use Rattle.fx_model.specs.declared.ExprId.{ExprId}
 use Rattle.dyadic.specs.declared.number.Dyadic.{Dyadic}
 use Rattle.facts.specs.declared.fact.Fact.{Fact}
@@ -43,24 +43,34 @@ pub record IsLater (c d : Context) : Type 0 where
   pub cuts : d.cuts ≡ c.cuts
   pub case : d.case ≡ c.case
   pub lines : d.lines ≡ c.lines
+  pub begun : d.begun ≡ false → c.begun ≡ false
   pub ended : c.ended ≡ false → d.ended ≡ false
   pub more : List Citable
   pub steps : d.steps ≡ c.steps ++ more
   pub next : c.next ≤ d.next
 
--- The section of a box begins here: what it needs of its ancestors may be cited.
-pub record IsOpen (u : Setting) (hints : List HintRow) (height most : ℕ) (c : Context) (pieces : List Piece) : Type 0 where
+-- Where the sections haven't begun, the script has one case, so that they may begin with an item of
+-- a section.
+abbrev pub MayBegin : Subject → Context → Type 0
+MayBegin s c = c.begun ≡ false → 1 ≡ length s.cases
+
+-- The section of a box begins here, in the root section of the case with this number: what it needs
+-- of its ancestors may be cited.
+pub record IsOpen (u : Setting) (hints : List HintRow) (height most : ℕ)
+    (subject : Subject) (number : ℕ) (c : Context) (pieces : List Piece) : Type 0 where
   pub nodes : c.nodes ≡ u.nodes
-  pub case : c.case ≡ 0
+  pub case : c.case ≡ number
+  pub begun : MayBegin subject c
   pub below : AreBelow (numbered c)
   pub ended : c.ended ≡ false
   pub room : around_of (cuts_behind c.cuts) ≤ length c.steps
   pub trace : Trace (givens_of u hints (open_piece c.cuts)) (numbered c) (table_at u height pieces) most
 
 -- Behind the steps of a box.
-pub record IsBehind (u : Setting) (height : ℕ) (d : Context) (pieces : List Piece) : Type 0 where
+pub record IsBehind (u : Setting)
+    (height number : ℕ) (d : Context) (pieces : List Piece) : Type 0 where
   pub nodes : d.nodes ≡ u.nodes
-  pub case : d.case ≡ 0
+  pub case : d.case ≡ number
   pub place : Slot → ℕ
   pub below : AreBelow (numbered d)
   pub proper : IsProper (table_at u height pieces)
@@ -74,6 +84,7 @@ pub record IsInCut (d : Context) (x : ExprId) (points : List Dyadic) (k : ℕ) (
   pub cuts : e.cuts ≡ cut_of x points (k + 1) (length d.steps) ∷ d.cuts
   pub steps : e.steps ≡ d.steps
   pub next : d.next ≤ e.next
+  pub begun : e.begun ≡ true
   pub ended : e.ended ≡ false
 
 -- The section that begins at c has ended at d, and the leaves so far show these lines.
@@ -84,6 +95,7 @@ pub record IsEndOf (c d : Context) (lines : List Line) : Type 0 where
   pub steps : d.steps ≡ take (around_of (cuts_behind c.cuts)) c.steps
   pub next : c.next ≤ d.next
   pub shown : d.lines ≡ lines
+  pub begun : d.begun ≡ true
   pub ended : d.ended ≡ false
 
 -- A box that is cut and hasn't ended: where its section begins, what is behind its steps, its cut, the piece that is open, and the later ones.
@@ -98,9 +110,10 @@ pub record Frame : Type 0 where
   pub depth : ℕ
 
 -- The section that begins at c is a piece of this box.
-pub record IsPieceOf (u : Setting) (height : ℕ) (goals : List Goal) (c : Context) (fr : Frame) : Type 0 where
+pub record IsPieceOf (u : Setting)
+    (height : ℕ) (goals : List Goal) (case : ℕ) (c : Context) (fr : Frame) : Type 0 where
   pub entered : IsInCut fr.steps fr.var fr.points fr.piece c
-  pub behind : IsBehind u height fr.steps fr.pieces
+  pub behind : IsBehind u height case fr.steps fr.pieces
   pub variable : IsVariable u.nodes fr.var
   pub deep : length fr.steps.cuts + 1 ≡ fr.depth
   pub within : fr.piece ≤ length fr.points
@@ -108,10 +121,12 @@ pub record IsPieceOf (u : Setting) (height : ℕ) (goals : List Goal) (c : Conte
   pub after : IsLater fr.begin fr.steps
   pub room : around_of (cuts_behind fr.begin.cuts) ≤ length fr.begin.steps
 
--- The section that begins at c lies in these boxes, the innermost first.
-abbrev pub LiesIn : Setting → ℕ → List Goal → Context → List Frame → Type 0
-LiesIn u height goals c [] = (c.cuts ≡ []) × (c.case ≡ 0)
-LiesIn u height goals c (fr ∷ frames) = IsPieceOf u height goals c fr × LiesIn u height goals fr.begin frames
+-- The section that begins at c lies in these boxes of the case with this number, the innermost
+-- first.
+abbrev pub LiesIn : Setting → ℕ → List Goal → ℕ → Context → List Frame → Type 0
+LiesIn u height goals case c [] = (c.cuts ≡ []) × (c.case ≡ case) × (c.nodes ≡ u.nodes)
+LiesIn u height goals case c (fr ∷ frames) = IsPieceOf u height goals case c fr
+    × LiesIn u height goals case fr.begin frames
 
 -- the lines with those of the pieces that are still to come
 abbrev pub lines_behind : Setting → ℕ → List Goal → List Frame → List Line → List Line
@@ -132,7 +147,8 @@ steps_behind most (fr ∷ frames) = steps_in_each most fr.later + steps_behind m
 abbrev pub IsDue : ℕ → ℕ → List Item → Type 0
 IsDue more fewer items = (rest : List Item) → AreDue (Some (Sections fewer)) rest → AreDue (Some (Sections more)) (items ++ rest)
 
--- Items that lead from here, where the first of n sections is open, to the end of the root section.
+-- Items that lead from here, where the first of n sections is open, to the end of the last root
+-- section.
 pub record Ending (subject : Subject) (f : Context) (n : ℕ) (lines : List Line) : Type 0 where
   pub items : List Item
   pub behind : Context

@@ -23,7 +23,7 @@ use Rattle.cert_checker.specs.Met.{MeetsOver, LinesHold, HoldsOverCertificates}
 use Rattle.cert_checker.proofs.Ordered.{leads_ordered}
 use Rattle.cert_checker.proofs.Shown.{LineLaws, HaveLines, AllHold}
 use Rattle.cert_checker.proofs.StepHolds.{RulesHold, HoldsIf}
-use Rattle.cert_checker.proofs.Sound.{pending, IsNested, IsSound, IsSomewhere, Behind, step_sound, cut_sound, leaf_sound, dead_sound}
+use Rattle.cert_checker.proofs.Sound.{pending, IsNested, IsSound, IsSomewhere, Behind, step_sound, cut_sound, leaf_sound, dead_sound, cases_sound}
 
 -- sections are due, or their end
 abbrev pub InSections : Due → Type 0
@@ -35,6 +35,7 @@ InSections _ = ⊥
 -- the nodes stay from the root section on
 pub nodes_stay : (s : Subject) (items : List Item) (d : Due) (c end : Context) → InSections d → AreInOrder (Some d) items → LeadsTo s c items end → end.nodes ≡ c.nodes
 nodes_stay s [] d c end p g l = ap (λ (x : Context). x.nodes) (sym l)
+nodes_stay s (item.Cases n ∷ items) (Marks zero) c end p g l = nodes_stay s items (Sections n) (after c (item.Cases n)) end tt g l.1
 nodes_stay s (item.Step r ∷ items) (Marks zero) c end p g l = nodes_stay s items (Sections 1) (after c (item.Step r)) end tt g l.1
 nodes_stay s (item.Cut x ps ∷ items) (Marks zero) c end p g l = nodes_stay s items (Sections (length ps + 1)) (after c (item.Cut x ps)) end tt g l.1
 nodes_stay s (item.Leaf refs ∷ items) (Marks zero) c end p g l = nodes_stay s items (Sections 0) (after c (item.Leaf refs)) end tt g l.1
@@ -66,6 +67,8 @@ module _ (laws : LineLaws) (s : Subject) (ns : List Node) (a : Assignment) (orde
 
   sections_sound : (items : List Item) (d : Due) (c end : Context) → c.nodes ≡ ns → State d c → AreInOrder (Some d) items → LeadsTo s c items end → Behind laws s ns a ordered case 0 end
   sections_sound [] Done c end n q g l = subst (Behind laws s ns a ordered case 0) l q
+  sections_sound (item.Cases k ∷ items) (Marks zero) c end n q g l =
+      sections_sound items (Sections k) (after c (item.Cases k)) end n (cases_sound laws s ns a ordered case c q k) g l.1
   sections_sound (item.Step r ∷ items) (Marks zero) c end n q g l =
       sections_sound items (Sections 1) (after c (item.Step r)) end n (step_sound laws s ns a ordered case 0 c n rules facts q r l.0) g l.1
   sections_sound (item.Cut x ps ∷ items) (Marks zero) c end n q g l =
@@ -99,7 +102,7 @@ module _ (laws : LineLaws) (s : Subject) (ns : List Node) (a : Assignment) (orde
   sections_sound (i ∷ items) (Nodes k) c end n q g l = absurd q
   sections_sound (i ∷ items) (Marks (suc k)) c end n q g l = absurd q
 
--- before the root section: no step yet, and no case
+-- before the sections: no step yet, and no case
 record IsFresh (s : Subject) (c : Context) : Type 0 where
   steps : c.steps ≡ []
   cuts : c.cuts ≡ []
@@ -125,7 +128,7 @@ module _ (laws : LineLaws) (s : Subject) (a : Assignment) (case : ℕ) where
       let root : IsSound laws s end.nodes a ordered case 0 c = record {
         somewhere = at_first end.nodes ordered c case refl f;
         nested = subst (IsNested (length c.steps)) (sym f.cuts) tt;
-        pending = ap pending f.cuts;
+        pending = let e = ap pending f.cuts in omega (arith, e);
         lines = f.lines;
       } in
       sections_sound laws s end.nodes a ordered rules case facts items (Marks zero) c end n root g l

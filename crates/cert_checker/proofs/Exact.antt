@@ -1,5 +1,5 @@
 -- What comes of the bytes is answered, and lines come of bytes that spell an accepted certificate.
-use Rattle.std.proofs.Common.{◌≡◌, ℕ, List, length, Result, Ok, Err, refl, sym, subst}
+use Rattle.std.proofs.Common.{◌≡◌, ℕ, List, Result, Ok, Err, refl, sym, subst}
 use Rattle.std.specs.Prelude.{IfOk}
 use Rattle.cert_bytes.specs.declared.style.Style.{Style}
 use Rattle.cert_bytes.specs.declared.style.Style.TheVariants.{First}
@@ -23,13 +23,10 @@ answered_is_it s p o (Err (Check f)) h checks = subst (λ (x : Outcome). IsAnswe
 answered_is_it s p o (Err Failed) h checks = tt
 answered_is_it s p o (Err OutOfMemory) h checks = tt
 
-only_style : (style : Style) → style ≡ First
-only_style First = refl
-
-pub accepted_so : AcceptedAreSpelled → (s : Subject) (all : List ℕ) (r : Progress) → IsFresh r → AreBytes all → length s.cases ≡ 1 → (result : Result Lines CheckStop) → Checks s (cursor_of all r.ahead) result → IfOk result (λ lines. AreAccepted s all lines.rows)
-accepted_so spelled s all r fresh bytes one (Ok lines) shows =
+pub accepted_so : AcceptedAreSpelled → (s : Subject) (all : List ℕ) (r : Progress) → IsFresh r → AreBytes all → (result : Result Lines CheckStop) → Checks s (cursor_of all r.ahead) result → IfOk result (λ lines. AreAccepted s all lines.rows)
+accepted_so spelled s all r fresh bytes (Ok lines) shows =
     let P : Style → ℕ → Type 0 = λ style at. ComesOf s (cursor style all at) (accepted shows.end) in
     let Q : Style → Type 0 = λ style. P style 0 in
-    let t = spelled s all shows.end bytes one (subst Q (only_style r.ahead.style) (subst (P r.ahead.style) fresh.at shows.comes)) in
+    let t = spelled s all shows.end bytes (subst Q fresh.style (subst (P r.ahead.style) fresh.at shows.comes)) in
     record { items = t.0; spelled = t.1; accepts = subst (Accepts s t.0) (sym shows.rows) t.2 }
-accepted_so spelled s all r fresh bytes one (Err e) checks = tt
+accepted_so spelled s all r fresh bytes (Err e) checks = tt

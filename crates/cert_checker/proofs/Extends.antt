@@ -34,11 +34,11 @@ begins s items (Marks zero) c end b g l = stays s items (Marks zero) c end tt g 
 begins s items (Sections w) c end b g l = stays s items (Sections w) c end tt g l b.0 b.1
 begins s items Done c end b g l = stays s items Done c end tt g l b.0 b.1
 begins s (item.Nodes n ∷ items) Head c end b g l =
-    let enough : length s.nodes ≤ n = l.0 in
+    let enough : length s.nodes ≤ n = l.0.1 in
     begins s items (Nodes n) (after c (item.Nodes n)) end (b, omega (arith, enough)) g l.1
 begins s (item.Node n ∷ items) (Nodes (suc k)) c end b g l =
     let long = b.1 in
-    begins s items (Nodes k) (after c (item.Node n)) end (agrees_next s.nodes c.nodes s.variables n l.0 b.0, omega (arith, long, length-append c.nodes (n ∷ []))) g l.1
+    begins s items (Nodes k) (after c (item.Node n)) end (agrees_next s.nodes c.nodes s.variables n l.0.1 b.0, omega (arith, long, length-append c.nodes (n ∷ []))) g l.1
 begins s (item.Marks m ∷ items) (Nodes zero) c end b g l = let long = b.1 in begins s items (Marks m) (after c (item.Marks m)) end (b.0, omega (arith, long)) g l.1
 begins s (item.Mark m ∷ items) (Marks (suc k)) c end b g l = begins s items (Marks k) (after c (item.Mark m)) end b g l.1
 begins s [] Head c end b g l = cc

@@ -22,3 +22,4 @@ pub mod Judged
 pub mod Own
 pub mod Chains
 pub mod Leaves
+pub mod Keeping

@@ -5,12 +5,15 @@ use Rattle.fx_model.specs.declared.Node.{Node}
 use Rattle.facts.specs.declared.hint.HintMark.{HintMark}
 use Rattle.goals.specs.declared.goal.Goal.{Goal}
 use Rattle.cert_bytes.specs.declared.item.StepRow.{StepRow}
+use Rattle.cert_bytes.specs.declared.item.Item.{Item}
 use Rattle.cert_bytes.specs.declared.item.Item.TheVariants as item
 use Rattle.cert_checker.specs.declared.fault.CheckFault.{CheckFault}
-use Rattle.cert_checker.specs.declared.fault.CheckFault.TheVariants.{BadStep, BadPremise, BadCut, GoalMissing, HintMark as HintFault, WrongScript, BadNode}
+use Rattle.cert_checker.specs.declared.fault.CheckFault.TheVariants.{BadStep, BadPremise, BadCut, GoalMissing, HintMark as HintFault, WrongScript, BadNode, BadCases}
 use Rattle.cert_checker.specs.declared.open.Citable.{Citable}
 use Rattle.cert_checker.specs.Steps.{Givens, givens, IsCiting, IsConcluded}
-use Rattle.cert_checker.specs.Faults.{JudgesCount, JudgesNode, JudgesMarks, JudgesMark, JudgesStep, JudgesCut, JudgesLeaf, JudgesDead, AreSettled, IsFirstMissing}
+use Rattle.cert_checker.specs.Faults.{JudgesCount, JudgesNode, JudgesMarks, JudgesMark, JudgesStep, JudgesCut, JudgesLeaf, JudgesDead, JudgesContent, JudgesItem, AreSettled, IsFirstMissing}
+use Rattle.cert_checker.specs.declared.subject.Subject.{Subject}
+use Rattle.cert_checker.specs.Contexts.{Context}
 use Rattle.cert_checker.specs.After.{after}
 use Rattle.cert_checker.specs.Once.{JudgedOnce, LeadsOnce, LeadsOrFails, FailsOnce}
 
@@ -124,16 +127,33 @@ dead_once steps section r None (Some _) x y = absurd y
 dead_once steps section r (Some (GoalMissing k zero)) (Some _) x y = absurd y
 dead_once steps section r (Some _) p x y = absurd x
 
+content_once : (s : Subject) (c : Context) (i : Item) (o p : Option CheckFault) → JudgesContent s c i o → JudgesContent s c i p → o ≡ p
+content_once s c (item.Nodes n) o p x y = count_once s.nodes n o p x y
+content_once s c (item.Node n) o p x y = node_once s.nodes s.variables c.nodes n o p x y
+content_once s c (item.Marks n) o p x y = marks_once s.marks n o p x y
+content_once s c (item.Mark m) o p x y = mark_once s.marks c.marked m o p x y
+content_once s c (item.Cases n) o p x y = x ∙ sym y
+content_once s c (item.Step r) o p x y = step_once (givens s c) c.steps c.next r o p x y
+content_once s c (item.Cut v ps) o p x y = cut_once c.nodes (length c.cuts) c.section v o p x y
+content_once s c (item.Leaf refs) o p x y = leaf_once c.steps s.goals c.section refs o p x y
+content_once s c (item.Dead r) o p x y = dead_once c.steps c.section r o p x y
+content_once s c item.End o p x y = x ∙ sym y
+
 pub judged_once : JudgedOnce
-judged_once s c (item.Nodes n) o p x y = count_once s.nodes n o p x y
-judged_once s c (item.Node n) o p x y = node_once s.nodes s.variables c.nodes n o p x y
-judged_once s c (item.Marks n) o p x y = marks_once s.marks n o p x y
-judged_once s c (item.Mark m) o p x y = mark_once s.marks c.marked m o p x y
-judged_once s c (item.Step r) o p x y = step_once (givens s c) c.steps c.next r o p x y
-judged_once s c (item.Cut v ps) o p x y = cut_once c.nodes (length c.cuts) c.section v o p x y
-judged_once s c (item.Leaf refs) o p x y = leaf_once c.steps s.goals c.section refs o p x y
-judged_once s c (item.Dead r) o p x y = dead_once c.steps c.section r o p x y
-judged_once s c item.End o p x y = x ∙ sym y
+judged_once s c i None None x y = refl
+judged_once s c i None (Some (BadCases k)) x y = absurd (y.1 x.0)
+judged_once s c i None (Some f) x y = content_once s c i None (Some f) x.1 y.1
+judged_once s c i (Some (BadCases k)) None x y = absurd (x.1 y.0)
+judged_once s c i (Some (BadCases k)) (Some (BadCases j)) x y = ap (λ h. Some (BadCases h)) (x.0 ∙ sym y.0)
+judged_once s c i (Some (BadCases k)) (Some f) x y = absurd (x.1 y.0)
+judged_once s c i (Some f) None x y = content_once s c i (Some f) None x.1 y.1
+judged_once s c i (Some f) (Some (BadCases k)) x y = absurd (y.1 x.0)
+judged_once s c i (Some f) (Some g) x y = content_once s c i (Some f) (Some g) x.1 y.1
+
+-- nothing is wrong with the end
+pub sound_end : (s : Subject) (c : Context) (f : CheckFault) → ¬ JudgesItem s c item.End (Some f)
+sound_end s c (BadCases k) x = x.1 (λ b r. cc)
+sound_end s c f x = let e : Some f ≡ None = x.1 in cc
 
 pub leads_once : LeadsOnce
 leads_once s c [] end other x y = sym x ∙ y

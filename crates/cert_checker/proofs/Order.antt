@@ -5,7 +5,7 @@ use Rattle.cert_bytes.specs.declared.item.Item.{Item}
 use Rattle.cert_bytes.specs.declared.item.Item.TheVariants as item
 use Rattle.cert_bytes.specs.declared.order.Due.{Due}
 use Rattle.cert_bytes.specs.declared.order.Due.TheVariants.{Head, Nodes, Marks, Sections, Done}
-use Rattle.cert_bytes.specs.Due.{due_behind, split_into, is_nodes, is_node, is_marks, is_mark, is_of_section, is_end, is_due, IsOfSection}
+use Rattle.cert_bytes.specs.Due.{due_behind, split_into, is_nodes, is_node, is_marks, is_mark, is_of_section, is_of_root, is_end, is_due, IsOfSection, IsOfRoot}
 use Rattle.cert_checker.proofs.ReadItems.{IsNext, first_of_root, of_section, a_node, a_mark}
 
 -- ---- an item that is due has its next
@@ -30,13 +30,27 @@ in_section (item.Nodes n) e = cc
 in_section (item.Node n) e = cc
 in_section (item.Marks n) e = cc
 in_section (item.Mark m) e = cc
+in_section (item.Cases n) e = cc
 in_section item.End e = cc
+
+in_root : (i : Item) → is_of_root i ≡ true → IsOfRoot i
+in_root (item.Cases n) e = tt
+in_root (item.Step s) e = tt
+in_root (item.Cut x ps) e = tt
+in_root (item.Leaf refs) e = tt
+in_root (item.Dead r) e = tt
+in_root (item.Nodes n) e = cc
+in_root (item.Node n) e = cc
+in_root (item.Marks n) e = cc
+in_root (item.Mark m) e = cc
+in_root item.End e = cc
 
 by_head : (i : Item) → is_nodes i ≡ true → IsNext Head i
 by_head (item.Nodes n) e = refl
 by_head (item.Node n) e = cc
 by_head (item.Marks n) e = cc
 by_head (item.Mark m) e = cc
+by_head (item.Cases n) e = cc
 by_head (item.Step s) e = cc
 by_head (item.Cut x ps) e = cc
 by_head (item.Leaf refs) e = cc
@@ -48,6 +62,7 @@ by_node k (item.Node n) e = a_node k
 by_node k (item.Nodes n) e = cc
 by_node k (item.Marks n) e = cc
 by_node k (item.Mark m) e = cc
+by_node k (item.Cases n) e = cc
 by_node k (item.Step s) e = cc
 by_node k (item.Cut x ps) e = cc
 by_node k (item.Leaf refs) e = cc
@@ -59,6 +74,7 @@ by_marks (item.Marks n) e = refl
 by_marks (item.Nodes n) e = cc
 by_marks (item.Node n) e = cc
 by_marks (item.Mark m) e = cc
+by_marks (item.Cases n) e = cc
 by_marks (item.Step s) e = cc
 by_marks (item.Cut x ps) e = cc
 by_marks (item.Leaf refs) e = cc
@@ -70,6 +86,7 @@ by_mark k (item.Mark m) e = a_mark k
 by_mark k (item.Nodes n) e = cc
 by_mark k (item.Node n) e = cc
 by_mark k (item.Marks n) e = cc
+by_mark k (item.Cases n) e = cc
 by_mark k (item.Step s) e = cc
 by_mark k (item.Cut x ps) e = cc
 by_mark k (item.Leaf refs) e = cc
@@ -82,6 +99,7 @@ by_end (item.Nodes n) e = cc
 by_end (item.Node n) e = cc
 by_end (item.Marks n) e = cc
 by_end (item.Mark m) e = cc
+by_end (item.Cases n) e = cc
 by_end (item.Step s) e = cc
 by_end (item.Cut x ps) e = cc
 by_end (item.Leaf refs) e = cc
@@ -91,8 +109,8 @@ pub due_has_next : (d : Due) (i : Item) → ¬ (d ≡ Done) → is_due d i ≡ t
 due_has_next Head i n e = by_head i e
 due_has_next (Nodes zero) i n e = by_marks i (at_zero (is_marks i) (is_node i) e)
 due_has_next (Nodes (suc k)) i n e = by_node k i (past_zero k (is_marks i) (is_node i) e)
-due_has_next (Marks zero) i n e = first_of_root i (in_section i (at_zero (is_of_section i) (is_mark i) e))
-due_has_next (Marks (suc k)) i n e = by_mark k i (past_zero k (is_of_section i) (is_mark i) e)
+due_has_next (Marks zero) i n e = first_of_root i (in_root i (at_zero (is_of_root i) (is_mark i) e))
+due_has_next (Marks (suc k)) i n e = by_mark k i (past_zero k (is_of_root i) (is_mark i) e)
 due_has_next (Sections zero) i n e = by_end i (at_zero (is_end i) (is_of_section i) e)
 due_has_next (Sections (suc w)) i n e = of_section w i (in_section i (past_zero w (is_end i) (is_of_section i) e))
 due_has_next Done i n e = absurd (n refl)
@@ -122,6 +140,10 @@ done_by_end d (item.Step r) e f = absurd (left_none 1 d e f)
 done_by_end d (item.Cut x ps) e f = absurd (left_none (length ps + 1) d e f)
 done_by_end d (item.Leaf refs) e f = absurd (left_none 0 d e f)
 done_by_end d (item.Dead r) e f = absurd (left_none 0 d e f)
+done_by_end Head (item.Cases n) e f = absurd (not_done Head tt f)
+done_by_end (Nodes k) (item.Cases n) e f = absurd (not_done (Nodes k) tt f)
+done_by_end (Marks k) (item.Cases n) e f = absurd (neither (k == 0) (Sections n) (Marks k) tt tt f)
+done_by_end (Sections k) (item.Cases n) e f = absurd (not_done (Sections k) tt f)
 done_by_end Head (item.Nodes n) e f = absurd (not_done (Nodes n) tt f)
 done_by_end (Nodes k) (item.Nodes n) e f = absurd (not_done (Nodes k) tt f)
 done_by_end (Marks k) (item.Nodes n) e f = absurd (not_done (Marks k) tt f)

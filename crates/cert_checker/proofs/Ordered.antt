@@ -40,10 +40,11 @@ children own variables ns n o j = ⊎_elim
 
 pub leads_ordered : (s : Subject) → IsOrdered s.nodes → (items : List Item) (c end : Context) → IsOrdered c.nodes → LeadsTo s c items end → IsOrdered end.nodes
 leads_ordered s o [] c end h l = subst (λ (x : Context). IsOrdered x.nodes) l h
-leads_ordered s o (item.Node n ∷ items) c end h l = leads_ordered s o items (after c (item.Node n)) end (ordered_append c.nodes n h (children s.nodes s.variables c.nodes n o l.0)) l.1
+leads_ordered s o (item.Node n ∷ items) c end h l = leads_ordered s o items (after c (item.Node n)) end (ordered_append c.nodes n h (children s.nodes s.variables c.nodes n o l.0.1)) l.1
 leads_ordered s o (item.Nodes k ∷ items) c end h l = leads_ordered s o items (after c (item.Nodes k)) end h l.1
 leads_ordered s o (item.Marks k ∷ items) c end h l = leads_ordered s o items (after c (item.Marks k)) end h l.1
 leads_ordered s o (item.Mark m ∷ items) c end h l = leads_ordered s o items (after c (item.Mark m)) end h l.1
+leads_ordered s o (item.Cases k ∷ items) c end h l = leads_ordered s o items (after c (item.Cases k)) end h l.1
 leads_ordered s o (item.Step r ∷ items) c end h l = leads_ordered s o items (after c (item.Step r)) end h l.1
 leads_ordered s o (item.Cut x ps ∷ items) c end h l = leads_ordered s o items (after c (item.Cut x ps)) end h l.1
 leads_ordered s o (item.Leaf refs ∷ items) c end h l = leads_ordered s o items (after c (item.Leaf refs)) end h l.1

@@ -6,14 +6,15 @@ use Rattle.cert_bytes.specs.declared.item.Item.TheVariants as item
 use Rattle.cert_bytes.specs.declared.order.Due.{Due}
 use Rattle.cert_bytes.specs.declared.order.Due.TheVariants.{Head, Done}
 use Rattle.cert_bytes.specs.Due.{due_behind}
-use Rattle.cert_bytes.specs.Reading.{Cursor, Read, item_at}
+use Rattle.cert_bytes.specs.Reading.{Cursor, Read, styled, entry_at, item_at}
+use Rattle.cert_bytes.specs.Styles.{style_after}
 use Rattle.cert_checker.specs.declared.fault.CheckFault.{CheckFault}
 use Rattle.cert_checker.specs.declared.subject.Subject.{Subject}
 use Rattle.cert_checker.specs.Contexts.{Context, first}
 use Rattle.cert_checker.specs.Faults.{JudgesItem}
 use Rattle.cert_checker.specs.After.{after}
 use Rattle.cert_checker.specs.Outcomes.{Outcome, accepted, unread, refused, StopsAt, Comes, ComesOnce}
-use Rattle.cert_checker.proofs.Once.{judged_once, same_fault}
+use Rattle.cert_checker.proofs.Once.{judged_once, sound_end, same_fault}
 use Rattle.cert_checker.proofs.ReadItems.{item_in, place_in}
 
 same_item : (r : Read Item) (i j : Item) (p q : Cursor) → r ≡ Ok (i, p) → r ≡ Ok (j, q) → i ≡ j
@@ -30,15 +31,15 @@ same_unread r f g e h = let k : Err f ≡ Err g = sym e ∙ h in cc
 
 -- at the end nothing is wrong with the end
 at_end : (s : Subject) (d : Due) (p q : Cursor) (c : Context) (i : Item) (f : CheckFault) → d ≡ Done → item_at d p ≡ Ok (i, q) → JudgesItem s c i (Some f) → ⊥
-unfolding item_at
+unfolding item_at entry_at
 at_end s d p q c i f e r j =
     let h : item_at Done p ≡ Ok (i, q) = subst (λ (x : Due). item_at x p ≡ Ok (i, q)) e r in
-    let k : i ≡ item.End = same_item (Ok (item.End, p)) i item.End q p h refl in
-    let n : None ≡ Some f = sym (subst (λ x. JudgesItem s c x (Some f)) k j) in cc
+    let k : i ≡ item.End = same_item (Ok (item.End, styled (style_after p.style item.End) p)) i item.End q (styled (style_after p.style item.End) p) h refl in
+    sound_end s c f (subst (λ x. JudgesItem s c x (Some f)) k j)
 
 read_end : (d : Due) (p : Cursor) (f : CertFault) → d ≡ Done → item_at d p ≡ Err f → ⊥
-unfolding item_at
-read_end d p f e r = let h : item_at Done p ≡ Err f = subst (λ (x : Due). item_at x p ≡ Err f) e r in never (Ok (item.End, p)) item.End p f refl h
+unfolding item_at entry_at
+read_end d p f e r = let h : item_at Done p ≡ Err f = subst (λ (x : Due). item_at x p ≡ Err f) e r in never (Ok (item.End, styled (style_after p.style item.End) p)) item.End (styled (style_after p.style item.End) p) f refl h
 
 stops_once : (s : Subject) (d : Due) (p : Cursor) (c : Context) (o other : Outcome) → StopsAt s d p c o → StopsAt s d p c other → o ≡ other
 stops_once s d p c (accepted x) (accepted y) a b = ap accepted (sym a.1 ∙ b.1)

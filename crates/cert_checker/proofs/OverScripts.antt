@@ -22,7 +22,7 @@ use Rattle.cert_checker.specs.Outcomes.{accepted, Comes, CheckedHolds}
 use Rattle.cert_checker.proofs.Shown.{LineLaws}
 use Rattle.cert_checker.proofs.AcceptedHolds.{nodes_ordered, in_order, shown_hold}
 use Rattle.cert_checker.proofs.ReadItems.{read_is_due}
-use Rattle.cert_checker.proofs.Roots.{have_one_root}
+use Rattle.cert_checker.proofs.Roots.{have_each_root}
 use Rattle.cert_checker.proofs.Moved.{AreSame, turned, facts_moved, rows_moved, lines_moved}
 use Rattle.cert_checker.proofs.Extends.{Begins, begins, extended}
 
@@ -56,7 +56,7 @@ shown_hold_of_scripts laws sound stay s items end due leads all ordered names a 
     lines_moved (length s.nodes) ns s.nodes a (turned (length s.nodes) s.nodes ns a same) s.goals end.lines names.goals (shown_hold laws sound s items end due leads all a ordered over)
 
 pub in_order_holds : LineLaws → AreSound → ValuesStay → InOrderHolds
-in_order_holds laws sound stay s items end one ordered names due leads a meets = shown_hold_of_scripts laws sound stay s items end due leads (have_one_root s items end due leads ∙ sym one) ordered names a meets
+in_order_holds laws sound stay s items end ordered names due leads a meets = shown_hold_of_scripts laws sound stay s items end due leads (have_each_root s items end due leads) ordered names a meets
 
 pub accepted_holds : LineLaws → AreSound → ValuesStay → AcceptedHolds
 accepted_holds laws sound stay s items lines ordered names acc a meets =
@@ -71,6 +71,6 @@ come_in_order s d p c end (i ∷ items) h =
     (subst (λ (o : Option Due). AreInOrder o items) (sym next) rest.0, (h.1.2, rest.1))
 
 pub checked_holds : LineLaws → AreSound → ValuesStay → CheckedHolds
-checked_holds laws sound stay s p end one ordered names comes a meets =
+checked_holds laws sound stay s p end ordered names comes a meets =
     let t = come_in_order s Head p (first s) end comes.0 comes.1 in
-    in_order_holds laws sound stay s comes.0 end one ordered names t.0 t.1 a meets
+    in_order_holds laws sound stay s comes.0 end ordered names t.0 t.1 a meets

@@ -113,11 +113,11 @@ module _ (laws : LineLaws) (s : Subject) (ns : List Node) (a : Assignment) (orde
   abbrev pub IsSomewhere : Context → Type 0
   IsSomewhere c = IsHere c ⊎ (IsWaiting c ⊎ IsElsewhere c)
 
-  -- what is kept in an open section, of which w sections and this one are still to end
+  -- what is kept in an open section, where this one and w others are still to end, those of later cases among them
   pub record IsSound (w : ℕ) (c : Context) : Type 0 where
     pub somewhere : IsSomewhere c
     pub nested : IsNested (length c.steps) c.cuts
-    pub pending : pending c.cuts ≡ w
+    pub pending : pending c.cuts ≤ w
     pub lines : HaveLines s.goals c.lines
 
   -- ---- a step
@@ -178,7 +178,7 @@ module _ (laws : LineLaws) (s : Subject) (ns : List Node) (a : Assignment) (orde
         somewhere = ⊎_elim
             (λ here.
             let open_facts = subst (λ k. AllByRecursion (Holds ns a) (case_facts s.cases k)) (sym here.begun) facts in
-            inl (record { begun = here.begun; steps = all_append c.steps (x ∷ []) here.steps (step_holds ns a ordered s c e rules open_facts here.piece here.steps r j, tt); piece = here.piece }))
+            inl (record { begun = here.begun; steps = all_append c.steps (x ∷ []) here.steps (step_holds ns a ordered s c e rules open_facts here.piece here.steps r j.1, tt); piece = here.piece }))
             (λ rest. ⊎_elim (λ v. inr (inl (record { begun = v.begun; pieces = waits_longer c.steps (x ∷ []) (length c.steps) c.cuts (omega arith) q.nested v.pieces }))) (λ v. inr (inr v)) rest)
             q.somewhere;
         nested = nested_lower (length c.steps) (length (c.steps ++ (x ∷ []))) c.cuts (omega (arith, length-append c.steps (x ∷ []))) q.nested;
@@ -194,8 +194,8 @@ module _ (laws : LineLaws) (s : Subject) (ns : List Node) (a : Assignment) (orde
   pub cut_sound : (w : ℕ) (c : Context) → c.nodes ≡ ns → IsSound w c → (x : ExprId) (ps : List Dyadic) → JudgesItem s c (item.Cut x ps) None → IsSound (w + length ps) (after c (item.Cut x ps))
   cut_sound w c e q x ps j =
       let k = new_cut c x ps in
-      let P : List Node → Type 0 = λ l. slice_get l x.0 ≡ Some (Var j.0.0) in
-      let cover = piece_holds k j.0.0 (subst P e j.0.1) in
+      let P : List Node → Type 0 = λ l. slice_get l x.0 ≡ Some (Var j.1.0.0) in
+      let cover = piece_holds k j.1.0.0 (subst P e j.1.0.1) in
       record {
         somewhere = ⊎_elim
             (λ here. ⊎_elim (λ p. inl (record { begun = here.begun; steps = here.steps; piece = p })) (λ v. inr (inl (record { begun = here.begun; pieces = inl v }))) (entered_or_waits c k refl refl here.steps cover))
@@ -216,33 +216,80 @@ module _ (laws : LineLaws) (s : Subject) (ns : List Node) (a : Assignment) (orde
   waits_pending steps (k ∷ ks) e (inl p) = let l = p.0.later in let t = p.0.there in absurd (omega (arith, e, l, t))
   waits_pending steps (k ∷ ks) e (inr w) = waits_pending steps ks (omega (arith, e)) w
 
-  ends : (w : ℕ) (d : Bool) (c : Context) → IsNested (length c.steps) c.cuts → pending c.cuts ≡ w → HaveLines s.goals c.lines → IsWaiting c ⊎ IsElsewhere c → Behind w (record (behind c) { ended = d })
-  ends zero d c n e h (inl v) = absurd (waits_pending c.steps c.cuts e v.pieces)
-  ends zero d c n e h (inr (inl v)) = inl v
-  ends zero d c n e h (inr (inr l)) = inr (let next : case_behind c.case (cuts_behind c.cuts) ≡ c.case + 1 = ap (case_behind c.case) (none_behind c.cuts e) in omega (arith, l, next))
-  ends (suc w) d c n e h v =
+  -- behind the last section of a root the next one is open
+  next_root : (w : ℕ) (b d : Bool) (c : Context) → pending c.cuts ≡ 0 → HaveLines s.goals c.lines → IsWaiting c ⊎ IsElsewhere c → IsSound w (record (behind c) { begun = b; ended = d })
+  next_root w b d c e h v =
+      let none : cuts_behind c.cuts ≡ [] = none_behind c.cuts e in
+      let next : case_behind c.case (cuts_behind c.cuts) ≡ c.case + 1 = ap (case_behind c.case) none in
+      let bare : take (around_of (cuts_behind c.cuts)) c.steps ≡ [] = ap (λ ks. take (around_of ks) c.steps) none in
+      record {
+        somewhere = ⊎_elim
+            (λ x. absurd (waits_pending c.steps c.cuts e x.pieces))
+            (λ x. ⊎_elim
+            (λ p. inr (inr (inl p)))
+            (λ l. ⊎_elim
+            (λ m. inr (inr (inr (omega (arith, m, next)))))
+            (λ m. inl (record { begun = omega (arith, l, m, next); steps = subst (AllHold ns a) (sym bare) tt; piece = subst (λ ks. HoldsIf ns a (open_piece ks)) (sym none) tt }))
+            (cases_lt (c.case + 1) case))
+            x)
+            v;
+        nested = subst (IsNested (length (take (around_of (cuts_behind c.cuts)) c.steps))) (sym none) tt;
+        pending = let z = ap pending none in omega (arith, z);
+        lines = h;
+      }
+
+  -- behind another section of a root the next piece is open
+  next_piece : (w p : ℕ) (b d : Bool) (c : Context) → IsNested (length c.steps) c.cuts → pending c.cuts ≡ suc p → p ≤ w → HaveLines s.goals c.lines → IsWaiting c ⊎ IsElsewhere c → IsSound w (record (behind c) { begun = b; ended = d })
+  next_piece w p b d c n e few h v =
       let r = nested_behind (length c.steps) c.cuts n in
-      let same : case_behind c.case (cuts_behind c.cuts) ≡ c.case = same_case w c.case c.cuts e in
+      let same : case_behind c.case (cuts_behind c.cuts) ≡ c.case = same_case p c.case c.cuts e in
       let len : length (take (around_of (cuts_behind c.cuts)) c.steps) ≡ around_of (cuts_behind c.cuts) = length-take-le (around_of (cuts_behind c.cuts)) c.steps r.0 in
+      let one_less = pending_behind c.cuts in
       record {
         somewhere = ⊎_elim
             (λ x. ⊎_elim (λ p. inl (record { begun = same ∙ x.begun; steps = p.0; piece = p.1 })) (λ p. inr (inl (record { begun = same ∙ x.begun; pieces = p }))) (enters c.steps (length c.steps) c.cuts n x.pieces))
             (λ x. inr (inr (⊎_elim (λ p. inl p) (λ l. inr (omega (arith, same, l))) x)))
             v;
         nested = subst (λ m. IsNested m (cuts_behind c.cuts)) (sym len) r.1;
-        pending = pending_behind c.cuts ∙ omega (arith, e);
+        pending = omega (arith, one_less, e, few);
         lines = h;
       }
+
+  ends : (w : ℕ) (b d : Bool) (c : Context) → IsNested (length c.steps) c.cuts → pending c.cuts ≤ w → HaveLines s.goals c.lines → IsWaiting c ⊎ IsElsewhere c → Behind w (record (behind c) { begun = b; ended = d })
+  ends zero b d c n few h (inl v) = let e : pending c.cuts ≡ 0 = omega (arith, few) in absurd (waits_pending c.steps c.cuts e v.pieces)
+  ends zero b d c n few h (inr (inl v)) = inl v
+  ends zero b d c n few h (inr (inr l)) =
+      let e : pending c.cuts ≡ 0 = omega (arith, few) in
+      inr (let next : case_behind c.case (cuts_behind c.cuts) ≡ c.case + 1 = ap (case_behind c.case) (none_behind c.cuts e) in omega (arith, l, next))
+  ends (suc w) b d c n few h v = ⊎_elim
+      (λ m. next_piece w (pending c.cuts - 1) b d c n (omega (arith, m)) (omega (arith, few)) h v)
+      (λ m. next_root w b d c (omega (arith, m)) h v)
+      (cases_lt 0 (pending c.cuts))
 
   pub leaf_sound : (w : ℕ) (c : Context) → IsSound w c → (refs : List ℕ) → JudgesItem s c (item.Leaf refs) None → Behind w (after c (item.Leaf refs))
   leaf_sound w c q refs j =
       let c0 : Context = record c { lines = lines_with c.steps c.lines refs } in
-      ends w false c0 q.nested q.pending (have_lines c.steps s.goals c.lines refs q.lines)
+      ends w true false c0 q.nested q.pending (have_lines c.steps s.goals c.lines refs q.lines)
       (⊎_elim
-      (λ here. inr (inl (new_lines laws ns a c.steps (cited_is ns a ordered c.steps here.steps) s.goals c.lines refs q.lines j)))
+      (λ here. inr (inl (new_lines laws ns a c.steps (cited_is ns a ordered c.steps here.steps) s.goals c.lines refs q.lines j.1)))
       (λ rest. ⊎_elim (λ v. inl (record { begun = v.begun; pieces = v.pieces })) (λ v. inr (⊎_elim (λ p. inl (kept_lines laws ns a c.steps s.goals c.lines refs p)) (λ l. inr l) v)) rest)
       q.somewhere)
 
   pub dead_sound : (w : ℕ) (c : Context) → IsSound w c → (r : ℕ) → JudgesItem s c (item.Dead r) None → Behind w (after c (item.Dead r))
-  dead_sound w c q r j = ends w false c q.nested q.pending q.lines
-      (⊎_elim (λ here. absurd (cited_is ns a ordered c.steps here.steps r fact.Void j)) (λ rest. rest) q.somewhere)
+  dead_sound w c q r j = ends w true false c q.nested q.pending q.lines
+      (⊎_elim (λ here. absurd (cited_is ns a ordered c.steps here.steps r fact.Void j.1)) (λ rest. rest) q.somewhere)
+
+  -- who lies in the root section, which hasn't begun, is answered where no section is due
+  pub none_due : (w : ℕ) (c : Context) → IsSound w c → Behind 0 c
+  none_due w c q = ⊎_elim (λ here. inr (let e = here.begun in omega (arith, e))) (λ rest. ⊎_elim (λ v. inr (let e = v.begun in omega (arith, e))) (λ v. ⊎_elim (λ p. inl p) (λ l. inr (omega (arith, l))) v) rest) q.somewhere
+
+  -- so many root sections follow
+  pub cases_sound : (c : Context) → IsSound 0 c → (n : ℕ) → Behind n (after c (item.Cases n))
+  cases_sound c q zero = ⊎_elim (λ p. inl p) (λ l. inr l) (none_due 0 c q)
+  cases_sound c q (suc m) = record {
+    somewhere = ⊎_elim (λ here. inl (record { begun = here.begun; steps = here.steps; piece = here.piece }))
+        (λ rest. ⊎_elim (λ v. inr (inl (record { begun = v.begun; pieces = v.pieces }))) (λ v. inr (inr v)) rest) q.somewhere;
+    nested = q.nested;
+    pending = let z = q.pending in omega (arith, z);
+    lines = q.lines;
+  }

@@ -1,5 +1,5 @@
 -- Bytes that are accepted spell a certificate that is accepted, and the other way round.
-use Rattle.std.proofs.Common.{List, [], ◌∷◌, refl, sym, ◌∙◌}
+use Rattle.std.proofs.Common.{List, [], ◌∷◌, refl}
 use Rattle.cert_bytes.specs.declared.item.Item.{Item}
 use Rattle.cert_bytes.specs.declared.order.Due.{Due}
 use Rattle.cert_bytes.specs.declared.order.Due.TheVariants.{Head}
@@ -13,7 +13,7 @@ use Rattle.cert_checker.specs.After.{after}
 use Rattle.cert_checker.specs.Accepted.{LeadsTo}
 use Rattle.cert_checker.specs.Outcomes.{accepted, Comes, AcceptedAreSpelled, SpelledAreAccepted}
 use Rattle.cert_checker.proofs.OverScripts.{come_in_order}
-use Rattle.cert_checker.proofs.Roots.{have_one_root}
+use Rattle.cert_checker.proofs.Roots.{have_each_root}
 
 come_read : (s : Subject) (d : Due) (p : Cursor) (c end : Context) (items : List Item) → Comes s d p c items (accepted end) → AreRead d p items
 come_read s d p c end [] h = h.0
@@ -24,11 +24,11 @@ read_come s d p c end [] r l = (r, l)
 read_come s d p c end (i ∷ items) r l = (r.2, (r.0, r.1, l.0, read_come s (due_behind d i) r.0 (after c i) end items r.3 l.1))
 
 pub accepted_are_spelled : ReadsAreSpelled → AcceptedAreSpelled
-accepted_are_spelled spelled s bytes end all one comes =
+accepted_are_spelled spelled s bytes end all comes =
     let items = comes.0 in
     let t = come_in_order s Head (cursor First bytes 0) (first s) end items comes.1 in
     let whole = spelled bytes items all (come_read s Head (cursor First bytes 0) (first s) end items comes.1) in
-    (items, whole, record { certificate = whole.certificate; end = end; leads = t.1; cases = have_one_root s items end t.0 t.1 ∙ sym one; shown = refl })
+    (items, whole, record { certificate = whole.spells.certificate; end = end; leads = t.1; cases = have_each_root s items end t.0 t.1; shown = refl })
 
 pub spelled_are_accepted : SpelledAreRead → SpelledAreAccepted
 spelled_are_accepted read s bytes items lines short whole acc =

@@ -36,6 +36,7 @@ next_of c (item.Nodes n) = omega arith
 next_of c (item.Node n) = omega arith
 next_of c (item.Marks n) = omega arith
 next_of c (item.Mark m) = omega arith
+next_of c (item.Cases n) = omega arith
 next_of c (item.Cut x ps) = omega arith
 next_of c (item.Leaf refs) = omega arith
 next_of c (item.Dead r) = omega arith
@@ -47,6 +48,7 @@ section_of c (item.Nodes n) = omega arith
 section_of c (item.Node n) = omega arith
 section_of c (item.Marks n) = omega arith
 section_of c (item.Mark m) = omega arith
+section_of c (item.Cases n) = omega arith
 section_of c (item.Cut x ps) = omega arith
 section_of c (item.Leaf refs) = omega arith
 section_of c (item.Dead r) = omega arith
@@ -64,6 +66,7 @@ as_many c (item.Nodes n) = refl
 as_many c (item.Node n) = refl
 as_many c (item.Marks n) = refl
 as_many c (item.Mark m) = refl
+as_many c (item.Cases n) = refl
 as_many c (item.Cut x ps) = refl
 as_many c (item.Dead r) = refl
 as_many c item.End = refl
@@ -78,6 +81,7 @@ the_end (item.Nodes n) e = cc
 the_end (item.Node n) e = cc
 the_end (item.Marks n) e = cc
 the_end (item.Mark m) e = cc
+the_end (item.Cases n) e = cc
 the_end (item.Cut x ps) e = cc
 the_end (item.Leaf refs) e = cc
 the_end (item.Dead r) e = cc
@@ -198,11 +202,11 @@ module _ (s : Subject) (c : Standing) (r : Progress) (ended : c.context.ended �
   marks_are = ap (λ (x : Lines). x.marks) is ∙ ap (λ (x : Subject). x.marks) w.subject
 
   -- what is shown holds, whatever the bytes are
-  pub shown_holds : InOrderHolds → length s.cases ≡ 1 → IsOrdered s.nodes → NamesNodes s → (a : Assignment) → Meets s a → LinesHold s.nodes a s.goals lines.rows
-  shown_holds holds one ordered names a meets =
+  pub shown_holds : InOrderHolds → IsOrdered s.nodes → NamesNodes s → (a : Assignment) → Meets s a → LinesHold s.nodes a s.goals lines.rows
+  shown_holds holds ordered names a meets =
       let led = w.leads [] c.context (w.ended ended) refl in
       let P : List Line → Type 0 = λ rows. LinesHold s.nodes a s.goals rows in
-      subst P (sym (ap (λ (x : Lines). x.rows) is)) (holds s led.items c.context one ordered names led.order led.leads a meets)
+      subst P (sym (ap (λ (x : Lines). x.rows) is)) (holds s led.items c.context ordered names led.order led.leads a meets)
 
 pub has_room : (s : Subject) (c : Standing) (r : Progress) → c.context.ended ≡ false → IsSteady s c r → r.ahead.at ≤ 2 ^ 44 → HasRoom c
 has_room s c r open_on w l = let few = w.few open_on in let a = few.steps in let b = few.sections in record { steps = omega (arith, a, l); sections = omega (arith, b, l) }

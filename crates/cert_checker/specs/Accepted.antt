@@ -37,6 +37,7 @@ AreInOrder None items = ⊥
 AreInOrder (Some d) [] = d ≡ Done
 AreInOrder (Some d) (i ∷ items) = AreInOrder (due_after d i) items
 
--- Items in order have one root section.
-abbrev pub HaveOneRoot : Type 0
-HaveOneRoot = (s : Subject) (items : List Item) (end : Context) → AreInOrder (Some Head) items → LeadsTo s (first s) items end → end.case ≡ 1
+-- Items in order with which nothing is wrong have a root section for each case.
+abbrev pub HaveEachRoot : Type 0
+HaveEachRoot = (s : Subject) (items : List Item) (end : Context)
+    → AreInOrder (Some Head) items → LeadsTo s (first s) items end → end.case ≡ length s.cases

@@ -1,11 +1,11 @@
 -- What an item that nothing is wrong with makes of the context.
-use Rattle.std.specs.Prelude.{◌≤◌, ◌+◌, ℕ, Bool, false, List, [], ◌∷◌, ◌++◌, length, take, nat_lt, if◌then◌else◌, Option, Some, None}
+use Rattle.std.specs.Prelude.{◌≤◌, ◌+◌, ◌||◌, ℕ, Bool, false, List, [], ◌∷◌, ◌++◌, length, take, nat_lt, if◌then◌else◌, Option, Some, None}
 use Rattle.facts.specs.declared.fact.Fact.{Fact}
 use Rattle.fx_model.specs.declared.ExprId.{ExprId}
 use Rattle.dyadic.specs.declared.number.Dyadic.{Dyadic}
 use Rattle.cert_bytes.specs.declared.item.Item.{Item}
 use Rattle.cert_bytes.specs.declared.item.Item.TheVariants as item
-use Rattle.cert_bytes.specs.Due.{is_end}
+use Rattle.cert_bytes.specs.Due.{is_of_root, is_end}
 use Rattle.goals.specs.declared.line.Line.{Line}
 use Rattle.goals.specs.Joined.{joined}
 use Rattle.cert_checker.specs.declared.open.Citable.{Citable}
@@ -76,6 +76,7 @@ changed_by c (item.Nodes n) = c
 changed_by c (item.Node n) = record c { nodes = c.nodes ++ n ∷ [] }
 changed_by c (item.Marks n) = c
 changed_by c (item.Mark m) = record c { marked = c.marked + 1 }
+changed_by c (item.Cases n) = c
 changed_by c (item.Step r) = record c { steps = c.steps ++ record { number = c.next; fact = r.fact } ∷ []; next = c.next + 1 }
 changed_by c (item.Cut x ps) = record c { section = c.section + 1; cuts = new_cut c x ps ∷ c.cuts }
 changed_by c (item.Leaf refs) = behind (record c { lines = lines_with c.steps c.lines refs })
@@ -84,4 +85,4 @@ changed_by c item.End = c
 
 -- the context behind the item
 abbrev pub after : Context → Item → Context
-after c i = record (changed_by c i) { ended = is_end i }
+after c i = record (changed_by c i) { begun = is_of_root i || c.begun; ended = is_end i }

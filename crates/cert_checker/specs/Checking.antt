@@ -5,6 +5,7 @@ use Rattle.cert_bytes.specs.declared.fault.CertFault.{CertFault}
 use Rattle.cert_bytes.specs.declared.item.Item.{Item}
 use Rattle.cert_bytes.specs.declared.item.Item.TheVariants.{End}
 use Rattle.cert_bytes.specs.declared.order.Due.TheVariants.{Head}
+use Rattle.cert_bytes.specs.declared.style.Style.TheVariants.{First}
 use Rattle.cert_bytes.specs.Due.{due_behind, is_due}
 use Rattle.cert_bytes.specs.Certificates.{SpellsCertificate}
 use Rattle.cert_bytes.specs.Reading.{Cursor, item_at}
@@ -27,6 +28,7 @@ use Rattle.cert_checker.specs.Outcomes.{Outcome, accepted, unread, refused, Come
 -- nothing was read and nothing taken
 pub record IsFresh (r : Progress) : Type 0 where
   pub at : r.ahead.at ≡ 0
+  pub style : r.ahead.style ≡ First
   pub due : r.due ≡ Head
   pub fault : r.fault ≡ None
 

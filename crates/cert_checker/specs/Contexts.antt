@@ -30,6 +30,8 @@ pub record Context : Type 0 where
   pub cuts : List OpenCut
   -- how many root sections have ended, which is the number of the case that is open
   pub case : ℕ
+  -- whether the sections have begun: an item of theirs was taken, or their number
+  pub begun : Bool
   -- what the leaves so far show of each goal
   pub lines : List Line
   -- whether the last item was the end
@@ -37,7 +39,18 @@ pub record Context : Type 0 where
 
 -- before the first item; the root section is open
 abbrev pub first : Subject → Context
-first s = record { nodes = []; marked = 0; steps = []; next = 0; section = 0; cuts = []; case = 0; lines = map (λ g. line.Empty) s.goals; ended = false }
+first s = record {
+  nodes = [];
+  marked = 0;
+  steps = [];
+  next = 0;
+  section = 0;
+  cuts = [];
+  case = 0;
+  begun = false;
+  lines = map (λ g. line.Empty) s.goals;
+  ended = false;
+}
 
 -- ---- pieces
 

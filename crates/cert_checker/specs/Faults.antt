@@ -1,5 +1,5 @@
 -- How items are judged.
-use Rattle.std.specs.Prelude.{◌≡◌, ◌<◌, ◌≤◌, ◌+◌, ⊤, ℕ, zero, suc, min, List, [], ◌∷◌, length, slice_get, Option, Some, None, Result, Ok, Err}
+use Rattle.std.specs.Prelude.{◌≡◌, ◌<◌, ◌≤◌, ◌+◌, ⊤, true, false, ℕ, zero, suc, min, List, [], ◌∷◌, length, slice_get, Option, Some, None, Result, Ok, Err}
 use Rattle.fx_model.specs.Expression.{ChildrenBelow}
 use Rattle.fx_model.specs.declared.ExprId.{ExprId}
 use Rattle.fx_model.specs.declared.Node.{Node}
@@ -10,10 +10,11 @@ use Rattle.facts.specs.declared.hint.HintMark.{HintMark}
 use Rattle.expr_dag.specs.Nodes.{IsAbsent}
 use Rattle.cert_bytes.specs.declared.item.Item.{Item}
 use Rattle.cert_bytes.specs.declared.item.Item.TheVariants as item
+use Rattle.cert_bytes.specs.Due.{is_of_root}
 use Rattle.goals.specs.declared.goal.Goal.{Goal}
 use Rattle.goals.specs.Settles.{Settles}
 use Rattle.cert_checker.specs.declared.fault.CheckFault.{CheckFault}
-use Rattle.cert_checker.specs.declared.fault.CheckFault.TheVariants.{BadStep, BadPremise, BadCut, GoalMissing, HintMark as HintFault, WrongScript, BadNode}
+use Rattle.cert_checker.specs.declared.fault.CheckFault.TheVariants.{BadStep, BadPremise, BadCut, GoalMissing, HintMark as HintFault, WrongScript, BadNode, BadCases}
 use Rattle.cert_checker.specs.declared.open.Citable.{Citable}
 use Rattle.cert_checker.specs.Contexts.{Context}
 use Rattle.cert_checker.specs.declared.subject.Subject.{Subject}
@@ -120,16 +121,34 @@ JudgesMark marks k m (Some _) = ⊥
 
 -- ---- items
 
+-- an item by itself, whatever number of cases it tells
+abbrev pub JudgesContent : Subject → Context → Item → Option CheckFault → Type 0
+JudgesContent s c (item.Nodes n) o = JudgesCount s.nodes n o
+JudgesContent s c (item.Node n) o = JudgesNode s.nodes s.variables c.nodes n o
+JudgesContent s c (item.Marks n) o = JudgesMarks s.marks n o
+JudgesContent s c (item.Mark m) o = JudgesMark s.marks c.marked m o
+JudgesContent s c (item.Cases n) o = o ≡ None
+JudgesContent s c (item.Step r) o = JudgesStep (givens s c) c.steps c.next r o
+JudgesContent s c (item.Cut x ps) o = JudgesCut c.nodes (length c.cuts) c.section x o
+JudgesContent s c (item.Leaf refs) o = JudgesLeaf c.steps s.goals c.section refs o
+JudgesContent s c (item.Dead r) o = JudgesDead c.steps c.section r o
+JudgesContent s c item.End o = o ≡ None
+
+-- how many root sections follow where the sections begin with this item: one, where it tells no
+-- number
+abbrev pub cases_told : Item → ℕ
+cases_told (item.Cases n) = n
+cases_told _ = 1
+
+-- Where the sections begin with the item, it tells as many as the script has cases.
+abbrev pub HasCases : Subject → Context → Item → Type 0
+HasCases s c i = c.begun ≡ false → is_of_root i ≡ true → cases_told i ≡ length s.cases
+
+-- The number of cases comes before what else is wrong with the item.
 abbrev pub JudgesItem : Subject → Context → Item → Option CheckFault → Type 0
-JudgesItem s c (item.Nodes n) o = JudgesCount s.nodes n o
-JudgesItem s c (item.Node n) o = JudgesNode s.nodes s.variables c.nodes n o
-JudgesItem s c (item.Marks n) o = JudgesMarks s.marks n o
-JudgesItem s c (item.Mark m) o = JudgesMark s.marks c.marked m o
-JudgesItem s c (item.Step r) o = JudgesStep (givens s c) c.steps c.next r o
-JudgesItem s c (item.Cut x ps) o = JudgesCut c.nodes (length c.cuts) c.section x o
-JudgesItem s c (item.Leaf refs) o = JudgesLeaf c.steps s.goals c.section refs o
-JudgesItem s c (item.Dead r) o = JudgesDead c.steps c.section r o
-JudgesItem s c item.End o = o ≡ None
+JudgesItem s c i None = HasCases s c i × JudgesContent s c i None
+JudgesItem s c i (Some (BadCases k)) = (k ≡ cases_told i) × ¬ HasCases s c i
+JudgesItem s c i (Some f) = HasCases s c i × JudgesContent s c i (Some f)
 
 -- ---- what a call answers
 

@@ -11,3 +11,4 @@ pub mod Standing
 pub mod Stops
 pub mod Outcomes
 pub mod Checking
+pub mod Keeping

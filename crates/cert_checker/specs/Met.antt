@@ -1,5 +1,5 @@
 -- What meets a subject, and what the lines of an accepted certificate say of it.
-use Rattle.std.specs.Prelude.{◌≡◌, ◌<◌, ⊤, ℕ, List, [], ◌∷◌, length, Some}
+use Rattle.std.specs.Prelude.{◌<◌, ⊤, ℕ, List, [], ◌∷◌, length, Some}
 use Rattle.std.specs.List.{AllByRecursion}
 use Rattle.fx_model.specs.Expression.{Assignment, IsOrdered}
 use Rattle.fx_model.specs.declared.ExprId.{ExprId}
@@ -93,4 +93,6 @@ AcceptedHolds = (s : Subject) (items : List Item) (lines : List Line) → IsOrde
 
 -- The same of items in order, whatever the bytes are that spell them.
 abbrev pub InOrderHolds : Type 0
-InOrderHolds = (s : Subject) (items : List Item) (end : Context) → length s.cases ≡ 1 → IsOrdered s.nodes → NamesNodes s → AreInOrder (Some Head) items → LeadsTo s (first s) items end → (a : Assignment) → Meets s a → LinesHold s.nodes a s.goals end.lines
+InOrderHolds = (s : Subject) (items : List Item) (end : Context) → IsOrdered s.nodes
+    → NamesNodes s → AreInOrder (Some Head) items → LeadsTo s (first s) items end
+    → (a : Assignment) → Meets s a → LinesHold s.nodes a s.goals end.lines

@@ -46,11 +46,15 @@ ComesOnce = (s : Subject) (p : Cursor) (o other : Outcome) → ComesOf s p o →
 
 -- Where bytes are accepted, each line holds of every assignment that meets the subject, whoever wrote them.
 abbrev pub CheckedHolds : Type 0
-CheckedHolds = (s : Subject) (p : Cursor) (end : Context) → length s.cases ≡ 1 → IsOrdered s.nodes → NamesNodes s → ComesOf s p (accepted end) → (a : Assignment) → Meets s a → LinesHold s.nodes a s.goals end.lines
+CheckedHolds = (s : Subject) (p : Cursor) (end : Context)
+    → IsOrdered s.nodes → NamesNodes s → ComesOf s p (accepted end)
+    → (a : Assignment) → Meets s a → LinesHold s.nodes a s.goals end.lines
 
 -- What comes of bytes from their first one, where they are accepted: they spell a certificate, which is accepted with these lines.
 abbrev pub AcceptedAreSpelled : Type 0
-AcceptedAreSpelled = (s : Subject) (bytes : List ℕ) (end : Context) → AreBytes bytes → length s.cases ≡ 1 → ComesOf s (cursor First bytes 0) (accepted end) → (items : List Item) × SpellsCertificate bytes items × Accepts s items end.lines
+AcceptedAreSpelled = (s : Subject) (bytes : List ℕ) (end : Context)
+    → AreBytes bytes → ComesOf s (cursor First bytes 0) (accepted end)
+    → (items : List Item) × SpellsCertificate bytes items × Accepts s items end.lines
 
 -- A certificate that is accepted is read and accepted, as far as byte 2^44 isn't asked for.
 abbrev pub SpelledAreAccepted : Type 0

@@ -6,7 +6,7 @@ use Rattle.cert_checker.specs.declared.fault.CheckFault.{CheckFault}
 use Rattle.cert_checker.specs.declared.fault.TakeStop.{TakeStop}
 use Rattle.cert_checker.specs.declared.fault.TakeStop.TheVariants.{Check, OutOfMemory}
 use Rattle.cert_checker.specs.Contexts.{Context, first}
-use Rattle.cert_checker.specs.Faults.{JudgesItem}
+use Rattle.cert_checker.specs.Faults.{JudgesContent, JudgesItem}
 use Rattle.cert_checker.specs.After.{changed_by, after, behind}
 
 -- what is checked against, what the items so far come to, and the fault that was found
@@ -22,7 +22,16 @@ begun s = record { subject = s; context = first s; fault = None }
 abbrev pub left : Standing → Standing
 left s = record s { context = behind s.context }
 
--- Where nothing is wrong with the item, the context is changed by it. Else the fault is told, and nothing changes.
+-- Where nothing is wrong with the item by itself, the context is changed by it. Else the fault is
+-- told, and nothing changes.
+abbrev pub ChangesByContent : {X : Type 0} → Standing → Item → Result X TakeStop → Standing → Type 0
+ChangesByContent old i (Ok x) new = JudgesContent old.subject old.context i None
+    × (new ≡ record old { context = changed_by old.context i })
+ChangesByContent old i (Err (Check f)) new =
+    JudgesContent old.subject old.context i (Some f) × (new ≡ old)
+ChangesByContent old i (Err OutOfMemory) new = new ≡ old
+
+-- The same, with the number of cases judged before.
 abbrev pub Changes : {X : Type 0} → Standing → Item → Result X TakeStop → Standing → Type 0
 Changes old i (Ok x) new = JudgesItem old.subject old.context i None × (new ≡ record old { context = changed_by old.context i })
 Changes old i (Err (Check f)) new = JudgesItem old.subject old.context i (Some f) × (new ≡ old)

@@ -1,11 +1,11 @@
 //! The checker as a chain that takes one item after the other.
-ghost use Rattle.std.specs.Prelude.{◌≡◌, ◌↔◌, ◌<◌, false, length, IfOk, IsNone, IfSome};
+ghost use Rattle.std.specs.Prelude.{◌≡◌, ◌↔◌, ◌<◌, false, length, IfOk, IsNone, IfSome, IsTrue};
 ghost use Rattle.expr_dag.specs.Nodes.{IsInLimits};
 ghost use Rattle.cert_bytes.specs.declared.item.Item.TheVariants as item;
 ghost use Rattle.cert_bytes.specs.Certificates.{HasSpelling};
-ghost use Rattle.cert_checker.specs.Faults.{IsJudged, JudgesItem};
-ghost use Rattle.cert_checker.specs.Standing.{Standing, begun, Changes, Takes, HasRoom, left};
-ghost use Rattle.cert_bytes.specs.Due.{is_end};
+ghost use Rattle.cert_checker.specs.Faults.{IsJudged, JudgesContent, HasCases, cases_told};
+ghost use Rattle.cert_checker.specs.Standing.{Standing, begun, ChangesByContent, Changes, Takes, HasRoom, left};
+ghost use Rattle.cert_bytes.specs.Due.{is_of_root, is_end};
 
 use crate::cuts::Cuts;
 use crate::fault::{CheckFault, TakeStop};
@@ -34,6 +34,7 @@ pub struct Chain {
     section: u64,
     cuts: Cuts,
     case: usize,
+    begun: bool,
     lines: Vec<Line>,
     ended: bool,
     fault: Option<CheckFault>,
@@ -59,11 +60,30 @@ impl Model for Chain {
 
     ghost view = { λ c. record {
       subject = c.subject;
-      context = record { nodes = c.nodes; marked = c.marked; steps = c.steps.rows; next = c.steps.next; section = c.section; cuts = c.cuts; case = c.case; lines = c.lines.items; ended = c.ended };
+      context = record { nodes = c.nodes; marked = c.marked; steps = c.steps.rows; next = c.steps.next; section = c.section; cuts = c.cuts; case = c.case; begun = c.begun; lines = c.lines.items; ended = c.ended };
       fault = c.fault;
     } };
 
     ghost invariant = { λ c. Agrees c.subject.nodes c.nodes × (length c.subject.goals < 65535) × (length c.subject.marks < 65535) × (c.marked ≤ length c.subject.marks) × (c.case ≤ c.section) };
+}
+
+fn is_of_root(item: &Item) -> bool
+    ensures { result ≡ is_of_root item.now }
+{
+    matches!(
+        item,
+        Item::Cases(_) | Item::Step(_) | Item::Cut(_, _) | Item::Leaf(_) | Item::Dead(_)
+    )
+}
+
+// How many root sections follow where the sections begin with the item.
+fn cases_told(item: &Item) -> u8
+    ensures { result ≡ cases_told item.now }
+{
+    match item {
+        Item::Cases(count) => *count,
+        _ => 1,
+    }
 }
 
 fn is_end(item: &Item) -> bool
@@ -88,6 +108,7 @@ impl Chain {
             section: 0,
             cuts: Cuts::new(alloc),
             case: 0,
+            begun: false,
             lines,
             ended: false,
             fault: None,
@@ -106,6 +127,7 @@ impl Chain {
         }
         match self.take_item(item) {
             Ok(()) => {
+                self.begun = is_of_root(item) || self.begun;
                 self.ended = is_end(item);
                 Ok(())
             }
@@ -157,7 +179,8 @@ impl Chain {
 
     // Whether the step is concluded. It writes to the room for premises alone.
     fn judge(&mut self, row: &StepRow) -> Result<(), TakeStop>
-        ensures judged { IsJudged (JudgesItem self.old.subject self.old.context (item.Step row.now)) result }
+        ensures judged { IsJudged
+            (JudgesContent self.old.subject self.old.context (item.Step row.now)) result }
         ensures same { self.new ≡ self.old }
     {
         judge_step(
@@ -173,7 +196,7 @@ impl Chain {
 
     fn take_step(&mut self, row: &StepRow) -> Result<(), TakeStop>
         requires { HasRoom self.old }
-        ensures { Changes self.old (item.Step row.now) result self.new }
+        ensures { ChangesByContent self.old (item.Step row.now) result self.new }
     {
         if let Err(stop) = self.judge(row) {
             return Err(stop);
@@ -184,7 +207,7 @@ impl Chain {
 
     fn take_cut(&mut self, var: ExprId, points: &Points) -> Result<(), TakeStop>
         requires { HasRoom self.old }
-        ensures { Changes self.old (item.Cut var points.now) result self.new }
+        ensures { ChangesByContent self.old (item.Cut var points.now) result self.new }
     {
         if let Err(stop) = judge_cut(&self.nodes, self.cuts.len(), self.section, var) {
             return Err(stop);
@@ -214,7 +237,7 @@ impl Chain {
 
     fn take_leaf(&mut self, refs: &[u64]) -> Result<(), TakeStop>
         requires { HasRoom self.old }
-        ensures { Changes self.old (item.Leaf refs.now) result self.new }
+        ensures { ChangesByContent self.old (item.Leaf refs.now) result self.new }
     {
         if let Err(stop) = judge_leaf(
             &self.steps,
@@ -231,7 +254,7 @@ impl Chain {
 
     fn take_dead(&mut self, step: u64) -> Result<(), TakeStop>
         requires { HasRoom self.old }
-        ensures { Changes self.old (item.Dead step) result self.new }
+        ensures { ChangesByContent self.old (item.Dead step) result self.new }
     {
         if let Err(stop) = judge_dead(&self.steps, self.section, step) {
             return Err(stop);
@@ -242,7 +265,7 @@ impl Chain {
 
     fn take_node(&mut self, node: Node) -> Result<(), TakeStop>
         requires { IsInLimits node }
-        ensures { Changes self.old (item.Node node) result self.new }
+        ensures { ChangesByContent self.old (item.Node node) result self.new }
     {
         let taken = take_node(
             &self.subject.nodes,
@@ -257,7 +280,7 @@ impl Chain {
     }
 
     fn take_mark(&mut self, mark: HintMark) -> Result<(), TakeStop>
-        ensures { Changes self.old (item.Mark mark) result self.new }
+        ensures { ChangesByContent self.old (item.Mark mark) result self.new }
     {
         if let Err(stop) = judge_mark(self.subject.marks.as_slice(), self.marked, mark) {
             return Err(stop);
@@ -267,7 +290,7 @@ impl Chain {
     }
 
     fn take_count(&mut self, count: u16) -> Result<(), TakeStop>
-        ensures { Changes self.old (item.Nodes count) result self.new }
+        ensures { ChangesByContent self.old (item.Nodes count) result self.new }
     {
         if let Err(stop) = judge_count(&self.subject.nodes, count) {
             return Err(stop);
@@ -276,7 +299,7 @@ impl Chain {
     }
 
     fn take_marks(&mut self, count: u16) -> Result<(), TakeStop>
-        ensures { Changes self.old (item.Marks count) result self.new }
+        ensures { ChangesByContent self.old (item.Marks count) result self.new }
     {
         if let Err(stop) = judge_marks(self.subject.marks.as_slice(), count) {
             return Err(stop);
@@ -284,21 +307,44 @@ impl Chain {
         Ok(())
     }
 
-    fn take_item(&mut self, item: &Item) -> Result<(), TakeStop>
+    // Takes the item, whatever number of cases it tells.
+    fn take_content(&mut self, item: &Item) -> Result<(), TakeStop>
         requires room { HasRoom self.old }
         requires spelled { HasSpelling item.now }
-        ensures { Changes self.old item.now result self.new }
+        ensures { ChangesByContent self.old item.now result self.new }
     {
         match item {
             Item::Nodes(count) => self.take_count(*count),
             Item::Node(node) => self.take_node(*node),
             Item::Marks(count) => self.take_marks(*count),
             Item::Mark(mark) => self.take_mark(*mark),
+            Item::Cases(_) => Ok(()),
             Item::Step(row) => self.take_step(row),
             Item::Cut(var, points) => self.take_cut(*var, points.points()),
             Item::Leaf(refs) => self.take_leaf(refs.as_slice()),
             Item::Dead(step) => self.take_dead(*step),
             Item::End => Ok(()),
         }
+    }
+
+    // Whether the item, where the sections begin with it, tells as many as the script has cases.
+    #[inline(always)]
+    fn has_cases(&self, item: &Item) -> bool
+        ensures { IsTrue result ↔ HasCases self.now.subject self.now.context item.now }
+    {
+        self.begun
+            || !is_of_root(item)
+            || usize::from(cases_told(item)) == self.subject.cases.as_slice().len()
+    }
+
+    fn take_item(&mut self, item: &Item) -> Result<(), TakeStop>
+        requires room { HasRoom self.old }
+        requires spelled { HasSpelling item.now }
+        ensures { Changes self.old item.now result self.new }
+    {
+        if !self.has_cases(item) {
+            return Err(TakeStop::Check(CheckFault::BadCases(cases_told(item))));
+        }
+        self.take_content(item)
     }
 }

@@ -50,7 +50,8 @@ fn check_items<F: Folder>(
     requires fresh { IsFresh reader.old }
     requires agrees { AgreesTold (F.told folder.old reader.old.ahead.name) reader.old.ahead }
     ensures checks { (all : List ℕ) → F.told folder.old reader.old.ahead.name ≡ Some all → Checks subject (cursor_of all reader.old.ahead) result }
-    ensures holds { length subject.cases ≡ 1 → IsOrdered subject.nodes → NamesNodes subject → IfOk result (λ lines. (a : Assignment) → Meets subject a → LinesHold subject.nodes a subject.goals lines.rows) }
+    ensures holds { IsOrdered subject.nodes → NamesNodes subject → IfOk result (λ lines.
+        (a : Assignment) → Meets subject a → LinesHold subject.nodes a subject.goals lines.rows) }
     ensures count { IfOk result (λ lines. length lines.rows ≡ length subject.goals) }
     ensures marks { IfOk result (λ lines. lines.marks ≡ subject.marks) }
     ensures agrees { AgreesTold (F.told folder.new reader.new.ahead.name) reader.new.ahead }
@@ -84,9 +85,11 @@ pub fn check_subject<F: Folder>(
     // and what comes of them is answered, unless reads fail or memory isn't found.
     ensures exact { (all : List ℕ) → F.told folder.old reader.old.ahead.name ≡ Some all → (o : Outcome) → ComesOf subject (cursor_of all reader.old.ahead) o → IsAnswer o result }
     // Lines come of bytes that spell a certificate which is accepted with them.
-    ensures accepts { (all : List ℕ) → F.told folder.old reader.old.ahead.name ≡ Some all → AreBytes all → length subject.cases ≡ 1 → IfOk result (λ lines. AreAccepted subject all lines.rows) }
+    ensures accepts { (all : List ℕ) → F.told folder.old reader.old.ahead.name ≡ Some all
+        → AreBytes all → IfOk result (λ lines. AreAccepted subject all lines.rows) }
     // Whatever the bytes are, lines hold of every assignment that meets the subject.
-    ensures holds { length subject.cases ≡ 1 → IsOrdered subject.nodes → NamesNodes subject → IfOk result (λ lines. (a : Assignment) → Meets subject a → LinesHold subject.nodes a subject.goals lines.rows) }
+    ensures holds { IsOrdered subject.nodes → NamesNodes subject → IfOk result (λ lines.
+        (a : Assignment) → Meets subject a → LinesHold subject.nodes a subject.goals lines.rows) }
     ensures count { IfOk result (λ lines. length lines.rows ≡ length subject.goals) }
     ensures marks { IfOk result (λ lines. lines.marks ≡ subject.marks) }
     ensures agrees { AgreesTold (F.told folder.new reader.new.ahead.name) reader.new.ahead }

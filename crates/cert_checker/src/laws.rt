@@ -1,5 +1,5 @@
 //! What acceptance promises, for callers to cite. Nothing here is done at run time.
-ghost use Rattle.cert_checker.specs.Accepted.{HaveOneRoot};
+ghost use Rattle.cert_checker.specs.Accepted.{HaveEachRoot};
 ghost use Rattle.cert_checker.specs.Met.{HoldsOverCertificates, AcceptedHolds, InOrderHolds};
 ghost use Rattle.cert_checker.specs.Outcomes.{ComesOnce, CheckedHolds, AcceptedAreSpelled, SpelledAreAccepted};
 ghost use Rattle.cert_checker.specs.Once.{JudgedOnce, LeadsOnce, LeadsOrFails, FailsOnce};
@@ -34,9 +34,10 @@ pub fn items_are_judged_once()
     ensures bytes { ComesOnce }
 {}
 
-/// Nothing is done. The clause tells a caller that a certificate has one root section.
-pub fn one_root_section()
-    ensures { HaveOneRoot }
+/// Nothing is done. The clause tells a caller that a certificate has a root section for each case
+/// of the subject.
+pub fn each_case_has_its_root()
+    ensures { HaveEachRoot }
 {}
 
 /// Nothing is done. The clauses tell a caller that bytes are accepted exactly where they spell a certificate that is accepted.

@@ -7,6 +7,7 @@ mod conclude;
 mod cuts;
 mod fault;
 mod judge;
+mod keep;
 mod laws;
 mod lines;
 mod nodes;
@@ -16,6 +17,9 @@ mod subject;
 pub use chain::Chain;
 pub use check::check_subject;
 pub use fault::{CheckFault, CheckStop, TakeStop};
-pub use laws::{accepted_lines_hold, bytes_are_accepted, items_are_judged_once, one_root_section};
+pub use keep::{Accepted, accepted_items};
+pub use laws::{
+    accepted_lines_hold, bytes_are_accepted, each_case_has_its_root, items_are_judged_once,
+};
 pub use lines::Lines;
 pub use subject::Subject;

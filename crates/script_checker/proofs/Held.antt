@@ -17,6 +17,8 @@ use Rattle.script_claims.specs.Facts.{hypothesis_fact, want_of, slot_of as slot_
 use Rattle.script_claims.specs.Meets.{IsTrueAt}
 use Rattle.script_hints.specs.Meets.{MeetsHint}
 use Rattle.script_grammar.specs.Spells.{View}
+use Rattle.script_grammar.specs.Cases.{cases_of}
+use Rattle.script_grammar.specs.Ranges.{HasFewCases}
 use Rattle.script_grammar.specs.Names.{NamesNodes, HintIsOf}
 use Rattle.script_meets.specs.Meets.{Meets, HintsAreMet}
 use Rattle.rewrite_hints.specs.Rows.{RowsAreTrue as HintRowsAreTrue}
@@ -35,8 +37,10 @@ use Rattle.cert_checker.specs.Checking.{AreAccepted}
 use Rattle.script_checker.specs.Subjects.{goal_of, with_fact, facts_of, IsSubjectOf}
 use Rattle.script_checker.specs.Checking.{AreHeld, AreAcceptedFor}
 use Rattle.script_checker.proofs.Settled.{ClaimLaws, settled}
-use Rattle.script_checker.proofs.Named.{facts_named, goals_named, hint_of, rows_named}
+use Rattle.script_checker.proofs.CaseFacts.{some_case_met, cases_named, case_facts_named, case_facts_held}
+use Rattle.script_checker.proofs.Named.{goals_named, hint_of, rows_named}
 use Rattle.facts.specs.CommonParts.{all_at}
+use Rattle.std.proofs.lemmas.List.{length-map}
 
 -- a claim's fact holds wherever the claim is true
 abbrev FactsHold : Type 0
@@ -59,13 +63,13 @@ rows_held met true s a rows ordered names meets are k row e =
     true s.nodes a h.0 row ordered of.sides.0 h.2 (all_at (MeetsHint s.nodes a) s.hints.rewrites k h.0 all h.1)
 
 -- the subject's parts, where they are the script's
-names_nodes : (s : View) (t : Subject) → IsOrdered s.nodes → NamesNodes s → IsSubjectOf s t → SubjectNamesNodes t
-names_nodes s t ordered names is =
+names_nodes : (s : View) (t : Subject) → IsOrdered s.nodes → NamesNodes s → HasFewCases s → IsSubjectOf s t → SubjectNamesNodes t
+names_nodes s t ordered names few is =
     let P : List Node → Type 0 = λ ns. AllByRecursion (AllByRecursion (λ (f : Fact). SlotIsAmong (length ns) (slot_of f))) t.cases in
     let Q : List Node → Type 0 = λ ns. AllByRecursion (λ (g : Goal). SlotIsAmong (length ns) g.of) t.goals in
     let R : List Node → Type 0 = λ ns. AllByRecursion (RowIsAmong (length ns)) t.hints in
     record {
-      facts = subst P (sym is.nodes) (subst (AllByRecursion (AllByRecursion (λ (f : Fact). SlotIsAmong (length s.nodes) (slot_of f)))) (sym is.cases) (facts_named (length s.nodes) s.hypotheses names.hypotheses, tt));
+      facts = subst P (sym is.nodes) (subst (AllByRecursion (AllByRecursion (λ (f : Fact). SlotIsAmong (length s.nodes) (slot_of f)))) (sym is.cases) (case_facts_named (length s.nodes) (cases_of s) (cases_named s few names)));
       goals = subst Q (sym is.nodes) (subst (AllByRecursion (λ (g : Goal). SlotIsAmong (length s.nodes) g.of)) (sym is.goals) (goals_named (length s.nodes) s.goals names.goals));
       hints = subst R (sym is.nodes) (rows_named s.nodes ordered s.hints.rewrites t.hints names.hints.rewrites is.hints);
     }
@@ -73,12 +77,13 @@ names_nodes s t ordered names is =
 meets_subject : FactsHold → HintsAreMet → HintRowsAreTrue → (s : View) (t : Subject) (a : Assignment) → IsOrdered s.nodes → NamesNodes s → IsSubjectOf s t → Meets a s → MeetsSubject t a
 meets_subject holds met true s t a ordered names is meets = record {
   rows = subst (λ (ns : List Node). RowsAreTrue ns a t.hints) (sym is.nodes) (rows_held met true s a t.hints ordered names meets is.hints);
-  case = 0;
-  within = subst (λ (cs : List (List Fact)). 0 < length cs) (sym is.cases) (omega arith);
+  case = (some_case_met s a meets).number;
+  within = let l = (some_case_met s a meets).within in subst (λ (cs : List (List Fact)). (some_case_met s a meets).number < length cs) (sym is.cases) (omega (arith, l, length-map (cases_of s) facts_of));
   facts =
-      let P : List (List Fact) → Type 0 = λ cs. AllByRecursion (Holds s.nodes a) (case_facts cs 0) in
-      let Q : List Node → Type 0 = λ ns. AllByRecursion (Holds ns a) (case_facts t.cases 0) in
-      subst Q (sym is.nodes) (subst P (sym is.cases) (facts_held holds s.nodes a s.hypotheses meets.hypotheses));
+      let met = some_case_met s a meets in
+      let P : List (List Fact) → Type 0 = λ cs. AllByRecursion (Holds s.nodes a) (case_facts cs met.number) in
+      let Q : List Node → Type 0 = λ ns. AllByRecursion (Holds ns a) (case_facts t.cases met.number) in
+      subst Q (sym is.nodes) (subst P (sym is.cases) (case_facts_held s.nodes a (facts_held holds s.nodes a) (cases_of s) met.number met.claims));
 }
 
 -- each goal's line holds, and the goal is true
@@ -102,10 +107,7 @@ pub record ScriptLaws : Type 0 where
   pub hints : HintsAreMet
   pub rows : HintRowsAreTrue
 
-module _ (laws : ScriptLaws) (s : View) (t : Subject) (ordered : IsOrdered s.nodes) (names : NamesNodes s) (is : IsSubjectOf s t) where
-  one_case : length t.cases ≡ 1
-  one_case = subst (λ (cs : List (List Fact)). length cs ≡ 1) (sym is.cases) refl
-
+module _ (laws : ScriptLaws) (s : View) (t : Subject) (ordered : IsOrdered s.nodes) (names : NamesNodes s) (few : HasFewCases s) (is : IsSubjectOf s t) where
   nodes_ordered : IsOrdered t.nodes
   nodes_ordered = subst IsOrdered (sym is.nodes) ordered
 
@@ -117,17 +119,17 @@ module _ (laws : ScriptLaws) (s : View) (t : Subject) (ordered : IsOrdered s.nod
       held_at laws.claims s.nodes a s.goals lines (subst P is.goals (subst Q is.nodes (h a (meets_subject laws.hypotheses laws.hints laws.rows s t a ordered names is meets))))
 
   pub checked_held : (result : Result Lines CheckStop)
-      → (length t.cases ≡ 1 → IsOrdered t.nodes → SubjectNamesNodes t → IfOk result (λ lines. (a : Assignment) → MeetsSubject t a → LinesHold t.nodes a t.goals lines.rows))
+      → (IsOrdered t.nodes → SubjectNamesNodes t → IfOk result (λ lines. (a : Assignment) → MeetsSubject t a → LinesHold t.nodes a t.goals lines.rows))
       → IfOk result (λ lines. (a : Assignment) → Meets a s → AreHeld s a lines.rows)
-  checked_held (Ok lines) h = held lines.rows (h one_case nodes_ordered (names_nodes s t ordered names is))
+  checked_held (Ok lines) h = held lines.rows (h nodes_ordered (names_nodes s t ordered names few is))
   checked_held (Err e) h = tt
 
-  pub accepted_so : (all : List ℕ) (result : Result Lines CheckStop) → (length t.cases ≡ 1 → IfOk result (λ lines. AreAccepted t all lines.rows)) → IfOk result (λ lines. AreAcceptedFor s all lines.rows)
-  accepted_so all (Ok lines) h = record { subject = t; is = is; accepted = h one_case }
+  pub accepted_so : (all : List ℕ) (result : Result Lines CheckStop) → IfOk result (λ lines. AreAccepted t all lines.rows) → IfOk result (λ lines. AreAcceptedFor s all lines.rows)
+  accepted_so all (Ok lines) h = record { subject = t; is = is; accepted = h }
   accepted_so all (Err e) h = tt
 
   pub items_held : AcceptedHolds → (items : List Item) (lines : List Line) → Accepts t items lines → (a : Assignment) → Meets a s → AreHeld s a lines
-  items_held holds items lines acc = held lines (holds t items lines nodes_ordered (names_nodes s t ordered names is) acc)
+  items_held holds items lines acc = held lines (holds t items lines nodes_ordered (names_nodes s t ordered names few is) acc)
 
   pub bytes_held : CheckedHolds → (p : Cursor) (end : Context) → ComesOf t p (accepted end) → (a : Assignment) → Meets a s → AreHeld s a end.lines
-  bytes_held holds p end comes = held end.lines (holds t p end one_case nodes_ordered (names_nodes s t ordered names is) comes)
+  bytes_held holds p end comes = held end.lines (holds t p end nodes_ordered (names_nodes s t ordered names few is) comes)

@@ -20,7 +20,7 @@ use Rattle.expr_dag.specs.Nodes.{IsAt}
 use Rattle.goals.specs.declared.goal.Goal.{Goal}
 use Rattle.script_bounds.specs.Bounds.{written_range, outward_of}
 use Rattle.script_claims.specs.declared.claim.Claim.{Claim}
-use Rattle.script_claims.specs.declared.claim.Claim.TheVariants.{Bounded, Asked, Relative, RelativeAsked, Multiple}
+use Rattle.script_claims.specs.declared.claim.Claim.TheVariants.{Bounded, Asked, Relative, RelativeAsked, Multiple, Above, Below}
 use Rattle.script_claims.specs.Facts.{hypothesis_fact, rel_of}
 use Rattle.script_hints.specs.declared.hint.Constraint.{Constraint}
 use Rattle.script_hints.specs.declared.hint.Constraint.TheVariants as constraint
@@ -59,6 +59,8 @@ fact_named n (Asked x) h = tt
 fact_named n (Relative x y lower upper) h = rel_named n x y (error_of_part (outward_of (written_range (Some lower) (Some upper)))) h
 fact_named n (RelativeAsked x y) h = tt
 fact_named n (Multiple x k) h = fix_named n x (place_from k) h
+fact_named n (Above x w) h = bnd_named n x (outward_of (written_range (Some w) None)) h
+fact_named n (Below x w) h = bnd_named n x (outward_of (written_range None (Some w))) h
 
 with_named : (n : ℕ) (o : Option Fact) (fs : List Fact) → IfNamed n o → AllByRecursion (IsNamed n) fs → AllByRecursion (IsNamed n) (with_fact o fs)
 with_named n None fs h t = t
@@ -74,6 +76,8 @@ goal_named n (Asked x) h = h
 goal_named n (Relative x y lower upper) h = (h.0, h.1)
 goal_named n (RelativeAsked x y) h = (h.0, h.1)
 goal_named n (Multiple x k) h = h
+goal_named n (Above x w) h = h
+goal_named n (Below x w) h = h
 
 pub goals_named : (n : ℕ) (cs : List Claim) → AllByRecursion (ClaimIsOf n) cs → AllByRecursion (λ (g : Goal). SlotIsAmong n g.of) (map goal_of cs)
 goals_named n [] h = tt

@@ -17,7 +17,7 @@ use Rattle.goals.specs.declared.goal.Want.TheVariants.{Ask, Inside}
 use Rattle.goals.specs.Lies.{LiesAt, AreZeroAt}
 use Rattle.goals.specs.Settles.{Answers}
 use Rattle.script_claims.specs.declared.claim.Claim.{Claim}
-use Rattle.script_claims.specs.declared.claim.Claim.TheVariants.{Bounded, Asked, Relative, RelativeAsked, Multiple}
+use Rattle.script_claims.specs.declared.claim.Claim.TheVariants.{Bounded, Asked, Relative, RelativeAsked, Multiple, Above, Below}
 use Rattle.script_claims.specs.Facts.{want_of, slot_of}
 use Rattle.script_claims.specs.Meets.{IsTrueAt}
 
@@ -33,6 +33,8 @@ module _ (laws : ClaimLaws) (nodes : List Node) (a : Assignment) where
   asked (Bounded x lower upper) e = cc
   asked (Relative x y lower upper) e = cc
   asked (Multiple x k) e = cc
+  asked (Above x w) e = cc
+  asked (Below x w) e = cc
 
   pub settled : (c : Claim) (w : Want) (f : Fact) → want_of c ≡ w → slot_of_fact f ≡ slot_of c → Answers w f → Holds nodes a f → IsTrueAt nodes a c
   settled c Ask f e s n h = asked c e

@@ -8,6 +8,7 @@ use Rattle.script_claims.specs.Facts.{slot_of}
 use Rattle.script_claims.specs.Meets.{IsTrueAt}
 use Rattle.script_grammar.specs.Spells.{View}
 use Rattle.script_grammar.specs.Names.{NamesNodes}
+use Rattle.script_grammar.specs.Ranges.{HasFewCases}
 use Rattle.script_meets.specs.Meets.{Meets}
 use Rattle.cert_bytes.specs.declared.item.Item.{Item}
 use Rattle.cert_bytes.specs.Reading.{Cursor}
@@ -56,8 +57,12 @@ AreHeld s a lines = (k : ℕ) (c : Claim) → slice_get s.goals k ≡ Some c →
 
 -- This is so of every assignment that meets the script, of the lines of each certificate that is accepted, whoever wrote it.
 abbrev pub AcceptedHoldsOfScripts : Type 0
-AcceptedHoldsOfScripts = (s : View) (t : Subject) (items : List Item) (lines : List Line) → IsOrdered s.nodes → NamesNodes s → IsSubjectOf s t → Accepts t items lines → (a : Assignment) → Meets a s → AreHeld s a lines
+AcceptedHoldsOfScripts = (s : View) (t : Subject) (items : List Item) (lines : List Line)
+    → IsOrdered s.nodes → NamesNodes s → HasFewCases s
+    → IsSubjectOf s t → Accepts t items lines → (a : Assignment) → Meets a s → AreHeld s a lines
 
 -- It is so of the lines of bytes that are accepted, whoever wrote them.
 abbrev pub CheckedHoldsOfScripts : Type 0
-CheckedHoldsOfScripts = (s : View) (t : Subject) (p : Cursor) (end : Context) → IsOrdered s.nodes → NamesNodes s → IsSubjectOf s t → ComesOf t p (accepted end) → (a : Assignment) → Meets a s → AreHeld s a end.lines
+CheckedHoldsOfScripts = (s : View) (t : Subject) (p : Cursor) (end : Context)
+    → IsOrdered s.nodes → NamesNodes s → HasFewCases s → IsSubjectOf s t
+    → ComesOf t p (accepted end) → (a : Assignment) → Meets a s → AreHeld s a end.lines

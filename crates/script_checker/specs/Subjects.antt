@@ -5,6 +5,7 @@ use Rattle.goals.specs.declared.goal.Goal.{Goal}
 use Rattle.script_claims.specs.declared.claim.Claim.{Claim}
 use Rattle.script_claims.specs.Facts.{hypothesis_fact, want_of, slot_of}
 use Rattle.script_grammar.specs.Spells.{View}
+use Rattle.script_grammar.specs.Cases.{cases_of}
 use Rattle.rewrite_hints.specs.Marks.{AreRows, AreMarks}
 use Rattle.cert_checker.specs.declared.subject.Subject.{Subject}
 
@@ -21,12 +22,13 @@ abbrev pub facts_of : List Claim → List Fact
 facts_of [] = []
 facts_of (c ∷ cs) = with_fact (hypothesis_fact c) (facts_of cs)
 
--- The subject is what the script asks of its certificates: one case, of all its hypotheses; marks and rows of its rewritings.
+-- The subject is what the script asks of its certificates: the facts of each case; marks and rows
+-- of its rewritings.
 pub record IsSubjectOf (s : View) (t : Subject) : Type 0 where
   pub nodes : t.nodes ≡ s.nodes
   -- a script has no more variables than nodes, so these are all
   pub variables : t.variables ≡ min (length s.variables) 65535
-  pub cases : t.cases ≡ facts_of s.hypotheses ∷ []
+  pub cases : t.cases ≡ map facts_of (cases_of s)
   pub goals : t.goals ≡ map goal_of s.goals
   pub marks : AreMarks s.nodes s.hints.rewrites t.marks
   pub hints : AreRows s.nodes s.hints.rewrites t.hints

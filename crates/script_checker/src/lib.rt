@@ -1,6 +1,7 @@
 //! Certificates of scripts: what a script asks of them, and what the lines of an accepted one say of it.
 #![tactic(auto)]
 
+mod cases;
 mod check;
 mod claims;
 mod laws;

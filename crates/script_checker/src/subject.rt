@@ -2,7 +2,8 @@
 ghost use Rattle.std.specs.Prelude.{◌≡◌, ◌↔◌, ◌<◌, min, length, IsTrue, IfOk};
 ghost use Rattle.script_checker.specs.Subjects.{IsSubjectOf};
 
-use crate::claims::{facts_of, goals_of};
+use crate::cases::facts_of_cases;
+use crate::claims::goals_of;
 use cert_checker::Subject;
 use fx_edge::Items;
 use rewrite_hints::{marks_of, rows_of};
@@ -32,19 +33,17 @@ fn variables_of(script: &Script<'_>) -> u16
     u16::MAX
 }
 
-/// The subject of a script: its nodes, what its hypotheses say as one case, what its goals want, and the marks and the rows of
-/// its rewritings.
+/// The subject of a script: its nodes, what its hypotheses say case by case, what its goals want,
+/// and the marks and the rows of its rewritings.
 pub fn subject_of(alloc: Global, script: &Script<'_>) -> Result<Subject, AllocError>
     ensures { IfOk result (IsSubjectOf script.now) }
 {
     script.laws();
     let nodes = script.nodes().copy()?;
-    let facts = facts_of(alloc, script.hypotheses())?;
+    let cases = facts_of_cases(alloc, script)?;
     let goals = goals_of(alloc, script.goals())?;
     let marks = marks_of(alloc, script.nodes(), script.hints().rewrites.as_slice())?;
     let hints = rows_of(alloc, script.nodes(), script.hints().rewrites.as_slice())?;
-    let mut cases = Vec::new(alloc);
-    cases.push(Items::from_vec(facts))?;
     Ok(Subject {
         nodes,
         variables: variables_of(script),

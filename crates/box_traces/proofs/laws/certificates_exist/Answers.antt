@@ -1,6 +1,6 @@
 -- The recursions over rounds, boxes and trees.
 use Rattle.box_traces.proofs.Come.{root_trace, child_trace}
-use Rattle.box_traces.proofs.Treed.{walk_goes_on}
+use Rattle.box_traces.proofs.Rooted.{walk_goes_on}
 use Rattle.box_traces.proofs.Head.{certificate_exists}
 use Rattle.box_traces.proofs.laws.certificates_exist.Goals as goal
 

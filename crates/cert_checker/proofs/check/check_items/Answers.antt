@@ -42,10 +42,10 @@ returns-clause-checks g c = λ all h.
     shows c.args.subject c.loop-chain.chain c.loop-chain.reader done i.steady c.into_lines.result c.into_lines.ensures all c.args.reader.now (i.reaches all h)
 
 pub returns-clause-holds : goal.returns-clause-holds
-returns-clause-holds g c = λ one ordered names a meets.
+returns-clause-holds g c = λ ordered names a meets.
     let i = c.loop-chain.invariant in
     let done : c.loop-chain.chain.context.ended ≡ true = search rules in
-    shown_holds c.args.subject c.loop-chain.chain c.loop-chain.reader done i.steady c.into_lines.result c.into_lines.ensures c.accepted_lines_hold.ensures.order one ordered names a meets
+    shown_holds c.args.subject c.loop-chain.chain c.loop-chain.reader done i.steady c.into_lines.result c.into_lines.ensures c.accepted_lines_hold.ensures.order ordered names a meets
 
 pub returns-clause-count : goal.returns-clause-count
 returns-clause-count g c =

@@ -22,13 +22,13 @@ pub returns-clause-accepts : goal.returns-clause-accepts
 returns-clause-accepts g c =
     let claims : ClaimLaws = record { inside = c.goals_are_enough.ensures.inside; zeros = c.goals_are_enough.ensures.zeros } in
     let laws : ScriptLaws = record { claims = claims; hypotheses = c.hypotheses_hold.ensures.holds; hints = c.met_scripts.ensures.hints; rows = c.rows_are_true.ensures.rows } in
-    λ all h bytes. accepted_so laws c.args.script.now _ c.laws.ensures.ordered c.laws.ensures.names c.in_ok-subject.ensures all c.check_subject.result (c.check_subject.ensures.accepts all h bytes)
+    λ all h bytes. accepted_so laws c.args.script.now _ c.laws.ensures.ordered c.laws.ensures.names c.laws.ensures.cases c.in_ok-subject.ensures all c.check_subject.result (c.check_subject.ensures.accepts all h bytes)
 
 pub returns-clause-holds : goal.returns-clause-holds
 returns-clause-holds g c =
     let claims : ClaimLaws = record { inside = c.goals_are_enough.ensures.inside; zeros = c.goals_are_enough.ensures.zeros } in
     let laws : ScriptLaws = record { claims = claims; hypotheses = c.hypotheses_hold.ensures.holds; hints = c.met_scripts.ensures.hints; rows = c.rows_are_true.ensures.rows } in
-    checked_held laws c.args.script.now _ c.laws.ensures.ordered c.laws.ensures.names c.in_ok-subject.ensures c.check_subject.result c.check_subject.ensures.holds
+    checked_held laws c.args.script.now _ c.laws.ensures.ordered c.laws.ensures.names c.laws.ensures.cases c.in_ok-subject.ensures c.check_subject.result c.check_subject.ensures.holds
 
 pub returns-clause-count : goal.returns-clause-count
 returns-clause-count g c = count_for c.args.script.now _ c.in_ok-subject.ensures c.check_subject.result c.check_subject.ensures.count

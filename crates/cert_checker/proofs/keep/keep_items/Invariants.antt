@@ -1,0 +1,28 @@
+use Rattle.std.proofs.Common.{◌≡◌, ◌≤◌, ◌^◌, ◌++◌, ℕ, List, Some}
+use Rattle.std.specs.List.{AllByRecursion}
+use Rattle.cert_bytes.specs.declared.item.Item.{Item}
+use Rattle.cert_bytes.specs.declared.order.Due.TheVariants.{Head}
+use Rattle.cert_bytes.specs.Certificates.{HasSpelling}
+use Rattle.cert_bytes.specs.Pieces.{AgreesTold, cursor_of}
+use Rattle.cert_bytes.specs.ReadOut.{AreRead}
+use Rattle.cert_checker.specs.Contexts.{first}
+use Rattle.cert_checker.specs.Accepted.{LeadsTo}
+use Rattle.cert_checker.proofs.Turns.{Reaches, IsSteady, turns_left}
+use Rattle.cert_checker.proofs.keep.keep_items.Given as goal
+
+abbrev pub invariant-loop-chain : goal.invariant-loop-chain
+invariant-loop-chain g l = record {
+  steady : IsSteady l.fn.subject l.chain l.reader;
+  within : l.reader.ahead.at ≤ 2 ^ 44;
+  reaches : (all : List ℕ) → g.F.Folder.told l.fn.folder l.fn.reader.ahead.name ≡ Some all → Reaches l.fn.subject all l.fn.reader l.chain l.reader;
+  read : (all : List ℕ) → g.F.Folder.told l.fn.folder l.fn.reader.ahead.name ≡ Some all → (later : List Item) → AreRead l.reader.due (cursor_of all l.reader.ahead) later → AreRead Head (cursor_of all l.fn.reader.ahead) (l.items.items ++ later);
+  led : LeadsTo l.fn.subject (first l.fn.subject) l.items.items l.chain.context;
+  spelled : AllByRecursion HasSpelling l.items.items;
+  agrees : AgreesTold (g.F.Folder.told l.folder l.reader.ahead.name) l.reader.ahead;
+  name : l.reader.ahead.name ≡ l.fn.reader.ahead.name;
+  told : (other : List ℕ) → g.F.Folder.told l.folder other ≡ g.F.Folder.told l.fn.folder other;
+  later : g.F.Folder.read_faults l.fn.folder ≤ g.F.Folder.read_faults l.folder;
+}
+
+abbrev pub decreases-loop-chain : goal.decreases-loop-chain
+decreases-loop-chain g l = turns_left l.chain.context.ended l.reader.ahead.at

@@ -1,0 +1,133 @@
+//! A certificate under some name of a folder, checked item by item, with its items kept.
+ghost use Rattle.std.specs.Prelude.{◌≡◌, ◌≤◌, ◌<◌, ◌^◌, ℕ, List, Some, None, length, IfOk, IsErrOf};
+ghost use Rattle.std.specs.List.{AllByRecursion};
+ghost use Rattle.fx_edge.specs.Outside.{Rose};
+ghost use Rattle.cert_bytes.specs.Certificates.{HasSpelling};
+ghost use Rattle.cert_bytes.specs.Pieces.{AgreesTold, cursor_of};
+ghost use Rattle.cert_bytes.specs.declared.order.Due.TheVariants.{Head};
+ghost use Rattle.cert_bytes.specs.ReadOut.{AreBytes, AreRead};
+ghost use Rattle.cert_checker.specs.declared.fault.CheckStop.TheVariants as CheckStop;
+ghost use Rattle.cert_checker.specs.Standing.{HasRoom};
+ghost use Rattle.cert_checker.specs.Outcomes.{Outcome, ComesOf};
+ghost use Rattle.cert_checker.specs.Checking.{IsFresh, Checks, IsAnswer, Turns};
+ghost use Rattle.cert_checker.specs.Keeping.{TookItem, lines_of, AreLed, AreAcceptedItems};
+
+use crate::chain::Chain;
+use crate::fault::CheckStop;
+use crate::laws::{each_case_has_its_root, items_are_judged_once};
+use crate::lines::Lines;
+use crate::subject::Subject;
+use cert_bytes::{Item, Reader, certificates_are_spelled_once};
+use fx_edge::Folder;
+use std::alloc::Global;
+
+/// A certificate that is accepted: its items, and the lines that its leaves show.
+#[derive(Drop)]
+pub struct Accepted {
+    pub items: Vec<Item>,
+    pub lines: Lines,
+}
+
+// Reads an item and takes it.
+fn next_item<F: Folder>(
+    chain: &mut Chain,
+    reader: &mut Reader,
+    folder: &mut F,
+) -> Result<Item, CheckStop>
+    requires room { HasRoom chain.old }
+    requires sound { chain.old.fault ≡ None }
+    requires reads { reader.old.fault ≡ None }
+    requires agrees { AgreesTold (F.told folder.old reader.old.ahead.name) reader.old.ahead }
+    ensures turns { Turns
+        (F.told folder.old reader.old.ahead.name) chain.old chain.new reader.old reader.new result }
+    ensures took { IfOk result (TookItem
+        (F.told folder.old reader.old.ahead.name) chain.old chain.new reader.old reader.new) }
+    ensures spelled { IfOk result HasSpelling }
+    ensures agrees { AgreesTold (F.told folder.new reader.new.ahead.name) reader.new.ahead }
+    ensures name { reader.new.ahead.name ≡ reader.old.ahead.name }
+    ensures within { reader.new.ahead.at ≤ 2 ^ 44 }
+    ensures told { (other : List ℕ) → F.told folder.new other ≡ F.told folder.old other }
+    ensures later { F.read_faults folder.old ≤ F.read_faults folder.new }
+    ensures cause { IsErrOf result CheckStop.Failed
+        → Rose (F.read_faults folder.old) (F.read_faults folder.new) }
+{
+    let item = reader.next(folder)?;
+    chain.take(&item)?;
+    Ok(item)
+}
+
+// Reads, takes and keeps items to the end.
+fn keep_items<F: Folder>(
+    alloc: Global,
+    subject: Subject,
+    reader: &mut Reader,
+    folder: &mut F,
+) -> Result<Accepted, CheckStop>
+    requires goals { length subject.goals < 65535 }
+    requires marks { length subject.marks < 65535 }
+    requires fresh { IsFresh reader.old }
+    requires agrees { AgreesTold (F.told folder.old reader.old.ahead.name) reader.old.ahead }
+    ensures checks { (all : List ℕ) → F.told folder.old reader.old.ahead.name ≡ Some all
+        → Checks subject (cursor_of all reader.old.ahead) (lines_of result) }
+    ensures read { (all : List ℕ) → F.told folder.old reader.old.ahead.name ≡ Some all
+        → IfOk result (λ a. AreRead Head (cursor_of all reader.old.ahead) a.items.items) }
+    ensures led { IfOk result (AreLed subject) }
+    ensures spelled { IfOk result (λ a. AllByRecursion HasSpelling a.items.items) }
+    ensures agrees { AgreesTold (F.told folder.new reader.new.ahead.name) reader.new.ahead }
+    ensures name { reader.new.ahead.name ≡ reader.old.ahead.name }
+    ensures told { (other : List ℕ) → F.told folder.new other ≡ F.told folder.old other }
+    ensures later { F.read_faults folder.old ≤ F.read_faults folder.new }
+    ensures cause { IsErrOf result CheckStop.Failed
+        → Rose (F.read_faults folder.old) (F.read_faults folder.new) }
+{
+    let mut chain = Chain::new(alloc, subject)?;
+    let mut items = Vec::new(alloc);
+    while !chain.is_ended() {
+        let item = next_item(&mut chain, reader, folder)?;
+        let Ok(()) = items.push(item) else {
+            return Err(CheckStop::OutOfMemory);
+        };
+    }
+    Ok(Accepted {
+        items,
+        lines: chain.into_lines(),
+    })
+}
+
+/// Checks the certificate under the reader's name against the subject, as `check_subject` does, and
+/// keeps its items. `Failed` comes only where a read of the folder failed in this call.
+pub fn accepted_items<F: Folder>(
+    alloc: Global,
+    subject: Subject,
+    reader: &mut Reader,
+    folder: &mut F,
+) -> Result<Accepted, CheckStop>
+    requires goals { length subject.goals < 65535 }
+    requires marks { length subject.marks < 65535 }
+    requires fresh { IsFresh reader.old }
+    requires agrees { AgreesTold (F.told folder.old reader.old.ahead.name) reader.old.ahead }
+    // What is answered comes of the bytes, where the folder tells them,
+    ensures checks { (all : List ℕ) → F.told folder.old reader.old.ahead.name ≡ Some all
+        → Checks subject (cursor_of all reader.old.ahead) (lines_of result) }
+    // and what comes of them is answered, unless reads fail or memory isn't found.
+    ensures exact { (all : List ℕ)
+        → F.told folder.old reader.old.ahead.name ≡ Some all → (o : Outcome)
+        → ComesOf subject (cursor_of all reader.old.ahead) o → IsAnswer o (lines_of result) }
+    // The bytes spell the items, which are accepted.
+    ensures accepts { (all : List ℕ) → F.told folder.old reader.old.ahead.name ≡ Some all
+        → AreBytes all → IfOk result (AreAcceptedItems subject all) }
+    // Whatever the bytes are, nothing is wrong with the items, and each has a spelling.
+    ensures led { IfOk result (AreLed subject) }
+    ensures spelled { IfOk result (λ a. AllByRecursion HasSpelling a.items.items) }
+    ensures agrees { AgreesTold (F.told folder.new reader.new.ahead.name) reader.new.ahead }
+    ensures name { reader.new.ahead.name ≡ reader.old.ahead.name }
+    ensures told { (other : List ℕ) → F.told folder.new other ≡ F.told folder.old other }
+    ensures later { F.read_faults folder.old ≤ F.read_faults folder.new }
+    ensures cause { IsErrOf result CheckStop.Failed
+        → Rose (F.read_faults folder.old) (F.read_faults folder.new) }
+{
+    certificates_are_spelled_once();
+    items_are_judged_once();
+    each_case_has_its_root();
+    keep_items(alloc, subject, reader, folder)
+}
