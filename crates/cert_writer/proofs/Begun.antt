@@ -1,5 +1,5 @@
--- What stands before the root section, and that the root's section is to begin behind it.
-use Rattle.std.specs.Prelude.{◌≡◌, ◌≤◌, ◌+◌, ◌^◌, ℕ, zero, false, List, [], ◌∷◌, ◌++◌, length, map, Some, None, slice_get, refl}
+-- What stands before the root sections, and that the first is to begin behind it.
+use Rattle.std.specs.Prelude.{◌≡◌, ◌≤◌, ◌+◌, ◌^◌, ℕ, zero, suc, false, List, [], ◌∷◌, ◌++◌, length, map, Some, None, slice_get, refl}
 use Rattle.std.proofs.Common.{sym, ◌∙◌, ap, subst, append-nil, arith}
 use Rattle.std.proofs.lemmas.List.{append_assoc}
 use Rattle.fx_model.specs.declared.Node.{Node}
@@ -22,9 +22,10 @@ use Rattle.box_traces.specs.Sections.{AllBelow}
 use Rattle.box_traces.specs.Writing.{givens_of}
 use Rattle.box_traces.specs.Traces.{Trace}
 use Rattle.box_traces.specs.Trees.{Tree, IsProved, lines_of_tree, steps_in, AreTaken}
-use Rattle.box_traces.specs.Walks.{numbered, IsOpen}
+use Rattle.box_traces.specs.Roots.{roots_are_counted, cases_items}
+use Rattle.box_traces.specs.Walks.{numbered, MayBegin, IsOpen}
 use Rattle.box_traces.specs.Laws.{TracesExist}
-use Rattle.cert_writer.specs.Standing.{IsAt, most_for, at_root}
+use Rattle.cert_writer.specs.Standing.{IsAt, most_for, steps_left, lines_left, at_root}
 use Rattle.cert_writer.specs.Laws.{OfAims}
 use Rattle.box_traces.specs.Moves.{lead_both, marks_due, root_due}
 
@@ -45,6 +46,7 @@ record IsEarly (c : Context) (nodes : List Node) (marked : ℕ) (lines : List Li
   steps : c.steps ≡ []
   cuts : c.cuts ≡ []
   case : c.case ≡ 0
+  begun : c.begun ≡ false
   lines_are : c.lines ≡ lines
   ended : c.ended ≡ false
 
@@ -59,6 +61,7 @@ early_nodes c (n ∷ rest) nodes lines e =
       steps = e.steps;
       cuts = e.cuts;
       case = e.case;
+      begun = e.begun;
       lines_are = e.lines_are;
       ended = refl;
     } in
@@ -68,12 +71,12 @@ early_marks : (c : Context) (rest : List HintMark) (nodes : List Node) (k : ℕ)
 early_marks c [] nodes k lines e = (k, e)
 early_marks c (m ∷ rest) nodes k lines e =
     early_marks (after c (item.Mark m)) rest nodes (k + 1) lines
-    (record { nodes_are = e.nodes_are; marked_is = ap (λ n. n + 1) e.marked_is; next = e.next; steps = e.steps; cuts = e.cuts; case = e.case; lines_are = e.lines_are; ended = refl })
+    (record { nodes_are = e.nodes_are; marked_is = ap (λ n. n + 1) e.marked_is; next = e.next; steps = e.steps; cuts = e.cuts; case = e.case; begun = e.begun; lines_are = e.lines_are; ended = refl })
 
 -- ---- nothing is wrong with them
 nodes_lead : (s : Subject) (c : Context) (rest : List Node) → AreTaken s c.nodes rest → LeadsTo s c (map item.Node rest) (with_nodes c rest)
 nodes_lead s c [] t = refl
-nodes_lead s c (n ∷ rest) t = (t.0, nodes_lead s (after c (item.Node n)) rest t.3)
+nodes_lead s c (n ∷ rest) t = (((λ b r. cc), t.0), nodes_lead s (after c (item.Node n)) rest t.3)
 
 mark_there : (before : List HintMark) (m : HintMark) (rest : List HintMark) → slice_get (before ++ m ∷ rest) (length before) ≡ Some m
 mark_there [] m rest = refl
@@ -87,39 +90,87 @@ marks_lead : (s : Subject) (c : Context) (before rest : List HintMark) → s.mar
 marks_lead s c before [] all k = refl
 marks_lead s c before (m ∷ rest) all k =
     let here : slice_get s.marks c.marked ≡ Some m = ap (λ ms. slice_get ms c.marked) all ∙ (ap (λ n. slice_get (before ++ m ∷ rest) n) k ∙ mark_there before m rest) in
-    (here, marks_lead s (after c (item.Mark m)) (before ++ m ∷ []) rest (all ∙ sym (append_assoc before (m ∷ []) rest)) (ap (λ n. n + 1) k ∙ sym (one_longer before m)))
+    (((λ b r. cc), here), marks_lead s (after c (item.Mark m)) (before ++ m ∷ []) rest (all ∙ sym (append_assoc before (m ∷ []) rest)) (ap (λ n. n + 1) k ∙ sym (one_longer before m)))
 
 -- ---- they are due
 nodes_due : (s : Subject) (before rest : List Node) (more tail : List Item) → AreTaken s before rest → AreDue (Some (Nodes zero)) (more ++ tail) → AreDue (Some (Nodes (length rest))) ((map item.Node rest ++ more) ++ tail)
 nodes_due s before [] more tail t d = d
 nodes_due s before (n ∷ rest) more tail t d = ((t.1, t.2), nodes_due s (before ++ n ∷ []) rest more tail t.3 d)
 
+-- ---- the number of cases
+with_cases : Context → ℕ → Context
+with_cases c zero = c
+with_cases c (suc zero) = c
+with_cases c (suc (suc n)) = after c (item.Cases (suc (suc n)))
+
+cases_lead : (s : Subject) (c : Context) (n : ℕ) → n ≡ length s.cases → LeadsTo s c (cases_items n) (with_cases c n)
+unfolding with_cases
+cases_lead s c zero e = refl
+cases_lead s c (suc zero) e = refl
+cases_lead s c (suc (suc n)) e = (((λ b r. e), refl), refl)
+
+cases_due : (n : ℕ) (rest : List Item) → 1 ≤ n → n ≤ 64 → AreDue (Some (Sections n)) rest → AreDue (Some (Marks zero)) (cases_items n ++ rest)
+cases_due zero rest l h d = absurd (omega (arith, l))
+cases_due (suc zero) rest l h d = root_due rest d
+cases_due (suc (suc n)) rest l h d = (((omega arith, h), tt), d)
+
+-- the root section of the first case is open
+record IsReady (s : Subject) (c : Context) (nodes : List Node) (lines : List Line) : Type 0 where
+  nodes_are : c.nodes ≡ nodes
+  next : c.next ≡ 0
+  steps : c.steps ≡ []
+  cuts : c.cuts ≡ []
+  case : c.case ≡ 0
+  begun : MayBegin s c
+  lines_are : c.lines ≡ lines
+  ended : c.ended ≡ false
+
+ready : (s : Subject) (c : Context) (n : ℕ) (nodes : List Node) (k : ℕ) (lines : List Line) → 1 ≤ n → n ≡ length s.cases → IsEarly c nodes k lines → IsReady s (with_cases c n) nodes lines
+unfolding with_cases
+ready s c zero nodes k lines l e r = absurd (omega (arith, l))
+ready s c (suc zero) nodes k lines l e r = record { nodes_are = r.nodes_are; next = r.next; steps = r.steps; cuts = r.cuts; case = r.case; begun = λ b. e; lines_are = r.lines_are; ended = r.ended }
+ready s c (suc (suc n)) nodes k lines l e r = record { nodes_are = r.nodes_are; next = r.next; steps = r.steps; cuts = r.cuts; case = r.case; begun = λ b. cc; lines_are = r.lines_are; ended = refl }
+
 -- ---- the root
 module _ (exist : TracesExist) where
-  pub begins : OfAims (λ t. (tree : Tree) → IsProved (setting_of t.world) t.height t.world.goals tree [] 0 → steps_in (most_for t) tree ≤ 2 ^ 64 →
-      t.lines ≡ lines_of_tree (setting_of t.world) t.height t.world.goals tree [] (map (λ g. line.Empty) t.world.goals) → (c : Context) × (c.next ≡ 0) × IsAt t (at_root t c tree))
-  begins t a tree proved room shown =
+  pub begins : OfAims (λ t. t.target.number ≡ 0 → (tree : Tree) → IsProved (setting_of t.world) t.height t.world.goals tree [] 0 → steps_in (most_for t) tree + steps_left t ≤ 2 ^ 64 →
+      t.lines ≡ lines_left t (lines_of_tree (setting_of t.world) t.height t.world.goals tree [] (map (λ g. line.Empty) t.world.goals)) → (c : Context) × (c.next ≡ 0) × IsAt t (at_root t c tree))
+  begins t a number tree proved room shown =
       let v : Setting = setting_of t.world in
       let most : ℕ = most_for t in
-      let s : Subject = t.subject in
+      let s : Subject = t.target.subject in
+      let n : ℕ = length s.cases in
+      let counted = roots_are_counted s t.world.hints t.height most t.world.goals t.world.nodes t.target.later (t.target.number + 1) a.later in
+      let count : n ≡ suc (0 + length t.target.later) = omega (arith, counted, number) in
       let marks : List HintMark = s.marks in
       let start : Context = first s in
       let lines : List Line = map (λ g. line.Empty) s.goals in
       let c : Context = with_nodes start v.nodes in
       let m : Context = after c (item.Marks (length marks)) in
-      let r : Context = with_marks m marks in
-      let e0 : IsEarly start [] 0 lines = record { nodes_are = refl; marked_is = refl; next = refl; steps = refl; cuts = refl; case = refl; lines_are = refl; ended = refl } in
+      let q : Context = with_marks m marks in
+      let r : Context = with_cases q n in
+      let e0 : IsEarly start [] 0 lines = record { nodes_are = refl; marked_is = refl; next = refl; steps = refl; cuts = refl; case = refl; begun = refl; lines_are = refl; ended = refl } in
       let e1 = early_nodes start v.nodes [] lines e0 in
-      let e2 : IsEarly m v.nodes 0 lines = record { nodes_are = e1.nodes_are; marked_is = e1.marked_is; next = e1.next; steps = e1.steps; cuts = e1.cuts; case = e1.case; lines_are = e1.lines_are; ended = refl } in
+      let e2 : IsEarly m v.nodes 0 lines = record { nodes_are = e1.nodes_are; marked_is = e1.marked_is; next = e1.next; steps = e1.steps; cuts = e1.cuts; case = e1.case; begun = e1.begun; lines_are = e1.lines_are; ended = refl } in
       let e = early_marks m marks v.nodes 0 lines e2 in
-      let at : IsEarly r v.nodes e.0 lines = e.1 in
+      let at : IsReady s r v.nodes lines = ready s q n v.nodes e.0 lines (omega (arith, count)) refl e.1 in
       let below : AllBelow r.next r.steps = subst (λ x. AllBelow r.next x) (sym at.steps) tt in
       let found = exist.root v t.world.hints a.writable (numbered r) below t.height in
       let short = found.few in
-      let root : Trace (givens_of v t.world.hints None) (numbered r) (table_at v t.height []) most = record { rows = found.rows; place = found.place; proper = found.proper; traced = found.traced; fields = found.fields; few = omega (arith, short) } in
-      let opened : IsOpen v t.world.hints t.height most r [] = record {
+      let enough = a.enough in
+      let hypotheses = a.writable.few_hypotheses in
+      let root : Trace (givens_of v t.world.hints None) (numbered r) (table_at v t.height []) most = record {
+        rows = found.rows;
+        place = found.place;
+        proper = found.proper;
+        traced = found.traced;
+        fields = found.fields;
+        few = omega (arith, short, enough, hypotheses);
+      } in
+      let opened : IsOpen v t.world.hints t.height most s t.target.number r [] = record {
         nodes = at.nodes_are;
-        case = at.case;
+        case = at.case ∙ sym number;
+        begun = at.begun;
         below = below;
         ended = at.ended;
         room = subst (λ y. around_of (cuts_behind y) ≤ length r.steps) (sym at.cuts) (omega arith);
@@ -127,20 +178,29 @@ module _ (exist : TracesExist) where
       } in
       let goals : s.goals ≡ t.world.goals = a.subject.wanted in
       let empty : map (λ (g : Goal). line.Empty) t.world.goals ≡ r.lines = sym (at.lines_are ∙ ap (map (λ (g : Goal). line.Empty)) goals) in
-      let none = at.next in (
+      let none = at.next in
+      let few = a.few in
+      let Due : List Item → Type 0 = λ x. AreDue (Some (Marks (length marks))) x in (
         r,
         at.next,
         record {
           written = record {
             leads = (
-              a.subject.own,
-              lead_both s start c r (map item.Node v.nodes) (item.Marks (length marks) ∷ map item.Mark marks) (nodes_lead s start v.nodes a.subject.taken)
-                  (refl, marks_lead s m [] marks refl e2.marked_is),
+              ((λ b x. cc), a.subject.own),
+              lead_both s start c r (map item.Node v.nodes) (item.Marks (length marks) ∷ (map item.Mark marks ++ cases_items n)) (nodes_lead s start v.nodes a.subject.taken)
+                  (((λ b x. cc), refl), lead_both s m q r (map item.Mark marks) (cases_items n) (marks_lead s m [] marks refl e2.marked_is) (cases_lead s q n refl)),
             );
-            due = λ rest d. ((tt, a.writable.few_nodes), nodes_due s [] v.nodes (item.Marks (length marks) ∷ map item.Mark marks) rest a.subject.taken ((tt, a.subject.few_marks), marks_due marks rest (root_due rest d)));
+            due = λ rest d. (
+              (tt, a.writable.few_nodes),
+              nodes_due s [] v.nodes (item.Marks (length marks) ∷ (map item.Mark marks ++ cases_items n)) rest a.subject.taken (
+                (tt, a.subject.few_marks),
+                subst Due (sym (append_assoc (map item.Mark marks) (cases_items n) rest))
+                    (marks_due marks (cases_items n ++ rest) (cases_due n rest (omega (arith, count)) few (subst (λ k. AreDue (Some (Sections k)) rest) (sym count) d))),
+              ),
+            );
           };
-          entered = record { opened = opened; deep = ap length at.cuts; proved = proved; lies = (at.cuts, at.case) };
+          entered = record { opened = opened; deep = ap length at.cuts; proved = proved; lies = (at.cuts, at.case ∙ sym number, at.nodes_are) };
           room = omega (arith, none, room);
-          shown = shown ∙ ap (lines_of_tree v t.height t.world.goals tree []) empty;
+          shown = shown ∙ ap (λ ls. lines_left t (lines_of_tree v t.height t.world.goals tree [] ls)) empty;
         },
       )

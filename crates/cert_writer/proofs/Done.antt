@@ -18,8 +18,8 @@ use Rattle.box_tree.specs.Regions.{PlanParts}
 use Rattle.bisect.specs.declared.settler.State.{State}
 use Rattle.cert_bytes.specs.declared.item.Item.{Item}
 use Rattle.cert_bytes.specs.declared.item.Item.TheVariants as item
-use Rattle.cert_bytes.specs.Certificates.{HasSpelling, certificate_of}
-use Rattle.cert_checker.specs.declared.subject.Subject.{Subject}
+use Rattle.cert_bytes.specs.Certificates.{HasSpelling}
+use Rattle.cert_writer.specs.Bytes.{certificate_of}
 use Rattle.box_trace.specs.declared.known.Known.{Known}
 use Rattle.box_trace.specs.declared.tracing.Traced.{Traced}
 use Rattle.box_trace.specs.Boxes.{IsItsTable, AreItsSteps, log_of, most_steps}
@@ -28,7 +28,7 @@ use Rattle.box_traces.specs.Trees.{leaf, cut, IsProved}
 use Rattle.box_traces.specs.Walks.{numbered, behind_steps}
 use Rattle.answer_certificates.specs.Boxes.{range_of_piece, pieces_from}
 use Rattle.cert_writer.specs.Boxes.{KnowsVoid, CutsAt, IsEnd}
-use Rattle.cert_writer.specs.Standing.{Place, IsAt, AreBoxSteps, own_items, inside}
+use Rattle.cert_writer.specs.Standing.{Target, Place, IsAt, AreBoxSteps, own_items, inside}
 use Rattle.cert_writer.specs.Courses.{Course, IsCourse, HasBest, course, setting, below, IsBefore, IsKnownAt, AreOwnBytes}
 use Rattle.cert_writer.specs.Walks.{MayEnd, IsLast, WalkGoesOn}
 use Rattle.cert_writer.proofs.Turn.{begun_front, enter, enter_at}
@@ -40,7 +40,7 @@ not_void at goals (Forced x points) p h = h.0
 not_void at goals (Half x m) p h = h.0
 not_void at goals Bottom p h = absurd h
 
-module _ (plan : PlanParts) (laws : WalkGoesOn plan) (u : World) (height : ℕ) (t : Subject) (lines : List Line) (states : List ℕ → State) (is : IsCourse (course u plan height t lines states))
+module _ (plan : PlanParts) (laws : WalkGoesOn plan) (u : World) (height : ℕ) (t : Target) (lines : List Line) (states : List ℕ → State) (is : IsCourse (course u plan height t lines states))
     (path : List ℕ) (parent : Option (Bor Known)) (first : ℕ) (p : Place) (before : IsBefore (course u plan height t lines states) path parent first p)
     (tr : Traced) (its : IsItsTable u height (piece_at plan path) parent tr.known) (rows : HasRows u tr.known) (steps : AreItsSteps u (piece_at plan path) parent first (log_of first tr))
     (few : length tr.steps.items ≤ most_steps u height) where
@@ -113,6 +113,7 @@ module _ (plan : PlanParts) (laws : WalkGoesOn plan) (u : World) (height : ℕ) 
   own_done (item.Node m) n next l same = absurd l.1
   own_done (item.Marks m) n next l same = absurd l.1
   own_done (item.Mark m) n next l same = absurd l.1
+  own_done (item.Cases m) n next l same = absurd l.1
   own_done (item.Step r) n next l same = absurd l.1
   own_done item.End n next l same = absurd l.1
 
@@ -127,5 +128,6 @@ module _ (plan : PlanParts) (laws : WalkGoesOn plan) (u : World) (height : ℕ) 
   last_spelled (item.Node m) n l = absurd l.1
   last_spelled (item.Marks m) n l = absurd l.1
   last_spelled (item.Mark m) n l = absurd l.1
+  last_spelled (item.Cases m) n l = absurd l.1
   last_spelled (item.Step r) n l = absurd l.1
   last_spelled item.End n l = absurd l.1

@@ -4,7 +4,9 @@ mod Begun
 mod Spelled
 mod Slots
 mod Turn
+mod NextCase
 mod Start
+mod Held
 mod Own
 mod Node
 mod Done

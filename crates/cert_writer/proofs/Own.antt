@@ -31,7 +31,7 @@ use Rattle.box_traces.specs.Trees.{Tree, leaf, cut, AllSettled, IsProved, IsSett
 use Rattle.box_traces.specs.Walks.{numbered, behind_steps, IsBehind, steps_behind}
 use Rattle.box_traces.specs.Moves.{WalksMove, AreSteps, next_behind}
 use Rattle.cert_writer.specs.Boxes.{HasShortList, KnowsVoid, IsClosed, IsEnd, refs_in}
-use Rattle.cert_writer.specs.Standing.{Aim, Place, IsAt, Ended, HasEnded, AreCited, most_for, own_items, closed}
+use Rattle.cert_writer.specs.Standing.{Aim, IsAim, Place, IsAt, Ended, HasEnded, AreCited, most_for, steps_left, own_items, closed}
 use Rattle.cert_writer.specs.Courses.{Course, IsCourse, HasBest, IsBefore, setting, best_at}
 use Rattle.cert_writer.specs.Laws.{WritingGoesOn}
 use Rattle.cert_writer.proofs.GoesOn.{enough}
@@ -40,12 +40,12 @@ use Rattle.facts.specs.CommonParts.{at_option, void_is}
 
 -- What is so of a box's own steps.
 pub record OwnSteps (c : Course) (p : Place) (t : Traced) : Type 0 where
-  pub steps : AreSteps c.aim.subject p.context t.steps.items
+  pub steps : AreSteps c.aim.target.subject p.context t.steps.items
   pub few : length t.steps.items ≤ most_for c.aim
   pub short : AllByRecursion HasShortList t.steps.items
   pub placed : ArePlaces (numbered (behind_steps p.context t.steps.items)) (known_at c.aim.world t.known) (place_in c.aim.world t.known)
   pub table : IsTableAt (setting c) c.aim.height p.pieces (known_at c.aim.world t.known)
-  pub behind : known_at c.aim.world t.known slot.Void ≡ None → IsBehind (setting c) c.aim.height (behind_steps p.context t.steps.items) p.pieces
+  pub behind : known_at c.aim.world t.known slot.Void ≡ None → IsBehind (setting c) c.aim.height c.aim.target.number (behind_steps p.context t.steps.items) p.pieces
 
 -- ---- the best tables of a box
 -- What stands on VOID's slot is VOID.
@@ -89,12 +89,12 @@ one_box : (most : ℕ) (tree : Tree) → most ≤ steps_in most tree
 one_box most leaf = let l : most ≤ most = omega arith in l
 one_box most (cut x points trees) = let l : most ≤ most + steps_in_each most trees = omega arith in l
 
-fits : (start first most more : ℕ) (tree : Tree) → start ≡ first → start + (steps_in most tree + more) ≤ 2 ^ 64 → first + most ≤ 2 ^ 64
-fits start first most more tree e h = let l = one_box most tree in omega (arith, e, h, l)
+fits : (start first most more rest : ℕ) (tree : Tree) → start ≡ first → start + (steps_in most tree + more + rest) ≤ 2 ^ 64 → first + most ≤ 2 ^ 64
+fits start first most more rest tree e h = let l = one_box most tree in omega (arith, e, h, l)
 
 -- A trace has fewer steps than there is room for.
-fewer : (t : Aim) → most_steps t.world t.height < most_for t
-fewer t = omega arith
+fewer : (t : Aim) → IsAim t → most_steps t.world t.height < most_for t
+fewer t a = let l = a.enough in let h = a.writable.few_hypotheses in omega (arith, l, h)
 
 module _ (c : Course) (path : List ℕ) (parent : Option (Bor Known)) (first : ℕ) (p : Place) (b : IsBefore c path parent first p) where
   pub first_is : p.context.next ≡ first
@@ -105,13 +105,13 @@ module _ (c : Course) (path : List ℕ) (parent : Option (Bor Known)) (first : �
   next_behind_own rows = next_behind p.context rows ∙ ap (λ n. n + length rows) first_is
 
   room_here : first + most_for c.aim ≤ 2 ^ 64
-  room_here = fits p.context.next first (most_for c.aim) (steps_behind (most_for c.aim) p.frames) p.tree first_is b.here.room
+  room_here = fits p.context.next first (most_for c.aim) (steps_behind (most_for c.aim) p.frames) (steps_left c.aim) p.tree first_is b.here.room
 
   pub some_box : IsSomeBox c.aim.world c.aim.height (piece_at c.plan path) parent
   some_box = (p.pieces, b.box)
 
-  pub has_room : first + most_steps c.aim.world c.aim.height < 2 ^ 64
-  has_room = let l = fewer c.aim in let h = room_here in omega (arith, l, h)
+  pub has_room : IsCourse c → first + most_steps c.aim.world c.aim.height < 2 ^ 64
+  has_room a = let l = fewer c.aim a.aim in let h = room_here in omega (arith, l, h)
 
 pub few_hypotheses : (c : Course) → IsCourse c → length c.aim.world.hypotheses ≤ 65536
 few_hypotheses c a = a.aim.writable.few_hypotheses
@@ -129,21 +129,21 @@ module _ (moves : WalksMove) (one : TablesAreOne) where
       let at : At = known_at u t.known in
       let opened = b.here.entered.opened in
       let traced : IsTracedIn u (open_piece p.context.cuts) (numbered p.context) (log_of first t) = steps a.aim.writable (numbered p.context) (open_piece p.context.cuts) b.section in
-      let l = fewer c.aim in
+      let l = fewer c.aim a.aim in
       let few : length rows ≤ most = omega (arith, count, l) in
       let n = first_is c path parent first p b in
       let h = room_here c path parent first p b in
       let room : p.context.next + length rows ≤ 2 ^ 64 = omega (arith, n, few, h) in
       let table : IsTableAt (setting c) height p.pieces at = its p.pieces b.box in
       record {
-        steps = moves.written (setting c) u.hints a.aim.writable height most (enough c.aim) u.goals c.aim.subject a.aim.subject p.context p.pieces rows opened (traced.0).accepted traced.1 room;
+        steps = moves.written (setting c) u.hints a.aim.writable height most (enough c.aim a.aim) u.goals c.aim.target.subject c.aim.target.number a.aim.subject p.context p.pieces rows opened (traced.0).accepted traced.1 room;
         few = few;
         short = short_lists rows traced.1;
         placed = subst (λ s. ArePlaces s at (place_in u t.known)) (numbered_behind p.context rows) (traced.0).placed;
         table = table;
         behind = λ none.
             let same : IsSame at (best_at c p.pieces) = one (setting c) height p.pieces at (best_at c p.pieces) table (best p.pieces) none in
-            moves.placed (setting c) u.hints a.aim.writable height most (enough c.aim) u.goals c.aim.subject a.aim.subject p.context p.pieces rows (place_in u t.known) opened
+            moves.placed (setting c) u.hints a.aim.writable height most (enough c.aim a.aim) u.goals c.aim.target.subject c.aim.target.number a.aim.subject p.context p.pieces rows (place_in u t.known) opened
             (λ s f e. (traced.0).placed s f (sym (same s) ∙ e));
       }
 

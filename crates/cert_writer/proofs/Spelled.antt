@@ -1,21 +1,60 @@
 -- What is spelled one behind the other.
-use Rattle.std.specs.Prelude.{◌≡◌, ◌+◌, ℕ, zero, suc, List, [], ◌∷◌, ◌++◌, map, take, Some, slice_get}
+use Rattle.std.specs.Prelude.{◌≡◌, ◌+◌, ℕ, zero, suc, List, [], ◌∷◌, ◌++◌, length, map, take, Some, slice_get}
 use Rattle.std.specs.List.{AllByRecursion}
-use Rattle.std.proofs.Common.{sym, ◌∙◌, ap, append-nil, arith}
+use Rattle.std.proofs.Common.{refl, sym, ◌∙◌, ap, append-nil, arith}
 use Rattle.std.proofs.lemmas.List.{append_assoc, map-append}
-use Rattle.std.proofs.lemmas.Grind.{flat_map-append}
+use Rattle.fx_model.specs.declared.Node.{Node}
+use Rattle.facts.specs.declared.hint.HintMark.{HintMark}
 use Rattle.cert_bytes.specs.declared.item.Item.{Item}
+use Rattle.cert_bytes.specs.declared.item.Item.TheVariants as item
 use Rattle.cert_bytes.specs.declared.item.StepRow.{StepRow}
-use Rattle.cert_bytes.specs.Spelling.{spelling_of}
-use Rattle.cert_bytes.specs.Certificates.{certificate_of}
+use Rattle.cert_writer.specs.Bytes.{certificate_of, spelling_of}
+use Rattle.box_traces.specs.Roots.{cases_items}
 use Rattle.box_traces.specs.Traces.{HasFields, HaveFields}
 use Rattle.cert_writer.specs.Boxes.{HasShortList, HasRanges}
+use Rattle.cert_writer.specs.Heads.{head_items}
+
+-- items of two lists
+pub certificate_both : (items more : List Item) → certificate_of (items ++ more) ≡ certificate_of items ++ certificate_of more
+certificate_both [] more = refl
+certificate_both (i ∷ items) more = ap (λ bs. spelling_of i ++ bs) (certificate_both items more) ∙ sym (append_assoc (spelling_of i) (certificate_of items) (certificate_of more))
+
+regroup : (old x a y b c : List ℕ)
+    → ((((old ++ x) ++ a) ++ y) ++ b) ++ c ≡ old ++ (x ++ (a ++ (y ++ (b ++ c))))
+regroup old x a y b c = simp append_assoc
+
+-- the head, item by item
+pub spelled_head : (nodes : List Node) (marks : List HintMark) (count : ℕ)
+    (old a b c d new : List ℕ) → a ≡ old ++ spelling_of (item.Nodes (length nodes))
+    → b ≡ a ++ certificate_of (map item.Node nodes)
+    → c ≡ b ++ spelling_of (item.Marks (length marks))
+    → d ≡ c ++ certificate_of (map item.Mark marks)
+    → new ≡ d ++ certificate_of (cases_items count)
+    → new ≡ old ++ certificate_of (head_items nodes marks count)
+spelled_head nodes marks count old a b c d new ea eb ec ed en =
+    let x : List ℕ = spelling_of (item.Nodes (length nodes)) in
+    let ns : List ℕ = certificate_of (map item.Node nodes) in
+    let y : List ℕ = spelling_of (item.Marks (length marks)) in
+    let ms : List ℕ = certificate_of (map item.Mark marks) in
+    let k : List ℕ = certificate_of (cases_items count) in
+    let later : List Item = map item.Mark marks ++ cases_items count in
+    let behind : certificate_of later ≡ ms ++ k =
+    certificate_both (map item.Mark marks) (cases_items count) in
+    let all : certificate_of (head_items nodes marks count) ≡ x ++ (ns ++ (y ++ (ms ++ k))) =
+    ap (λ z. x ++ z)
+    (certificate_both (map item.Node nodes) (item.Marks (length marks) ∷ later)
+    ∙ ap (λ z. ns ++ (y ++ z)) behind) in
+    en
+    ∙ ap (λ z. z ++ k)
+    (ed ∙ ap (λ z. z ++ ms) (ec ∙ ap (λ z. z ++ y) (eb ∙ ap (λ z. z ++ ns) ea)))
+    ∙ regroup old x ns y ms k
+    ∙ ap (λ z. old ++ z) (sym all)
 
 -- one item more
 pub spelled_more : (old now new : List ℕ) (items : List Item) (i : Item) → now ≡ old ++ certificate_of items → new ≡ now ++ spelling_of i → new ≡ old ++ certificate_of (items ++ i ∷ [])
 spelled_more old now new items i e f =
     let one : certificate_of (i ∷ []) ≡ spelling_of i = append-nil (spelling_of i) in
-    let all : certificate_of (items ++ i ∷ []) ≡ certificate_of items ++ spelling_of i = flat_map-append spelling_of items (i ∷ []) ∙ ap (λ bs. certificate_of items ++ bs) one in
+    let all : certificate_of (items ++ i ∷ []) ≡ certificate_of items ++ spelling_of i = certificate_both items (i ∷ []) ∙ ap (λ bs. certificate_of items ++ bs) one in
     f ∙ ap (λ bs. bs ++ spelling_of i) e ∙ append_assoc old (certificate_of items) (spelling_of i) ∙ ap (λ bs. old ++ bs) (sym all)
 
 -- one item more of a kind

@@ -1,9 +1,8 @@
 -- What a file took, where its bytes are known.
-use Rattle.std.specs.Prelude.{◌≡◌, ◌-◌, ℕ, List, ◌++◌, length, take, drop, Option, None, Some, Result, Ok, Err, OnErr}
-use Rattle.std.proofs.Common.{sym, ap, ◌∙◌, append_assoc, length-drop}
+use Rattle.std.specs.Prelude.{ℕ, List, take, drop, Option, Result, Ok, Err, OnErr}
+use Rattle.std.proofs.Common.{sym}
 use Rattle.std.specs.Io.KnownBytes.{Appends, Keeps}
 use Rattle.std.proofs.lemmas.List.{take-append-drop}
-use Rattle.std.proofs.Math.Seq.{take-length}
 use Rattle.cert_writer.specs.Files.{AppendsFront, appends_kept}
 
 -- the first bytes were taken, and then a call failed

@@ -1,5 +1,5 @@
 -- How the walk goes from box to box.
-use Rattle.std.specs.Prelude.{◌≡◌, ◌<◌, ◌+◌, ◌-◌, ℕ, suc, List, [], ◌∷◌, ◌++◌, length, Option, Some, None, Result, Ok, Err, OnErr, refl}
+use Rattle.std.specs.Prelude.{◌≡◌, ◌<◌, ◌+◌, ◌-◌, ℕ, suc, List, [], ◌∷◌, ◌++◌, length, Option, Some, None, refl}
 use Rattle.std.specs.Borrow.{Bor}
 use Rattle.std.specs.Io.KnownBytes.{Appends}
 use Rattle.std.proofs.Common.{sym, ◌∙◌, ap, subst, append-nil, arith}
@@ -22,7 +22,7 @@ use Rattle.box_tree.specs.Plans.{piece_at, pieces_at, with_last}
 use Rattle.cert_bytes.specs.declared.item.Item.{Item}
 use Rattle.cert_bytes.specs.declared.item.Item.TheVariants as item
 use Rattle.cert_bytes.specs.declared.item.StepRow.{StepRow}
-use Rattle.cert_bytes.specs.Certificates.{certificate_of}
+use Rattle.cert_writer.specs.Bytes.{certificate_of}
 use Rattle.cert_checker.specs.Contexts.{open_piece, piece_fact}
 use Rattle.cert_checker.specs.Open.{Numbered}
 use Rattle.cert_checker.specs.Steps.{step_fact, met_with, IsEnough}
@@ -53,7 +53,7 @@ begun_front t before more items old new b e a =
     let whole : certificate_of b.0 ≡ (certificate_of before ++ front) ++ (rest ++ tail) = (b.2).1 ∙ (ap (λ bs. bs ++ tail) left ∙ append_assoc (certificate_of before ++ front) rest tail) in
     (front, a.2, (b.0, b.1, (rest ++ tail, whole)))
 
-appends_none : (a b : Option (List ℕ)) → a ≡ b → Appends a b []
+pub appends_none : (a b : Option (List ℕ)) → a ≡ b → Appends a b []
 appends_none None b e = tt
 appends_none (Some x) None e = cc
 appends_none (Some x) (Some y) e = let n : x ≡ y = cc in sym n ∙ sym (append-nil x)
@@ -112,8 +112,8 @@ module _ (one : TablesAreOne) where
       let here_path : List ℕ = path ++ i ∷ [] in
       let r : Interval = range_of_piece (piece_at c.plan here_path) in
       let piece : Piece = (fr.var, r) in
-      let lies : LiesIn v c.aim.height u.goals q.context (fr ∷ frames) = subst (λ y. LiesIn v c.aim.height u.goals q.context y) f here.entered.lies in
-      let of : IsPieceOf v c.aim.height u.goals q.context fr = lies.0 in
+      let lies : LiesIn v c.aim.height u.goals c.aim.target.number q.context (fr ∷ frames) = subst (λ y. LiesIn v c.aim.height u.goals c.aim.target.number q.context y) f here.entered.lies in
+      let of : IsPieceOf v c.aim.height u.goals c.aim.target.number q.context fr = lies.0 in
       let entered = of.entered in
       let variable = of.variable in
       let low : fr.var.0 < length u.nodes = slice_get_within u.nodes fr.var.0 (Var variable.0) variable.1 in
@@ -213,7 +213,7 @@ module _ (one : TablesAreOne) where
             let q : Place = beside e fr r inner rest p.frames in
             let f : Frame = turned fr rest in
             let at : IsAt c.aim q = go.follows c.aim a.aim e fr r inner rest p.frames frames_are node ended in
-            let lies : LiesIn v c.aim.height u.goals e.begin (fr ∷ p.frames) = subst (λ y. LiesIn v c.aim.height u.goals e.begin y) frames_are ended.lies in
+            let lies : LiesIn v c.aim.height u.goals c.aim.target.number e.begin (fr ∷ p.frames) = subst (λ y. LiesIn v c.aim.height u.goals c.aim.target.number e.begin y) frames_are ended.lies in
             let proved : AreProved v c.aim.height u.goals fr.var fr.points (next r inner rest) (fr.piece + 1) fr.pieces fr.depth =
             subst (λ y. AreProved v c.aim.height u.goals fr.var fr.points y (fr.piece + 1) fr.pieces fr.depth) node (lies.0).proved in
             record {

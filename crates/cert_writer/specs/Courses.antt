@@ -15,8 +15,7 @@ use Rattle.box_tree.specs.Regions.{PlanParts}
 use Rattle.bisect.specs.declared.settler.State.{State}
 use Rattle.settler.specs.Standing.{AreStates}
 use Rattle.cert_bytes.specs.declared.item.Item.{Item}
-use Rattle.cert_bytes.specs.Certificates.{certificate_of}
-use Rattle.cert_checker.specs.declared.subject.Subject.{Subject}
+use Rattle.cert_writer.specs.Bytes.{certificate_of}
 use Rattle.cert_checker.specs.Contexts.{open_piece}
 use Rattle.cert_checker.specs.Open.{Numbered}
 use Rattle.box_trace.specs.declared.known.Known.{Known}
@@ -28,7 +27,7 @@ use Rattle.box_traces.specs.Walks.{numbered, Frame}
 use Rattle.answer_certificates.specs.Scripts.{HasSlots}
 use Rattle.answer_certificates.specs.Boxes.{range_of_piece, pieces_from, boxes_below}
 use Rattle.cert_writer.specs.Files.{AppendsFront}
-use Rattle.cert_writer.specs.Standing.{Aim, IsAim, IsBegun, Place, IsAt, Ended, HasEnded}
+use Rattle.cert_writer.specs.Standing.{Target, Aim, IsAim, IsBegun, Place, IsAt, Ended, HasEnded}
 
 -- ---- what is walked over
 -- For what the certificate is written, how boxes are cut, and how they stand.
@@ -46,8 +45,17 @@ pub record IsCourse (c : Course) : Type 0 where
   pub depth : (path : List ℕ) → 36 ≤ length path → piece_count (cut_at c.plan path) ≡ 0
 
 -- over this universe, with this plan and so many rounds
-abbrev pub course : World → PlanParts → ℕ → Subject → List Line → (List ℕ → State) → Course
-course u plan height subject lines states = record { aim = record { world = u; height = height; subject = subject; lines = lines }; plan = plan; states = states }
+abbrev pub course : World → PlanParts → ℕ → Target → List Line → (List ℕ → State) → Course
+course u plan height target lines states = record {
+  aim = record {
+    world = u;
+    height = height;
+    target = target;
+    lines = lines;
+  };
+  plan = plan;
+  states = states;
+}
 
 abbrev pub setting : Course → Setting
 setting c = setting_of c.aim.world
@@ -83,15 +91,19 @@ pub record IsBefore (c : Course) (path : List ℕ) (parent : Option (Bor Known))
   pub of : IsOfUniverse c.aim.world (piece_at c.plan path) parent
   pub section : IsItsSection c.aim.world (piece_at c.plan path) parent next (numbered p.context) (open_piece p.context.cuts)
 
--- The walk over this universe stands before the box at the path, for some subject, lines and states.
+-- The walk over this universe stands before the box at the path, for some target, lines and states.
 abbrev pub IsSomewhere : World → PlanParts → ℕ → List ℕ → Option (Bor Known) → ℕ → Type 0
 IsSomewhere u plan height path parent next =
-    (t : Subject) × (lines : List Line) × (states : List ℕ → State) × (p : Place) × IsCourse (course u plan height t lines states) × IsBefore (course u plan height t lines states) path parent next p
+    (t : Target) × (lines : List Line)
+    × (states : List ℕ → State) × (p : Place) × IsCourse (course u plan height t lines states)
+    × IsBefore (course u plan height t lines states) path parent next p
 
 -- This is so wherever it may stand.
 abbrev pub OnCourses : World → PlanParts → ℕ → List ℕ → Option (Bor Known) → ℕ → (Course → Place → Type 0) → Type 0
 OnCourses u plan height path parent next P =
-    (t : Subject) (lines : List Line) (states : List ℕ → State) (p : Place) → IsCourse (course u plan height t lines states) → IsBefore (course u plan height t lines states) path parent next p →
+    (t : Target) (lines : List Line) (states : List ℕ → State) (p : Place)
+    → IsCourse (course u plan height t lines states)
+    → IsBefore (course u plan height t lines states) path parent next p →
     P (course u plan height t lines states) p
 
 -- Behind the section that began at the place p, where the file held what `old` tells.

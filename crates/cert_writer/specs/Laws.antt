@@ -1,8 +1,9 @@
 -- What is promised of a certificate that is written box by box.
-use Rattle.std.specs.Prelude.{◌≡◌, ◌≤◌, ◌^◌, ℕ, List, [], ◌∷◌, length, map, Some, None}
+use Rattle.std.specs.Prelude.{◌≡◌, ◌≤◌, ◌+◌, ◌^◌, ℕ, List, [], ◌∷◌, length, map, Some, None}
 use Rattle.fx_model.specs.declared.ExprId.{ExprId}
 use Rattle.dyadic.specs.declared.number.Dyadic.{Dyadic}
 use Rattle.interval.specs.declared.interval.Interval.{Interval}
+use Rattle.facts.specs.declared.fact.Fact.{Fact}
 use Rattle.facts.specs.declared.fact.Fact.TheVariants as fact
 use Rattle.facts.specs.declared.fact.Slot.TheVariants as slot
 use Rattle.goals.specs.declared.line.Line.TheVariants as line
@@ -10,22 +11,28 @@ use Rattle.derivation.specs.Exists.{table_at}
 use Rattle.saturate.specs.Universes.{setting_of}
 use Rattle.cert_bytes.specs.declared.item.Item.TheVariants as item
 use Rattle.cert_bytes.specs.declared.item.StepRow.{StepRow}
-use Rattle.cert_bytes.specs.Certificates.{certificate_of}
+use Rattle.cert_writer.specs.Bytes.{certificate_of}
 use Rattle.cert_checker.specs.Contexts.{Context}
 use Rattle.cert_checker.specs.Steps.{step_fact}
 use Rattle.box_traces.specs.Trees.{Tree, Trees, leaf, cut, last, next, IsProved, lines_of_tree, steps_in}
+use Rattle.box_traces.specs.Roots.{Root}
 use Rattle.box_traces.specs.Walks.{behind_steps, Frame}
 use Rattle.box_traces.specs.Moves.{AreSteps}
-use Rattle.cert_writer.specs.Standing.{Aim, IsAim, IsWhole, IsBegun, Place, IsAt, Ended, HasEnded, AreBoxSteps, AreCited, most_for, at_root, inside, closed, beside, around}
+use Rattle.cert_writer.specs.Standing.{Aim, IsAim, IsWhole, IsBegun, Place, IsAt, Ended, HasEnded, AreBoxSteps, AreCited, most_for, steps_left, lines_left, at_root, inside, closed, beside, around, next_aim, next_root, root_with}
 
 -- This is so of each aim.
 abbrev pub OfAims : (Aim → Type 0) → Type 0
 OfAims P = (t : Aim) → IsAim t → P t
 
 pub record WritingGoesOn : Type 0 where
-  -- Behind the head of a proved tree whose steps can be numbered the root's section is to begin, with step 0.
-  pub begins : OfAims (λ t. (tree : Tree) → IsProved (setting_of t.world) t.height t.world.goals tree [] 0 → steps_in (most_for t) tree ≤ 2 ^ 64 →
-      t.lines ≡ lines_of_tree (setting_of t.world) t.height t.world.goals tree [] (map (λ g. line.Empty) t.world.goals) → (c : Context) × (c.next ≡ 0) × IsAt t (at_root t c tree))
+  -- Behind the head the root section of the first case is to begin, with step 0, where its tree is
+  -- proved and all steps can be numbered.
+  pub begins : OfAims (λ t. t.target.number ≡ 0
+      → (tree : Tree) → IsProved (setting_of t.world) t.height t.world.goals tree [] 0
+      → steps_in (most_for t) tree + steps_left t ≤ 2 ^ 64 →
+      t.lines ≡ lines_left t (lines_of_tree
+      (setting_of t.world) t.height t.world.goals tree [] (map (λ g. line.Empty) t.world.goals))
+      → (c : Context) × (c.next ≡ 0) × IsAt t (at_root t c tree))
   -- Where a section is to begin, what was written is a front of an accepted certificate with all lines,
   pub begun : OfAims (λ t. (p : Place) → IsAt t p → IsBegun t (certificate_of p.items))
   -- and where one has ended.
@@ -38,12 +45,19 @@ pub record WritingGoesOn : Type 0 where
       table_at (setting_of t.world) t.height p.pieces slot.Void ≡ None → AreCited (behind_steps p.context rows).steps (table_at (setting_of t.world) t.height p.pieces) t.world.goals refs →
       HasEnded t (closed p rows (item.Leaf refs) (lines_of_tree (setting_of t.world) t.height t.world.goals leaf p.pieces p.context.lines)))
   -- or a step that concludes VOID, whatever else its steps conclude.
-  pub voids : OfAims (λ t. (p : Place) (rows : List StepRow) (r : ℕ) → p.tree ≡ leaf → IsAt t p → AreSteps t.subject p.context rows → length rows ≤ most_for t →
+  pub voids : OfAims (λ t. (p : Place) (rows : List StepRow) (r : ℕ) → p.tree ≡ leaf
+      → IsAt t p → AreSteps t.target.subject p.context rows → length rows ≤ most_for t →
       table_at (setting_of t.world) t.height p.pieces slot.Void ≡ Some fact.Void → step_fact (behind_steps p.context rows).steps r ≡ Some fact.Void → HasEnded t (closed p rows (item.Dead r) p.context.lines))
   -- Behind a section the next piece begins,
   pub follows : OfAims (λ t. (e : Ended) (fr : Frame) (i : Interval) (tree : Tree) (later : Trees) (frames : List Frame) → e.frames ≡ fr ∷ frames → fr.later ≡ next i tree later → HasEnded t e →
       IsAt t (beside e fr i tree later frames))
   -- and behind the last its box has ended.
   pub ends : OfAims (λ t. (e : Ended) (fr : Frame) (frames : List Frame) → e.frames ≡ fr ∷ frames → fr.later ≡ last → HasEnded t e → HasEnded t (around e fr frames))
-  -- Behind the root section the certificate is whole.
-  pub whole : OfAims (λ t. (e : Ended) → e.frames ≡ [] → HasEnded t e → IsWhole t (certificate_of e.items))
+  -- Behind the root section of a case that of the next is to begin,
+  pub next_case : OfAims (λ t.
+      (e : Ended) (hypotheses : List Fact) (tree : Tree) (later : List Root)
+      → e.frames ≡ [] → t.target.later ≡ root_with t.world hypotheses tree ∷ later → HasEnded t e →
+      IsAt (next_aim t hypotheses later) (next_root e tree))
+  -- and behind that of the last the certificate is whole.
+  pub whole : OfAims (λ t. (e : Ended)
+      → e.frames ≡ [] → t.target.later ≡ [] → HasEnded t e → IsWhole t (certificate_of e.items))

@@ -1,8 +1,10 @@
+pub mod Bytes
 pub mod Files
 pub mod Heads
 pub mod Boxes
 pub mod Standing
 pub mod Courses
+pub mod Cases
 pub mod Laws
 pub mod Walks
 pub mod Written

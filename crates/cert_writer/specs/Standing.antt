@@ -15,8 +15,9 @@ use Rattle.cert_bytes.specs.declared.item.Item.{Item}
 use Rattle.cert_bytes.specs.declared.item.Item.TheVariants as item
 use Rattle.cert_bytes.specs.declared.item.StepRow.{StepRow}
 use Rattle.cert_bytes.specs.declared.order.Due.TheVariants.{Sections}
-use Rattle.cert_bytes.specs.Certificates.{AreDue, AreCertificate, certificate_of}
+use Rattle.cert_bytes.specs.Certificates.{AreDue, AreCertificate}
 use Rattle.cert_bytes.specs.Fronts.{IsFront}
+use Rattle.cert_writer.specs.Bytes.{certificate_of}
 use Rattle.cert_checker.specs.declared.open.Citable.{Citable}
 use Rattle.cert_checker.specs.declared.subject.Subject.{Subject}
 use Rattle.cert_checker.specs.Contexts.{Context, first}
@@ -26,40 +27,74 @@ use Rattle.cert_checker.specs.Accepted.{LeadsTo, Accepts}
 use Rattle.box_traces.specs.Writing.{IsWritable}
 use Rattle.box_traces.specs.Trees.{Tree, Trees, lines_of_tree, steps_in}
 use Rattle.box_traces.specs.Trees as trees
+use Rattle.box_traces.specs.Roots.{Root, AreRoots, steps_in_roots, lines_of_roots}
 use Rattle.box_traces.specs.Walks.{behind_steps, IsBehind, IsEndOf, Frame, LiesIn, left_in, lines_behind, steps_behind}
 use Rattle.box_traces.specs.Moves.{AreSteps, IsEntered, frame_of, turned}
 use Rattle.cert_writer.specs.Heads.{head_items}
 
 -- ---- what is written
--- For what a certificate is written: the universe, the rounds that settle a box, what the certificate is judged against, and its lines.
+-- What a case's root section is written for: what the certificate is judged against, the case's
+-- number, how many steps a box may have, and the later cases.
+pub record Target : Type 0 where
+  pub subject : Subject
+  pub number : ℕ
+  pub most : ℕ
+  pub later : List Root
+
+-- For what a certificate is written: the universe of the case, the rounds that settle a box, what
+-- the case's section is written for, and the certificate's lines.
 pub record Aim : Type 0 where
   pub world : World
   pub height : ℕ
-  pub subject : Subject
+  pub target : Target
   pub lines : List Line
 
--- What derivations conclude can be written, and is judged against what they use.
+-- How many steps a box may need: no fewer than the laws of box_traces have of it (in each round a
+-- step for each instance at most), and more than box_trace makes of it (in each round 8,192 at
+-- most). A case has 2^16 hypotheses at most, so that it is the same in each case.
+abbrev pub steps_needed : World → ℕ → ℕ
+steps_needed u height = 2 ^ 16 + length u.nodes + 2 + height * length u.instances + height * 8192
+
+-- What derivations conclude can be written, and is judged against what they use; so is what those
+-- of the later cases do. There are at most 64.
 pub record IsAim (t : Aim) : Type 0 where
   pub writable : IsWritable (setting_of t.world) t.world.hints
-  pub subject : trees.IsSubjectOf t.subject (setting_of t.world) t.world.hints t.world.goals
+  pub subject : trees.IsSubjectOf t.target.subject t.target.number
+      (setting_of t.world) t.world.hints t.world.goals
+  pub enough : steps_needed t.world t.height ≤ t.target.most
+  pub later : AreRoots t.target.subject t.world.hints t.height t.target.most t.world.goals t.world.nodes (t.target.number + 1) t.target.later
+  pub few : length t.target.subject.cases ≤ 64
 
--- How many steps a box may have: no fewer than the laws of box_traces have of it (in each round a step for each instance at most), and more
--- than box_trace makes of it (in each round 8,192 at most).
+-- how many steps a box may have
 abbrev pub most_for : Aim → ℕ
-most_for t = length t.world.hypotheses + length t.world.nodes + 2 + t.height * length t.world.instances + t.height * 8192
+most_for t = t.target.most
+
+-- how many root sections follow this one
+abbrev pub roots_left : Aim → ℕ
+roots_left t = length t.target.later
+
+-- how many steps they may have
+abbrev pub steps_left : Aim → ℕ
+steps_left t = steps_in_roots t.target.most t.target.later
+
+-- the lines with those of the later cases
+abbrev pub lines_left : Aim → List Line → List Line
+lines_left t lines = lines_of_roots t.height t.world.goals t.target.later lines
 
 -- The bytes spell a certificate that is accepted with the lines.
 abbrev pub IsWhole : Aim → List ℕ → Type 0
-IsWhole t bytes = (items : List Item) × Accepts t.subject items t.lines × (bytes ≡ certificate_of items)
+IsWhole t bytes = (items : List Item)
+    × Accepts t.target.subject items t.lines × (bytes ≡ certificate_of items)
 
 -- The bytes are a front of such.
 abbrev pub IsBegun : Aim → List ℕ → Type 0
-IsBegun t bytes = (items : List Item) × Accepts t.subject items t.lines × IsFront bytes (certificate_of items)
+IsBegun t bytes = (items : List Item)
+    × Accepts t.target.subject items t.lines × IsFront bytes (certificate_of items)
 
 -- ---- where it stands
 -- Nothing is wrong with the items; behind them the context is c, and so many sections are still to come.
 pub record HasWritten (t : Aim) (items : List Item) (c : Context) (n : ℕ) : Type 0 where
-  pub leads : LeadsTo t.subject (first t.subject) items c
+  pub leads : LeadsTo t.target.subject (first t.target.subject) items c
   pub due : (rest : List Item) → AreDue (Some (Sections n)) rest → AreCertificate (items ++ rest)
 
 -- The section of a box is to begin: the items so far, what they come to, the box with those below it, its pieces, how many cuts there are around it, and these.
@@ -73,10 +108,13 @@ pub record Place : Type 0 where
 
 -- The certificate stands there.
 pub record IsAt (t : Aim) (p : Place) : Type 0 where
-  pub written : HasWritten t p.items p.context (suc (left_in p.frames))
-  pub entered : IsEntered (setting_of t.world) t.world.hints t.height (most_for t) t.world.goals p.context p.tree p.pieces p.depth p.frames
-  pub room : p.context.next + (steps_in (most_for t) p.tree + steps_behind (most_for t) p.frames) ≤ 2 ^ 64
-  pub shown : t.lines ≡ lines_behind (setting_of t.world) t.height t.world.goals p.frames (lines_of_tree (setting_of t.world) t.height t.world.goals p.tree p.pieces p.context.lines)
+  pub written : HasWritten t p.items p.context (suc (left_in p.frames + roots_left t))
+  pub entered : IsEntered (setting_of t.world) t.world.hints t.height (most_for t) t.world.goals t.target.subject t.target.number p.context p.tree p.pieces p.depth p.frames
+  pub room : p.context.next + (steps_in
+      (most_for t) p.tree + steps_behind (most_for t) p.frames + steps_left t) ≤ 2 ^ 64
+  pub shown : t.lines ≡ lines_left t
+      (lines_behind (setting_of t.world) t.height t.world.goals p.frames
+      (lines_of_tree (setting_of t.world) t.height t.world.goals p.tree p.pieces p.context.lines))
 
 -- The section of a box has ended: the items so far, where it began, what they come to, the cuts around it, and the lines that the leaves so far show.
 pub record Ended : Type 0 where
@@ -88,21 +126,31 @@ pub record Ended : Type 0 where
 
 -- The certificate stands there.
 pub record HasEnded (t : Aim) (e : Ended) : Type 0 where
-  pub written : HasWritten t e.items e.context (left_in e.frames)
+  pub written : HasWritten t e.items e.context (left_in e.frames + roots_left t)
   pub ended : IsEndOf e.begin e.context e.lines
-  pub lies : LiesIn (setting_of t.world) t.height t.world.goals e.begin e.frames
-  pub room : e.context.next + steps_behind (most_for t) e.frames ≤ 2 ^ 64
-  pub shown : t.lines ≡ lines_behind (setting_of t.world) t.height t.world.goals e.frames e.lines
+  pub lies : LiesIn (setting_of t.world) t.height t.world.goals t.target.number e.begin e.frames
+  pub room : e.context.next + (steps_behind (most_for t) e.frames + steps_left t) ≤ 2 ^ 64
+  pub shown : t.lines ≡ lines_left t
+      (lines_behind (setting_of t.world) t.height t.world.goals e.frames e.lines)
 
 -- ---- how it goes on
 -- the root's section is to begin behind the head
 abbrev pub at_root : Aim → Context → Tree → Place
-at_root t c tree = record { items = head_items t.world.nodes t.subject.marks; context = c; tree = tree; pieces = []; depth = 0; frames = [] }
+at_root t c tree = record {
+  items = head_items t.world.nodes t.target.subject.marks
+      (length t.target.subject.cases);
+  context = c;
+  tree = tree;
+  pieces = [];
+  depth = 0;
+  frames = [];
+}
 
 -- The steps of the box may be written, and conclude its best facts.
 pub record AreBoxSteps (t : Aim) (p : Place) (rows : List StepRow) : Type 0 where
-  pub steps : AreSteps t.subject p.context rows
-  pub behind : IsBehind (setting_of t.world) t.height (behind_steps p.context rows) p.pieces
+  pub steps : AreSteps t.target.subject p.context rows
+  pub behind : IsBehind (setting_of t.world) t.height t.target.number
+      (behind_steps p.context rows) p.pieces
   pub few : length rows ≤ most_for t
 
 -- Each goal has a step with the table's fact on its slot, which settles it.
@@ -155,4 +203,30 @@ around e fr frames = record {
   context = e.context;
   frames = frames;
   lines = e.lines;
+}
+
+-- ---- the next case
+-- the aim of the next case, of which these are the hypotheses
+abbrev pub next_aim : Aim → List Fact → List Root → Aim
+next_aim t hypotheses later = record t {
+  world = record t.world { hypotheses = hypotheses };
+  target = record t.target { number = t.target.number + 1; later = later };
+}
+
+-- behind a root section that of the next case is to begin
+abbrev pub next_root : Ended → Tree → Place
+next_root e tree = record {
+  items = e.items;
+  context = e.context;
+  tree = tree;
+  pieces = [];
+  depth = 0;
+  frames = [];
+}
+
+-- a case with these hypotheses, and the tree of its boxes
+abbrev pub root_with : World → List Fact → Tree → Root
+root_with u hypotheses tree = record {
+  setting = setting_of (record u { hypotheses = hypotheses });
+  tree = tree;
 }

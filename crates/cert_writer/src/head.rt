@@ -1,7 +1,8 @@
 //! The head of a certificate.
 ghost use Rattle.std.specs.Prelude.{◌≡◌, ◌++◌, ◌≤◌, length, map, OnOk};
-ghost use Rattle.cert_bytes.specs.Certificates.{certificate_of};
 ghost use Rattle.cert_bytes.specs.declared.item.Item.TheVariants as item;
+ghost use Rattle.cert_writer.specs.Bytes.{certificate_of};
+ghost use Rattle.box_traces.specs.Roots.{cases_items};
 ghost use Rattle.cert_writer.specs.Heads.{head_items};
 
 use cert_bytes::{Item, write_item};
@@ -31,18 +32,35 @@ fn spell_marks(marks: &[HintMark], out: &mut Vec<u8>) -> Result<(), AllocError>
     Ok(())
 }
 
-// Appends what stands before the root section: the nodes and the marks, each behind their count. `Err` only where memory runs out; a front
+// Appends how many cases there are, where there are several.
+fn spell_cases(count: usize, out: &mut Vec<u8>) -> Result<(), AllocError>
+    requires { count ≤ 64 }
+    ensures { OnOk result (out.new.items ≡ out.old.items ++ certificate_of (cases_items count)) }
+{
+    if count >= 2 {
+        write_item(&Item::Cases(count as u8), out)?;
+    }
+    Ok(())
+}
+
+// Appends what stands before the root sections: the nodes and the marks, each behind their count,
+// and how many cases there are, where there are several. `Err` only where memory runs out; a front
 // of that may then be there.
 pub(crate) fn spell_head(
     nodes: &Dag,
     marks: &[HintMark],
+    cases: usize,
     out: &mut Vec<u8>,
 ) -> Result<(), AllocError>
     requires few { length marks.now ≤ 65535 }
-    ensures { OnOk result (out.new.items ≡ out.old.items ++ certificate_of (head_items nodes.now marks.now)) }
+    requires cases { cases ≤ 64 }
+    ensures { OnOk result (out.new.items
+        ≡ out.old.items ++ certificate_of (head_items nodes.now marks.now cases)) }
 {
     write_item(&Item::Nodes(nodes.len()), out)?;
     spell_nodes(nodes, out)?;
     write_item(&Item::Marks(marks.len() as u16), out)?;
-    spell_marks(marks, out)
+    spell_marks(marks, out)?;
+    spell_cases(cases, out)?;
+    Ok(())
 }

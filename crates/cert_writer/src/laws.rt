@@ -2,7 +2,7 @@
 ghost use Rattle.cert_writer.specs.Laws.{WritingGoesOn};
 ghost use Rattle.cert_writer.specs.Walks.{WalkGoesOn};
 
-use answer_certificates::answers_have_certificates;
+use answer_certificates::pieces_are_of_cuts;
 use box_traces::{certificates_exist, walks_move};
 use box_tree::Plan;
 use derivation::{best_tables_exist, boxes_come_to_one_state};
@@ -26,6 +26,6 @@ pub(crate) fn walk_goes_on(plan: &Plan)
     best_tables_exist();
     boxes_come_to_one_state();
     rules_are_lawful();
-    answers_have_certificates(plan);
+    pieces_are_of_cuts();
     plan.covers();
 }

@@ -1,6 +1,7 @@
 //! Writes the certificate of a proved script to a file, box by box.
 #![tactic(auto)]
 
+mod cases;
 mod ending;
 mod file;
 mod head;

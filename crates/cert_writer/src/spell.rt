@@ -2,7 +2,8 @@
 ghost use Rattle.std.specs.Prelude.{◌≡◌, ◌++◌, map, IfOk, OnOk};
 ghost use Rattle.std.specs.List.{AllByRecursion};
 ghost use Rattle.cert_bytes.specs.declared.item.Item.TheVariants as item;
-ghost use Rattle.cert_bytes.specs.Certificates.{HasSpelling, certificate_of};
+ghost use Rattle.cert_bytes.specs.Certificates.{HasSpelling};
+ghost use Rattle.cert_writer.specs.Bytes.{certificate_of};
 ghost use Rattle.box_trace.specs.Tables.{known_at};
 ghost use Rattle.box_traces.specs.Traces.{HaveFields};
 ghost use Rattle.box_traces.specs.Trees.{AllSettled};

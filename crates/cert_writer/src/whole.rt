@@ -1,59 +1,64 @@
 //! A script's certificate, written to a file.
-ghost use Rattle.std.specs.Prelude.{◌≡◌, ◌≢◌, ℕ, List, OnOk, OnErr};
+ghost use Rattle.std.specs.Prelude.{◌≡◌, ◌≢◌, ◌≤◌, ℕ, List, OnOk, OnErr};
+ghost use Rattle.script_claims.specs.declared.claim.Claim.{Claim};
+ghost use Rattle.universe.specs.Universes.{IsUniverse};
+ghost use Rattle.script_checker.specs.Subjects.{IsSubjectOf};
 ghost use Rattle.cert_writer.specs.Walks.{HasWriteCause};
-ghost use Rattle.cert_writer.specs.Written.{IsProvedFor, OfProved, HoldsCertificate, HoldsFront};
+ghost use Rattle.cert_writer.specs.Written.{IsProvedWith, OfProved, HoldsCertificate, HoldsFront};
 
+use crate::cases::write_cases;
 use crate::file::append_all;
 use crate::head::spell_head;
-use crate::laws::walk_goes_on;
-use crate::walk::{WriteStop, write_box};
-use answer_certificates::{answers_have_certificates, subjects_are_written};
-use box_tree::Plan;
+use crate::laws::writing_goes_on;
+use crate::walk::WriteStop;
+use answer_certificates::{script_has_room, scripts_have_roots, subjects_are_written};
 use cert_checker::Subject;
-use fx_edge::{Folder, Path};
+use fx_edge::Folder;
 use rule_universe::Universe;
+use script_grammar::Script;
 use std::alloc::Global;
-use universe::universes_are_one;
 
-/// Makes the file new and writes to it the certificate of a script that is proved with these options: its universe, what its
-/// certificates are judged against, how its boxes are cut, and how many rounds settle a box. `Failed` comes only where a write of the
-/// folder failed in this call, `OutOfMemory` only where memory runs out. After a stop the file holds what it held, where making it new
-/// failed, or a front of such a certificate.
+/// Makes the file new and writes to it the certificate of a script that is proved. The universe is
+/// the script's, the subject what its certificates are judged against; its boxes are settled in so
+/// many rounds (0 to 64) and halved so often at most (0 to 32). What is assumed in the universe
+/// before the call is no matter; behind it some case's claims may be. `Failed` comes only where a
+/// write of the folder failed in this call, `OutOfMemory` only where memory runs out. After a stop
+/// the file holds what it held, where making it new failed, or a front of such a certificate.
 pub fn write_cert<F: Folder>(
     alloc: Global,
-    uni: &Universe,
+    script: &Script<'_>,
+    universe: &mut Universe,
     subject: &Subject,
-    plan: &Plan,
     rounds: u8,
+    depth: u8,
     folder: &mut F,
     name: &str,
 ) -> Result<(), WriteStop>
-    requires proved { IsProvedFor uni.now subject.now plan.now rounds }
-    ensures ok { OnOk result (OfProved uni.now subject.now plan.now rounds (λ s lines. HoldsCertificate s lines (F.told folder.old name.now) (F.told folder.new name.now))) }
-    ensures err { OnErr result (OfProved uni.now subject.now plan.now rounds (λ s lines. HoldsFront s lines (F.told folder.old name.now) (F.told folder.new name.now))) }
-    ensures others { (other : List ℕ) → other ≢ name.now → F.told folder.new other ≡ F.told folder.old other }
+    requires universe { (before : List Claim) × IsUniverse script.now before universe.old }
+    requires subject { IsSubjectOf script.now subject.now }
+    requires rounds { rounds ≤ 64 }
+    requires depth { depth ≤ 32 }
+    requires proved { IsProvedWith script.now rounds depth }
+    ensures ok { OnOk result (OfProved script.now rounds depth (λ lines.
+        HoldsCertificate script.now lines
+        (F.told folder.old name.now) (F.told folder.new name.now))) }
+    ensures err { OnErr result (OfProved script.now rounds depth (λ lines.
+        HoldsFront script.now lines (F.told folder.old name.now) (F.told folder.new name.now))) }
+    ensures others { (other : List ℕ) → other ≢ name.now
+        → F.told folder.new other ≡ F.told folder.old other }
     ensures cause { HasWriteCause (F.write_faults folder.old) (F.write_faults folder.new) result }
     ensures quiet { F.read_faults folder.new ≡ F.read_faults folder.old }
 {
-    walk_goes_on(plan);
-    plan.laws();
-    answers_have_certificates(plan);
+    writing_goes_on();
+    script.laws();
+    script_has_room(script, universe);
+    scripts_have_roots();
     subjects_are_written();
-    universes_are_one();
     folder.fresh(name)?;
     let mut bytes = Vec::new(alloc);
-    spell_head(uni.dag(), subject.marks.as_slice(), &mut bytes)?;
+    let cases = subject.cases.as_slice().len();
+    spell_head(universe.dag(), subject.marks.as_slice(), cases, &mut bytes)?;
     append_all(folder, name, &bytes)?;
-    write_box(
-        alloc,
-        uni,
-        plan,
-        rounds,
-        folder,
-        name,
-        Path::root(),
-        None,
-        0,
-    )?;
+    write_cases(alloc, script, universe, rounds, depth, folder, name)?;
     Ok(())
 }

@@ -1,4 +1,4 @@
-use Rattle.cert_writer.proofs.GoesOn.{begun, ended, enters, settles, voids, follows, ends, whole}
+use Rattle.cert_writer.proofs.GoesOn.{begun, ended, enters, settles, voids, follows, ends, next_case, whole}
 use Rattle.cert_writer.proofs.Begun.{begins}
 use Rattle.cert_writer.proofs.laws.writing_goes_on.Goals as goal
 
@@ -12,5 +12,6 @@ returns c = record {
   voids = voids c.certificates_exist.ensures.walks c.walks_move.ensures;
   follows = follows c.certificates_exist.ensures.walks c.walks_move.ensures;
   ends = ends c.certificates_exist.ensures.walks c.walks_move.ensures;
+  next_case = next_case c.certificates_exist.ensures.walks c.walks_move.ensures;
   whole = whole c.certificates_exist.ensures.walks c.walks_move.ensures;
 }

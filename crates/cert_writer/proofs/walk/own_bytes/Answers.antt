@@ -8,12 +8,12 @@ use Rattle.cert_writer.proofs.Done.{own, may_end, own_done, last_spelled}
 use Rattle.cert_writer.proofs.walk.own_bytes.Goals as goal
 
 pub trace-requires-clause-room : goal.trace-requires-clause-room
-trace-requires-clause-room c = let s = c.requires.somewhere in has_room (course c.args.uni.now c.args.plan.now c.args.rounds s.0 s.1 s.2) c.args.path.now c.args.parent c.args.first s.3 s.5
+trace-requires-clause-room c = let s = c.requires.somewhere in has_room (course c.args.uni.now c.args.plan.now c.args.rounds s.0 s.1 s.2) c.args.path.now c.args.parent c.args.first s.3 s.5 s.4
 
 pub overflow_add-next : goal.overflow_add-next
 overflow_add-next c =
     let s = c.requires.somewhere in
-    let r = has_room (course c.args.uni.now c.args.plan.now c.args.rounds s.0 s.1 s.2) c.args.path.now c.args.parent c.args.first s.3 s.5 in
+    let r = has_room (course c.args.uni.now c.args.plan.now c.args.rounds s.0 s.1 s.2) c.args.path.now c.args.parent c.args.first s.3 s.5 s.4 in
     let f = c.in_ok-steps.ensures.few in
     let l = c.len.ensures in
     omega (arith, r, f, l)

@@ -1,0 +1,18 @@
+use Rattle.std.proofs.Common.{◌≡◌, ◌≢◌, ◌≤◌, ℕ, List}
+use Rattle.script_claims.specs.declared.claim.Claim.{Claim}
+use Rattle.universe.specs.Universes.{IsUniverse}
+use Rattle.cert_writer.specs.Cases.{bare, OfStanding, GoesOn}
+use Rattle.cert_writer.proofs.cases.write_cases.Given as goal
+
+abbrev pub invariant-loop-number : goal.invariant-loop-number
+invariant-loop-number g l = record {
+  universe : (before : List Claim) × IsUniverse l.script before l.universe;
+  same : bare l.universe ≡ bare l.fn.universe;
+  done : OfStanding l.script (bare l.fn.universe) l.rounds l.depth 0 0
+      (λ w items. GoesOn w l.number l.next items (g.F.Folder.told l.fn.folder l.name)
+      (g.F.Folder.told l.folder l.name));
+  others : (other : List ℕ) → other ≢ l.name → g.F.Folder.told l.folder other
+      ≡ g.F.Folder.told l.fn.folder other;
+  later : g.F.Folder.write_faults l.fn.folder ≤ g.F.Folder.write_faults l.folder;
+  quiet : g.F.Folder.read_faults l.folder ≡ g.F.Folder.read_faults l.fn.folder;
+}
