@@ -1,6 +1,6 @@
 //! The time of checking a certificate of the script that `gen 12` makes.
 
-use crate::steps::{folder_of, steps_in};
+use crate::steps::{folder_of, in_second_version, steps_in};
 use anyhow::{Result, bail};
 use cert_bytes::Reader;
 use cert_checker::CheckStop;
@@ -49,12 +49,29 @@ fn measure_checking(
     script: &Script<'_>,
     bytes: Vec<u8>,
 ) -> Result<()> {
+    let length = bytes.len();
     let mut folder = folder_of(rt.alloc(), bytes)?;
     let steps = steps_in(rt.alloc(), &mut folder)?;
     let (least, last) = least_time(rt, script, &mut folder)?;
     let each = least.saturating_mul(1000) / u128::from(steps.max(1));
-    println!(rt; "check: {each} ns per step ({steps} steps, {least} us, lines: {last:?})")?;
+    println!(rt;
+        "check: {each} ns per step ({steps} steps, {length} bytes, {least} us, lines: {last:?})"
+    )?;
     Ok(())
+}
+
+// Prints the time of checking it as it is, and in version 2.
+fn measure_both(
+    rt: &(impl Clock + Print + AllocGlobal),
+    script: &Script<'_>,
+    bytes: Vec<u8>,
+) -> Result<()> {
+    let mut folder = folder_of(rt.alloc(), bytes.clone()?)?;
+    measure_checking(rt, script, bytes)?;
+    match in_second_version(rt.alloc(), &mut folder) {
+        Ok(second) => measure_checking(rt, script, second),
+        Err(_) => bail!("the certificate isn't read"),
+    }
 }
 
 /// Prints the time of checking the certificate of this name.
@@ -62,7 +79,7 @@ pub fn measure(rt: &(impl Clock + Files + Print + AllocGlobal), name: &str) -> R
     let bytes = fs::read(rt, name)?;
     let text = made_script(rt.alloc(), 12)?;
     match parse(rt.alloc(), text.as_slice()) {
-        Ok(script) => measure_checking(rt, &script, bytes),
+        Ok(script) => measure_both(rt, &script, bytes),
         Err(_) => bail!("the script isn't read"),
     }
 }

@@ -4,7 +4,7 @@ ghost use Rattle.cert_bytes.specs.Pieces.{AgreesTold};
 ghost use Rattle.cert_bytes.specs.Certificates.{HasSpelling};
 
 use anyhow::Result;
-use cert_bytes::{Item, Reader, StepRow, Stop, write_item};
+use cert_bytes::{Item, Reader, Seen, StepRow, Stop, write_item, write_item2};
 use dyadic::{Dyadic, End};
 use facts::Fact;
 use fx_edge::{Folder, Items, SureFolder};
@@ -44,18 +44,64 @@ fn step(alloc: Global) -> Result<Item, AllocError>
     }))
 }
 
+// Appends the spelling of an item in one of the two versions, behind so many steps and sections.
+fn append(item: &Item, is_second: bool, seen: Seen, out: &mut Vec<u8>) -> Result<(), AllocError>
+    requires { HasSpelling item.now }
+{
+    if is_second {
+        write_item2(item, seen, out)
+    } else {
+        write_item(item, out)
+    }
+}
+
 // A certificate without nodes, with these steps.
-fn certificate(alloc: Global, step: &Item) -> Result<Vec<u8>, AllocError>
+fn certificate(alloc: Global, step: &Item, is_second: bool) -> Result<Vec<u8>, AllocError>
     requires { HasSpelling step.now }
 {
     let mut out = Vec::new(alloc);
-    write_item(&Item::Nodes(0), &mut out)?;
-    write_item(&Item::Marks(0), &mut out)?;
+    let mut seen = Seen::none();
+    append(&Item::Nodes(0), is_second, seen, &mut out)?;
+    append(&Item::Marks(0), is_second, seen, &mut out)?;
     for _ in 0..STEPS {
-        write_item(step, &mut out)?;
+        append(step, is_second, seen, &mut out)?;
+        seen.steps = seen.steps.wrapping_add(1);
     }
-    write_item(&Item::Dead(0), &mut out)?;
+    append(&Item::Dead(0), is_second, seen, &mut out)?;
+    seen.sections = 1;
+    append(&Item::End, is_second, seen, &mut out)?;
     Ok(out)
+}
+
+// What stands before the place behind an item.
+fn behind(seen: Seen, item: &Item) -> Seen {
+    match item {
+        Item::Step(_) => Seen {
+            steps: seen.steps.wrapping_add(1),
+            sections: seen.sections,
+        },
+        Item::Cut(_, _) | Item::Leaf(_) | Item::Dead(_) => Seen {
+            steps: seen.steps,
+            sections: seen.sections.wrapping_add(1),
+        },
+        _ => seen,
+    }
+}
+
+/// The certificate that stands under "c", in version 2.
+pub fn in_second_version<F: Folder>(alloc: Global, folder: &mut F) -> Result<Vec<u8>, Stop> {
+    let mut reader = Reader::new(alloc, "c")?;
+    let mut out = Vec::new(alloc);
+    let mut seen = Seen::none();
+    'items: for _ in 0..u64::MAX {
+        let item = reader.next(folder)?;
+        write_item2(&item, seen, &mut out)?;
+        seen = behind(seen, &item);
+        if let Item::End = item {
+            return Ok(out);
+        }
+    }
+    Err(Stop::Failed)
 }
 
 /// A folder with these bytes under "c".
@@ -87,28 +133,36 @@ pub fn steps_in<F: Folder>(alloc: Global, folder: &mut F) -> Result<u32, AllocEr
     Ok(count_steps(folder, &mut reader).unwrap_or(0))
 }
 
-// 10^6 bytes a second.
-fn rate(bytes: usize, micros: u128) -> u128 {
-    bytes as u128 / micros.max(1)
+// Nanoseconds a step.
+fn each(micros: u128) -> u128 {
+    micros.saturating_mul(1000) / u128::from(STEPS)
 }
 
-// Prints the rate of writing, and gives what is written.
-fn measure_writing(rt: &(impl Clock + Print + AllocGlobal)) -> Result<Vec<u8>> {
+// The number of a version.
+fn number(is_second: bool) -> u32 {
+    if is_second { 2 } else { 1 }
+}
+
+// Prints the time of writing, and gives what is written.
+fn measure_writing(rt: &(impl Clock + Print + AllocGlobal), is_second: bool) -> Result<Vec<u8>> {
     let step = step(rt.alloc())?;
     let mut out = Vec::new(rt.alloc());
     let mut least = u128::MAX;
     for _ in 0..TURNS {
         let start = Instant::now(rt)?;
-        out = certificate(rt.alloc(), &step)?;
+        out = certificate(rt.alloc(), &step, is_second)?;
         least = least.min(start.elapsed(rt)?.as_micros());
     }
-    let rate = rate(out.len(), least);
-    println!(rt; "write: {rate} MB per second ({STEPS} steps)")?;
+    let (version, each, length) = (number(is_second), each(least), out.len());
+    println!(rt; "version {version}: write: {each} ns per step ({STEPS} steps, {length} bytes)")?;
     Ok(out)
 }
 
-fn measure_reading(rt: &(impl Clock + Print + AllocGlobal), bytes: Vec<u8>) -> Result<()> {
-    let length = bytes.len();
+fn measure_reading(
+    rt: &(impl Clock + Print + AllocGlobal),
+    is_second: bool,
+    bytes: Vec<u8>,
+) -> Result<()> {
     let mut folder = folder_of(rt.alloc(), bytes)?;
     let mut steps = 0;
     let mut least = u128::MAX;
@@ -117,13 +171,16 @@ fn measure_reading(rt: &(impl Clock + Print + AllocGlobal), bytes: Vec<u8>) -> R
         steps = steps_in(rt.alloc(), &mut folder)?;
         least = least.min(start.elapsed(rt)?.as_micros());
     }
-    let rate = rate(length, least);
-    println!(rt; "read: {rate} MB per second ({steps} steps)")?;
+    let (version, each) = (number(is_second), each(least));
+    println!(rt; "version {version}: read: {each} ns per step ({steps} steps)")?;
     Ok(())
 }
 
-/// Prints how many bytes of steps are written a second, and read.
+/// Prints how long a step takes to be written, and to be read, in both versions.
 pub fn measure(rt: &(impl Clock + Print + AllocGlobal)) -> Result<()> {
-    let bytes = measure_writing(rt)?;
-    measure_reading(rt, bytes)
+    for is_second in [false, true] {
+        let bytes = measure_writing(rt, is_second)?;
+        measure_reading(rt, is_second, bytes)?;
+    }
+    Ok(())
 }

@@ -29,7 +29,11 @@ fn lines_of(
     check_script(alloc, script, &mut reader, &mut folder)
 }
 
-fn lines_text(alloc: Global, script: &Script<'_>, lines: &Lines) -> Result<Vec<u8>, AllocError> {
+pub(crate) fn lines_text(
+    alloc: Global,
+    script: &Script<'_>,
+    lines: &Lines,
+) -> Result<Vec<u8>, AllocError> {
     answer_text(
         alloc,
         script.text(),
@@ -40,7 +44,7 @@ fn lines_text(alloc: Global, script: &Script<'_>, lines: &Lines) -> Result<Vec<u
     )
 }
 
-fn stop_text(alloc: Global, stop: CheckStop) -> Result<Vec<u8>, AllocError> {
+pub(crate) fn stop_text(alloc: Global, stop: CheckStop) -> Result<Vec<u8>, AllocError> {
     let text = match stop {
         CheckStop::Cert(fault) => format!(in alloc; "{:?} {}", fault.kind, fault.at)?,
         CheckStop::Check(fault) => format!(in alloc; "{fault:?}")?,

@@ -4,7 +4,11 @@
 #[cfg(test)]
 mod bytes;
 #[cfg(test)]
+mod cases;
+#[cfg(test)]
 mod checks;
+#[cfg(test)]
+mod second;
 #[cfg(test)]
 mod turned;
 #[cfg(test)]

@@ -1,7 +1,7 @@
 // What comes of the worked certificate with one bit turned, as a program of its own answers. A row is how many neighbours answer alike.
 
 /// Reading, for each bit in turn, the low one of a byte first.
-pub const READ: [(usize, &str); 139] = [
+pub const READ: [(usize, &str); 140] = [
     (32, "BadMagic 0"),
     (8, "BadVersion 4"),
     (9, "BadTag 21"),
@@ -25,7 +25,8 @@ pub const READ: [(usize, &str); 139] = [
     (16, "BadTag 21"),
     (1, "BadTag 20"),
     (1, "Truncated 143"),
-    (6, "BadTag 20"),
+    (1, "BadNumber 21"),
+    (5, "BadTag 20"),
     (24, "same"),
     (1, "BadTag 24"),
     (1, "BadNumber 31"),

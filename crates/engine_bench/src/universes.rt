@@ -6,7 +6,7 @@ use script_grammar::{Script, parse};
 use std::alloc::Global;
 use std::rt::Clock;
 use std::time::Instant;
-use universe::{Universe, build};
+use universe::{Universe, assume, build};
 
 /// The degrees of the made scripts: universes of 106, 502 and 1,024 expressions.
 const DEGREES: [u8; 3] = [6, 28, 57];
@@ -14,11 +14,23 @@ const DEGREES: [u8; 3] = [6, 28, 57];
 /// How often a universe is built. The least time counts.
 const TURNS: u32 = 25;
 
+// The universe of a script, in which all its hypotheses are assumed. None where memory runs out, or
+// where it is too large.
+fn assumed_universe(alloc: Global, script: &Script<'_>) -> Option<Universe> {
+    match build(alloc, script) {
+        Ok(mut universe) => {
+            assume(alloc, &mut universe, script, script.hypotheses()).ok()?;
+            Some(universe)
+        }
+        Err(_) => None,
+    }
+}
+
 /// The universe of the made script of this degree. None where memory runs out, or where it is too large.
 pub fn made_universe(alloc: Global, degree: u8) -> Option<Universe> {
     let text = made_script(alloc, degree).ok()?;
     let script = parse(alloc, text.as_slice()).ok()?;
-    build(alloc, &script).ok()
+    assumed_universe(alloc, &script)
 }
 
 // Builds the universe of a script, and frees it. How many expressions and instances it has.

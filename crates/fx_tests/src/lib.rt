@@ -6,6 +6,8 @@ mod answers;
 #[cfg(test)]
 mod asked;
 #[cfg(test)]
+mod cases;
+#[cfg(test)]
 mod checks;
 #[cfg(test)]
 mod engine;
@@ -15,6 +17,8 @@ mod faults;
 mod limits;
 #[cfg(test)]
 mod literals;
+#[cfg(test)]
+mod made;
 #[cfg(test)]
 mod refusals;
 #[cfg(test)]

@@ -122,7 +122,7 @@ fn nesting_of_an_expression(rt: HostRuntime) -> Result<(), Fail> {
     rows_end(&rt, rt.alloc(), &NESTING)
 }
 
-const COUNTS: [(Pieces, Status, &str); 11] = [
+const COUNTS: [(Pieces, Status, &str); 15] = [
     // propositions: the 128th is the one that isn't proved
     (
         &[("{", 1), ("1 in?/\\", 127), ("x in?}", 1)],
@@ -138,6 +138,27 @@ const COUNTS: [(Pieces, Status, &str); 11] = [
         &[("{", 1), ("1 in?/\\", 128), ("@FIX(x,1)}", 1)],
         REFUSED,
         "script: FormulaForm at 897\n",
+    ),
+    // cases: of one part, and the product over parts
+    (
+        &[("{", 1), ("x in[1,2]\\/", 63), ("x in[3,4]->x in?}", 1)],
+        ANSWERED,
+        "x in [1, 1b2]\n",
+    ),
+    (
+        &[("{", 1), ("x in[1,2]\\/", 64), ("x in[3,4]->x in?}", 1)],
+        REFUSED,
+        "script: Limit(Cases) at 703\n",
+    ),
+    (
+        &[("{", 1), ("x in[1,2]\\/x in[2,3]->", 6), ("x in?}", 1)],
+        ANSWERED,
+        "x in [1, 3]\n",
+    ),
+    (
+        &[("{", 1), ("x in[1,2]\\/x in[2,3]->", 7), ("x in?}", 1)],
+        REFUSED,
+        "script: Limit(Cases) at 142\n",
     ),
     // hints
     (&[("{x in?}", 1), ("x~x;", 64)], UNPROVED, FIRST),

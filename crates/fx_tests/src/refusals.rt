@@ -49,7 +49,7 @@ const READING: [(&str, &str); 33] = [
     ),
     // FormulaForm
     ("{ x in [0,1] \\/ x in ? }", "script: FormulaForm at 13\n"),
-    ("{ not x <= 1 -> x in ? }", "script: FormulaForm at 2\n"),
+    ("{ x <= 1 -> not x <= 2 }", "script: FormulaForm at 12\n"),
     ("{ x in ? -> x in ? }", "script: FormulaForm at 7\n"),
     (
         "{ x in [0,1] -> x in ? /\\ @FIX(x,3) }",

@@ -42,7 +42,7 @@ fn ends_with(
 }
 
 // Words, a script, and the lines, which a check of what was written has too.
-const ANSWERED: [(&[&str], &str, &str); 12] = [
+const ANSWERED: [(&[&str], &str, &str); 17] = [
     (WRITE, HALVED, HALVED_LINE),
     (
         WRITE,
@@ -60,6 +60,32 @@ const ANSWERED: [(&[&str], &str, &str); 12] = [
         WRITE,
         "{ x in [-1,1] /\\ x * x in [0.5,1] -> 1 / x in ? } $ x in 4;",
         "1 / x in [-1b1, 1b1]\n",
+    ),
+    // several cases: of one box each, with a contradiction, cut and halved; and a part twice
+    (
+        WRITE,
+        "{ x in [0,1] \\/ x in [3,4] -> x * x in ? }",
+        "x * x in [0, 1b4]\n",
+    ),
+    (
+        WRITE,
+        "{ x in [0,1] /\\ x in [2,3] \\/ x in [4,5] -> x in ? }",
+        "x in [1b2, 5]\n",
+    ),
+    (
+        WRITE,
+        "{ x in [0,1] /\\ x in [2,3] \\/ x in [4,5] /\\ x in [6,7] -> x in ? }",
+        "x in empty\n",
+    ),
+    (
+        WRITE,
+        "{ x in [0,0] \\/ x in [0,1] -> x * (1 - x) in [0,0.3] } x * (1 - x) $ x;",
+        HALVED_LINE,
+    ),
+    (
+        WRITE,
+        "{ x in [0,1] \\/ x in [3,4] -> x in [0,1] \\/ x in [3,4] -> x in ? }",
+        "x in [0, 1b2]\n",
     ),
     // cuts at points, and pieces that are halved
     (
@@ -157,7 +183,7 @@ fn neither_workers_nor_pieces_change_a_byte(rt: HostRuntime) -> Result<(), Fail>
 
 // Runs that write nothing: of a script that is refused, that isn't there, that stays unproved, that has too many boxes; by words that name
 // one file as script and certificate; and of a certificate whose name isn't there.
-const UNWRITTEN: [(&[&str], &str, Status, &str); 8] = [
+const UNWRITTEN: [(&[&str], &str, Status, &str); 9] = [
     (WRITE, "!", Status::Script, "script: BadToken at 0\n"),
     (
         &["prove", "b", "--cert", "c"],
@@ -182,6 +208,12 @@ const UNWRITTEN: [(&[&str], &str, Status, &str); 8] = [
         HALVED,
         Status::Limit,
         "limit: more than 14 boxes\n",
+    ),
+    (
+        WRITE,
+        "{ x in [1,2] \\/ x in [-1,1] -> 1 / x in ? }",
+        Status::Unproved,
+        "unproved: goal 1 at case 2, the whole box\n",
     ),
     (&["prove", "c", "--cert", "c"], "", Status::Usage, USAGE),
     (

@@ -47,7 +47,10 @@ module _ (words : List Bytes) (outside : Outside) (told_new : Told) (text lines 
 
   certified : (a : IsAnswered (options_of w.asked) text lines) → AreAcceptedFor a.script bytes a.shown
   certified a =
-      let c : IsCertified (options_of w.asked) text w.before w.after Answered (outside.told w.name) (told_new w.name) = w.certifies w.asked w.name text w.reads w.names w.script in
+      let run = w.certifies w.asked w.name w.reads w.names in
+      let c : IsCertified (options_of w.asked) text w.before w.after Answered (outside.told w.name) (told_new w.name) =
+      subst (λ (t : Bytes). IsCertified (options_of w.asked) t w.before w.after Answered (outside.told w.name) (told_new w.name))
+      (same_text (outside.told w.asked.script) text run.text w.script run.told) run.certified in
       accepted_in a.script a.shown (outside.told w.name) (told_new w.name) w.old bytes w.held w.holds (c.proved a.script a.boxes a.shown a.proved)
 
 -- ---- what `check` answers to that

@@ -34,6 +34,7 @@ begun name = record { ahead = record { name = name; style = First; at = 0; ahead
 pub is_fresh : (name : Bytes) (r : Progress) → r ≡ begun name → IsFresh r
 is_fresh name r e = record {
   at = ap (λ (q : Progress). q.ahead.at) e;
+  style = ap (λ (q : Progress). q.ahead.style) e;
   due = ap (λ (q : Progress). q.due) e;
   fault = ap (λ (q : Progress). q.fault) e;
 }

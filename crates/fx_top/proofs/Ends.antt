@@ -49,9 +49,9 @@ long_refusal t text r a b p =
     let e : r ≡ past_bytes = cc (refused_for_length text (Some r) b p) in
     subst (IsRefused t) (sym e) (first.unread (too_long a))
 
-both_long : (o : Options) (t text : Bytes) → 2 ^ 20 < length t → 2 ^ 20 < length text → (s : Status) (line : Bytes) → ProvePrints o text s line → ProvePrints o t s line
+pub both_long : (o : Options) (t text : Bytes) → 2 ^ 20 < length t → 2 ^ 20 < length text → (s : Status) (line : Bytes) → ProvePrints o text s line → ProvePrints o t s line
 both_long o t text a b Answered line p = absurd (no_script text p.script b p.proved.spelled)
-both_long o t text a b Unproved line (s, path, goal, p, i, e) = absurd (no_script text s b p)
+both_long o t text a b Unproved line (s, leaf, claims, p, i, at, e) = absurd (no_script text s b p)
 both_long o t text a b Limit line (s, p, i) = absurd (no_script text s b p)
 both_long o t text a b status.Script line (r, p, e) = (r, long_refusal t text r a b p, e)
 both_long o t text a b Usage line p = absurd p

@@ -1,13 +1,16 @@
 -- One answer is defined for a text.
-use Rattle.std.specs.Prelude.{◌⊎◌}
+use Rattle.std.specs.Prelude.{◌⊎◌, slice_get}
 use Rattle.std.proofs.Common.{◌≡◌, ◌≢◌, inl, inr, ℕ, List, length, Option, Some, None, refl, sym, ap, ◌∙◌, subst}
 use Rattle.goals.specs.declared.line.Line.{Line}
 use Rattle.script_judge.specs.First.{FirstsAreUnique}
 use Rattle.script_grammar.specs.Spells.{View, Spells, SpellsOnce, NeverBoth}
 use Rattle.rewrite_hints.specs.Marks.{AreMarks}
+use Rattle.script_claims.specs.declared.claim.Claim.{Claim}
+use Rattle.script_grammar.specs.Cases.{cases_of}
 use Rattle.universe.specs.OneMark.{MarksAreOne}
 use Rattle.bisect.specs.declared.outcome.Leaf.{Leaf}
-use Rattle.bisect.specs.declared.outcome.Outcome.TheVariants as outcome
+use Rattle.case_trees.specs.declared.outcome.OpenLeaf.{OpenLeaf}
+use Rattle.case_trees.specs.declared.outcome.CaseOutcome.TheVariants as outcome
 use Rattle.bisect.specs.Gathered.{lines_of}
 use Rattle.settler.specs.Answers.{Options, Answer, expr_limit, box_limit, unproved, proved, ComesTo, IsScriptAnswer, AnswersAreOne, OutcomesAreOne, HasTooManyExpressions, HasTooManyBoxes, plan_of}
 use Rattle.cert_bytes.specs.declared.style.Style.TheVariants.{First}
@@ -39,11 +42,11 @@ Twice s t line other = (s ≡ t) × (line ≡ other)
 proved-same : (ls ms : List Line) → proved ls ≡ proved ms → ls ≡ ms
 proved-same ls ms e = cc
 
-path-same : (p q : List ℕ) (k m : ℕ) → unproved p k ≡ unproved q m → p ≡ q
-path-same p q k m e = cc
+leaf-same : (x y : OpenLeaf) → unproved x ≡ unproved y → x ≡ y
+leaf-same x y e = cc
 
-goal-same : (p q : List ℕ) (k m : ℕ) → unproved p k ≡ unproved q m → k ≡ m
-goal-same p q k m e = cc
+claims-same : (xs ys : List Claim) → Some xs ≡ Some ys → xs ≡ ys
+claims-same xs ys e = cc
 
 count-same : (m n : ℕ) (ls ms : List Leaf) → outcome.Leaves m ls ≡ outcome.Leaves n ms → m ≡ n
 count-same m n ls ms e = cc
@@ -84,24 +87,27 @@ module _ (spells_once : SpellsOnce) (both : NeverBoth) (refused_once : FirstsAre
   pub prove_once : (text : Bytes) (s t : Status) (line other : Bytes) → ProvePrints o text s line → ProvePrints o text t other → Twice s t line other
   unfolding Limited
   prove_once text Answered Answered line other p q = (refl, answered_once text line other p q)
-  prove_once text Answered Unproved line other p (t, path, goal, q, j, f) = let h : proved p.shown ≡ unproved path goal = same text p.script t (proved p.shown) (unproved path goal) p.proved.spelled q (p.boxes, p.proved.proved) j in cc h
+  prove_once text Answered Unproved line other p (t, leaf, claims, q, j, at, f) = let h : proved p.shown ≡ unproved leaf = same text p.script t (proved p.shown) (unproved leaf) p.proved.spelled q (p.boxes, p.proved.proved) j in cc h
   prove_once text Answered Limit line other p (t, q, j) = absurd (not_limited text other t p.script (proved p.shown) (λ e. cc e) (λ e. cc e) q p.proved.spelled (p.boxes, p.proved.proved) j)
   prove_once text Answered status.Script line other p (r, q, f) = absurd (both text p.script r p.proved.spelled q)
-  prove_once text Unproved Answered line other (s, path, goal, p, i, e) q = let h : unproved path goal ≡ proved q.shown = same text s q.script (unproved path goal) (proved q.shown) p q.proved.spelled i (q.boxes, q.proved.proved) in cc h
-  prove_once text Unproved Unproved line other (s, path, goal, p, i, e) (t, way, least, q, j, f) =
-      let h : unproved path goal ≡ unproved way least = same text s t (unproved path goal) (unproved way least) p q i j in
+  prove_once text Unproved Answered line other (s, leaf, claims, p, i, at, e) q = let h : unproved leaf ≡ proved q.shown = same text s q.script (unproved leaf) (proved q.shown) p q.proved.spelled i (q.boxes, q.proved.proved) in cc h
+  prove_once text Unproved Unproved line other (s, leaf, claims, p, i, at, e) (t, first, others, q, j, there, f) =
+      let h : unproved leaf ≡ unproved first = same text s t (unproved leaf) (unproved first) p q i j in
       let script : s ≡ t = spells_once text s t p q in
-      let paths : path ≡ way = path-same path way goal least h in
-      let goals : goal ≡ least = goal-same path way goal least h in
-      (refl, e ∙ (λ i. unproved_text (script i) (plan_of (script i) o.depth) (paths i) (goals i)) ∙ sym f)
-  prove_once text Unproved Limit line other (s, path, goal, p, i, e) (t, q, j) = absurd (not_limited text other t s (unproved path goal) (λ e. cc e) (λ e. cc e) q p i j)
-  prove_once text Unproved status.Script line other (s, path, goal, p, i, e) (r, q, f) = absurd (both text s r p q)
+      let leaves : leaf ≡ first = leaf-same leaf first h in
+      let here : slice_get (cases_of s) leaf.case ≡ slice_get (cases_of t) first.case = (λ i. slice_get (cases_of (script i)) (leaves i).case) in
+      let cases : claims ≡ others = claims-same claims others (sym at ∙ here ∙ there) in (
+        refl,
+        e ∙ (λ i. unproved_text (script i) (plan_of (script i) (cases i) o.depth) (length (cases_of (script i))) (leaves i).case (leaves i).path (leaves i).goal) ∙ sym f,
+      )
+  prove_once text Unproved Limit line other (s, leaf, claims, p, i, at, e) (t, q, j) = absurd (not_limited text other t s (unproved leaf) (λ e. cc e) (λ e. cc e) q p i j)
+  prove_once text Unproved status.Script line other (s, leaf, claims, p, i, at, e) (r, q, f) = absurd (both text s r p q)
   prove_once text Limit Answered line other (s, p, i) q = absurd (not_limited text line s q.script (proved q.shown) (λ e. cc e) (λ e. cc e) p q.proved.spelled (q.boxes, q.proved.proved) i)
-  prove_once text Limit Unproved line other (s, p, i) (t, path, goal, q, j, f) = absurd (not_limited text line s t (unproved path goal) (λ e. cc e) (λ e. cc e) p q j i)
+  prove_once text Limit Unproved line other (s, p, i) (t, leaf, claims, q, j, at, f) = absurd (not_limited text line s t (unproved leaf) (λ e. cc e) (λ e. cc e) p q j i)
   prove_once text Limit Limit line other (s, p, i) (t, q, j) = (refl, limited_once text line other s t p q i j)
   prove_once text Limit status.Script line other (s, p, i) (r, q, f) = absurd (both text s r p q)
   prove_once text status.Script Answered line other (r, p, e) q = absurd (both text q.script r q.proved.spelled p)
-  prove_once text status.Script Unproved line other (r, p, e) (t, path, goal, q, j, f) = absurd (both text t r q p)
+  prove_once text status.Script Unproved line other (r, p, e) (t, leaf, claims, q, j, at, f) = absurd (both text t r q p)
   prove_once text status.Script Limit line other (r, p, e) (t, q, j) = absurd (both text t r q p)
   prove_once text status.Script status.Script line other (r, p, e) (u, q, f) = let h : r ≡ u = cc (refused_once text (Some r) (Some u) p q) in (refl, e ∙ ap refusal_line h ∙ sym f)
   prove_once text Answered Usage line other p q = absurd q
@@ -143,8 +149,8 @@ module _ (spells_once : SpellsOnce) (both : NeverBoth) (refused_once : FirstsAre
   pub proved_alone : (text : Bytes) (s : View) (boxes : ℕ) (shown : List Line) → IsProvedText o text s boxes shown → (t : Status) (other : Bytes) → t ≢ Answered → ¬ ProvePrints o text t other
   unfolding Limited
   proved_alone text s boxes shown p Answered other differs q = differs refl
-  proved_alone text s boxes shown p Unproved other differs (t, path, goal, q, j, f) =
-      let h : proved shown ≡ unproved path goal = same text s t (proved shown) (unproved path goal) p.spelled q (boxes, p.proved) j in cc h
+  proved_alone text s boxes shown p Unproved other differs (t, leaf, claims, q, j, at, f) =
+      let h : proved shown ≡ unproved leaf = same text s t (proved shown) (unproved leaf) p.spelled q (boxes, p.proved) j in cc h
   proved_alone text s boxes shown p Limit other differs (t, q, j) = not_limited text other t s (proved shown) (λ e. cc e) (λ e. cc e) q p.spelled (boxes, p.proved) j
   proved_alone text s boxes shown p status.Script other differs (r, q, f) = both text s r p.spelled q
   proved_alone text s boxes shown p Usage other differs q = q

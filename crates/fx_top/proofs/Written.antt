@@ -1,7 +1,7 @@
 -- What a run leaves under the name of a certificate.
-use Rattle.std.proofs.Common.{◌≡◌, ◌≢◌, ◌≤◌, ℕ, List, [], Bool, true, false, Option, Some, None, Result, Ok, Err, OnOk, OnErr, refl, sym, ap, ◌∙◌, subst, inl, inr, append-nil}
+use Rattle.std.proofs.Common.{◌≡◌, ◌≢◌, ◌≤◌, ◌<◌, ◌^◌, ℕ, List, [], length, Bool, true, false, Option, Some, None, Result, Ok, Err, OnOk, OnErr, refl, sym, ap, ◌∙◌, subst, inl, inr, append-nil}
 use Rattle.std.specs.Prelude.{◌⊎◌}
-use Rattle.std.specs.Io.KnownBytes.{Keeps}
+use Rattle.std.specs.Io.KnownBytes.{Appends, Keeps}
 use Rattle.std.specs.Borrow.{Bor}
 use Rattle.std.specs.Option.{option_map}
 use Rattle.std.specs.Str.{bytes_eq}
@@ -11,22 +11,17 @@ use Rattle.fx_edge.specs.Outside.{Rose, rose_later}
 use Rattle.script_judge.specs.First.{FirstsAreUnique}
 use Rattle.script_grammar.specs.Spells.{View, Spells, SpellsOnce, NeverBoth}
 use Rattle.universe.specs.OneMark.{MarksAreOne}
-use Rattle.script_truths.specs.Truths.{HasUniverse}
-use Rattle.rule_universe.specs.Worlds.{World}
-use Rattle.box_tree.specs.Regions.{PlanParts}
-use Rattle.settler.specs.Answers.{Options, AnswersAreOne, IsProved, plan_of}
-use Rattle.cert_checker.specs.declared.subject.Subject.{Subject}
-use Rattle.script_checker.specs.Subjects.{IsSubjectOf}
-use Rattle.answer_certificates.specs.Scripts.{HasRoom, HasSlots}
-use Rattle.report.specs.Lines.{Bytes}
+use Rattle.settler.specs.Answers.{Options, AnswersAreOne, IsProved}
+use Rattle.report.specs.Lines.{Bytes, read_fault_line}
+use Rattle.cert_writer.specs.Files.{AppendsFront}
 use Rattle.command_line.specs.Reading.{Asked}
-use Rattle.cert_writer.specs.Written.{IsProvedOver, OfProved, HoldsCertificate, HoldsFront}
+use Rattle.cert_writer.specs.Written.{OfProved, HoldsCertificate, HoldsFront}
 use Rattle.fx_top.specs.Answers.{AreAllowed, IsProvedText, IsAnswered, ProvePrints, options_from, options_of}
 use Rattle.fx_top.specs.Command.{Command, reading}
 use Rattle.fx_top.specs.Command.Command.{Prove}
 use Rattle.fx_top.specs.Outside.{IsText}
-use Rattle.fx_top.specs.Run.{Told, Comes, EndsAs, StopPrints, is_name, writes, is_written}
-use Rattle.fx_top.specs.Written.{Faults, WhereProved, IsProvable, HoldsAfter, IsCertified, Certifies, IsPutBehind, PutsBehind, IsWritten, IsBrokenOff}
+use Rattle.fx_top.specs.Run.{Told, Outside, IsTold, Comes, EndsAs, IsLine, StopPrints, is_name, writes, is_written}
+use Rattle.fx_top.specs.Written.{Faults, WhereProved, IsProvable, HoldsAfter, IsCertified, TextPrints, IsCertifiedRun, Certifies, IsPutBehind, IsUnread, PutsBehind, IsWritten, IsBrokenOff}
 use Rattle.fx_top.specs.declared.outside.ReadStop.{ReadStop}
 use Rattle.fx_top.specs.declared.outside.ReadStop.TheVariants as stop
 use Rattle.fx_top.specs.declared.options.Options.{Options as Asking}
@@ -34,7 +29,7 @@ use Rattle.fx_top.specs.declared.run.Status.{Status}
 use Rattle.fx_top.specs.declared.run.Status.TheVariants.{Answered, Unproved, Usage, Limit, Certificate, ReadFault, WriteFault, OutOfMemory}
 use Rattle.fx_top.specs.declared.run.Status.TheVariants as status
 use Rattle.fx_top.proofs.Complete.{read_whole}
-use Rattle.fx_top.proofs.Ends.{no_script, told_text}
+use Rattle.fx_top.proofs.Ends.{no_script, told_text, both_long, ends_more}
 use Rattle.fx_top.proofs.Once.{proved_alone}
 
 -- ---- what a file holds
@@ -58,21 +53,20 @@ answered o text lines t prints e = subst (λ (r : Status). ProvePrints o text r 
 provable : (o : Options) (text lines : Bytes) (t : Status) → ProvePrints o text t lines → t ≡ Answered → IsProvable o text
 provable o text lines t prints e = let a = answered o text lines t prints e in (a.script, a.boxes, a.shown, a.proved)
 
--- what `write_cert` asks for
-pub proved_over : (s : View) (u : World) (t : Subject) (plan : PlanParts) (a : Asking) → AreAllowed a → HasUniverse s u → HasRoom s u → HasSlots u u.goals → IsSubjectOf s t → plan ≡ plan_of s a.depth
-    → (lines : List Line) → IsProved s (options_from a) lines → IsProvedOver u t plan a.rounds s (options_from a) lines
-proved_over s u t plan a allowed universe room slots subject e lines proved =
-    record { universe = universe; room = room; slots = slots; subject = subject; plan_is = e; rounds_are = refl; proved = proved; range = (allowed.rounds, allowed.boxes.1) }
+-- what `write_cert` says, of these options
+module _ (s : View) (a : Asking) (allowed : AreAllowed a) (P : List Line → Type 0) where
+  of_options : OfProved s a.rounds a.depth P → (lines : List Line) → IsProved s (options_from a) lines → P lines
+  of_options so lines p = so a.boxes lines allowed.boxes.1 p
 
--- what it says, of this script
-module _ (s : View) (u : World) (t : Subject) (plan : PlanParts) (a : Asking) (over : (lines : List Line) → IsProved s (options_from a) lines → IsProvedOver u t plan a.rounds s (options_from a) lines) (old new : Option Bytes) where
-  pub ok_over : {T E : Type 0} (r : Result T E) → OnOk r (OfProved u t plan a.rounds (λ v lines. HoldsCertificate v lines old new)) → OnOk r ((lines : List Line) → IsProved s (options_from a) lines → HoldsCertificate s lines old new)
-  ok_over (Ok x) so = λ lines p. so s (options_from a) lines (over lines p)
-  ok_over (Err e) so = tt
+  pub ok_options : {T E : Type 0} (r : Result T E) → OnOk r (OfProved s a.rounds a.depth P)
+      → OnOk r ((lines : List Line) → IsProved s (options_from a) lines → P lines)
+  ok_options (Ok x) so = of_options so
+  ok_options (Err e) so = tt
 
-  pub err_over : {T E : Type 0} (r : Result T E) → OnErr r (OfProved u t plan a.rounds (λ v lines. HoldsFront v lines old new)) → OnErr r ((lines : List Line) → IsProved s (options_from a) lines → HoldsFront s lines old new)
-  err_over (Ok x) so = tt
-  err_over (Err e) so = λ lines p. so s (options_from a) lines (over lines p)
+  pub err_options : {T E : Type 0} (r : Result T E) → OnErr r (OfProved s a.rounds a.depth P)
+      → OnErr r ((lines : List Line) → IsProved s (options_from a) lines → P lines)
+  err_options (Ok x) so = tt
+  err_options (Err e) so = of_options so
 
 module _ (once : SpellsOnce) (o : Options) (s : View) (spelled : Spells s.text s) where
   -- what is answered with lines is proved
@@ -171,7 +165,7 @@ no_fault o text lines t result R prints either f = not_put t result R (λ e. sub
 
 -- ---- behind the reading of the text
 
-module _ (o : Options) (text : Bytes) (before middle after : Faults) (old new : Option Bytes) where
+module _ (before middle after : Faults) (old new : Option Bytes) where
   -- no count falls
   holds_from : before.reads ≤ middle.reads → before.writes ≤ middle.writes → (s : View) (shown : List Line) (result : Status) → HoldsAfter result middle after s shown old new → HoldsAfter result before after s shown old new
   holds_from reads writes s shown WriteFault h =
@@ -185,29 +179,68 @@ module _ (o : Options) (text : Bytes) (before middle after : Faults) (old new : 
   holds_from reads writes s shown ReadFault h = h
   holds_from reads writes s shown OutOfMemory h = h
 
-  provable_told : (read : Bytes) → IsText (Some text) read → IsProvable o read → IsProvable o text
-  provable_told read is q =
-      let t = told_text (λ (w : Bytes). IsProvable o w) (λ t w a b q. absurd (no_script w q.0 b q.3.spelled)) (Some text) read is q in
-      subst (λ (w : Bytes). IsProvable o w) t.1 t.2
-
-  -- what is so of the text that was read is so of the told one
-  pub certified_told : (known : Option Bytes) (read : Bytes) (result : Status) → known ≡ Some text → IsText known read → before.reads ≤ middle.reads → before.writes ≤ middle.writes
-      → IsCertified o read middle after result old new → IsCertified o text before after result old new
-  certified_told known read result e is reads writes c =
-      let front : IsText (Some text) read = subst (λ (k : Option Bytes). IsText k read) e is in
-      record {
-        proved = λ s boxes shown p. holds_from reads writes s shown result (c.proved s boxes shown (subst (λ (w : Bytes). IsProvedText o w s boxes shown) (read_whole text read s p.spelled front) p));
-        spared = λ none. c.spared (λ q. none (provable_told read front q));
-      }
+  certified_from : (o : Options) (text : Bytes) (result : Status) → before.reads ≤ middle.reads → before.writes ≤ middle.writes
+      → IsCertified o text middle after result old new → IsCertified o text before after result old new
+  certified_from o text result reads writes c =
+      record { proved = λ s boxes shown p. holds_from reads writes s shown result (c.proved s boxes shown p); spared = c.spared }
 
 -- the folder told the same of the file when the text was read
-pub certified_read : (o p : Options) (text read : Bytes) (before middle after : Faults) (told_old told_middle told_new : Told) (known : Option Bytes) (given name : Bytes) (result : Status)
-    → p ≡ o → given ≡ name → told_middle given ≡ told_old given → known ≡ Some text → IsText known read → before.reads ≤ middle.reads → before.writes ≤ middle.writes
-    → IsCertified p read middle after result (told_middle given) (told_new given) → IsCertified o text before after result (told_old name) (told_new name)
-certified_read o p text read before middle after told_old told_middle told_new known given name result same_options same kept e is reads writes c =
-    let here : IsCertified o read middle after result (told_middle given) (told_new given) = subst (λ (x : Options). IsCertified x read middle after result (told_middle given) (told_new given)) same_options c in
-    let there : IsCertified o read middle after result (told_old given) (told_new given) = subst (λ (x : Option Bytes). IsCertified o read middle after result x (told_new given)) kept here in
-    subst (λ (n : Bytes). IsCertified o text before after result (told_old n) (told_new n)) same (certified_told o text before middle after (told_old given) (told_new given) known read result e is reads writes there)
+pub certified_read : (o p : Options) (text : Bytes) (before middle after : Faults) (told_old told_middle told_new : Told) (given name : Bytes) (result : Status)
+    → p ≡ o → given ≡ name → told_middle given ≡ told_old given → before.reads ≤ middle.reads → before.writes ≤ middle.writes
+    → IsCertified p text middle after result (told_middle given) (told_new given) → IsCertified o text before after result (told_old name) (told_new name)
+certified_read o p text before middle after told_old told_middle told_new given name result same_options same kept reads writes c =
+    let here : IsCertified o text middle after result (told_middle given) (told_new given) = subst (λ (x : Options). IsCertified x text middle after result (told_middle given) (told_new given)) same_options c in
+    let there : IsCertified o text middle after result (told_old given) (told_new given) = subst (λ (x : Option Bytes). IsCertified o text middle after result x (told_new given)) kept here in
+    subst (λ (n : Bytes). IsCertified o text before after result (told_old n) (told_new n)) same (certified_from before middle after (told_old given) (told_new given) o text result reads writes there)
+
+-- a text of which none is told
+some_text : (known : Option Bytes) → (text : Bytes) × IsTold known text
+some_text None = ([], tt)
+some_text (Some all) = (all, refl)
+
+module _ (a : Asked) (name : Bytes) (outside : Outside) (told_new : Told) (before after : Faults) (taken_old taken_new : Option Bytes) (result : Status) where
+  -- what a text has
+  Has : Bytes → Type 0
+  Has text = EndsAs (TextPrints a outside text) taken_old taken_new result × IsCertified (options_of a) text before after result (outside.told name) (told_new name)
+
+  prints_long : (t text : Bytes) → 2 ^ 20 < length t → 2 ^ 20 < length text → (s : Status) (lines : Bytes) → TextPrints a outside text s lines → TextPrints a outside t s lines
+  prints_long t text long more s lines (inl p) = inl (both_long (options_of a) t text long more s lines p)
+  prints_long t text long more s lines (inr fault) = inr fault
+
+  -- all texts that are too long have the same
+  has_long : (t text : Bytes) → 2 ^ 20 < length t → 2 ^ 20 < length text → Has text → Has t
+  unfolding Has
+  has_long t text long more (ends, c) = (
+    ends_more (TextPrints a outside text) (TextPrints a outside t) (prints_long t text long more) taken_old taken_new result ends,
+    record {
+      proved = λ s boxes shown p. absurd (no_script t s long p.spelled);
+      spared = λ none. c.spared (λ q. absurd (no_script text q.0 more q.3.spelled));
+    },
+  )
+
+  -- what is so of the text that was read is so of the told one
+  pub run_read : (read : Bytes) → IsText (outside.told a.script) read → EndsAs (TextPrints a outside read) taken_old taken_new result
+      → IsCertified (options_of a) read before after result (outside.told name) (told_new name) → IsCertifiedRun a name outside told_new before after taken_old taken_new result
+  unfolding Has
+  run_read read is ends c =
+      let t = told_text Has has_long (outside.told a.script) read is (ends, c) in
+      record { text = t.0; told = t.1; ends = t.2.0; certified = t.2.1 }
+
+  stop_text : (text : Bytes) (why : ReadStop) → (why ≡ stop.Fault → Rose outside.faults_before outside.faults_after) → (s : Status) (lines : Bytes) → StopPrints a.script why s lines → TextPrints a outside text s lines
+  stop_text text stop.Fault rose s lines e = inr (e.0, rose refl, e.1)
+  stop_text text stop.OutOfMemory rose s lines none = absurd none
+
+  -- the text wasn't read
+  pub run_stopped : (why : ReadStop) → (why ≡ stop.Fault → Rose outside.faults_before outside.faults_after) → EndsAs (StopPrints a.script why) taken_old taken_new result
+      → ((text : Bytes) → IsCertified (options_of a) text before after result (outside.told name) (told_new name)) → IsCertifiedRun a name outside told_new before after taken_old taken_new result
+  run_stopped why rose ends c =
+      let t = some_text (outside.told a.script) in
+      record {
+        text = t.0;
+        told = t.1;
+        ends = ends_more (StopPrints a.script why) (TextPrints a outside t.0) (stop_text t.0 why rose) taken_old taken_new result ends;
+        certified = c t.0;
+      }
 
 -- ---- in which order
 
@@ -235,20 +268,40 @@ behind_read o p text read told_old told_middle told_new known given name taken_o
     subst (λ (n : Bytes). IsPutBehind o text taken_old taken_new (told_old n) (told_new n)) same
     (λ s boxes shown p. there s boxes shown (subst (λ (w : Bytes). IsProvedText o w s boxes shown) (read_whole text read s p.spelled front) p))
 
--- where memory ran out while a file was read, nothing is put; otherwise a read failed
-pub stop_keeps : (name : Bytes) (why : ReadStop) (before after : Option Bytes) (result : Status) → why ≢ stop.Fault → EndsAs (StopPrints name why) before after result → Keeps before after
-stop_keeps name stop.Fault before after result failed ends = absurd (failed refl)
-stop_keeps name stop.OutOfMemory before after WriteFault failed (inl kept) = kept
-stop_keeps name stop.OutOfMemory before after WriteFault failed (inr (s, lines, p, took)) = absurd p
-stop_keeps name stop.OutOfMemory before after OutOfMemory failed (inl kept) = kept
-stop_keeps name stop.OutOfMemory before after OutOfMemory failed (inr (s, lines, p, took)) = absurd p
-stop_keeps name stop.OutOfMemory before after Answered failed (lines, p, took) = absurd p
-stop_keeps name stop.OutOfMemory before after Unproved failed (lines, p, took) = absurd p
-stop_keeps name stop.OutOfMemory before after Usage failed (lines, p, took) = absurd p
-stop_keeps name stop.OutOfMemory before after status.Script failed (lines, p, took) = absurd p
-stop_keeps name stop.OutOfMemory before after Limit failed (lines, p, took) = absurd p
-stop_keeps name stop.OutOfMemory before after Certificate failed (lines, p, took) = absurd p
-stop_keeps name stop.OutOfMemory before after ReadFault failed (lines, p, took) = absurd p
+-- Where a file wasn't read, the line of its fault is put, or a front of it. Where memory ran out nothing is.
+line_front : (name : Bytes) (before after : Option Bytes) (s : Status) (lines : Bytes) → IsLine ReadFault (read_fault_line name) s lines → Appends before after lines → AppendsFront before after (read_fault_line name)
+line_front name before after s lines e took = subst (λ (l : Bytes). AppendsFront before after l) e.1 (lines, ([], sym (append-nil lines)), took)
+
+stop_puts : (name : Bytes) (why : ReadStop) (before after : Option Bytes) (result : Status) → EndsAs (StopPrints name why) before after result
+    → Keeps before after ⊎ ((why ≡ stop.Fault) × AppendsFront before after (read_fault_line name))
+stop_puts name why before after WriteFault (inl kept) = inl kept
+stop_puts name why before after OutOfMemory (inl kept) = inl kept
+stop_puts name stop.Fault before after WriteFault (inr (s, lines, e, front)) = inr (refl, subst (λ (l : Bytes). AppendsFront before after l) e.1 front)
+stop_puts name stop.Fault before after OutOfMemory (inr (s, lines, e, front)) = inr (refl, subst (λ (l : Bytes). AppendsFront before after l) e.1 front)
+stop_puts name stop.Fault before after Answered (lines, e, took) = inr (refl, line_front name before after Answered lines e took)
+stop_puts name stop.Fault before after Unproved (lines, e, took) = inr (refl, line_front name before after Unproved lines e took)
+stop_puts name stop.Fault before after Usage (lines, e, took) = inr (refl, line_front name before after Usage lines e took)
+stop_puts name stop.Fault before after status.Script (lines, e, took) = inr (refl, line_front name before after status.Script lines e took)
+stop_puts name stop.Fault before after Limit (lines, e, took) = inr (refl, line_front name before after Limit lines e took)
+stop_puts name stop.Fault before after Certificate (lines, e, took) = inr (refl, line_front name before after Certificate lines e took)
+stop_puts name stop.Fault before after ReadFault (lines, e, took) = inr (refl, line_front name before after ReadFault lines e took)
+stop_puts name stop.OutOfMemory before after WriteFault (inr (s, lines, p, took)) = absurd p
+stop_puts name stop.OutOfMemory before after OutOfMemory (inr (s, lines, p, took)) = absurd p
+stop_puts name stop.OutOfMemory before after Answered (lines, p, took) = absurd p
+stop_puts name stop.OutOfMemory before after Unproved (lines, p, took) = absurd p
+stop_puts name stop.OutOfMemory before after Usage (lines, p, took) = absurd p
+stop_puts name stop.OutOfMemory before after status.Script (lines, p, took) = absurd p
+stop_puts name stop.OutOfMemory before after Limit (lines, p, took) = absurd p
+stop_puts name stop.OutOfMemory before after Certificate (lines, p, took) = absurd p
+stop_puts name stop.OutOfMemory before after ReadFault (lines, p, took) = absurd p
+
+pub behind_stopped : (o : Options) (text script : Bytes) (why : ReadStop) (before after : Faults) (taken_old taken_new old new : Option Bytes) (result : Status) → (why ≡ stop.Fault → Rose before.reads after.reads)
+    → EndsAs (StopPrints script why) taken_old taken_new result → IsUnread script before after taken_old taken_new ⊎ IsPutBehind o text taken_old taken_new old new
+behind_stopped o text script why before after taken_old taken_new old new result rose ends = by (stop_puts script why taken_old taken_new result ends)
+  where
+    by : Keeps taken_old taken_new ⊎ ((why ≡ stop.Fault) × AppendsFront taken_old taken_new (read_fault_line script)) → IsUnread script before after taken_old taken_new ⊎ IsPutBehind o text taken_old taken_new old new
+    by (inl kept) = inr (behind_none o text taken_old taken_new old new kept)
+    by (inr (e, front)) = inl (rose e, front)
 
 -- what failed later failed, and so it was to be written
 pub either_later : (R N : Type 0) (before middle now : ℕ) → N → before ≤ middle → R ⊎ Rose middle now → R ⊎ (N × Rose before now)
@@ -286,52 +339,58 @@ name_is_none cert name e f = let h : None ≡ Some name = sym (ap asked_name e) 
 
 -- ---- by the words
 
-module _ (words : List Bytes) (told_old told_new : Told) (before after : Faults) where
+module _ (words : List Bytes) (outside : Outside) (told_new : Told) (before after : Faults) (taken_old taken_new : Option Bytes) where
   -- they ask for a proof
   pub certifies_prove : (result : Status) (a : Asked) → reading words ≡ Some (Prove a)
-      → ((name text : Bytes) → a.cert ≡ Some name → told_old a.script ≡ Some text → IsCertified (options_of a) text before after result (told_old name) (told_new name))
-      → Certifies words told_old told_new before after result
-  certifies_prove result a asked so b name text e cert script =
+      → ((name : Bytes) → a.cert ≡ Some name → IsCertifiedRun a name outside told_new before after taken_old taken_new result)
+      → Certifies words outside told_new before after taken_old taken_new result
+  certifies_prove result a asked so b name e cert =
       let h : Some (Prove a) ≡ Some (Prove b) = sym asked ∙ e in
       let one : a ≡ b = cc h in
-      subst (λ (x : Asked). IsCertified (options_of x) text before after result (told_old name) (told_new name)) one
-      (so name text (ap (λ (x : Asked). x.cert) one ∙ cert) (ap (λ (x : Asked). told_old x.script) one ∙ script))
+      subst (λ (x : Asked). IsCertifiedRun x name outside told_new before after taken_old taken_new result) one (so name (ap (λ (x : Asked). x.cert) one ∙ cert))
 
   -- they ask for another command
-  pub certifies_other : (result : Status) (c : Command) → ((a : Asked) → c ≢ Prove a) → reading words ≡ Some c → Certifies words told_old told_new before after result
-  certifies_other result c differs asked a name text e cert script = let h : Some c ≡ Some (Prove a) = sym asked ∙ e in let one : c ≡ Prove a = cc h in absurd (differs a one)
+  pub certifies_other : (result : Status) (c : Command) → ((a : Asked) → c ≢ Prove a) → reading words ≡ Some c → Certifies words outside told_new before after taken_old taken_new result
+  certifies_other result c differs asked a name e cert = let h : Some c ≡ Some (Prove a) = sym asked ∙ e in let one : c ≡ Prove a = cc h in absurd (differs a one)
 
   -- they ask for nothing
-  pub certifies_none : (result : Status) → reading words ≡ None → Certifies words told_old told_new before after result
-  certifies_none result none a name text e cert script = let h : None ≡ Some (Prove a) = sym none ∙ e in cc h
+  pub certifies_none : (result : Status) → reading words ≡ None → Certifies words outside told_new before after taken_old taken_new result
+  certifies_none result none a name e cert = let h : None ≡ Some (Prove a) = sym none ∙ e in cc h
 
-  -- it isn't known what they ask for
-  pub certifies_starved : ((name : Bytes) → told_new name ≡ told_old name) → Certifies words told_old told_new before after OutOfMemory
-  certifies_starved kept a name text e cert script =
-      record { proved = λ s boxes shown p. front_kept s shown (told_old name) (told_new name) (kept name); spared = λ _. kept name }
+  -- it isn't known what they ask for, and nothing is put
+  pub certifies_starved : ((name : Bytes) → told_new name ≡ outside.told name) → Keeps taken_old taken_new → Certifies words outside told_new before after taken_old taken_new OutOfMemory
+  certifies_starved kept taken a name e cert =
+      let t = some_text (outside.told a.script) in
+      record {
+        text = t.0;
+        told = t.1;
+        ends = inl taken;
+        certified = record { proved = λ s boxes shown p. front_kept s shown (outside.told name) (told_new name) (kept name); spared = λ _. kept name };
+      }
 
 module _ (words : List Bytes) (told_old told_new : Told) (before after : Faults) (taken_old taken_new : Option Bytes) where
   -- they ask for a proof
   pub behind_prove : (a : Asked) → reading words ≡ Some (Prove a)
-      → ((name text : Bytes) → a.cert ≡ Some name → told_old a.script ≡ Some text → ¬ Rose before.reads after.reads → IsPutBehind (options_of a) text taken_old taken_new (told_old name) (told_new name))
+      → ((name text : Bytes) → a.cert ≡ Some name → told_old a.script ≡ Some text
+      → IsUnread a.script before after taken_old taken_new ⊎ IsPutBehind (options_of a) text taken_old taken_new (told_old name) (told_new name))
       → PutsBehind words told_old told_new before after taken_old taken_new
-  behind_prove a asked so b name text e cert script read =
+  behind_prove a asked so b name text e cert script =
       let h : Some (Prove a) ≡ Some (Prove b) = sym asked ∙ e in
       let one : a ≡ b = cc h in
-      subst (λ (x : Asked). IsPutBehind (options_of x) text taken_old taken_new (told_old name) (told_new name)) one
-      (so name text (ap (λ (x : Asked). x.cert) one ∙ cert) (ap (λ (x : Asked). told_old x.script) one ∙ script) read)
+      subst (λ (x : Asked). IsUnread x.script before after taken_old taken_new ⊎ IsPutBehind (options_of x) text taken_old taken_new (told_old name) (told_new name)) one
+      (so name text (ap (λ (x : Asked). x.cert) one ∙ cert) (ap (λ (x : Asked). told_old x.script) one ∙ script))
 
   -- they ask for another command
   pub behind_other : (c : Command) → ((a : Asked) → c ≢ Prove a) → reading words ≡ Some c → PutsBehind words told_old told_new before after taken_old taken_new
-  behind_other c differs asked a name text e cert script read = let h : Some c ≡ Some (Prove a) = sym asked ∙ e in let one : c ≡ Prove a = cc h in absurd (differs a one)
+  behind_other c differs asked a name text e cert script = let h : Some c ≡ Some (Prove a) = sym asked ∙ e in let one : c ≡ Prove a = cc h in absurd (differs a one)
 
   -- they ask for nothing
   pub behind_usage : reading words ≡ None → PutsBehind words told_old told_new before after taken_old taken_new
-  behind_usage none a name text e cert script read = let h : None ≡ Some (Prove a) = sym none ∙ e in cc h
+  behind_usage none a name text e cert script = let h : None ≡ Some (Prove a) = sym none ∙ e in cc h
 
   -- it isn't known what they ask for, and nothing is put
   pub behind_starved : Keeps taken_old taken_new → PutsBehind words told_old told_new before after taken_old taken_new
-  behind_starved kept a name text e cert script read = behind_none (options_of a) text taken_old taken_new (told_old name) (told_new name) kept
+  behind_starved kept a name text e cert script = inr (behind_none (options_of a) text taken_old taken_new (told_old name) (told_new name) kept)
 
 -- the file that a proof writes is that of its certificate
 pub names_cert : (words : List Bytes) (a : Asked) (name : Bytes) → reading words ≡ Some (Prove a) → is_written words name ≡ false → is_name a.cert name ≡ false

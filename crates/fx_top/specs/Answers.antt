@@ -1,13 +1,16 @@
 -- What is answered to a text: a status and lines.
-use Rattle.std.specs.Prelude.{◌≡◌, ◌≢◌, ◌≤◌, ◌⊎◌, ℕ, List, [], ◌∷◌, length}
+use Rattle.std.specs.Prelude.{◌≡◌, ◌≢◌, ◌≤◌, ◌⊎◌, ℕ, List, [], ◌∷◌, length, Some, slice_get}
 use Rattle.fx_model.specs.Expression.{Assignment}
 use Rattle.facts.specs.declared.hint.HintMark.{HintMark}
 use Rattle.goals.specs.declared.line.Line.{Line}
 use Rattle.goals.specs.declared.line.Line.TheVariants as line
 use Rattle.script_judge.specs.declared.refusal.Refusal.{Refusal}
+use Rattle.script_claims.specs.declared.claim.Claim.{Claim}
 use Rattle.script_grammar.specs.Spells.{View, Spells, IsRefused}
 use Rattle.script_meets.specs.Meets.{Meets}
 use Rattle.rewrite_hints.specs.Marks.{AreMarks}
+use Rattle.script_grammar.specs.Cases.{cases_of}
+use Rattle.case_trees.specs.declared.outcome.OpenLeaf.{OpenLeaf}
 use Rattle.settler.specs.Answers.{Options, HasTooManyExpressions, HasTooManyBoxes, IsUnproved, IsProvedIn, plan_of}
 use Rattle.settler.specs.Tight.{AreTight}
 use Rattle.settler.specs.Held.{AreHeld}
@@ -38,9 +41,11 @@ pub record AreAllowed (a : Asking) : Type 0 where
 abbrev pub options_from : Asking → Options
 options_from a = record { rounds = a.rounds; depth = a.depth; boxes = a.boxes }
 
--- The text spells a script that is proved over so many boxes, with a line for each goal. The lines are tight: each is the hull over the leaves of the goal's
--- best known facts. They hold: every assignment of fractions that meets the script, with bounds exactly as they are written, gives each
--- goal's expression a value in its interval and makes the goal true.
+-- The text spells a script that is proved over so many boxes, with a line for each goal. The lines
+-- are tight: each is the hull, over the leaves of the trees of all its cases, of the goal's best
+-- known facts. They hold: every assignment of fractions that meets the script, with bounds exactly
+-- as they are written, gives each goal's expression a value in its interval and makes the goal
+-- true.
 pub record IsProvedText (o : Options) (text : Bytes) (script : View) (boxes : ℕ) (shown : List Line) : Type 0 where
   pub spelled : Spells text script
   pub proved : IsProvedIn script o boxes shown
@@ -62,8 +67,12 @@ pub record IsAnswered (o : Options) (text lines : Bytes) : Type 0 where
 -- `prove` answers a text with this status and these lines
 abbrev pub ProvePrints : Options → Bytes → Status → Bytes → Type 0
 ProvePrints o text status.Answered lines = IsAnswered o text lines
--- a leaf is open: the first is named, with its least goal that isn't settled
-ProvePrints o text status.Unproved lines = (s : View) × (path : List ℕ) × (goal : ℕ) × Spells text s × IsUnproved s o path goal × (lines ≡ unproved_text s (plan_of s o.depth) path goal)
+-- a leaf is open: the first of the first case that has one is named, with its least goal that isn't
+-- settled
+ProvePrints o text status.Unproved lines = (s : View) × (leaf : OpenLeaf) × (claims : List Claim)
+    × Spells text s × IsUnproved s o leaf × (slice_get (cases_of s) leaf.case ≡ Some claims)
+    × (lines ≡ unproved_text s
+    (plan_of s claims o.depth) (length (cases_of s)) leaf.case leaf.path leaf.goal)
 -- there are too many expressions, or too many boxes
 ProvePrints o text status.Limit lines = (s : View) × Spells text s × ((HasTooManyExpressions s × (lines ≡ expressions_text)) ⊎ (HasTooManyBoxes s o × (lines ≡ boxes_text o.boxes)))
 -- the text spells no script, but is refused

@@ -5,14 +5,15 @@ use Rattle.goals.specs.declared.line.Line.{Line}
 use Rattle.fx_edge.specs.Outside.{Rose}
 use Rattle.script_grammar.specs.Spells.{View}
 use Rattle.settler.specs.Answers.{Options}
-use Rattle.report.specs.Lines.{Bytes}
+use Rattle.report.specs.Lines.{Bytes, read_fault_line}
+use Rattle.cert_writer.specs.Files.{AppendsFront}
 use Rattle.cert_writer.specs.Written.{HoldsCertificate, HoldsFront}
 use Rattle.command_line.specs.Check.{AskedCheck}
 use Rattle.command_line.specs.Reading.{Asked}
-use Rattle.fx_top.specs.Answers.{IsProvedText, options_of}
+use Rattle.fx_top.specs.Answers.{IsProvedText, ProvePrints, options_of}
 use Rattle.fx_top.specs.Command.{reading}
 use Rattle.fx_top.specs.Command.Command.{Prove, Check}
-use Rattle.fx_top.specs.Run.{Told, Outside, Prints, EndsAs, Comes, is_written}
+use Rattle.fx_top.specs.Run.{Told, Outside, IsTold, Prints, EndsAs, Comes, is_written}
 use Rattle.fx_top.specs.declared.run.Status.{Status}
 use Rattle.fx_top.specs.declared.run.Status.TheVariants as status
 
@@ -57,11 +58,30 @@ pub record IsCertified (o : Options) (text : Bytes) (before after : Faults) (res
   -- where the text isn't proved, the file is what it was
   pub spared : ¬ IsProvable o text → new ≡ old
 
--- The words ask for a script to be proved, whose text the folder tells, and name a file for the certificate.
-abbrev pub Certifies : List Bytes → Told → Told → Faults → Faults → Status → Type 0
-Certifies words told_old told_new before after result =
-    (a : Asked) (name text : Bytes) → reading words ≡ Some (Prove a) → a.cert ≡ Some name → told_old a.script ≡ Some text →
-    IsCertified (options_of a) text before after result (told_old name) (told_new name)
+-- the status and the lines of a text, or of a read fault of its file
+abbrev pub TextPrints : Asked → Outside → Bytes → Status → Bytes → Type 0
+TextPrints a outside text s lines =
+    ProvePrints (options_of a) text s lines
+    ⊎ ((s ≡ status.ReadFault) × Rose outside.faults_before outside.faults_after
+    × (lines ≡ read_fault_line a.script))
+
+-- A certificate under this name is asked for, and a run ended so. One text has both the lines that
+-- the sink took and what the file holds: the script's, where the folder tells it.
+pub record IsCertifiedRun (a : Asked)
+    (name : Bytes) (outside : Outside) (told_new : Told) (before after : Faults)
+    (taken_old taken_new : Option Bytes) (result : Status) : Type 0 where
+  pub text : Bytes
+  pub told : IsTold (outside.told a.script) text
+  pub ends : EndsAs (TextPrints a outside text) taken_old taken_new result
+  pub certified : IsCertified (options_of a) text before after result
+      (outside.told name) (told_new name)
+
+-- So it is where the words ask for a script to be proved, and name a file for the certificate.
+abbrev pub Certifies : List Bytes
+    → Outside → Told → Faults → Faults → Option Bytes → Option Bytes → Status → Type 0
+Certifies words outside told_new before after taken_old taken_new result =
+    (a : Asked) (name : Bytes) → reading words ≡ Some (Prove a) → a.cert ≡ Some name →
+    IsCertifiedRun a name outside told_new before after taken_old taken_new result
 
 -- ---- what is put behind it
 
@@ -70,11 +90,18 @@ abbrev pub IsPutBehind : Options → Bytes → Option Bytes → Option Bytes →
 IsPutBehind o text taken_old taken_new old new =
     WhereProved o text (λ s shown. Keeps taken_old taken_new ⊎ HoldsCertificate s shown old new)
 
--- So it is however the run ended, if no read failed, where the words ask for a certificate of a script whose text the folder tells.
+-- Reads failed, and the sink took the line of the fault of this file, or a front of it.
+abbrev pub IsUnread : Bytes → Faults → Faults → Option Bytes → Option Bytes → Type 0
+IsUnread script before after taken_old taken_new =
+    Rose before.reads after.reads × AppendsFront taken_old taken_new (read_fault_line script)
+
+-- One of the two is so however the run ended, where the words ask for a certificate of a script
+-- whose text the folder tells.
 abbrev pub PutsBehind : List Bytes → Told → Told → Faults → Faults → Option Bytes → Option Bytes → Type 0
 PutsBehind words told_old told_new before after taken_old taken_new =
     (a : Asked) (name text : Bytes) → reading words ≡ Some (Prove a) → a.cert ≡ Some name → told_old a.script ≡ Some text →
-    ¬ Rose before.reads after.reads → IsPutBehind (options_of a) text taken_old taken_new (told_old name) (told_new name)
+    IsUnread a.script before after taken_old taken_new
+    ⊎ IsPutBehind (options_of a) text taken_old taken_new (told_old name) (told_new name)
 
 -- ---- what `check` answers to it
 
@@ -86,13 +113,15 @@ pub record HasWritten (words : List Bytes) (outside : Outside) (told_new : Told)
   pub old : Bytes
   pub before : Faults
   pub after : Faults
+  pub taken_old : Option Bytes
+  pub taken_new : Option Bytes
   pub reads : reading words ≡ Some (Prove asked)
   pub names : asked.cert ≡ Some name
   pub script : outside.told asked.script ≡ Some text
   pub held : outside.told name ≡ Some old
   pub holds : told_new name ≡ Some bytes
   pub prints : Prints words outside status.Answered lines
-  pub certifies : Certifies words outside.told told_new before after status.Answered
+  pub certifies : Certifies words outside told_new before after taken_old taken_new status.Answered
 
 -- The words ask for a check of these files.
 pub record AskForCheck (words : List Bytes) (told : Told) (text bytes : Bytes) : Type 0 where

@@ -1,5 +1,5 @@
 // A script's certificate, written behind its answer.
-ghost use Rattle.std.specs.Prelude.{◌≡◌, ◌≢◌, ℕ, List, IfOk, OnOk, OnErr};
+ghost use Rattle.std.specs.Prelude.{◌≡◌, ◌≢◌, [], ℕ, List, IfOk, OnOk, OnErr};
 ghost use Rattle.goals.specs.declared.line.Line.{Line};
 ghost use Rattle.universe.specs.Universes.{IsUniverse, IsTooLarge};
 ghost use Rattle.settler.specs.Answers.{IsProved};
@@ -12,8 +12,6 @@ use crate::answer::lines_for;
 use crate::found::prove_script;
 use crate::options::Options;
 use crate::run::Status;
-use answer_certificates::script_has_room;
-use box_tree::Plan;
 use cert_writer::{WriteStop, write_cert};
 use fx_edge::{Folder, Gate};
 use report::refusals::refusal_line;
@@ -29,7 +27,7 @@ use universe::{Universe, UniverseFault, build, marks_are_one};
 // The universe of a script that hasn't too many expressions.
 fn universe_of(alloc: Global, script: &Script<'_>) -> Result<Universe, AllocError>
     requires { ¬ IsTooLarge script.now }
-    ensures { IfOk result (IsUniverse script.now) }
+    ensures { IfOk result (IsUniverse script.now []) }
 {
     match build(alloc, script) {
         Ok(universe) => Ok(universe),
@@ -57,17 +55,15 @@ fn write_proved<F: Folder>(
     ensures cause { HasWriteCause (F.write_faults folder.old) (F.write_faults folder.new) result }
     ensures quiet { F.read_faults folder.new ≡ F.read_faults folder.old }
 {
-    script.laws();
-    let universe = universe_of(alloc, script)?;
-    script_has_room(script, &universe);
-    let plan = Plan::new(alloc, script.hypotheses(), script.hints(), options.depth)?;
+    let mut universe = universe_of(alloc, script)?;
     let subject = subject_of(alloc, script)?;
     write_cert(
         alloc,
-        &universe,
+        script,
+        &mut universe,
         &subject,
-        &plan,
         options.rounds,
+        options.depth,
         folder,
         name,
     )

@@ -1,18 +1,23 @@
 // What is found of a script.
-ghost use Rattle.std.specs.Prelude.{IfOk};
+ghost use Rattle.std.specs.Prelude.{◌≡◌, ◌<◌, ◌≤◌, [], List, Some, IfOk, length, slice_get};
+ghost use Rattle.script_claims.specs.declared.claim.Claim.{Claim};
+ghost use Rattle.script_grammar.specs.Cases.{cases_of};
 ghost use Rattle.universe.specs.Universes.{IsUniverse, IsTooLarge};
+ghost use Rattle.settler.specs.Answers.{plan_of};
+ghost use Rattle.report.specs.Unproved as spec;
 ghost use Rattle.fx_top.specs.Answers.{AreAllowed, IsFound, options_from};
 
 use crate::options::Options;
 use crate::run::Status;
-use bisect::{Outcome, lines_of};
+use bisect::lines_of;
 use box_tree::Plan;
+use case_trees::{CaseOutcome, OpenLeaf};
 use fx_edge::{Gate, Items};
 use goals::Line;
 use report::runs::{boxes_text, expressions_text};
 use report::unproved::unproved_text;
 use script_grammar::{Script, script_or_refusal};
-use settler::{answer, plans_fit, proved_answers_hold, proved_lines_are_tight};
+use settler::{answer, open_leaves_are_first, proved_lines_are_tight};
 use std::alloc::{AllocError, Global};
 use std::sync::Wait;
 use std::thread::Threads;
@@ -27,43 +32,66 @@ pub enum Found {
     Stopped(Status, Vec<u8>),
 }
 
-// What is found of a script with this universe, by the tree of its boxes.
-fn prove_tree<G: Gate, R: Threads + Wait + Sync>(
+// The line of an open leaf, whose case's boxes are halved so often at most.
+fn open_line(
+    alloc: Global,
+    script: &Script<'_>,
+    depth: u8,
+    leaf: OpenLeaf,
+) -> Result<Vec<u8>, AllocError>
+    requires case { leaf.case < length (cases_of script.now) }
+    requires depth { depth ≤ 32 }
+    ensures { IfOk result (λ line.
+        (claims : List Claim) × (slice_get (cases_of script.now) leaf.case ≡ Some claims)
+        × (line.items ≡ spec.unproved_text script.now (plan_of script.now claims depth)
+        (length (cases_of script.now)) leaf.case leaf.path leaf.goal)) }
+{
+    script.laws();
+    let claims = script.case(alloc, usize::from(leaf.case))?;
+    let plan = Plan::new(alloc, &claims, script.hints(), depth)?;
+    let cases = script.case_count();
+    unproved_text(
+        alloc, script, &plan, cases, leaf.case, &leaf.path, leaf.goal,
+    )
+}
+
+// What is found of a script with this universe, by the trees of its cases.
+fn prove_cases<G: Gate, R: Threads + Wait + Sync>(
     rt: &R,
     alloc: Global,
     script: &Script<'_>,
-    universe: &Universe,
+    universe: &mut Universe,
     options: Options,
     gate: &G,
 ) -> Result<Found, AllocError>
-    requires universe { IsUniverse script.now universe.now }
+    requires universe { IsUniverse script.now [] universe.old }
     requires few { ¬ IsTooLarge script.now }
     requires allowed { AreAllowed options }
     ensures { IfOk result (IsFound (options_from options) script.now) }
 {
     script.laws();
     script_or_refusal();
-    universe.laws();
-    plans_fit(universe);
-    let plan = Plan::new(alloc, script.hypotheses(), script.hints(), options.depth)?;
-    proved_answers_hold(&plan);
     proved_lines_are_tight();
+    open_leaves_are_first();
     match answer(
         rt,
         alloc,
+        script,
         universe,
         gate,
-        &plan,
         options.rounds,
+        options.depth,
         options.workers,
         options.boxes,
     )? {
-        Outcome::BoxLimit => Ok(Found::Stopped(Status::Limit, boxes_text(alloc, options.boxes)?)),
-        Outcome::Unproved { path, goal, .. } => {
-            let text = unproved_text(alloc, script, &plan, &path, goal)?;
+        CaseOutcome::BoxLimit => {
+            Ok(Found::Stopped(Status::Limit, boxes_text(alloc, options.boxes)?))
+        }
+        CaseOutcome::Unproved { leaf, .. } => {
+            let text = open_line(alloc, script, options.depth, leaf)?;
             Ok(Found::Stopped(Status::Unproved, text))
         }
-        Outcome::Leaves { boxes, leaves } => {
+        CaseOutcome::Leaves { boxes, leaves } => {
             let lines = lines_of(alloc, leaves.as_slice(), script.goals().len())?;
             Ok(Found::Proved(boxes, lines))
         }
@@ -83,7 +111,7 @@ pub fn prove_script<G: Gate, R: Threads + Wait + Sync>(
 {
     script.laws();
     match build(alloc, script) {
-        Ok(universe) => prove_tree(rt, alloc, script, &universe, options, gate),
+        Ok(mut universe) => prove_cases(rt, alloc, script, &mut universe, options, gate),
         Err(UniverseFault::ExprLimit) => Ok(Found::Stopped(
             Status::Limit,
             expressions_text().to_vec(alloc)?,

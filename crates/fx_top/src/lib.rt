@@ -10,4 +10,6 @@ mod outside;
 mod print;
 mod run;
 
-pub use run::{Status, fx_run};
+pub use run::{
+    Status, answer_besides_read_faults_is_defined_once, fx_run, written_certificates_are_answered,
+};

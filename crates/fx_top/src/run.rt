@@ -8,7 +8,7 @@ ghost use Rattle.fx_top.specs.Command.{IsInRange, command_from, reading};
 ghost use Rattle.fx_top.specs.Command.Command.{Prove, Check, Gen};
 ghost use Rattle.fx_top.specs.Checked.{IsAcceptable};
 ghost use Rattle.fx_top.specs.Run.{Outside, Comes, EndsAs, IsComplete, IsExact, IsTelling, Prints, exit_code, is_name, is_written, seen};
-ghost use Rattle.fx_top.specs.Written.{Certifies, IsCertified, IsPutBehind, IsWriteBroken, PutsBehind, WrittenAreAnswered, faults};
+ghost use Rattle.fx_top.specs.Written.{Certifies, IsCertifiedRun, IsPutBehind, IsUnread, IsWriteBroken, PutsBehind, WrittenAreAnswered, faults};
 
 use crate::options::options_of;
 use crate::outside::read_text;
@@ -103,16 +103,20 @@ fn run_prove<F: Folder, O: Sink, G: Gate, R: Threads + Wait + Sync>(
     ensures ends { (words : List (List ℕ)) → reading words ≡ Some (Prove (asked_of request.entry))
         → EndsAs (Prints words (seen (F.told folder.old) (F.read_faults folder.old) (F.read_faults folder.new)))
         (O.taken out.old) (O.taken out.new) result }
-    ensures certificate { (name text : List ℕ) → (asked_of request.entry).cert ≡ Some name
-        → F.told folder.old request.entry.script.now ≡ Some text
-        → IsCertified (options_of (asked_of request.entry)) text
+    ensures certificate { (name : List ℕ) → (asked_of request.entry).cert ≡ Some name
+        → IsCertifiedRun (asked_of request.entry) name
+        (seen (F.told folder.old) (F.read_faults folder.old) (F.read_faults folder.new))
+        (F.told folder.new)
         (faults (F.read_faults folder.old) (F.write_faults folder.old))
-        (faults (F.read_faults folder.new) (F.write_faults folder.new)) result
-        (F.told folder.old name) (F.told folder.new name) }
+        (faults (F.read_faults folder.new) (F.write_faults folder.new))
+        (O.taken out.old) (O.taken out.new) result }
     ensures order { (name text : List ℕ) → (asked_of request.entry).cert ≡ Some name
         → F.told folder.old request.entry.script.now ≡ Some text
-        → ¬ Rose (F.read_faults folder.old) (F.read_faults folder.new)
-        → IsPutBehind (options_of (asked_of request.entry)) text (O.taken out.old) (O.taken out.new)
+        → IsUnread request.entry.script.now
+        (faults (F.read_faults folder.old) (F.write_faults folder.old))
+        (faults (F.read_faults folder.new) (F.write_faults folder.new))
+        (O.taken out.old) (O.taken out.new)
+        ⊎ IsPutBehind (options_of (asked_of request.entry)) text (O.taken out.old) (O.taken out.new)
         (F.told folder.old name) (F.told folder.new name) }
     ensures unchanged { result ≢ Status.Answered → result ≢ Status.WriteFault → result ≢ Status.OutOfMemory
         → (name : List ℕ) → F.told folder.new name ≡ F.told folder.old name }
@@ -190,9 +194,12 @@ fn run_words<F: Folder, O: Sink, G: Gate, R: Threads + Wait + Sync>(
         (Prints (map string_bytes words.now) (seen (F.told folder.old) (F.read_faults folder.old) (F.read_faults folder.new)))
         (O.taken out.old) (O.taken out.new) result }
     ensures accepted { IsComplete (map string_bytes words.now) (F.told folder.old) result }
-    ensures certificate { Certifies (map string_bytes words.now) (F.told folder.old) (F.told folder.new)
+    ensures certificate { Certifies (map string_bytes words.now)
+        (seen (F.told folder.old) (F.read_faults folder.old) (F.read_faults folder.new))
+        (F.told folder.new)
         (faults (F.read_faults folder.old) (F.write_faults folder.old))
-        (faults (F.read_faults folder.new) (F.write_faults folder.new)) result }
+        (faults (F.read_faults folder.new) (F.write_faults folder.new))
+        (O.taken out.old) (O.taken out.new) result }
     ensures order { PutsBehind (map string_bytes words.now) (F.told folder.old) (F.told folder.new)
         (faults (F.read_faults folder.old) (F.write_faults folder.old))
         (faults (F.read_faults folder.new) (F.write_faults folder.new)) (O.taken out.old) (O.taken out.new) }
@@ -245,15 +252,21 @@ pub fn fx_run<R: Threads + Wait + Sync, F: Folder, O: Sink, G: Gate>(
     // A certificate that is accepted for the script is answered by its lines, or else a fault of the outside or want of memory.
     ensures accepted { IsComplete (map string_bytes words.now) (F.told folder.old) result }
 
-    // The words ask for a certificate, and the folder tells the script's text. At `Answered` the certificate's file holds one that is
-    // accepted for the script with the answer's lines. After a write fault too, where no read and no write of the folder failed.
-    // After any write fault, and where memory ran out, the file holds a front of such a certificate, or what it held; and what it held,
-    // where the script isn't proved.
-    ensures certificate { Certifies (map string_bytes words.now) (F.told folder.old) (F.told folder.new)
+    // The words ask for a certificate. At `Answered` its file holds one that is accepted for the
+    // script with the answer's lines. After a write fault too, where no read and no write of the
+    // folder failed. After any write fault, and where memory ran out, the file holds a front of
+    // such a certificate, or what it held; and what it held, where the script isn't proved. One
+    // text of the script has both, what the file holds and the lines, also where the folder doesn't
+    // tell it.
+    ensures certificate { Certifies (map string_bytes words.now)
+        (seen (F.told folder.old) (F.read_faults folder.old) (F.read_faults folder.new))
+        (F.told folder.new)
         (faults (F.read_faults folder.old) (F.write_faults folder.old))
-        (faults (F.read_faults folder.new) (F.write_faults folder.new)) result }
+        (faults (F.read_faults folder.new) (F.write_faults folder.new))
+        (O.taken out.old) (O.taken out.new) result }
 
-    // However it ends, lines of a proved script are put only behind its whole certificate, unless a read failed.
+    // However it ends, lines of a proved script are put only behind its whole certificate; where
+    // reads failed, the sink may have the line of the fault, or a front of it.
     ensures order { PutsBehind (map string_bytes words.now) (F.told folder.old) (F.told folder.new)
         (faults (F.read_faults folder.old) (F.write_faults folder.old))
         (faults (F.read_faults folder.new) (F.write_faults folder.new)) (O.taken out.old) (O.taken out.new) }

@@ -48,8 +48,10 @@ returns-in-Err-OutOfMemory-clause-accepted g c = λ a text all e script cert p. 
 pub returns-in-Ok-Prove-clause-certificate : goal.returns-in-Ok-Prove-clause-certificate
 returns-in-Ok-Prove-clause-certificate g c =
     let asked : reading (map string_bytes c.args.words.now) ≡ Some (Prove (asked_of c.in-Ok-Prove.request)) = search rules in
-    certifies_prove (map string_bytes c.args.words.now) (g.F.Folder.told c.args.folder.now) (g.F.Folder.told c.run_prove.new.folder)
+    certifies_prove (map string_bytes c.args.words.now)
+    (seen (g.F.Folder.told c.args.folder.now) (g.F.Folder.read_faults c.args.folder.now) (g.F.Folder.read_faults c.run_prove.new.folder)) (g.F.Folder.told c.run_prove.new.folder)
     (faults (g.F.Folder.read_faults c.args.folder.now) (g.F.Folder.write_faults c.args.folder.now)) (faults (g.F.Folder.read_faults c.run_prove.new.folder) (g.F.Folder.write_faults c.run_prove.new.folder))
+    (g.O.Sink.taken c.args.out.now) (g.O.Sink.taken c.run_prove.new.out)
     c.run_prove.result (asked_of c.in-Ok-Prove.request) asked c.run_prove.ensures.certificate
 
 pub returns-in-Ok-Prove-clause-write_fault : goal.returns-in-Ok-Prove-clause-write_fault
@@ -66,8 +68,10 @@ returns-in-Ok-Prove-clause-files g c = λ name other.
 pub returns-in-Ok-Check-clause-certificate : goal.returns-in-Ok-Check-clause-certificate
 returns-in-Ok-Check-clause-certificate g c =
     let asked : reading (map string_bytes c.args.words.now) ≡ Some (Check (check_of c.in-Ok-Check.request)) = search rules in
-    certifies_other (map string_bytes c.args.words.now) (g.F.Folder.told c.args.folder.now) (g.F.Folder.told c.run_check.new.folder)
+    certifies_other (map string_bytes c.args.words.now)
+    (seen (g.F.Folder.told c.args.folder.now) (g.F.Folder.read_faults c.args.folder.now) (g.F.Folder.read_faults c.run_check.new.folder)) (g.F.Folder.told c.run_check.new.folder)
     (faults (g.F.Folder.read_faults c.args.folder.now) (g.F.Folder.write_faults c.args.folder.now)) (faults (g.F.Folder.read_faults c.run_check.new.folder) (g.F.Folder.write_faults c.run_check.new.folder))
+    (g.O.Sink.taken c.args.out.now) (g.O.Sink.taken c.run_check.new.out)
     c.run_check.result (Check (check_of c.in-Ok-Check.request)) (λ a e. cc e) asked
 
 pub returns-in-Ok-Check-clause-unchanged : goal.returns-in-Ok-Check-clause-unchanged
@@ -82,8 +86,10 @@ returns-in-Ok-Check-clause-files g c = λ name _. c.run_check.ensures.files name
 pub returns-in-Ok-Gen-clause-certificate : goal.returns-in-Ok-Gen-clause-certificate
 returns-in-Ok-Gen-clause-certificate g c =
     let asked : reading (map string_bytes c.args.words.now) ≡ Some (Gen c.in-Ok-Gen.n) = search rules in
-    certifies_other (map string_bytes c.args.words.now) (g.F.Folder.told c.args.folder.now) (g.F.Folder.told c.args.folder.now)
+    certifies_other (map string_bytes c.args.words.now)
+    (seen (g.F.Folder.told c.args.folder.now) (g.F.Folder.read_faults c.args.folder.now) (g.F.Folder.read_faults c.args.folder.now)) (g.F.Folder.told c.args.folder.now)
     (faults (g.F.Folder.read_faults c.args.folder.now) (g.F.Folder.write_faults c.args.folder.now)) (faults (g.F.Folder.read_faults c.args.folder.now) (g.F.Folder.write_faults c.args.folder.now))
+    (g.O.Sink.taken c.args.out.now) (g.O.Sink.taken c.run_gen.new.out)
     c.run_gen.result (Gen c.in-Ok-Gen.n) (λ a e. cc e) asked
 
 pub returns-in-Ok-Gen-clause-write_fault : goal.returns-in-Ok-Gen-clause-write_fault
@@ -92,8 +98,10 @@ returns-in-Ok-Gen-clause-write_fault g c = λ e. inl (c.run_gen.ensures.write_fa
 pub returns-in-Err-Usage-clause-certificate : goal.returns-in-Err-Usage-clause-certificate
 returns-in-Err-Usage-clause-certificate g c =
     let none : reading (map string_bytes c.args.words.now) ≡ None = search rules in
-    certifies_none (map string_bytes c.args.words.now) (g.F.Folder.told c.args.folder.now) (g.F.Folder.told c.args.folder.now)
+    certifies_none (map string_bytes c.args.words.now)
+    (seen (g.F.Folder.told c.args.folder.now) (g.F.Folder.read_faults c.args.folder.now) (g.F.Folder.read_faults c.args.folder.now)) (g.F.Folder.told c.args.folder.now)
     (faults (g.F.Folder.read_faults c.args.folder.now) (g.F.Folder.write_faults c.args.folder.now)) (faults (g.F.Folder.read_faults c.args.folder.now) (g.F.Folder.write_faults c.args.folder.now))
+    (g.O.Sink.taken c.args.out.now) (g.O.Sink.taken c.print.new.out)
     c.print.result none
 
 pub returns-in-Err-Usage-clause-write_fault : goal.returns-in-Err-Usage-clause-write_fault
@@ -101,8 +109,10 @@ returns-in-Err-Usage-clause-write_fault g c = λ e. inl (not_put Usage c.print.r
 
 pub returns-in-Err-OutOfMemory-clause-certificate : goal.returns-in-Err-OutOfMemory-clause-certificate
 returns-in-Err-OutOfMemory-clause-certificate g c =
-    certifies_starved (map string_bytes c.args.words.now) (g.F.Folder.told c.args.folder.now) (g.F.Folder.told c.args.folder.now)
-    (faults (g.F.Folder.read_faults c.args.folder.now) (g.F.Folder.write_faults c.args.folder.now)) (faults (g.F.Folder.read_faults c.args.folder.now) (g.F.Folder.write_faults c.args.folder.now)) (λ name. refl)
+    certifies_starved (map string_bytes c.args.words.now)
+    (seen (g.F.Folder.told c.args.folder.now) (g.F.Folder.read_faults c.args.folder.now) (g.F.Folder.read_faults c.args.folder.now)) (g.F.Folder.told c.args.folder.now)
+    (faults (g.F.Folder.read_faults c.args.folder.now) (g.F.Folder.write_faults c.args.folder.now)) (faults (g.F.Folder.read_faults c.args.folder.now) (g.F.Folder.write_faults c.args.folder.now))
+    (g.O.Sink.taken c.args.out.now) (g.O.Sink.taken c.args.out.now) (λ name. refl) (kept_same (g.O.Sink.taken c.args.out.now))
 
 pub returns-in-Ok-Prove-clause-order : goal.returns-in-Ok-Prove-clause-order
 returns-in-Ok-Prove-clause-order g c =
