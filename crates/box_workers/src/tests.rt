@@ -288,7 +288,7 @@ fn one_answer_for_any_number_of_workers(rt: HostRuntime) -> Result<(), Fail> {
         let found = answer(&rt, rt.alloc(), &OpenGate, 16, NONE, workers, 4096)?;
         assert_eq!(rt; found, whole, "{workers} workers");
     }
-    // Lanes of 4 places hold what is pushed, and one box more is past the limit.
+    // Exactly as many boxes as there may be, and one too many.
     let few = answer(&rt, rt.alloc(), &OpenGate, 16, NONE, 4, 15)?;
     assert_eq!(rt; (few.boxes, few.leaves), (15, 8));
     let over = answer(&rt, rt.alloc(), &OpenGate, 16, NONE, 4, 14)?;
