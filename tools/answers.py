@@ -129,6 +129,11 @@ class Maker:
         goal = self.pick(goals).split(" in ")[0].split(" -/ ")[0]
         return " %s $ %s;" % (goal, ", ".join(self.rng.sample(self.variables, self.rng.randint(1, min(2, len(self.variables))))))
 
+    def side(self, claim):
+        """The claim, or where it is a bound now and then that it isn't so."""
+        is_bound = "<=" in claim or ">=" in claim
+        return "not " + claim if self.maybe(0.3 if is_bound else 0.005) else claim
+
     def script(self):
         out = self.definitions()
         hyps = []
@@ -141,7 +146,8 @@ class Maker:
         goals = [self.goal() for _ in range(self.pick([1, 1, 2, 3]))]
         out += "{ "
         if hyps:
-            out += self.pick([" /\\ ", "/\\", " -> "]).join(hyps) + " -> "
+            joints = self.pick([[" /\\ "], ["/\\"], [" -> "], [" /\\ ", " \\/ ", " -> "], [" \\/ ", "\\/", " /\\ "]])
+            out += "".join(self.side(h) + self.pick(joints) for h in hyps[:-1]) + self.side(hyps[-1]) + " -> "
         out += " /\\ ".join(goals) + " }"
         for _ in range(self.pick([0, 0, 1, 1, 2])):
             out += self.hint(goals)
@@ -191,7 +197,7 @@ def compared(task):
     signal.signal(signal.SIGALRM, give_up)
     signal.alarm(10)
     try:
-        status, printed = Program(MemFolder({"a": text}), 15).run(["prove", "a"] + options)
+        status, printed = Program(MemFolder({"a": text}), 16).run(["prove", "a"] + options)
     except TooSlow:
         return "slow", None
     except (AttributeError, RecursionError) as fault:

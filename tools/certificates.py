@@ -1,10 +1,13 @@
 #!/usr/bin/env python3
 """What certificates' bytes spell, compared with a reference reader.
 
-    certificates.py make REFERENCE SCRIPTS DAMAGED SEED > CASES    one certificate a line, in hexadecimal digits: those of so many
-                                                                   random scripts, as many of random items, and so many damaged ones
+    certificates.py make REFERENCE SCRIPTS DAMAGED SEED [ITEMS] > CASES
+                                                                   one certificate a line, in hexadecimal digits: those of so many
+                                                                   random scripts and of ITEMS lists of random items (as many, where
+                                                                   no number is given), each in either version, and so many damaged ones
     certificates.py program > main.rt                              a program over `cert_bytes`, `fx_edge` and `fx_model` that answers CASES
-    certificates.py compare REFERENCE CASES ANSWERS                ANSWERS: for each case `same`, or `KIND BYTE`
+    certificates.py compare REFERENCE CASES ANSWERS                ANSWERS: for each case `same` with a sum of the bytes of its items in
+                                                                   the other version, or `KIND BYTE`
 
 REFERENCE is the folder that holds the package `reference`.
 """
@@ -15,30 +18,52 @@ import sys
 import hex_lines
 
 PROGRAM = """\
-// Reads each certificate, which stands on a line in hexadecimal digits, and says whether it is written again as it was.
+// Reads each certificate, which stands on a line in hexadecimal digits, and says whether it is written again as it was, and what
+// it is in the other version.
 #![tactic(auto)]
 
-use cert_bytes::{Item, Reader, Stop, write_item};
+use cert_bytes::{Item, Reader, Seen, Stop, write_item, write_item2};
 use fx_edge::MemFolder;
 use std::alloc::{AllocError, Global};
 use std::io;
 
 """ + hex_lines.READING + """
-// Whether all items, written again, are the same bytes; or why one isn't read.
-fn is_same(alloc: Global, bytes: &[u8], most: usize) -> Result<Result<bool, Stop>, AllocError> {
+// A sum of bytes and of their places.
+fn sum_of(bytes: &[u8]) -> u64 {
+    let mut sum = 7u64;
+    for byte in bytes {
+        sum = (sum * 31 + u64::from(*byte)) % 1000000007;
+    }
+    sum
+}
+
+// The bytes of all items in versions 1 and 2; or why one isn't read.
+fn written(
+    alloc: Global,
+    bytes: &[u8],
+    most: usize,
+) -> Result<Result<(Vec<u8>, Vec<u8>), Stop>, AllocError> {
     let mut files = Vec::new(alloc);
     files.push((String::from_str(alloc, "c")?, bytes.to_vec(alloc)?))?;
     let mut folder = MemFolder::new(alloc, files, Vec::new(alloc), 0, most)?;
     let mut reader = Reader::new(alloc, "c")?;
-    let mut out = Vec::new(alloc);
+    let mut first = Vec::new(alloc);
+    let mut second = Vec::new(alloc);
+    let mut seen = Seen::none();
     for _ in 0..u64::MAX {
         match reader.next(&mut folder) {
-            Ok(Item::End) => break,
-            Ok(item) => write_item(&item, &mut out)?,
+            Ok(item) => {
+                write_item(&item, &mut first)?;
+                write_item2(&item, seen, &mut second)?;
+                if let Item::End = item {
+                    break;
+                }
+                seen = seen.after(&item);
+            }
             Err(stop) => return Ok(Err(stop)),
         }
     }
-    Ok(Ok(out.as_slice() == bytes))
+    Ok(Ok((first, second)))
 }
 
 fn main(rt: HostRuntime) -> io::Result<()> {
@@ -46,11 +71,18 @@ fn main(rt: HostRuntime) -> io::Result<()> {
     for line in rt.lines(rt.alloc()) {
         let bytes = bytes_of(rt.alloc(), line?.as_str())?;
         most = most % 9 + 1;
-        match is_same(rt.alloc(), bytes.as_slice(), most)? {
+        match written(rt.alloc(), bytes.as_slice(), most)? {
             Err(Stop::Fault(fault)) => println!(rt; "{:?} {}", fault.kind, fault.at)?,
             Err(stop) => println!(rt; "{:?}", stop)?,
-            Ok(true) => println!(rt; "same")?,
-            Ok(false) => println!(rt; "written otherwise")?,
+            Ok((first, second)) => {
+                if first.as_slice() == bytes.as_slice() {
+                    println!(rt; "same {}", sum_of(second.as_slice()))?;
+                } else if second.as_slice() == bytes.as_slice() {
+                    println!(rt; "same {}", sum_of(first.as_slice()))?;
+                } else {
+                    println!(rt; "written otherwise")?;
+                }
+            }
         }
     }
     Ok(())
@@ -164,6 +196,9 @@ def some_items(r, facts, low, high):
     items = [("Nodes", n := r.randrange(6))] + [("Node", some_node(r)) for _ in range(n)]
     items += [("Marks", m := r.randrange(4))] + [("Mark", r.random() < 0.5) for _ in range(m)]
     sections = 1
+    if r.random() < 0.2:
+        sections = r.choice([2, 3, 64])
+        items.append(("Cases", sections))
     number = lambda: r.choice([r.randrange(50), r.randrange(1 << 64)])
     while sections:
         for _ in range(r.randrange(4)):
@@ -189,11 +224,11 @@ def damaged(r, data):
         if k == 0:
             b[at] ^= 1 << r.randrange(8)
         elif k == 1:
-            b[at] = r.choice([0, 1, 2, 3, 4, 5, 6, 7, 8, 127, 128, 255, r.randrange(256)])
+            b[at] = r.choice([0, 1, 2, 3, 4, 5, 6, 7, 8, 127, 128, 129, 255, r.randrange(256)])
         elif k == 2:
             del b[at]
         elif k == 3:
-            b.insert(at, r.choice([0, 1, 2, r.randrange(256)]))
+            b[at:at] = r.choice([[0], [1], [2], [r.randrange(256)], [128] * r.randrange(1, 20), [255] * r.randrange(1, 20)])
         elif k == 4:
             del b[at:]
         elif k == 5:
@@ -208,7 +243,7 @@ def damaged(r, data):
     return bytes(b)
 
 
-def make(reference, scripts, count, seed):
+def make(reference, scripts, count, seed, lists):
     sys.path.insert(0, reference)
     from reference import certificate, facts
     from reference.commands import MemFolder, Program
@@ -219,12 +254,22 @@ def make(reference, scripts, count, seed):
         data = prove(MemFolder, Program, script(r))
         if data:
             whole.append(data)
-    whole += [certificate.write(some_items(r, facts, LOW, HIGH), 1) for _ in range(scripts)]
+    whole += [certificate.write(certificate.read(data), 2) for data in whole]
+    for _ in range(lists):
+        items = some_items(r, facts, LOW, HIGH)
+        whole += [certificate.write(items, 1), certificate.write(items, 2)]
     for data in whole:
         print(data.hex())
     short = [data for data in whole if len(data) < 2000]
     for _ in range(count):
         print(damaged(r, r.choice(short)).hex())
+
+
+def sum_of(data):
+    total = 7
+    for b in data:
+        total = (total * 31 + b) % 1000000007
+    return total
 
 
 def compare(reference, cases, answers):
@@ -238,8 +283,8 @@ def compare(reference, cases, answers):
     for number, (line, answer) in enumerate(zip(lines, told), 1):
         data = bytes.fromhex(line)
         try:
-            certificate.read(data, (1,), False)
-            wanted = kind = "same"
+            items, kind = certificate.read(data), "same"
+            wanted = "same %d" % sum_of(certificate.write(items, 3 - data[4]))
         except certificate.CertFault as fault:
             wanted, kind = "%s %d" % (fault.kind, fault.at), fault.kind
         kinds[kind] = kinds.get(kind, 0) + 1
@@ -252,8 +297,8 @@ def compare(reference, cases, answers):
 
 def main():
     words = sys.argv[1:]
-    if words[:1] == ["make"] and len(words) == 5:
-        make(words[1], int(words[2]), int(words[3]), int(words[4]))
+    if words[:1] == ["make"] and len(words) in (5, 6):
+        make(words[1], int(words[2]), int(words[3]), int(words[4]), int(words[-1] if words[5:] else words[2]))
     elif words == ["program"]:
         sys.stdout.write(PROGRAM)
     elif words[:1] == ["compare"] and len(words) == 4:

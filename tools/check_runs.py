@@ -37,12 +37,12 @@ def damaged(rng, cert):
 
 
 def proved(program, rng):
-    """A random script and the certificate that the reference writes of it, or None."""
+    """A random script and the certificate that the reference writes of it in one of the versions, or None."""
     from reference.commands import MemFolder
     text = answers.Maker(rng).script().encode()
     folder = MemFolder({"a": text})
     words = ["prove", "a", "--cert", "c", "--depth", str(rng.choice([0, 2, 4])), "--boxes", "64"]
-    return (text, folder.files["c"]) if program(folder, 15).run(words)[0] == 0 else None
+    return (text, folder.files["c"]) if program(folder, rng.choice([16, 17])).run(words)[0] == 0 else None
 
 
 def cases(rng, program):
@@ -66,7 +66,7 @@ def compared(task):
     signal.signal(signal.SIGALRM, answers.give_up)
     try:
         signal.alarm(10)
-        wanted = [(text, cert, Program(MemFolder({"a": text, "c": cert}), 15).run(["check", "a", "c"])) for text, cert in cases(rng, Program)]
+        wanted = [(text, cert, Program(MemFolder({"a": text, "c": cert}), 17).run(["check", "a", "c"])) for text, cert in cases(rng, Program)]
     except answers.TooSlow:
         return ["slow"], []
     except (AttributeError, RecursionError) as fault:

@@ -252,7 +252,7 @@ def compare(reference, cases, answers):
         sys.exit("%d cases, %d answers" % (len(lines), len(told_lines)))
     for number, (line, answer) in enumerate(zip(lines, told_lines), 1):
         text, data = (bytes.fromhex(part) for part in line.split())
-        status, printed = Program(MemFolder({"s": text, "c": data}), 15).run(["check", "s", "c"])
+        status, printed = Program(MemFolder({"s": text, "c": data}), 17).run(["check", "s", "c"])
         wanted = told(printed)
         kind = "accepted" if status == 0 else re.split(r"[ (]", wanted)[0]
         kinds[kind] = kinds.get(kind, 0) + 1

@@ -73,7 +73,7 @@ def cases(kind, rng, program, folder):
         if kind == "scripts":
             return [({"a": damaged(rng, text, WORDS)}, ["prove", "a"] + SHORT) for _ in range(50)]
         made = folder({"a": text})
-        done = limited(lambda: program(made, 15).run(["prove", "a", "--cert", "c"] + SHORT))
+        done = limited(lambda: program(made, rng.choice([16, 17])).run(["prove", "a", "--cert", "c"] + SHORT))
         if not isinstance(done, str) and done[0] == 0 and len(made.files["c"]) < 4096:
             return [({"a": text, "c": damaged(rng, made.files["c"], BYTES)}, ["check", "a", "c"]) for _ in range(50)]
 
@@ -87,7 +87,7 @@ def compared(task):
     seen, differ = [], []
     with tempfile.TemporaryDirectory() as folder:
         for files, words in cases(kind, rng, Program, MemFolder):
-            wanted = limited(lambda: Program(MemFolder(dict(files)), 15).run(words))
+            wanted = limited(lambda: Program(MemFolder(dict(files)), 17).run(words))
             if isinstance(wanted, str):
                 seen.append(wanted)
                 continue

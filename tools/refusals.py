@@ -196,10 +196,15 @@ class Maker:
         for i in range(parts):
             if i:
                 out.append("->")
-            for j in range(self.rng.randint(1, 2)):
+            for j in range(self.rng.randint(1, 3 if self.maybe(0.2) else 2)):
+                is_goal = i == parts - 1
                 if j:
-                    out.append("/\\")
-                out += self.proposition(i == parts - 1)
+                    out.append("\\/" if self.maybe(0.02 if is_goal else 0.4) else "/\\")
+                claim = self.proposition(is_goal)
+                is_bound = "<=" in claim or ">=" in claim
+                if self.maybe(0.02 if is_goal or not is_bound else 0.4):
+                    out += ["not"] * (1 if self.maybe(0.97) else 2)
+                out += claim
         return out
 
     def split_name(self):
@@ -272,8 +277,8 @@ class Maker:
 
     def long(self):
         out = []
-        k = self.rng.randrange(7)
-        many = {0: 253, 1: 125, 2: 62, 3: 0, 4: 0, 5: 0, 6: 0}[k] + self.rng.randint(0, 5)
+        k = self.rng.randrange(8)
+        many = {0: 253, 1: 125, 2: 62, 3: 0, 4: 0, 5: 0, 6: 0, 7: 0}[k] + self.rng.randint(0, 5)
         if k == 0:
             for i in range(many):
                 out += ["@", "o%d" % i, "=", "int", "<", "dn", ">", ";"] if i % 3 == 0 else ["v%d" % i, "=", "1", ";"]
@@ -293,6 +298,12 @@ class Maker:
                 elif out[-1] == "int<dn>":
                     out += ["(", "x", ")"]
             out += ["in", "?", "}"]
+        elif k == 7:
+            for sizes in self.pick([[64], [65], [8, 8], [4, 16], [8, 9], [2, 2, 2, 2, 2, 2], [3, 21], [3, 22], [64, 2]]):
+                for i in range(sizes):
+                    out += ["\\/"] * (i > 0) + ["x", "in", "[", str(i), ",", str(i + 1), "]"]
+                out += ["->"]
+            out += ["x", "in", "?"] + ["\\/", "x", "in", "?"] * self.maybe(0.1) + ["}"]
         else:
             out += ["x", "in", "[", "0", ",", "1", "]", "->", "x", "in", "?", "}"]
         if k == 2:
@@ -386,7 +397,7 @@ def reference_answer(script, data):
         text = script.decode(data)
     except script.Refusal as r:
         return "%s %d" % (r.kind, r.at)
-    parser = script.Parser(text, False)
+    parser = script.Parser(text, True)
     try:
         parser.read()
     except (script.Stop, AttributeError):

@@ -4,7 +4,7 @@
     refusals.py make COUNT SEED > TEXTS             one text a line, in hexadecimal digits, valid and damaged
     scripts.py valid REFERENCE < TEXTS > SCRIPTS    those that are refused nowhere
     scripts.py program > main.rt                    a program over `script_grammar` that answers TEXTS on its input
-    scripts.py compare REFERENCE TEXTS ANSWERS      ANSWERS: for each text its nodes, facts, goals and hints, or `KIND BYTE`
+    scripts.py compare REFERENCE TEXTS ANSWERS      ANSWERS: for each text its nodes, facts, cases, goals and hints, or `KIND BYTE`
 
 REFERENCE is the folder that holds the package `reference`.
 """
@@ -40,14 +40,22 @@ fn main(rt: HostRuntime) -> io::Result<()> {
                     print!(rt; "{:?}; ", claim.hypothesis())?;
                 }
                 print!(rt; "| ")?;
+                for number in 0..script.case_count() {
+                    let case = script.case(rt.alloc(), number)?;
+                    for claim in case.as_slice() {
+                        print!(rt; "{:?}, ", claim.hypothesis())?;
+                    }
+                    print!(rt; "; ")?;
+                }
+                print!(rt; "| ")?;
                 for claim in script.goals() {
                     print!(rt; "{:?} {:?}; ", claim.slot(), claim.want())?;
                 }
                 print!(rt; "| ")?;
                 for hint in script.hints().rewrites.as_slice() {
                     print!(rt; "{:?} {:?}", hint.left, hint.right)?;
-                    for need in hint.needs.as_slice() {
-                        print!(rt; " {:?}", need)?;
+                    for constraint in hint.constraints.as_slice() {
+                        print!(rt; " {:?}", constraint.need())?;
                     }
                     print!(rt; "; ")?;
                 }
@@ -155,12 +163,13 @@ class Printer:
 
     def line(self, data):
         try:
-            s = self.script.parse(data, False)
+            s = self.script.parse(data, True)
         except self.script.Refusal as r:
             return "%s %d" % (r.kind, r.at)
         parts = [
             [self.node(n) for n in s.dag.nodes],
             [self.fact(f) for f in s.facts()],
+            ["".join(self.fact(f) + ", " for f in s.case(k).facts()) for k in range(s.cases())],
             [self.goal(g) for g in s.goals],
             [self.rewrite(h) for h in s.hints],
             ["%s %s" % (expr(a), expr(b)) for a, b in s.likes],
@@ -181,7 +190,7 @@ def main(words):
     if words[0] == "valid":
         for line in sys.stdin:
             try:
-                script.parse(bytes.fromhex(line.strip()), False)
+                script.parse(bytes.fromhex(line.strip()), True)
             except (script.Refusal, AttributeError):
                 continue
             print(line, end="")

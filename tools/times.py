@@ -54,8 +54,12 @@ My = {form(12)};
 r $ x;
 """
 
+# The script of `gen 12` where its variable lies in one of the sixteenths of its range, each of which is a case.
+CASES = made(12).replace("x in [0,1]", " \\/ ".join(f"x in [{k}b-4,{k + 1}b-4]" for k in range(16))).replace("x in 64;", "x in 4;")
+
 SCRIPTS = [
     ("gen 12, 65 boxes", made(12), (1, 2, 4), ["--rounds", "64"]),
+    ("16 cases of it, 80 boxes", CASES, (1, 2, 4), ["--rounds", "64"]),
     ("three variables that are cut, 4369 boxes", CUTS, (1, 2, 4, 8), ["--boxes", "8192"]),
     ("two variables that are halved, 4727 boxes", HALVES, (1, 2, 4), ["--boxes", "8192", "--depth", "32"]),
     ("two boxes on each level, 59 boxes", TREE, (1, 2, 4), ["--rounds", "64", "--depth", "32"]),

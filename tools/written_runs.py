@@ -63,7 +63,7 @@ def compared(task):
     signal.signal(signal.SIGALRM, answers.give_up)
     try:
         signal.alarm(10)
-        status, lines = Program(MemFolder({"a": text, "c": cert}), 15).run(["check", "a", "c"])
+        status, lines = Program(MemFolder({"a": text, "c": cert}), 17).run(["check", "a", "c"])
     except answers.TooSlow:
         return ["0, slow"], differ
     except (AttributeError, RecursionError) as fault:
