@@ -1,0 +1,128 @@
+//! A tree of 15 boxes, which is open on two ways down.
+ghost use Rattle.std.specs.Prelude.{◌≡◌, ℕ, List, Some};
+ghost use Rattle.bisect.specs.Examples.{is_front, two_ways_open};
+ghost use Rattle.bisect.specs.declared.settler.State.{State};
+ghost use Rattle.box_tree.specs.declared.cut.Cut.{Cut};
+ghost use Rattle.box_tree.specs.declared.cut.Cut.TheVariants.{Bottom};
+ghost use Rattle.literal_order.specs.Values.{IsWritten};
+
+use bisect::{Posted, Settler, State, Verdict};
+use box_tree::Plan;
+use fx_edge::{Items, Path};
+use fx_model::ExprId;
+use literal::read;
+use literal_order::Written;
+use script_claims::Claim;
+use script_hints::hint::HintList;
+use std::alloc::{AllocError, Global};
+use std::marker::{Brand, PhantomData};
+use std::process::Abort;
+use std::sync::atomic::{AtomicU64, Ordering};
+
+const X: ExprId = ExprId(0);
+
+/// No call is refused.
+pub const NONE: u64 = 1000;
+
+/// The cuts of a test's plan.
+pub trait World: Send + Sync {
+    ghost cut_at: { List ℕ → Cut };
+}
+
+impl World for Brand {
+    ghost cut_at = { λ _. Bottom };
+}
+
+/// The entry of a box: its path.
+#[derive(Drop)]
+pub struct Spot<W: World> {
+    path: Path,
+    of: PhantomData<W>,
+}
+
+impl<W: World> Posted for Spot<W> {
+    ghost cut_at = { W.cut_at };
+
+    ghost state_at = { two_ways_open };
+
+    ghost path_of = { λ e. e.path };
+}
+
+/// Counts its calls, of which one is refused.
+#[derive(Drop)]
+pub struct TwoWays<W: World> {
+    pub calls: AtomicU64,
+    refused: u64,
+    of: PhantomData<W>,
+}
+
+/// It settles boxes as the tree has them.
+pub fn two_ways<W: World>(refused: u64) -> TwoWays<W> {
+    TwoWays {
+        calls: AtomicU64::new(0),
+        refused,
+        of: PhantomData,
+    }
+}
+
+// The path is a front of the numbers.
+fn is_front(path: &[u8], numbers: &[u8]) -> bool
+    ensures { result ≡ is_front path.now numbers.now }
+{
+    match path {
+        [] => true,
+        [i, later @ ..] => match numbers {
+            [] => false,
+            [n, rest @ ..] => *i == *n && is_front(later, rest),
+        },
+    }
+}
+
+impl<W: World> Settler for TwoWays<W> {
+    type Entry = Spot<W>;
+
+    fn settle(
+        &self,
+        alloc: Global,
+        path: &Path,
+        _parent: Option<&Spot<W>>,
+    ) -> Result<Verdict<Spot<W>>, AllocError> {
+        let before = self.calls.fetch_add(1, Ordering::SeqCst);
+        if before == self.refused {
+            return Err(AllocError);
+        }
+        let numbers = path.numbers();
+        let state = if is_front(numbers, &[0, 1, 1]) || is_front(numbers, &[1, 0, 0]) {
+            State::Open(0)
+        } else {
+            State::Settled(Items::from_vec(Vec::new(alloc)))
+        };
+        let entry = Spot {
+            path: *path,
+            of: PhantomData,
+        };
+        Ok(Verdict { entry, state })
+    }
+}
+
+fn written(rt: &impl Abort, text: &str) -> Written
+    ensures { IsWritten (Some result) }
+{
+    Written {
+        literal: read(text).expect(rt, "a literal"),
+        negative: false,
+    }
+}
+
+/// The plan where x in [0,1] is halved 16 times at most.
+pub fn halves(rt: &impl Abort, alloc: Global) -> Result<Plan, AllocError> {
+    let hints = HintList {
+        rewrites: Items::from_vec(Vec::new(alloc)),
+        likes: Items::from_vec(Vec::new(alloc)),
+        cuts: Items::from_vec(Vec::new(alloc)),
+        halves: Items::from_vec([X].to_vec(alloc)?),
+        order: Items::from_vec([X].to_vec(alloc)?),
+    };
+    let unit = Claim::Bounded(X, Some(written(rt, "0")), Some(written(rt, "1")));
+    Plan::new(alloc, &[unit], &hints, 16)
+}
