@@ -8,6 +8,8 @@ mod cases;
 #[cfg(test)]
 mod checks;
 #[cfg(test)]
+mod halved;
+#[cfg(test)]
 mod second;
 #[cfg(test)]
 mod turned;
