@@ -3,12 +3,9 @@
 ghost use Rattle.std.specs.Prelude.{◌≡◌, true};
 ghost use Rattle.script_words.specs.Named.{word_of};
 ghost use Rattle.script_nodes.specs.Literals as spec_literals;
-ghost use Rattle.script_claims.specs.Claims.{stated};
-ghost use Rattle.script_claims.specs.Facts.{HasNormalBounds};
 ghost use Rattle.script_claims.specs.Parts as spec;
 ghost use Rattle.script_claims.specs.Parts.{IsNormalPart};
 
-use crate::claim::Claim;
 use crate::numbers::exponent_size;
 use crate::part::Part;
 use script_bounds::Written;
@@ -39,131 +36,78 @@ pub const NOTHING_READ: Proposition = Proposition {
 };
 
 impl Proposition {
-    /// The proposition behind a word that ends no expression.
-    pub fn read(self, role: Due, word: Word<'_>) -> Proposition
-        ensures read { result ≡ spec.proposition_read role (word_of word.entry) self }
-        ensures normal { IsNormalPart self.part → IsNormalPart result.part }
+    /// Takes a word that ends no expression.
+    pub fn read(&mut self, role: Due, word: Word<'_>)
+        ensures read { self.new ≡ spec.proposition_read role (word_of word.entry) self.old }
+        ensures normal { IsNormalPart self.old.part → IsNormalPart self.new.part }
     {
         match role {
-            Due::Range => self.with_part(self.part.ranged(word)),
+            Due::Range => self.part = self.part.ranged(word),
             Due::Bound => self.bound(word),
             Due::Magnitude => self.magnitude(word),
             Due::Whole => self.whole(word),
             Due::WholeDigits => self.opposite(word),
-            Due::Claim => self.denied(),
-            _ => self,
-        }
-    }
-
-    /// The same with another part.
-    pub fn with_part(self, part: Part) -> Proposition
-        ensures { result ≡ record self { part = part } }
-    {
-        Proposition {
-            part,
-            exponent: self.exponent,
-            negative: self.negative,
-            denied: self.denied,
+            Due::Claim => self.denied = true,
+            _ => {}
         }
     }
 
     // A bound, or the sign before it.
-    fn bound(self, word: Word<'_>) -> Proposition
-        ensures read { result ≡ spec.bound_read (word_of word.entry) self }
-        ensures normal { IsNormalPart self.part → IsNormalPart result.part }
+    fn bound(&mut self, word: Word<'_>)
+        ensures read { self.new ≡ spec.bound_read (word_of word.entry) self.old }
+        ensures normal { IsNormalPart self.old.part → IsNormalPart self.new.part }
     {
         match word {
-            Word::Literal(_, text) => self.with_bound(text, false),
-            Word::Sign(Sign::Plus) => self.signed(false),
-            Word::Sign(Sign::Minus) => self.signed(true),
-            _ => self,
+            Word::Literal(_, text) => self.add_bound(text, false),
+            Word::Sign(Sign::Plus) => self.negative = false,
+            Word::Sign(Sign::Minus) => self.negative = true,
+            _ => {}
         }
     }
 
     // The literal behind a sign.
-    fn magnitude(self, word: Word<'_>) -> Proposition
-        ensures read { result ≡ spec.magnitude_read (word_of word.entry) self }
-        ensures normal { IsNormalPart self.part → IsNormalPart result.part }
+    fn magnitude(&mut self, word: Word<'_>)
+        ensures read { self.new ≡ spec.magnitude_read (word_of word.entry) self.old }
+        ensures normal { IsNormalPart self.old.part → IsNormalPart self.new.part }
     {
+        let negative = self.negative;
         match word {
-            Word::Literal(_, text) => self.with_bound(text, self.negative),
-            _ => self,
+            Word::Literal(_, text) => self.add_bound(text, negative),
+            _ => {}
         }
     }
 
-    fn with_bound(self, text: &[u8], negative: bool) -> Proposition
-        ensures read { result ≡ record self {
-          part = spec.bounded (record { literal = spec_literals.literal_of text.now; negative = negative }) self.part;
+    fn add_bound(&mut self, text: &[u8], negative: bool)
+        ensures read { self.new ≡ record self.old {
+          part = spec.bounded (record { literal = spec_literals.literal_of text.now; negative = negative }) self.old.part;
         } }
-        ensures normal { IsNormalPart self.part → IsNormalPart result.part }
+        ensures normal { IsNormalPart self.old.part → IsNormalPart self.new.part }
     {
         let bound = Written {
             literal: literal_of(text),
             negative,
         };
-        self.with_part(self.part.bounded(bound))
-    }
-
-    fn signed(self, negative: bool) -> Proposition
-        ensures { result ≡ record self { negative = negative } }
-    {
-        Proposition {
-            part: self.part,
-            exponent: self.exponent,
-            negative,
-            denied: self.denied,
-        }
+        let part = self.part.bounded(bound);
+        self.part = part;
     }
 
     // Digits alone.
-    fn whole(self, word: Word<'_>) -> Proposition
-        ensures { result ≡ spec.whole_read (word_of word.entry) self }
+    fn whole(&mut self, word: Word<'_>)
+        ensures { self.new ≡ spec.whole_read (word_of word.entry) self.old }
     {
         match word {
-            Word::Literal(_, digits) => self.with_exponent(exponent_size(digits)),
-            _ => self,
+            Word::Literal(_, digits) => self.exponent = exponent_size(digits),
+            _ => {}
         }
     }
 
     // Digits behind a minus.
-    fn opposite(self, word: Word<'_>) -> Proposition
-        ensures { result ≡ spec.opposite_read (word_of word.entry) self }
+    fn opposite(&mut self, word: Word<'_>)
+        ensures { self.new ≡ spec.opposite_read (word_of word.entry) self.old }
     {
         match word {
-            Word::Literal(_, digits) => self.with_exponent(-exponent_size(digits)),
-            _ => self,
+            Word::Literal(_, digits) => self.exponent = -exponent_size(digits),
+            _ => {}
         }
-    }
-
-    fn with_exponent(self, exponent: i16) -> Proposition
-        ensures { result ≡ record self { exponent = exponent } }
-    {
-        Proposition {
-            part: self.part,
-            exponent,
-            negative: self.negative,
-            denied: self.denied,
-        }
-    }
-
-    // Behind `not`.
-    fn denied(self) -> Proposition
-        ensures { result ≡ record self { denied = true } }
-    {
-        Proposition {
-            part: self.part,
-            exponent: self.exponent,
-            negative: self.negative,
-            denied: true,
-        }
-    }
-
-    /// The claim, where this is what was made of the proposition: its denial behind a `not`.
-    pub fn stated(self, claim: Claim) -> Claim
-        requires { HasNormalBounds claim }
-        ensures value { result ≡ stated self.denied claim }
-        ensures normal { HasNormalBounds result }
-    {
-        if self.denied { claim.denial() } else { claim }
     }
 }

@@ -82,9 +82,7 @@ impl<'a> ClaimReader<'a> {
             (spec.expr_taken (spec_parts.relation_behind (word_of word.entry)) self.old).reading.known.nodes }
     {
         if let Some(x) = self.nodes.expression(None)? {
-            self.proposition = self
-                .proposition
-                .with_part(self.proposition.part.related(word, x));
+            self.proposition.part = self.proposition.part.related(word, x);
         }
         Ok(())
     }
@@ -96,9 +94,7 @@ impl<'a> ClaimReader<'a> {
             → 1024 < length (spec.expr_taken spec_parts.in_behind self.old).reading.known.nodes }
     {
         if let Some(y) = self.nodes.expression(None)? {
-            self.proposition = self
-                .proposition
-                .with_part(self.proposition.part.compared(y));
+            self.proposition.part = self.proposition.part.compared(y);
         }
         Ok(())
     }
@@ -110,7 +106,12 @@ impl<'a> ClaimReader<'a> {
             (with_goal self.old.sides (stated self.old.proposition.denied claim))) }
         ensures memory { IfErr result (λ fault. fault ≡ DagFault.OutOfMemory) }
     {
-        let Ok(()) = self.sides.add(self.proposition.stated(claim)) else {
+        let added = if self.proposition.denied {
+            self.sides.add(claim.denial())
+        } else {
+            self.sides.add(claim)
+        };
+        let Ok(()) = added else {
             return Err(DagFault::OutOfMemory);
         };
         self.proposition = NOTHING_READ;
@@ -188,7 +189,7 @@ impl<'a> ClaimReader<'a> {
             Due::CloseBrace => self.end(),
             _ => {
                 self.nodes.read(None, role, word)?;
-                self.proposition = self.proposition.read(role, word);
+                self.proposition.read(role, word);
                 Ok(())
             }
         }

@@ -100,19 +100,15 @@ fn opens_range(role: Due, word: Word<'_>) -> bool
     matches!((role, word), (Due::Range, Word::Sign(Sign::OpenBracket)))
 }
 
-fn lower_after(
-    lower: Option<Written>,
-    lower_due: bool,
-    number: Option<Written>,
-    role: Due,
-) -> Option<Written>
-    ensures value { option_map written_value result
-        ≡ spec.lower_after (option_map written_value lower) lower_due (option_map written_value number) role }
-    ensures normal { IsWritten lower → IsWritten number → IsWritten result }
+// Keeps the lower bound of a range for the upper.
+fn keep_lower(lower: &mut Option<Written>, lower_due: bool, number: Option<Written>, role: Due)
+    ensures value { option_map written_value lower.new
+        ≡ spec.lower_after (option_map written_value lower.old) lower_due (option_map written_value number) role }
+    ensures normal { IsWritten lower.old → IsWritten number → IsWritten lower.new }
 {
     match role {
-        Due::Bound => { if lower_due { number } else { None } }
-        _ => lower,
+        Due::Bound => *lower = if lower_due { number } else { None },
+        _ => {}
     }
 }
 
@@ -158,17 +154,15 @@ impl Bounds {
         self.lower
     }
 
-    /// Behind a token, with the number of the bound that begins there.
-    pub fn after(self, number: Option<Written>, role: Due, word: Word<'_>) -> Bounds
-        ensures value { bounds_of result
-            ≡ spec.bounds_after (bounds_of self) (option_map written_value number) role (word_of word.entry) }
-        ensures normal { IsWritten self.lower → IsWritten number → IsWritten result.lower }
+    /// Takes a token, with the number of the bound that begins there.
+    pub fn take(&mut self, number: Option<Written>, role: Due, word: Word<'_>)
+        ensures value { bounds_of self.new
+            ≡ spec.bounds_after (bounds_of self.old) (option_map written_value number) role (word_of word.entry) }
+        ensures normal { IsWritten self.old.lower → IsWritten number → IsWritten self.new.lower }
     {
-        Bounds {
-            relative: relative_after(self.relative, role),
-            lower_due: opens_range(role, word),
-            lower: lower_after(self.lower, self.lower_due, number, role),
-        }
+        keep_lower(&mut self.lower, self.lower_due, number, role);
+        self.relative = relative_after(self.relative, role);
+        self.lower_due = opens_range(role, word);
     }
 
     /// Whether the bound is below its lower one, or a lower bound of relative errors that is too low.

@@ -154,7 +154,7 @@ impl<'a> Seen<'a> {
         self.names.take(self.counts.halves, role, word)?;
         open_or_close(&mut self.opened, role, word)?;
         self.counts = counts_after(self.counts, is_new, role, word);
-        self.bounds = self.bounds.after(verdict.number, role, word);
+        self.bounds.take(verdict.number, role, word);
         Ok(())
     }
 }

@@ -1,6 +1,6 @@
 //! Split ranges of variables, and points that split them.
 
-ghost use Rattle.std.specs.Prelude.{◌≡◌, ◌≤◌, ◌&&◌, not, nat_lt, map, IfOk, OnOk};
+ghost use Rattle.std.specs.Prelude.{◌≡◌, ◌≤◌, ◌&&◌, not, nat_lt, map, Some, IfOk, OnOk};
 ghost use Rattle.std.specs.List.{list_any};
 ghost use Rattle.std.specs.Option.{option_copied, option_map};
 ghost use Rattle.dyadic.specs.Values.{value_of as grid_value};
@@ -64,6 +64,17 @@ fn ends_at(low: Option<Dyadic>, high: Option<Dyadic>) -> Option<Ends>
     }
 }
 
+// The bounds rounded outward, where both are finite.
+#[inline(never)]
+fn ends_of(lower: Written, upper: Written) -> Option<Ends>
+    requires lower { IsWritten (Some lower) }
+    requires upper { IsWritten (Some upper) }
+    ensures { option_map ends_seen result
+        ≡ spec.ends_between (Some (written_value lower)) (Some (written_value upper)) }
+{
+    ends_at(down(lower), up(upper))
+}
+
 /// The bounds rounded outward, where both are there and finite.
 pub fn ends_between(lower: Option<Written>, upper: Option<Written>) -> Option<Ends>
     requires lower { IsWritten lower }
@@ -72,7 +83,7 @@ pub fn ends_between(lower: Option<Written>, upper: Option<Written>) -> Option<En
         ≡ spec.ends_between (option_map written_value lower) (option_map written_value upper) }
 {
     match (lower, upper) {
-        (Some(lower), Some(upper)) => ends_at(down(lower), up(upper)),
+        (Some(lower), Some(upper)) => ends_of(lower, upper),
         _ => None,
     }
 }

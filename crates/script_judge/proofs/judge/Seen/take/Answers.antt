@@ -28,8 +28,8 @@ returns-clause-seen c = λ stands h.
       names = subst (λ k. AreNames c.take-2.new.self (names_after stands.names k r w)) (λ i. (h.counts i).halves) (c.in_ok-take-2.ensures stands.names h.names);
       opened = c.in_ok-open_or_close.ensures ∙ ap (λ os. opened_after os r w) h.opened;
       counts = c.counts_after-self.ensures ∙ (λ i. counts_after (h.counts i) (new i) r w);
-      bounds = c.after-self.ensures.value ∙ ap (λ b. bounds_after b v.number r w) h.bounds;
-      within = c.after-self.ensures.normal c.requires.lower c.requires.number;
+      bounds = c.take-3.ensures.value ∙ ap (λ b. bounds_after b v.number r w) h.bounds;
+      within = c.take-3.ensures.normal c.requires.lower c.requires.number;
       splits = c.in_ok-take.ensures ∙ (λ i. splits_after (h.splits i) (ended i) (defined i) v.arrow_behind (ends i) v.number r w);
     }
 
