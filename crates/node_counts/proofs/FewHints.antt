@@ -17,12 +17,14 @@ use Rattle.node_counts.proofs.Places.{HasFirst, prop_first, hint_first, prop_ent
 -- ---- what the judge lets pass is within its limits
 
 pub record IsWithin (seen : Seen) : Type 0 where
+  pub propositions : seen.counts.propositions ≤ 128
   pub hints : seen.counts.hints ≤ 64
   pub splits : seen.counts.splits ≤ 4
   pub pieces : seen.counts.pieces ≤ 64
 
 -- the counts, and so many that are halved
 pub record AreWithin (n : ℕ) (c : Counts) : Type 0 where
+  pub propositions : c.propositions ≤ 128
   pub hints : c.hints ≤ 64
   pub splits : c.splits ≤ 4
   pub halved : n ≤ 4
@@ -38,7 +40,13 @@ limits_hold opened halved c lsb past cases h =
     let low = fails lsb _ _ nodes.1 in
     let splits = fails _ _ _ low.1 in
     let more = fails _ _ _ splits.1 in
-    record { hints = ltb-false 64 c.hints hints.0; splits = ltb-false 4 c.splits (or_parts _ _ splits.0).0; halved = ltb-false 4 halved (or_parts _ _ splits.0).1; pieces = ltb-false 64 c.pieces (or_parts _ _ more.0).0 }
+    record {
+      propositions = ltb-false 128 c.propositions propositions.0;
+      hints = ltb-false 64 c.hints hints.0;
+      splits = ltb-false 4 c.splits (or_parts _ _ splits.0).0;
+      halved = ltb-false 4 halved (or_parts _ _ splits.0).1;
+      pieces = ltb-false 64 c.pieces (or_parts _ _ more.0).0;
+    }
 
 pub all_within : (ls : List Leaf) (seen last : Seen) → Passes seen ls last → IsWithin seen → IsWithin last
 all_within [] seen last p h = subst IsWithin p h
@@ -46,7 +54,12 @@ all_within (l ∷ ls) seen last p h =
     let after = seen_after p.0 seen l.role l.word in
     let limits = both_none (form_refusal p.0 seen l.role l.word (has_arrow p.1) p.1) (limit_refusal after l.role l.word) p.2 in
     let holds = limits_hold _ (length after.names.halved) after.counts _ _ _ limits.1 in
-    all_within ls after last p.3 (record { hints = holds.hints; splits = holds.splits; pieces = holds.pieces })
+    all_within ls after last p.3 (record {
+      propositions = holds.propositions;
+      hints = holds.hints;
+      splits = holds.splits;
+      pieces = holds.pieces;
+    })
 
 -- ---- hints are counted
 
@@ -125,7 +138,16 @@ script_passes (define x rest) seen last p within =
     let both = passes_both (definition_leaves x) (script_leaves rest) seen last p in
     script_passes rest both.0 last both.2 (all_within (definition_leaves x) seen both.0 both.1 within)
 
+-- before the first word
+pub none_within : IsWithin nothing_seen
+none_within = record {
+  propositions = omega arith;
+  hints = omega arith;
+  splits = omega arith;
+  pieces = omega arith;
+}
+
 pub hints_pass : (tree : Script) → Judged 0 nothing_seen (script_leaves tree) None → HintsPass (hints_of tree)
 hints_pass tree j =
     let all = passes_all (script_leaves tree) 0 nothing_seen j in
-    script_passes tree nothing_seen all.0 all.1 (record { hints = omega arith; splits = omega arith; pieces = omega arith })
+    script_passes tree nothing_seen all.0 all.1 none_within

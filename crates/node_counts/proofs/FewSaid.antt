@@ -54,7 +54,8 @@ cutting_few (at_points l) h = let a = points_joined l [] in omega (arith, a)
 
 -- ---- hints
 
-joined_within : {A : Type 0} (xs : List A) (x : A) (n : ℕ) → length xs ≤ n → length (xs ++ (x ∷ [])) ≤ 1 + n
+pub joined_within : {A : Type 0} (xs : List A) (x : A) (n : ℕ) → length xs ≤ n
+    → length (xs ++ (x ∷ [])) ≤ 1 + n
 joined_within xs x n h = omega (arith, length-append xs (x ∷ []))
 
 -- the hints say so many rewritings and likes at most, and so many cuts

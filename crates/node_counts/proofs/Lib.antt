@@ -15,6 +15,7 @@ mod Places
 mod FewHints
 mod FewCuts
 mod FewSaid
+mod FewGoals
 mod Numbers
 mod FewHalves
 mod FewOrdered

@@ -1,8 +1,8 @@
-//! Whole scripts have few nodes and few hints: what the judge lets pass has room in the list.
+//! Whole scripts have few nodes, hints and goals: what the judge lets pass has room in the list.
 #![tactic(auto)]
 
 ghost use Rattle.node_counts.specs.Counted.{NodesAreCounted};
-ghost use Rattle.node_counts.specs.Few.{HintsAreFew};
+ghost use Rattle.node_counts.specs.Few.{HintsAreFew, GoalsAreFew};
 ghost use Rattle.node_counts.specs.Ranges.{SplitsHaveRanges};
 
 use script_bounds::outward_is_least;
@@ -11,7 +11,8 @@ use script_hints::laws::reads_hints;
 use script_nodes::laws::{literals_are_told, reads_trees};
 use script_shape::shape::{leaves_are_of_trees, roles_are_unique};
 
-/// Nothing is done. The clause tells a caller that a script of a text whose words pass the judge has no more than 512 nodes.
+/// Nothing is done. The clause tells a caller that a script of a text whose words pass the judge
+/// has no more than 512 nodes.
 pub fn nodes_are_counted()
     ensures { NodesAreCounted }
 {
@@ -22,11 +23,17 @@ pub fn nodes_are_counted()
     roles_are_unique();
 }
 
-/// Nothing is done. The clause tells a caller that a script whose words pass the judge has no more than 64 rewritings, 64 likes,
-/// 4 cuts, each into 64 pieces at most, 4 variables that are halved, and
-/// 8 in all splits.
+/// Nothing is done. The clause tells a caller that a script whose words pass the judge has no more
+/// than 64 rewritings, 64 likes, 4 cuts, each into 64 pieces at most, 4 variables that are halved,
+/// and 8 in all splits.
 pub fn hints_are_counted()
     ensures { HintsAreFew }
+{}
+
+/// Nothing is done. The clause tells a caller that a script whose words the judge lets pass has no
+/// more than 128 goals.
+pub fn goals_are_counted()
+    ensures { GoalsAreFew }
 {}
 
 /// Nothing is done. The clause tells a caller that in a script whose words pass the judge the

@@ -22,9 +22,6 @@ use pair_closure::PairIndex;
 use std::alloc::{AllocError, Global};
 use std::marker::Model;
 
-// A goal's number has 16 bits.
-const MOST_GOALS: usize = 65_535;
-
 /// The expressions, pairs, goals, hypotheses, rows of hints and instances that derivations may use.
 #[derive(Drop)]
 pub struct Universe {
@@ -80,8 +77,7 @@ impl Model for Universe {
 }
 
 impl Universe {
-    /// The universe of these lists. A goal has a number of 16 bits: of more than 65,535 goals, which no script has, want of memory is
-    /// answered, as where memory isn't found.
+    /// The universe of these lists. A goal has a number of 16 bits.
     pub fn new(
         alloc: Global,
         nodes: Dag,
@@ -91,12 +87,17 @@ impl Universe {
         hints: Vec<HintRow>,
         instances: Vec<Instance>,
     ) -> Result<Universe, AllocError>
-        requires { IsWhole (record { nodes = nodes; pairs = pairs; goals = goals.items; hypotheses = hypotheses.items; hints = hints.items; instances = instances.items }) }
+        requires whole { IsWhole (record {
+          nodes = nodes;
+          pairs = pairs;
+          goals = goals.items;
+          hypotheses = hypotheses.items;
+          hints = hints.items;
+          instances = instances.items;
+        }) }
+        requires few { length goals.items ≤ 65535 }
         ensures { IfOk result (λ u. u ≡ record { nodes = nodes; pairs = pairs; goals = goals.items; hypotheses = hypotheses.items; hints = hints.items; instances = instances.items }) }
     {
-        if goals.len() > MOST_GOALS {
-            return Err(AllocError);
-        }
         let rows = user_rows(alloc, &nodes, &pairs, &instances)?;
         let users = flat_rows(alloc, &rows)?;
         let targets = target_places(alloc, &nodes, &pairs, &instances)?;

@@ -2,5 +2,4 @@ pub mod Named
 pub mod Settled
 pub mod Held
 pub mod OneSubject
-pub mod Counted
 pub mod CaseFacts

@@ -1,5 +1,5 @@
 -- A script has one subject, so what comes of bytes for it is answered.
-use Rattle.std.proofs.Common.{◌≡◌, ◌<◌, ℕ, suc, List, [], ◌∷◌, Some, Result, Ok, Err, length, refl, sym, ap, subst, ◌∙◌, arith}
+use Rattle.std.proofs.Common.{◌≡◌, ◌≤◌, ◌<◌, ℕ, suc, List, [], ◌∷◌, Some, Result, Ok, Err, length, refl, sym, ap, subst, ◌∙◌, arith}
 use Rattle.std.specs.Prelude.{slice_get, IfOk}
 use Rattle.std.proofs.lemmas.List.{length-map}
 use Rattle.std.proofs.lemmas.Option.{slice_get_within}
@@ -76,7 +76,7 @@ module _ (s : View) (t : Subject) (is : IsSubjectOf s t) where
   goals_are : length t.goals ≡ length s.goals
   goals_are = ap length is.goals ∙ length-map s.goals goal_of
 
-  pub few_goals : length s.goals < 65535 → length t.goals < 65535
+  pub few_goals : length s.goals ≤ 128 → length t.goals < 65535
   few_goals l = let e = goals_are in omega (arith, e, l)
 
   pub few_marks : HasFewHints s.hints → length t.marks < 65535

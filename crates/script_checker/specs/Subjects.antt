@@ -1,5 +1,5 @@
 -- What a script asks of its certificates.
-use Rattle.std.specs.Prelude.{◌≡◌, List, [], ◌∷◌, Option, Some, None, map, min, length}
+use Rattle.std.specs.Prelude.{◌≡◌, List, [], ◌∷◌, Option, Some, None, map, length}
 use Rattle.facts.specs.declared.fact.Fact.{Fact}
 use Rattle.goals.specs.declared.goal.Goal.{Goal}
 use Rattle.script_claims.specs.declared.claim.Claim.{Claim}
@@ -26,8 +26,7 @@ facts_of (c ∷ cs) = with_fact (hypothesis_fact c) (facts_of cs)
 -- of its rewritings.
 pub record IsSubjectOf (s : View) (t : Subject) : Type 0 where
   pub nodes : t.nodes ≡ s.nodes
-  -- a script has no more variables than nodes, so these are all
-  pub variables : t.variables ≡ min (length s.variables) 65535
+  pub variables : t.variables ≡ length s.variables
   pub cases : t.cases ≡ map facts_of (cases_of s)
   pub goals : t.goals ≡ map goal_of s.goals
   pub marks : AreMarks s.nodes s.hints.rewrites t.marks

@@ -45,12 +45,9 @@ pub fn check_script<F: Folder>(
     ensures name { reader.new.ahead.name ≡ reader.old.ahead.name }
     ensures told { (other : List ℕ) → F.told folder.new other ≡ F.told folder.old other }
     ensures later { F.read_faults folder.old ≤ F.read_faults folder.new }
+    ensures quiet { F.write_faults folder.new ≡ F.write_faults folder.old }
     ensures cause { IsErrOf result CheckStop.Failed → Rose (F.read_faults folder.old) (F.read_faults folder.new) }
 {
-    // A goal's number has 16 bits. No script has as many goals, though no clause says so.
-    if script.goals().len() >= 65535 {
-        return Err(CheckStop::OutOfMemory);
-    }
     script.laws();
     goals_are_enough();
     hypotheses_hold();

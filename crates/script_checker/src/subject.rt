@@ -1,5 +1,5 @@
 //! What a script asks of its certificates.
-ghost use Rattle.std.specs.Prelude.{◌≡◌, ◌↔◌, ◌<◌, min, length, IsTrue, IfOk};
+ghost use Rattle.std.specs.Prelude.{IfOk};
 ghost use Rattle.script_checker.specs.Subjects.{IsSubjectOf};
 
 use crate::cases::facts_of_cases;
@@ -9,29 +9,6 @@ use fx_edge::Items;
 use rewrite_hints::{marks_of, rows_of};
 use script_grammar::Script;
 use std::alloc::{AllocError, Global};
-
-// Whether it has a variable with this number.
-#[tactic(auto, using(std::proofs::lemmas::Option::slice_get_within, crate::proofs::Counted::none_is_past))]
-fn has_variable(script: &Script<'_>, number: u16) -> bool
-    ensures { IsTrue result ↔ number < length script.now.variables }
-{
-    match script.variable(number) {
-        Some(_) => true,
-        None => false,
-    }
-}
-
-// How many variables it has, as far as a `u16` counts.
-fn variables_of(script: &Script<'_>) -> u16
-    ensures { result ≡ min (length script.now.variables) 65535 }
-{
-    for count in 0..u16::MAX {
-        if !has_variable(script, count) {
-            return count;
-        }
-    }
-    u16::MAX
-}
 
 /// The subject of a script: its nodes, what its hypotheses say case by case, what its goals want,
 /// and the marks and the rows of its rewritings.
@@ -46,7 +23,7 @@ pub fn subject_of(alloc: Global, script: &Script<'_>) -> Result<Subject, AllocEr
     let hints = rows_of(alloc, script.nodes(), script.hints().rewrites.as_slice())?;
     Ok(Subject {
         nodes,
-        variables: variables_of(script),
+        variables: script.variable_count(),
         cases: Items::from_vec(cases),
         goals: Items::from_vec(goals),
         marks: Items::from_vec(marks),

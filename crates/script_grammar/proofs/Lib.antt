@@ -4,6 +4,7 @@ mod Accepted
 mod GoalSpans
 mod StepsGrow
 mod Short
+mod Constraints
 mod FirstsExist
 mod LiteralWords
 mod WordsAreRead

@@ -1,4 +1,4 @@
--- A script that a text spells has few nodes and few hints, and its splits have ranges.
+-- A script that a text spells has few nodes, few hints and few goals, and its splits have ranges.
 use Rattle.std.specs.Prelude.{◌≡◌, ℕ, ◌≤◌, List, length, Option, Some, None, Bool, true, false, if◌then◌else◌, refl}
 use Rattle.std.proofs.Common.{◌<◌, sym, ap, ◌∙◌, subst, arith}
 use Rattle.script_words.specs.Lex.{LexesOnce}
@@ -13,14 +13,15 @@ use Rattle.script_judge.specs.Judge.{Judged, nothing_seen}
 use Rattle.script_nodes.specs.Known.{Known, nothing_known}
 use Rattle.script_nodes.specs.Definitions.{definition_value}
 use Rattle.node_counts.specs.Counted.{known_behind, NodesAreCounted}
-use Rattle.node_counts.specs.Few.{HasFewHints, hints_behind, HintsAreFew}
+use Rattle.node_counts.specs.Few.{HasFewHints, hints_behind, HintsAreFew, goals_behind, GoalsAreFew}
 use Rattle.node_counts.specs.Ranges.{HaveFewCases, parts_behind, SplitsHaveRanges}
 use Rattle.goal_spans.specs.Reading.{spans_read}
 use Rattle.script_grammar.specs.Meaning.{Meaning, meaning_from}
 use Rattle.script_grammar.specs.Steps.{start, nodes_at, read_words}
 use Rattle.script_grammar.specs.Spells.{View, view_of, Spells, SpelledAreShort}
-use Rattle.script_grammar.specs.Few.{SpelledHaveFewHints}
+use Rattle.script_grammar.specs.Few.{SpelledHaveFewHints, SpelledHaveFewGoals}
 use Rattle.script_cases.specs.Cases.{all_items}
+use Rattle.script_claims.specs.declared.claim.Claim.{Claim}
 use Rattle.script_claims.specs.Claims.{PartsHaveHypotheses}
 use Rattle.script_grammar.specs.Ranges.{SpelledHaveRanges, SpelledHaveFewCases}
 use Rattle.script_grammar.proofs.Accepted.{reading_leaves, IsAccepted}
@@ -62,6 +63,18 @@ hints_of (define x rest) k = hints_of rest (definition_value x k)
 pub spelled_few : HintsAreFew → LexesOnce → LeavesAreOfTrees → SpelledHaveFewHints
 spelled_few few lexes are text s p =
     subst HasFewHints (sym (hints_of p.tree nothing_known) ∙ ap (λ (v : View). v.hints) (sym p.says)) (few p.tree nothing_known (spelled_judged lexes are text s p))
+
+-- ---- and few goals
+
+goals_of : (tree : Script) (k : Known) → (meaning_from tree k).goals ≡ goals_behind tree k
+goals_of (formula f h) k = refl
+goals_of (define x rest) k = goals_of rest (definition_value x k)
+
+pub spelled_goals : GoalsAreFew → LexesOnce → LeavesAreOfTrees → SpelledHaveFewGoals
+spelled_goals few lexes are text s p =
+    let same = sym (goals_of p.tree nothing_known) ∙ ap (λ (v : View). v.goals) (sym p.says) in
+    let goals = few p.tree nothing_known (spelled_judged lexes are text s p) in
+    subst (λ (gs : List Claim). length gs ≤ 128) same goals
 
 -- ---- and few cases, with ranges for its splits
 

@@ -1,22 +1,23 @@
 // What the reading of scripts promises, for callers to cite. Nothing here is done at run time.
 ghost use Rattle.script_grammar.specs.Steps.{ReadsScripts};
 ghost use Rattle.script_grammar.specs.Names.{SpelledNamesNodes};
-ghost use Rattle.script_grammar.specs.Few.{SpelledHaveFewHints};
+ghost use Rattle.script_grammar.specs.Few.{SpelledHaveFewHints, SpelledHaveFewGoals, SpelledHaveFewConstraints};
 ghost use Rattle.script_grammar.specs.Ranges.{SpelledHaveRanges, SpelledHaveFewCases};
 ghost use Rattle.script_grammar.specs.Spells.{SpellsOnce, NeverBoth, SpellsAll, FirstsExist, GoalsHaveSpans, SpelledAreShort};
 ghost use Rattle.script_grammar.specs.Read.{SpelledAreRead};
 
 use goal_spans::spans_are_read;
-use node_counts::{hints_are_counted, nodes_are_counted, splits_have_ranges};
+use node_counts::{goals_are_counted, hints_are_counted, nodes_are_counted, splits_have_ranges};
 use script_claims::{formulas_are_read, parts_have_hypotheses};
 use script_hints::laws::reads_hints;
 use script_judge::first::firsts_are_unique;
 use script_judge::reading::reads_scripts;
 use script_nodes::laws::{literals_are_told, reads_definitions};
 use script_shape::shape::{leaves_are_of_trees, shapes_exist};
-use script_words::lex::{lexed_all, lexed_once};
+use script_words::lex::{lexed_all, lexed_once, tokens_are_few};
 
-/// Nothing is done. The clause tells a caller that the words of a script, read from the left, are read as its tree.
+/// Nothing is done. The clause tells a caller that the words of a script, read from the left, are
+/// read as its tree.
 pub fn scripts_are_read()
     ensures { ReadsScripts }
 {
@@ -25,8 +26,8 @@ pub fn scripts_are_read()
     reads_hints();
 }
 
-/// Nothing is done. The clauses tell a caller that each text spells one script or has one refusal, never both and never
-/// neither; and that each goal of a script has its words.
+/// Nothing is done. The clauses tell a caller that each text spells one script or has one refusal,
+/// never both and never neither; and that each goal of a script has its words.
 pub fn script_or_refusal()
     ensures once { SpellsOnce }
     ensures never_both { NeverBoth }
@@ -45,7 +46,8 @@ pub fn script_or_refusal()
     reads_scripts();
 }
 
-/// Nothing is done. The clause tells a caller that a script that a text spells has no more than 512 nodes.
+/// Nothing is done. The clause tells a caller that a script that a text spells has no more than 512
+/// nodes.
 pub fn spelled_are_short()
     ensures { SpelledAreShort }
 {
@@ -54,8 +56,8 @@ pub fn spelled_are_short()
     leaves_are_of_trees();
 }
 
-/// Nothing is done. The clause tells a caller that in a script that a text spells each literal is read, within its limits, and
-/// digits alone stand for the number that they write.
+/// Nothing is done. The clause tells a caller that in a script that a text spells each literal is
+/// read, within its limits, and digits alone stand for the number that they write.
 pub fn spelled_are_read()
     ensures { SpelledAreRead }
 {
@@ -64,21 +66,39 @@ pub fn spelled_are_read()
     leaves_are_of_trees();
 }
 
-/// Nothing is done. The clause tells a caller that each expression that the claims and the hints of a script name is one of its
-/// nodes.
+/// Nothing is done. The clause tells a caller that each expression that the claims and the hints of
+/// a script name is one of its nodes.
 pub fn spelled_name_nodes()
     ensures { SpelledNamesNodes }
 {}
 
-/// Nothing is done. The clause tells a caller that a script that a text spells has no more than 64 rewritings, 64 likes, 4
-/// cuts, each into 64 pieces at most, 4 variables that are halved, and
-/// 8 in all splits.
+/// Nothing is done. The clause tells a caller that a script that a text spells has no more than 64
+/// rewritings, 64 likes, 4 cuts, each into 64 pieces at most, 4 variables that are halved, and 8 in
+/// all splits.
 pub fn spelled_have_few_hints()
     ensures { SpelledHaveFewHints }
 {
     hints_are_counted();
     lexed_once();
     leaves_are_of_trees();
+}
+
+/// Nothing is done. The clause tells a caller that a script that a text spells has no more than 128
+/// goals.
+pub fn spelled_have_few_goals()
+    ensures { SpelledHaveFewGoals }
+{
+    goals_are_counted();
+    lexed_once();
+    leaves_are_of_trees();
+}
+
+/// Nothing is done. The clause tells a caller that the rewritings of a script that a text spells have
+/// no more than 2^18 constraints together.
+pub fn spelled_have_few_constraints()
+    ensures { SpelledHaveFewConstraints }
+{
+    tokens_are_few();
 }
 
 /// Nothing is done. The clause tells a caller that in each case of a script that a text spells each

@@ -12,7 +12,8 @@ ghost use Rattle.script_grammar.specs.Names.{NamesNodes};
 ghost use Rattle.fx_model.specs.Expression.{IsOrdered};
 
 use crate::laws::{
-    spelled_have_few_cases, spelled_have_few_hints, spelled_have_ranges, spelled_name_nodes,
+    spelled_have_few_cases, spelled_have_few_goals, spelled_have_few_hints, spelled_have_ranges,
+    spelled_name_nodes,
 };
 use expr_dag::Dag;
 use goal_spans::Span;
@@ -122,6 +123,15 @@ impl<'a> Script<'a> {
         self.nodes.variables().get(usize::from(number))
     }
 
+    /// How many variables it has.
+    pub fn variable_count(&self) -> u16
+        ensures { result ≡ length self.now.variables }
+    {
+        self.nodes.laws();
+        self.nodes.dag().laws();
+        self.nodes.variables().len() as u16
+    }
+
     /// What its formula claims before the last arrow.
     pub fn hypotheses(&self) -> &[Claim]
         ensures value { result.now ≡ self.now.hypotheses }
@@ -168,21 +178,23 @@ impl<'a> Script<'a> {
         self.spans.as_slice()
     }
 
-    /// Nothing is done. The clauses tell a caller that the text spells the script, that each node is made of earlier ones, that
-    /// the claims and the hints speak of its nodes, that the hints are few, that the hypotheses are
-    /// those of all conjunctions and have few cases, and that in each of them the variables that
-    /// the hints split have ranges.
+    /// Nothing is done. The clauses tell a caller that the text spells the script, that each node
+    /// is made of earlier ones, that the claims and the hints speak of its nodes, that the hints
+    /// are few, and the goals too, that the hypotheses are those of all conjunctions and have few
+    /// cases, and that in each of them the variables that the hints split have ranges.
     pub fn laws(&self)
         ensures spelled { Spells self.now.text self.now }
         ensures ordered { IsOrdered self.now.nodes }
         ensures names { NamesNodes self.now }
         ensures few { HasFewHints self.now.hints }
+        ensures goals { length self.now.goals ≤ 128 }
         ensures cases { HasFewCases self.now }
         ensures ranges { AllByRecursion (λ claims.
             HaveRanges claims self.now.hints) (cases self.now.parts) }
     {
         spelled_name_nodes();
         spelled_have_few_hints();
+        spelled_have_few_goals();
         spelled_have_ranges();
         spelled_have_few_cases();
         self.nodes.dag().laws();

@@ -9,7 +9,7 @@ use Rattle.script_words.specs.declared.lex.TokenKind.TheVariants as kind
 use Rattle.script_words.specs.declared.lex.Token.{Token}
 use Rattle.script_words.specs.Literals.{run_len, exponent_len, is_hex, scaled_len, literal_len}
 use Rattle.script_words.specs.Signs.{single_sign, double_sign, longer_sign, sign_at, reserved_word}
-use Rattle.script_words.specs.Lex.{is_blank, blank_len, word_kind, sign_token, front, Lexes, ends, bad, token, LexesAll}
+use Rattle.script_words.specs.Lex.{is_blank, blank_len, word_kind, sign_token, front, Lexes, ends, bad, token, LexesAll, TokensAreFew}
 
 -- ---- a token has a byte or more
 
@@ -85,3 +85,26 @@ lexed_below (suc bound) at text h = ⊎_elim
 
 pub lexed_all : LexesAll
 lexed_all text = lexed_below (suc (length text)) 0 text (omega arith)
+
+-- ---- and no more of them than bytes
+
+nothing_ahead : front [] ≡ None
+unfolding front
+nothing_ahead = refl
+
+dropped_some : (n : ℕ) (text : List ℕ) (k : TokenKind) (len : ℕ)
+    → front (drop n text) ≡ Some (k, len) → 1 ≤ length text
+dropped_some n (b ∷ text) k len e = omega arith
+dropped_some zero [] k len e = absurd (cc (nothing_ahead, e))
+dropped_some (suc n) [] k len e = absurd (cc (nothing_ahead, e))
+
+pub tokens_few : TokensAreFew
+tokens_few at text ts end (ends e) = omega arith
+tokens_few at text ts end (bad l e) = omega arith
+tokens_few at text ts end (token {k = k} {len = len} {more = more} e rest) =
+    let n = blank_len false text in
+    let some = front_some (drop n text) k len e in
+    let one = dropped_some n text k len e in
+    let h = tokens_few (at + n + len) (drop (n + len) text) more end rest in
+    let d = length-drop (n + len) text in
+    omega (arith, some, one, h, d)

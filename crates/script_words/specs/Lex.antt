@@ -58,6 +58,11 @@ pub record SameLexing (ts us : List Token) (a b : Option ℕ) : Type 0 where
 abbrev pub LexesOnce : Type 0
 LexesOnce = (text : List ℕ) (ts us : List Token) (a b : Option ℕ) → Lexes 0 text ts a → Lexes 0 text us b → SameLexing ts us a b
 
+-- A text has no more tokens than bytes.
+abbrev pub TokensAreFew : Type 0
+TokensAreFew = (at : ℕ) (text : List ℕ) (ts : List Token) (end : Option ℕ)
+    → Lexes at text ts end → length ts ≤ length text
+
 -- Each text has a list of tokens, and a byte that begins none or not.
 abbrev pub LexesAll : Type 0
 LexesAll = (text : List ℕ) → (ts : List Token) × (end : Option ℕ) × Lexes 0 text ts end

@@ -4,7 +4,7 @@ ghost use Rattle.std.specs.Prelude.{◌≡◌, ◌≤◌, ◌<◌, length, drop,
 ghost use Rattle.script_words.specs.Literals as literals;
 ghost use Rattle.script_words.specs.Signs as signs;
 ghost use Rattle.script_words.specs.Lex as spec;
-ghost use Rattle.script_words.specs.Lex.{LexesOnce, LexesAll};
+ghost use Rattle.script_words.specs.Lex.{LexesOnce, LexesAll, TokensAreFew};
 
 use crate::class::Sign;
 
@@ -285,4 +285,9 @@ pub fn lexed_once()
 /// Nothing is done. The clause tells a caller that each text has a list of tokens.
 pub fn lexed_all()
     ensures { LexesAll }
+{}
+
+/// Nothing is done. The clause tells a caller that a text has no more tokens than bytes.
+pub fn tokens_are_few()
+    ensures { TokensAreFew }
 {}

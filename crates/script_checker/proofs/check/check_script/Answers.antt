@@ -1,5 +1,3 @@
-use Rattle.std.proofs.Common.{◌<◌, List, length, subst}
-use Rattle.script_claims.specs.declared.claim.Claim.{Claim}
 use Rattle.cert_bytes.specs.Pieces.{cursor_of}
 use Rattle.script_checker.proofs.Settled.{ClaimLaws}
 use Rattle.script_checker.proofs.Held.{ScriptLaws, checked_held, accepted_so}
@@ -7,7 +5,8 @@ use Rattle.script_checker.proofs.OneSubject.{few_goals, few_marks, count_for, ma
 use Rattle.script_checker.proofs.check.check_script.Goals as goal
 
 pub check_subject-requires-clause-goals : goal.check_subject-requires-clause-goals
-check_subject-requires-clause-goals g c = few_goals c.args.script.now _ c.in_ok-subject.ensures (subst (λ (goals : List Claim). length goals < 65535) c.goals.ensures.value c.if-goals-ge65535.false)
+check_subject-requires-clause-goals g c =
+    few_goals c.args.script.now _ c.in_ok-subject.ensures c.laws.ensures.goals
 
 pub check_subject-requires-clause-marks : goal.check_subject-requires-clause-marks
 check_subject-requires-clause-marks g c = few_marks c.args.script.now _ c.in_ok-subject.ensures c.laws.ensures.few

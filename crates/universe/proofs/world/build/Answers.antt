@@ -1,11 +1,12 @@
 use Rattle.std.proofs.Common.{◌≡◌, [], ◌≤◌, length, arith, sym, ap, ◌∙◌, subst}
 use Rattle.std.specs.Prelude.{All}
+use Rattle.std.proofs.lemmas.List.{length-map}
 use Rattle.script_hints.specs.declared.hint.HintList.{HintList}
 use Rattle.script_hints.specs.Needs.{HasNormalBounds}
 use Rattle.pair_closure.specs.Closure.{AreKnown}
 use Rattle.rewrite_hints.specs.Marks.{AreKnownSides}
 use Rattle.rule_universe.specs.Worlds.{World}
-use Rattle.universe.specs.Universes.{IsUniverse}
+use Rattle.universe.specs.Universes.{IsUniverse, goal_of}
 use Rattle.universe.proofs.Named.{starts_known, sides_named}
 use Rattle.universe.proofs.Built.{built, universe_of}
 use Rattle.universe.proofs.world.build.Goals as goal
@@ -23,8 +24,17 @@ instances_of-requires-clause-few c =
     let few : length c.args.script.now.hints.rewrites ≤ 64 = c.laws.ensures.few.rewrites in
     omega arith
 
-pub new-requires : goal.new-requires
-new-requires c =
+pub new-requires-clause-few : goal.new-requires-clause-few
+new-requires-clause-few c =
+    let goals = c.goals.result.now in
+    let count : length c.in_ok-goals.goals.items ≡ length goals =
+    ap length c.in_ok-goals.ensures ∙ length-map goals goal_of in
+    let same : length goals ≡ length c.args.script.now.goals = ap length c.goals.ensures.value in
+    let few = c.laws.ensures.goals in
+    omega (arith, count, same, few)
+
+pub new-requires-clause-whole : goal.new-requires-clause-whole
+new-requires-clause-whole c =
     let u : World = record {
       nodes = c.in_ok-nodes.field-0.nodes;
       pairs = c.in_ok-nodes.field-0.pairs;

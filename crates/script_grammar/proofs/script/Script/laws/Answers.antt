@@ -1,4 +1,4 @@
-use Rattle.std.proofs.Common.{subst}
+use Rattle.std.proofs.Common.{◌≤◌, length, subst}
 use Rattle.std.specs.List.{AllByRecursion}
 use Rattle.script_cases.specs.Cases.{cases}
 use Rattle.script_grammar.specs.Ranges.{HasFewCases}
@@ -13,6 +13,11 @@ returns-clause-names c = subst NamesNodes c.self.view_is (c.spelled_name_nodes.e
 
 pub returns-clause-few : goal.returns-clause-few
 returns-clause-few c = subst (λ (v : View). HasFewHints v.hints) c.self.view_is (c.spelled_have_few_hints.ensures _ _ c.self.invariant.0)
+
+pub returns-clause-goals : goal.returns-clause-goals
+returns-clause-goals c =
+    let few = c.spelled_have_few_goals.ensures _ _ c.self.invariant.0 in
+    subst (λ (v : View). length v.goals ≤ 128) c.self.view_is few
 
 pub returns-clause-ranges : goal.returns-clause-ranges
 returns-clause-ranges c = subst (λ (v : View). AllByRecursion (λ claims. HaveRanges claims v.hints) (cases v.parts)) c.self.view_is (c.spelled_have_ranges.ensures _ _ c.self.invariant.0)
