@@ -25,9 +25,11 @@ pub struct Core<'p, C: Cuts> {
     held: Vec<OpenBox>,
     split: Vec<OpenBox>,
     settled: Vec<Path>,
+    published: Vec<Path>,
 }
 
 impl<'p, C: Cuts> Model for Core<'p, C> {
+    ghost use Rattle.accounts.specs.Account.{account_of};
     ghost use Rattle.accounts.specs.Planned.{Planned, planned_coded};
     ghost use Rattle.accounts.specs.Balance.{IsBalanced};
 
@@ -35,9 +37,15 @@ impl<'p, C: Cuts> Model for Core<'p, C> {
 
     ghost coded = { planned_coded C.code };
 
-    ghost view = { λ k. record { plan = k.plan.now; account = record { lanes = k.lanes.items; hands = k.hands.items; held = k.held.items; split = k.split.items; settled = k.settled.items } } };
+    ghost view = { λ k. record {
+      plan = k.plan.now;
+      account = account_of k.lanes.items k.hands.items k.held.items k.split.items
+          k.settled.items k.published.items;
+    } };
 
-    ghost invariant = { λ k. IsBalanced (C.pieces_of k.plan.now) (record { lanes = k.lanes.items; hands = k.hands.items; held = k.held.items; split = k.split.items; settled = k.settled.items }) };
+    ghost invariant = { λ k. IsBalanced (C.pieces_of k.plan.now)
+        (account_of k.lanes.items k.hands.items k.held.items k.split.items
+        k.settled.items k.published.items) };
 }
 
 // What is in the hand of a worker; none where there is no such worker.
@@ -87,6 +95,7 @@ impl<'p, C: Cuts> Core<'p, C> {
             held: Vec::new(alloc),
             split: Vec::new(alloc),
             settled: Vec::new(alloc),
+            published: Vec::new(alloc),
         })
     }
 
@@ -158,6 +167,9 @@ impl<'p, C: Cuts> Core<'p, C> {
         if !is_publishable(&found, &path, self.plan.pieces(&found.path)) {
             return Err(EventRefused::NotEnabled);
         }
+        let Ok(()) = self.published.push(found.path) else {
+            return Err(EventRefused::OutOfMemory);
+        };
         self.hands[worker as usize] = Some(OpenBox {
             path: found.path,
             pushed: found.pushed,
