@@ -34,6 +34,19 @@ further zero rest l r = absurd (let z : rest < 1 = r in omega (arith, z, l))
 further (suc zero) rest l r = absurd (let z : rest < 128 = r in omega (arith, z, l))
 further (suc (suc k)) rest l r = let e : 128 ^ suc (suc k) ≡ 128 * 128 ^ suc k = pow-succ' 128 (suc k) in (k, refl, omega (arith, e, r))
 
+-- a number below a power has no more digits than that
+pub digits_below : (j k n : ℕ) → n < 128 ^ suc k → length (digits j n) ≤ suc k
+unfolding digits
+digits_below zero k n l = omega arith
+digits_below (suc j) k n l = ⊎_elim
+    (λ s. let e = ap length (last_digit j n s) in omega (arith, e))
+    (λ s. let f = further (suc k) n s l in
+    let e = ap length (first_digit j n s) in
+    let h = digits_below j f.0 (n / 128) f.2 in
+    let same = f.1 in
+    omega (arith, e, h, same))
+    (cases_lt n 128)
+
 less_one : (left k : ℕ) → left ≡ suc (suc k) → left - 1 ≡ suc k
 less_one left k e = omega (arith, e)
 

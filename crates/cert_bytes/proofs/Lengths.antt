@@ -1,5 +1,5 @@
 -- How many bytes each item spells at most, in either version.
-use Rattle.std.proofs.Common.{◌≡◌, ◌≤◌, ◌+◌, ◌*◌, ◌++◌, ◌∷◌, [], ℕ, ℤ, List, length, Option, Some, None, refl, arith}
+use Rattle.std.proofs.Common.{◌≡◌, ◌≤◌, ◌<◌, ◌+◌, ◌^◌, ◌*◌, ◌++◌, ◌∷◌, [], ℕ, ℤ, List, length, Option, Some, None, refl, arith}
 use Rattle.std.specs.Int.{w16, w64, cast_unsigned}
 use Rattle.std.proofs.lemmas.List.{length-append}
 use Rattle.fx_model.specs.declared.ExprId.{ExprId}
@@ -17,9 +17,11 @@ use Rattle.cert_bytes.specs.declared.style.Style.TheVariants.{First, Second}
 use Rattle.cert_bytes.specs.declared.item.StepRow.{StepRow}
 use Rattle.cert_bytes.specs.declared.item.Item.{Item}
 use Rattle.cert_bytes.specs.declared.item.Item.TheVariants as item
-use Rattle.cert_bytes.specs.Certificates.{HasSpelling, Fits, IsCounted}
-use Rattle.cert_bytes.specs.Spelling.{digits, zigzag, distance, tiny, short, reference, signed_short, signed_long, wide, references, counted, point, points, end, interval, error, fact_bytes, node_bytes, optional, claim_bytes, cited_bytes, step_bytes, spelling}
-use Rattle.cert_bytes.proofs.Digits.{digits_most, digits_some}
+use Rattle.cert_bytes.specs.Certificates.{HasSpelling, Fits}
+use Rattle.cert_bytes.specs.Styles.{style_after}
+use Rattle.cert_bytes.specs.Sizes.{most_bytes, most_bytes_in, SpellingsAreShort}
+use Rattle.cert_bytes.specs.Spelling.{digits, zigzag, distance, tiny, short, reference, signed_short, signed_long, wide, references, counted, point, points, end, interval, error, fact_bytes, node_bytes, optional, claim_bytes, cited_bytes, step_bytes, spelling, spelled_from}
+use Rattle.cert_bytes.proofs.Digits.{digits_most, digits_some, digits_below}
 use Rattle.cert_bytes.proofs.Back.{length_high}
 
 -- ---- fields
@@ -39,10 +41,16 @@ unfolding short
 short_some n First = let e = length_high 2 n in omega (arith, e)
 short_some n (Second seen) = digits_some 18 n
 
-reference_most : (n : ℕ) (style : Style) → length (reference n style) ≤ 19
+-- the number of a step is taken modulo 2^64
+distance_most : (steps p : ℕ) → distance steps p < 128 ^ 10
+distance_most steps p =
+    let l : distance steps p < 18446744073709551616 = omega arith in omega (arith, l)
+
+reference_most : (n : ℕ) (style : Style) → length (reference n style) ≤ 10
 unfolding reference
 reference_most n First = let e = length_high 8 n in omega (arith, e)
-reference_most n (Second seen) = digits_most 19 (distance seen.steps n)
+reference_most n (Second seen) =
+    digits_below 19 9 (distance seen.steps n) (distance_most seen.steps n)
 
 signed_short_most : (z : ℤ) (style : Style) → length (signed_short z style) ≤ 19
 unfolding signed_short
@@ -121,49 +129,88 @@ node_some (Round r x) style = omega arith
 
 -- ---- lists
 
-references_most : (ns : List ℕ) (style : Style) → length (references ns style) ≤ 19 * length ns
+references_most : (ns : List ℕ) (style : Style) → length (references ns style) ≤ 10 * length ns
 references_most [] style = omega arith
-references_most (n ∷ ns) style = let e = length-append (reference n style) (references ns style) in let p = reference_most n style in let q = references_most ns style in omega (arith, e, p, q)
+references_most (n ∷ ns) style =
+    let e = length-append (reference n style) (references ns style) in
+    let p = reference_most n style in
+    let q = references_most ns style in
+    omega (arith, e, p, q)
 
 points_most : (ds : List Dyadic) (style : Style) → length (points ds style) ≤ 38 * length ds
 points_most [] style = omega arith
 points_most (d ∷ ds) style = let e = length-append (point d style) (points ds style) in let p = point_most d style in let q = points_most ds style in omega (arith, e, p, q)
 
-counted_most : (ns : List ℕ) (style : Style) → IsCounted ns → length (counted ns style) ≤ 1245184
-counted_most ns style k = let q = references_most ns style in let p = short_behind (length ns) style (references ns style) 1245165 (omega (arith, q, k)) in omega (arith, p)
+counted_most : (ns : List ℕ) (style : Style) → length (counted ns style) ≤ 10 * length ns + 19
+counted_most ns style =
+    short_behind (length ns) style (references ns style) (10 * length ns) (references_most ns style)
 
-optional_most : (o : Option ℕ) (style : Style) → length (optional o style) ≤ 20
+optional_most : (o : Option ℕ) (style : Style) → length (optional o style) ≤ 11
 optional_most (Some n) style = let p = reference_most n style in omega (arith, p)
 optional_most None style = omega arith
 
-step_most : (s : StepRow) (style : Style) → IsCounted s.premises → length (step_bytes s style) ≤ 1245400
-step_most s style k =
+step_most : (s : StepRow) (style : Style)
+    → length (step_bytes s style) ≤ 169 + 10 * length s.premises
+step_most s style =
     let p = short_behind s.arg style (fact_bytes s.fact style) 118 (fact_most s.fact style) in
     let claim : length (claim_bytes s style) ≤ 139 = omega (arith, p) in
-    let cited = two_most (optional s.with style) (counted s.premises style) 20 1245184 (optional_most s.with style) (counted_most s.premises style k) in
-    let whole = two_most (claim_bytes s style) (cited_bytes s style) 139 1245204 claim cited in omega (arith, whole)
+    let cited = two_most (optional s.with style) (counted s.premises style) 11
+    (10 * length s.premises + 19) (optional_most s.with style) (counted_most s.premises style) in
+    let whole = two_most (claim_bytes s style) (cited_bytes s style) 139
+    (11 + (10 * length s.premises + 19)) claim cited in
+    omega (arith, whole)
 
-cut_most : (x : ExprId) (ps : List Dyadic) (style : Style) → length ps ≤ 63 → length (spelling (item.Cut x ps) style) ≤ 2500
-cut_most x ps style few =
-    let q = points_most ps style in
-    let c = two_most (tiny (length ps) style) (points ps style) 19 2394 (tiny_most (length ps) style) (omega (arith, q, few)) in
-    let p = short_behind x.0 style (tiny (length ps) style ++ points ps style) 2413 c in omega (arith, p)
+cut_most : (x : ExprId) (ps : List Dyadic) (style : Style)
+    → length (spelling (item.Cut x ps) style) ≤ 39 + 38 * length ps
+cut_most x ps style =
+    let c = two_most (tiny (length ps) style) (points ps style) 19 (38 * length ps)
+    (tiny_most (length ps) style) (points_most ps style) in
+    let p = short_behind x.0 style (tiny (length ps) style ++ points ps style)
+    (19 + 38 * length ps) c in
+    omega (arith, p)
 
 -- ---- items
 
+item_most : (i : Item) (style : Style) → length (spelling i style) ≤ most_bytes i
+item_most (item.Nodes n) style = let p = short_most n style in omega (arith, p)
+item_most (item.Node n) style = node_most n style
+item_most (item.Marks n) style = short_most n style
+item_most (item.Mark m) style = omega arith
+item_most (item.Cases n) style = let p = tiny_most n style in omega (arith, p)
+item_most (item.Step s) style = step_most s style
+item_most (item.Cut x ps) style = cut_most x ps style
+item_most (item.Leaf refs) style = let p = counted_most refs style in omega (arith, p)
+item_most (item.Dead r) style = let p = reference_most r style in omega (arith, p)
+item_most item.End First = omega arith
+item_most item.End (Second seen) =
+    let p = two_most (digits 19 seen.sections) (digits 19 seen.steps) 19 19
+    (digits_most 19 seen.sections) (digits_most 19 seen.steps) in
+    omega (arith, p)
+
+pub spellings_are_short : SpellingsAreShort
+spellings_are_short style [] = omega arith
+spellings_are_short style (i ∷ items) =
+    let p = item_most i style in
+    let q = spellings_are_short (style_after style i) items in
+    two_most (spelling i style) (spelled_from (style_after style i) items) (most_bytes i)
+    (most_bytes_in items) p q
+
 -- far below what a certificate has room for
-pub items_are_short : (i : Item) (style : Style) → HasSpelling i → Fits i → length (spelling i style) ≤ 17592186044416
-items_are_short (item.Nodes n) style h f = let p = short_most n style in omega (arith, p)
-items_are_short (item.Node n) style h f = let p = node_most n style in omega (arith, p)
-items_are_short (item.Marks n) style h f = let p = short_most n style in omega (arith, p)
-items_are_short (item.Mark m) style h f = omega arith
-items_are_short (item.Cases n) style h f = let p = tiny_most n style in omega (arith, p)
-items_are_short (item.Step s) style h f = let p = step_most s style h in omega (arith, p)
-items_are_short (item.Cut x ps) style h f = let p = cut_most x ps style f.1.0 in omega (arith, p)
-items_are_short (item.Leaf refs) style h f = let p = counted_most refs style h in omega (arith, p)
-items_are_short (item.Dead r) style h f = let p = reference_most r style in omega (arith, p)
-items_are_short item.End First h f = omega arith
-items_are_short item.End (Second seen) h f = let p = two_most (digits 19 seen.sections) (digits 19 seen.steps) 19 19 (digits_most 19 seen.sections) (digits_most 19 seen.steps) in omega (arith, p)
+pub items_are_short : (i : Item) (style : Style) → HasSpelling i → Fits i
+    → length (spelling i style) ≤ 17592186044416
+items_are_short i style h f = let p = item_most i style in let q = few i h f in omega (arith, p, q)
+  where
+    few : (i : Item) → HasSpelling i → Fits i → most_bytes i ≤ 17592186044416
+    few (item.Nodes n) h f = omega arith
+    few (item.Node n) h f = omega arith
+    few (item.Marks n) h f = omega arith
+    few (item.Mark m) h f = omega arith
+    few (item.Cases n) h f = omega arith
+    few (item.Step s) h f = let l : length s.premises ≤ 65535 = h in omega (arith, l)
+    few (item.Cut x ps) h f = let l : length ps ≤ 63 = f.1.0 in omega (arith, l)
+    few (item.Leaf refs) h f = let l : length refs ≤ 65535 = h in omega (arith, l)
+    few (item.Dead r) h f = omega arith
+    few item.End h f = omega arith
 
 -- and each but the end has a byte
 pub items_have_a_byte : (i : Item) (style : Style) → ¬ (i ≡ item.End) → 1 ≤ length (spelling i style)

@@ -202,8 +202,12 @@ none_begins_another bytes more items others p q =
     (fronts Head First p.style items others more x.opens x.certificate y.certificate (e ∙ ap (λ (style : Style). spelled_from style others) (sym one))).1
 
 pub spells_once : SpellsOnce
-spells_once bytes items others p q =
-    let x = p.spells in let y = q.spells in
-    let e : spelled_from p.style items ++ [] ≡ spelled_from q.style others = append-nil (spelled_from p.style items) ∙ sym x.spelled ∙ y.spelled in
-    let one = one_version p.style q.style items others [] x.opens y.opens x.certificate y.certificate e in
-    (fronts Head First p.style items others [] x.opens x.certificate y.certificate (e ∙ ap (λ (style : Style). spelled_from style others) (sym one))).0
+spells_once bytes style other items others x y =
+    let told : Style → List ℕ = λ style. spelled_from style others in
+    let e : spelled_from style items ++ [] ≡ told other =
+    append-nil (spelled_from style items) ∙ sym x.spelled ∙ y.spelled in
+    let one : style ≡ other =
+    one_version style other items others [] x.opens y.opens x.certificate y.certificate e in
+    let same = fronts Head First style items others [] x.opens x.certificate y.certificate
+    (e ∙ ap told (sym one)) in
+    (one, same.0)

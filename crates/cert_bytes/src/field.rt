@@ -27,6 +27,7 @@ pub trait Field: Sized {
         ensures moves { IfOk result (λ _. source.old.at < source.new.at) }
         ensures told { (other : List ℕ) → F.told folder.new other ≡ F.told folder.old other }
         ensures later { F.read_faults folder.old ≤ F.read_faults folder.new }
+        ensures quiet { F.write_faults folder.new ≡ F.write_faults folder.old }
         ensures cause { IsErrOf result Stop.Failed → Rose (F.read_faults folder.old) (F.read_faults folder.new) };
 }
 

@@ -24,7 +24,7 @@ mod writing;
 pub use cut_points::CutPoints;
 pub use fault::{CertFault, CertKind, Stop};
 pub use item::{Item, StepRow};
-pub use laws::{certificates_are_spelled_once, spellings_read_back};
+pub use laws::{certificates_are_spelled_once, spellings_are_short, spellings_read_back};
 pub use order::Due;
 pub use reader::Reader;
 pub use style::{Seen, Style};

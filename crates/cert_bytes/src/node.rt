@@ -44,6 +44,7 @@ impl Source {
         ensures grows { self.old.at ≤ self.new.at }
         ensures told { (other : List ℕ) → F.told folder.new other ≡ F.told folder.old other }
         ensures later { F.read_faults folder.old ≤ F.read_faults folder.new }
+        ensures quiet { F.write_faults folder.new ≡ F.write_faults folder.old }
         ensures cause { IsErrOf result Stop.Failed → Rose (F.read_faults folder.old) (F.read_faults folder.new) }
     {
         let start = self.at();
@@ -67,6 +68,7 @@ impl Source {
         ensures grows { self.old.at ≤ self.new.at }
         ensures told { (other : List ℕ) → F.told folder.new other ≡ F.told folder.old other }
         ensures later { F.read_faults folder.old ≤ F.read_faults folder.new }
+        ensures quiet { F.write_faults folder.new ≡ F.write_faults folder.old }
         ensures cause { IsErrOf result Stop.Failed → Rose (F.read_faults folder.old) (F.read_faults folder.new) }
     {
         match tag {
@@ -97,6 +99,7 @@ impl Source {
         ensures grows { self.old.at ≤ self.new.at }
         ensures told { (other : List ℕ) → F.told folder.new other ≡ F.told folder.old other }
         ensures later { F.read_faults folder.old ≤ F.read_faults folder.new }
+        ensures quiet { F.write_faults folder.new ≡ F.write_faults folder.old }
         ensures cause { IsErrOf result Stop.Failed → Rose (F.read_faults folder.old) (F.read_faults folder.new) }
     {
         match tag {

@@ -48,6 +48,7 @@ impl Source {
         ensures moves { IfOk result (λ _. self.old.at + width ≤ self.new.at) }
         ensures told { (other : List ℕ) → F.told folder.new other ≡ F.told folder.old other }
         ensures later { F.read_faults folder.old ≤ F.read_faults folder.new }
+        ensures quiet { F.write_faults folder.new ≡ F.write_faults folder.old }
         ensures cause { IsErrOf result Stop.Failed → Rose (F.read_faults folder.old) (F.read_faults folder.new) }
     {
         let mut value = 0u128;
@@ -72,6 +73,7 @@ impl Source {
         ensures moves { IfOk result (λ _. self.old.at + width ≤ self.new.at) }
         ensures told { (other : List ℕ) → F.told folder.new other ≡ F.told folder.old other }
         ensures later { F.read_faults folder.old ≤ F.read_faults folder.new }
+        ensures quiet { F.write_faults folder.new ≡ F.write_faults folder.old }
         ensures cause { IsErrOf result Stop.Failed → Rose (F.read_faults folder.old) (F.read_faults folder.new) }
     {
         if self.has(width) {
@@ -105,6 +107,7 @@ impl Source {
         ensures moves { IfOk result (λ _. self.old.at < self.new.at) }
         ensures told { (other : List ℕ) → F.told folder.new other ≡ F.told folder.old other }
         ensures later { F.read_faults folder.old ≤ F.read_faults folder.new }
+        ensures quiet { F.write_faults folder.new ≡ F.write_faults folder.old }
         ensures cause { IsErrOf result Stop.Failed
             → Rose (F.read_faults folder.old) (F.read_faults folder.new) }
     {
@@ -148,6 +151,7 @@ impl Source {
         ensures moves { IfOk result (λ _. self.old.at < self.new.at) }
         ensures told { (other : List ℕ) → F.told folder.new other ≡ F.told folder.old other }
         ensures later { F.read_faults folder.old ≤ F.read_faults folder.new }
+        ensures quiet { F.write_faults folder.new ≡ F.write_faults folder.old }
         ensures cause { IsErrOf result Stop.Failed
             → Rose (F.read_faults folder.old) (F.read_faults folder.new) }
     {
@@ -194,6 +198,7 @@ impl Source {
         ensures moves { IfOk result (λ _. self.old.at < self.new.at) }
         ensures told { (other : List ℕ) → F.told folder.new other ≡ F.told folder.old other }
         ensures later { F.read_faults folder.old ≤ F.read_faults folder.new }
+        ensures quiet { F.write_faults folder.new ≡ F.write_faults folder.old }
         ensures cause { IsErrOf result Stop.Failed
             → Rose (F.read_faults folder.old) (F.read_faults folder.new) }
     {
@@ -238,6 +243,7 @@ impl Source {
         ensures moves { IfOk result (λ _. self.old.at < self.new.at) }
         ensures told { (other : List ℕ) → F.told folder.new other ≡ F.told folder.old other }
         ensures later { F.read_faults folder.old ≤ F.read_faults folder.new }
+        ensures quiet { F.write_faults folder.new ≡ F.write_faults folder.old }
         ensures cause { IsErrOf result Stop.Failed
             → Rose (F.read_faults folder.old) (F.read_faults folder.new) }
     {
@@ -268,6 +274,7 @@ impl Source {
         ensures moves { IfOk result (λ _. self.old.at < self.new.at) }
         ensures told { (other : List ℕ) → F.told folder.new other ≡ F.told folder.old other }
         ensures later { F.read_faults folder.old ≤ F.read_faults folder.new }
+        ensures quiet { F.write_faults folder.new ≡ F.write_faults folder.old }
         ensures cause { IsErrOf result Stop.Failed
             → Rose (F.read_faults folder.old) (F.read_faults folder.new) }
     {
@@ -294,6 +301,7 @@ impl Source {
         ensures moves { IfOk result (λ _. self.old.at < self.new.at) }
         ensures told { (other : List ℕ) → F.told folder.new other ≡ F.told folder.old other }
         ensures later { F.read_faults folder.old ≤ F.read_faults folder.new }
+        ensures quiet { F.write_faults folder.new ≡ F.write_faults folder.old }
         ensures cause { IsErrOf result Stop.Failed
             → Rose (F.read_faults folder.old) (F.read_faults folder.new) }
     {
@@ -330,6 +338,7 @@ impl Source {
         ensures moves { IfOk result (λ _. self.old.at < self.new.at) }
         ensures told { (other : List ℕ) → F.told folder.new other ≡ F.told folder.old other }
         ensures later { F.read_faults folder.old ≤ F.read_faults folder.new }
+        ensures quiet { F.write_faults folder.new ≡ F.write_faults folder.old }
         ensures cause { IsErrOf result Stop.Failed
             → Rose (F.read_faults folder.old) (F.read_faults folder.new) }
     {
@@ -351,6 +360,7 @@ impl Source {
         ensures moves { IfOk result (λ _. self.old.at < self.new.at) }
         ensures told { (other : List ℕ) → F.told folder.new other ≡ F.told folder.old other }
         ensures later { F.read_faults folder.old ≤ F.read_faults folder.new }
+        ensures quiet { F.write_faults folder.new ≡ F.write_faults folder.old }
         ensures cause { IsErrOf result Stop.Failed
             → Rose (F.read_faults folder.old) (F.read_faults folder.new) }
     {
@@ -369,6 +379,7 @@ impl Source {
         ensures moves { IfOk result (λ _. self.old.at < self.new.at) }
         ensures told { (other : List ℕ) → F.told folder.new other ≡ F.told folder.old other }
         ensures later { F.read_faults folder.old ≤ F.read_faults folder.new }
+        ensures quiet { F.write_faults folder.new ≡ F.write_faults folder.old }
         ensures cause { IsErrOf result Stop.Failed
             → Rose (F.read_faults folder.old) (F.read_faults folder.new) }
     {

@@ -46,6 +46,7 @@ impl Source {
         ensures within { IfOk result (λ head. (1 ≤ head.1) × (head.1 ≤ 63)) }
         ensures told { (other : List ℕ) → F.told folder.new other ≡ F.told folder.old other }
         ensures later { F.read_faults folder.old ≤ F.read_faults folder.new }
+        ensures quiet { F.write_faults folder.new ≡ F.write_faults folder.old }
         ensures cause { IsErrOf result Stop.Failed → Rose (F.read_faults folder.old) (F.read_faults folder.new) }
     {
         let x = ExprId::read(self, folder)?;
@@ -64,6 +65,7 @@ impl Source {
         ensures spelled { IfOk result HasSpelling }
         ensures told { (other : List ℕ) → F.told folder.new other ≡ F.told folder.old other }
         ensures later { F.read_faults folder.old ≤ F.read_faults folder.new }
+        ensures quiet { F.write_faults folder.new ≡ F.write_faults folder.old }
         ensures cause { IsErrOf result Stop.Failed → Rose (F.read_faults folder.old) (F.read_faults folder.new) }
     {
         let (x, count) = self.cut_head(folder)?;
@@ -83,6 +85,7 @@ impl Source {
         ensures spelled { IfOk result HasSpelling }
         ensures told { (other : List ℕ) → F.told folder.new other ≡ F.told folder.old other }
         ensures later { F.read_faults folder.old ≤ F.read_faults folder.new }
+        ensures quiet { F.write_faults folder.new ≡ F.write_faults folder.old }
         ensures cause { IsErrOf result Stop.Failed → Rose (F.read_faults folder.old) (F.read_faults folder.new) }
     {
         match tag {
@@ -108,6 +111,7 @@ impl Source {
         ensures moves { IfOk result (λ _. self.old.at < self.new.at) }
         ensures told { (other : List ℕ) → F.told folder.new other ≡ F.told folder.old other }
         ensures later { F.read_faults folder.old ≤ F.read_faults folder.new }
+        ensures quiet { F.write_faults folder.new ≡ F.write_faults folder.old }
         ensures cause { IsErrOf result Stop.Failed → Rose (F.read_faults folder.old) (F.read_faults folder.new) }
     {
         let start = self.at();
@@ -126,6 +130,7 @@ impl Source {
         ensures within { IfOk result (λ n. (2 ≤ n) × (n ≤ 64)) }
         ensures told { (other : List ℕ) → F.told folder.new other ≡ F.told folder.old other }
         ensures later { F.read_faults folder.old ≤ F.read_faults folder.new }
+        ensures quiet { F.write_faults folder.new ≡ F.write_faults folder.old }
         ensures cause { IsErrOf result Stop.Failed
             → Rose (F.read_faults folder.old) (F.read_faults folder.new) }
     {
@@ -152,6 +157,7 @@ impl Source {
         ensures spelled { IfOk result HasSpelling }
         ensures told { (other : List ℕ) → F.told folder.new other ≡ F.told folder.old other }
         ensures later { F.read_faults folder.old ≤ F.read_faults folder.new }
+        ensures quiet { F.write_faults folder.new ≡ F.write_faults folder.old }
         ensures cause { IsErrOf result Stop.Failed
             → Rose (F.read_faults folder.old) (F.read_faults folder.new) }
     {
@@ -176,6 +182,7 @@ impl Source {
         ensures moves { IfOk result (λ _. self.old.at < self.new.at) }
         ensures told { (other : List ℕ) → F.told folder.new other ≡ F.told folder.old other }
         ensures later { F.read_faults folder.old ≤ F.read_faults folder.new }
+        ensures quiet { F.write_faults folder.new ≡ F.write_faults folder.old }
         ensures cause { IsErrOf result Stop.Failed
             → Rose (F.read_faults folder.old) (F.read_faults folder.new) }
     {

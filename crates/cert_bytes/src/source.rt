@@ -148,6 +148,7 @@ impl Source {
         ensures kept { kept_of self.new ≡ kept_of self.old }
         ensures at { self.new.at ≡ self.old.at }
         ensures told { (other : List ℕ) → F.told folder.new other ≡ F.told folder.old other }
+        ensures quiet { F.write_faults folder.new ≡ F.write_faults folder.old }
         ensures cause { HasCause (F.read_faults folder.old) (F.read_faults folder.new) result }
     {
         self.begin = 0;
@@ -167,6 +168,7 @@ impl Source {
         ensures kept { kept_of self.new ≡ kept_of self.old }
         ensures at { self.new.at ≡ self.old.at }
         ensures told { (other : List ℕ) → F.told folder.new other ≡ F.told folder.old other }
+        ensures quiet { F.write_faults folder.new ≡ F.write_faults folder.old }
         ensures cause { HasCause (F.read_faults folder.old) (F.read_faults folder.new) result }
     {
         if !self.is_dry() {
@@ -235,6 +237,7 @@ impl Source {
         ensures moves { IfOk result (λ _. self.old.at < self.new.at) }
         ensures told { (other : List ℕ) → F.told folder.new other ≡ F.told folder.old other }
         ensures later { F.read_faults folder.old ≤ F.read_faults folder.new }
+        ensures quiet { F.write_faults folder.new ≡ F.write_faults folder.old }
         ensures cause { IsErrOf result Stop.Failed → Rose (F.read_faults folder.old) (F.read_faults folder.new) }
     {
         if !self.ready(folder)? {

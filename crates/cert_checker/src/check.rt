@@ -31,6 +31,7 @@ fn turn<F: Folder>(chain: &mut Chain, reader: &mut Reader, folder: &mut F) -> Re
     ensures within { reader.new.ahead.at ≤ 2 ^ 44 }
     ensures told { (other : List ℕ) → F.told folder.new other ≡ F.told folder.old other }
     ensures later { F.read_faults folder.old ≤ F.read_faults folder.new }
+    ensures quiet { F.write_faults folder.new ≡ F.write_faults folder.old }
     ensures cause { IsErrOf result CheckStop.Failed → Rose (F.read_faults folder.old) (F.read_faults folder.new) }
 {
     let item = reader.next(folder)?;
@@ -58,6 +59,7 @@ fn check_items<F: Folder>(
     ensures name { reader.new.ahead.name ≡ reader.old.ahead.name }
     ensures told { (other : List ℕ) → F.told folder.new other ≡ F.told folder.old other }
     ensures later { F.read_faults folder.old ≤ F.read_faults folder.new }
+    ensures quiet { F.write_faults folder.new ≡ F.write_faults folder.old }
     ensures cause { IsErrOf result CheckStop.Failed → Rose (F.read_faults folder.old) (F.read_faults folder.new) }
 {
     accepted_lines_hold();
@@ -96,6 +98,7 @@ pub fn check_subject<F: Folder>(
     ensures name { reader.new.ahead.name ≡ reader.old.ahead.name }
     ensures told { (other : List ℕ) → F.told folder.new other ≡ F.told folder.old other }
     ensures later { F.read_faults folder.old ≤ F.read_faults folder.new }
+    ensures quiet { F.write_faults folder.new ≡ F.write_faults folder.old }
     ensures cause { IsErrOf result CheckStop.Failed → Rose (F.read_faults folder.old) (F.read_faults folder.new) }
 {
     bytes_are_accepted();

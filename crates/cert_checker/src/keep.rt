@@ -48,6 +48,7 @@ fn next_item<F: Folder>(
     ensures within { reader.new.ahead.at ≤ 2 ^ 44 }
     ensures told { (other : List ℕ) → F.told folder.new other ≡ F.told folder.old other }
     ensures later { F.read_faults folder.old ≤ F.read_faults folder.new }
+    ensures quiet { F.write_faults folder.new ≡ F.write_faults folder.old }
     ensures cause { IsErrOf result CheckStop.Failed
         → Rose (F.read_faults folder.old) (F.read_faults folder.new) }
 {
@@ -77,6 +78,7 @@ fn keep_items<F: Folder>(
     ensures name { reader.new.ahead.name ≡ reader.old.ahead.name }
     ensures told { (other : List ℕ) → F.told folder.new other ≡ F.told folder.old other }
     ensures later { F.read_faults folder.old ≤ F.read_faults folder.new }
+    ensures quiet { F.write_faults folder.new ≡ F.write_faults folder.old }
     ensures cause { IsErrOf result CheckStop.Failed
         → Rose (F.read_faults folder.old) (F.read_faults folder.new) }
 {
@@ -123,6 +125,7 @@ pub fn accepted_items<F: Folder>(
     ensures name { reader.new.ahead.name ≡ reader.old.ahead.name }
     ensures told { (other : List ℕ) → F.told folder.new other ≡ F.told folder.old other }
     ensures later { F.read_faults folder.old ≤ F.read_faults folder.new }
+    ensures quiet { F.write_faults folder.new ≡ F.write_faults folder.old }
     ensures cause { IsErrOf result CheckStop.Failed
         → Rose (F.read_faults folder.old) (F.read_faults folder.new) }
 {

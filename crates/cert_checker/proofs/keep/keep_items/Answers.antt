@@ -53,6 +53,7 @@ loop-chain-preserved g c =
       name = t.name ∙ i.name;
       told = λ other. t.told other ∙ i.told other;
       later = omega (arith, t.later, i.later);
+      quiet = t.quiet ∙ i.quiet;
     }
 
 pub returns-in_err-item-clause-checks : goal.returns-in_err-item-clause-checks

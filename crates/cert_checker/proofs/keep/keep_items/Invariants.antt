@@ -22,6 +22,7 @@ invariant-loop-chain g l = record {
   name : l.reader.ahead.name ≡ l.fn.reader.ahead.name;
   told : (other : List ℕ) → g.F.Folder.told l.folder other ≡ g.F.Folder.told l.fn.folder other;
   later : g.F.Folder.read_faults l.fn.folder ≤ g.F.Folder.read_faults l.folder;
+  quiet : g.F.Folder.write_faults l.folder ≡ g.F.Folder.write_faults l.fn.folder;
 }
 
 abbrev pub decreases-loop-chain : goal.decreases-loop-chain

@@ -17,6 +17,7 @@ loop-have-init g c = record {
   grows = omega arith;
   told = λ other. refl;
   later = omega arith;
+  quiet = refl;
 }
 
 pub loop-have-preserved : goal.loop-have-preserved
@@ -43,6 +44,7 @@ loop-have-preserved g c =
       grows = omega (arith, c.in_ok-byte.ensures.moves, i.grows);
       told = λ other. c.in_ok-byte.ensures.told other ∙ i.told other;
       later = omega (arith, c.in_ok-byte.ensures.later, i.later);
+      quiet = c.in_ok-byte.ensures.quiet ∙ i.quiet;
     }
 
 pub overflow_mul-weight : goal.overflow_mul-weight

@@ -14,6 +14,7 @@ invariant-loop-have g l = record {
   grows : l.initial.self.at ≤ l.self.at;
   told : (other : List ℕ) → g.F.Folder.told l.folder other ≡ g.F.Folder.told l.initial.folder other;
   later : g.F.Folder.read_faults l.initial.folder ≤ g.F.Folder.read_faults l.folder;
+  quiet : g.F.Folder.write_faults l.folder ≡ g.F.Folder.write_faults l.initial.folder;
 }
 
 abbrev pub decreases-loop-have : goal.decreases-loop-have

@@ -17,6 +17,7 @@ loop-left-init g c = record {
   grows = omega arith;
   told = λ other. refl;
   later = omega arith;
+  quiet = refl;
 }
 
 pub loop-left-preserved : goal.loop-left-preserved
@@ -42,6 +43,7 @@ loop-left-preserved g c =
       grows = omega (arith, c.in_ok-byte.ensures.moves, i.grows);
       told = λ other. c.in_ok-byte.ensures.told other ∙ i.told other;
       later = omega (arith, c.in_ok-byte.ensures.later, i.later);
+      quiet = c.in_ok-byte.ensures.quiet ∙ i.quiet;
     }
 
 pub overflow_mul-worth : goal.overflow_mul-worth

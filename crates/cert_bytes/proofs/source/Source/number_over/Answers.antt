@@ -16,6 +16,7 @@ loop-have-init g c = record {
   grows = omega arith;
   told = λ other. refl;
   later = omega arith;
+  quiet = refl;
 }
 
 pub loop-have-preserved : goal.loop-have-preserved
@@ -36,6 +37,7 @@ loop-have-preserved g c =
       grows = omega (arith, c.in_ok-byte.ensures.moves, c.loop-have.invariant.grows);
       told = λ other. c.in_ok-byte.ensures.told other ∙ c.loop-have.invariant.told other;
       later = omega (arith, c.in_ok-byte.ensures.later, c.loop-have.invariant.later);
+      quiet = c.in_ok-byte.ensures.quiet ∙ c.loop-have.invariant.quiet;
     }
 
 pub byte-requires : goal.byte-requires

@@ -24,6 +24,7 @@ loop-have-preserved g c =
       grows = omega (arith, c.in_ok-read.ensures.grows, c.loop-have.invariant.grows);
       told = λ other. c.in_ok-read.ensures.told other ∙ c.loop-have.invariant.told other;
       later = omega (arith, c.in_ok-read.ensures.later, c.loop-have.invariant.later);
+      quiet = c.in_ok-read.ensures.quiet ∙ c.loop-have.invariant.quiet;
     }
 
 pub returns-clause-gives : goal.returns-clause-gives
