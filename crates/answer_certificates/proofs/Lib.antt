@@ -19,3 +19,6 @@ mod SplitNames
 mod InCases
 mod Spelled
 mod Rooted
+mod Plain
+mod Rows
+mod Sized

@@ -1,5 +1,5 @@
 -- A script that a text spells has room for its certificates, and its goals are about slots of its universe.
-use Rattle.std.specs.Prelude.{ℕ, ◌+◌, ◌<◌, ◌≤◌, List, [], ◌∷◌, ◌++◌, length, map, Option, Some, None, refl}
+use Rattle.std.specs.Prelude.{ℕ, ◌+◌, ◌<◌, ◌≤◌, ◌^◌, List, [], ◌∷◌, ◌++◌, length, map, Option, Some, None, refl}
 use Rattle.std.specs.List.{AllByRecursion}
 use Rattle.std.proofs.Common.{sym, ap, subst, inr, arith, length-append}
 use Rattle.std.proofs.lemmas.List.{length-map}
@@ -17,7 +17,7 @@ use Rattle.script_grammar.specs.Spells.{View, SpelledAreShort}
 use Rattle.script_grammar.specs.Names.{ClaimIsOf}
 use Rattle.script_grammar.specs.Cases.{cases_of}
 use Rattle.script_grammar.specs.Ranges.{SpelledHaveFewCases}
-use Rattle.script_grammar.specs.Few.{SpelledHaveFewHints}
+use Rattle.script_grammar.specs.Few.{SpelledHaveFewHints, SpelledHaveFewConstraints, constraints_in}
 use Rattle.pair_closure.specs.Reached.{Has}
 use Rattle.pair_closure.specs.Reached.IsReached.{begin}
 use Rattle.pair_closure.specs.Closure.{Pair, difference_of}
@@ -76,7 +76,8 @@ goals_have_slots s before u names universe =
 
 -- ---- room
 module _ (s : View) (before : List Claim) (u : World) (has : HasUniverse s before u)
-    (built : IsBuilt u) (few : HasFewHints s.hints) (slots : HypothesesHaveSlots)
+    (built : IsBuilt u) (few : HasFewHints s.hints)
+    (constraints : constraints_in s.hints.rewrites ≤ 2 ^ 18) (slots : HypothesesHaveSlots)
     (numbered : AreNumbered s.nodes s.variables) (short : length s.nodes ≤ 512)
     (splits : AllByRecursion (IsVariable s.nodes) s.hints.order)
     (claimed : length s.hypotheses + length s.goals ≤ 130) where
@@ -105,6 +106,7 @@ module _ (s : View) (before : List Claim) (u : World) (has : HasUniverse s befor
       short = built.short;
       goals = omega (arith, claimed, ap length has.universe.goals, length-map s.goals goal_of);
       hints = few;
+      constraints = constraints;
       hypotheses = omega (arith, claimed, fewer, facts_counted claims);
       numbers = λ x v e.
           let low = numbered.below x v e in
@@ -126,9 +128,10 @@ AreFewClaims v = length v.hypotheses + length v.goals ≤ 130
 abbrev SplitsAreVariables : View → Type 0
 SplitsAreVariables v = AllByRecursion (IsVariable v.nodes) v.hints.order
 
-pub scripts_have_room : SpelledAreShort → SpelledHaveFewHints → SpelledHaveFewCases
+pub scripts_have_room : SpelledAreShort → SpelledHaveFewHints → SpelledHaveFewConstraints
+    → SpelledHaveFewCases
     → LexesOnce → LeavesAreOfTrees → HypothesesHaveSlots → ScriptsHaveRoom
-scripts_have_room short hints cases lexes are slots text s before u p has built =
+scripts_have_room short hints constraints cases lexes are slots text s before u p has built =
     let passes = spelled_passes lexes are text s p in
     let few = cases text s p in
     let claimed : AreFewClaims s =
@@ -142,6 +145,6 @@ scripts_have_room short hints cases lexes are slots text s before u p has built 
     (sym few.hypotheses) (cases_short s.parts) in
     let some : 0 < length (cases_of s) =
     subst (λ (v : View). 0 < length (cases_of v)) (sym p.says) (some_case p.tree nothing_known) in
-    let each = each_room s before u has built (hints text s p) slots numbered (short text s p)
+    let each = each_room s before u has built (hints text s p) (constraints text s p) slots numbered (short text s p)
     splits claimed (cases_of s) (cases_have_hypotheses s few) fewer in
     record { some = some; few = few.few; each = each }

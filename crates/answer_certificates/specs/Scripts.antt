@@ -11,6 +11,7 @@ use Rattle.script_claims.specs.declared.claim.Claim.{Claim}
 use Rattle.script_grammar.specs.Spells.{View, Spells}
 use Rattle.script_grammar.specs.Names.{NamesNodes}
 use Rattle.script_grammar.specs.Cases.{cases_of}
+use Rattle.script_grammar.specs.Few.{constraints_in}
 use Rattle.script_truths.specs.Truths.{HasUniverse}
 use Rattle.rule_universe.specs.Worlds.{World, HasSlot, IsWhole}
 use Rattle.rule_universe.specs.Assumed.{assuming}
@@ -24,8 +25,10 @@ pub record HasRoom (s : View) (u : World) : Type 0 where
   pub lawful : (x : ExprId) (n : Node) → IsAt u.nodes x n → IsLawful x.0 n
   pub short : length u.nodes ≤ 1024
   pub goals : length u.goals ≤ 65535
-  -- and each script that a text spells keeps these: hypotheses and variables have numbers of 16 bits, and what is split are variables
+  -- and each script that a text spells keeps these: its hints are few, hypotheses and variables
+  -- have numbers of 16 bits, and what is split are variables
   pub hints : HasFewHints s.hints
+  pub constraints : constraints_in s.hints.rewrites ≤ 2 ^ 18
   pub hypotheses : length u.hypotheses ≤ 2 ^ 16
   pub numbers : (x : ExprId) (v : ℕ) → IsAt s.nodes x (Var v) → v < 2 ^ 16
   pub splits : AllByRecursion (IsVariable s.nodes) s.hints.order

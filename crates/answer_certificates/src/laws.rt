@@ -1,12 +1,15 @@
 //! What holds of the certificates of scripts, for callers to cite. Nothing here is done at run time.
 ghost use Rattle.box_tree.specs.Regions.{PlanParts};
 ghost use Rattle.answer_certificates.specs.Laws.{UniversesAreWritten, InstancesAreFew, SubjectsAreOfUniverses, TreesAreProved, PiecesAreOfCuts, ScriptsHaveRoots, AnswersHaveCertificates, AnswersAreSpelled};
+ghost use Rattle.answer_certificates.specs.Premises.{PremisesAreFew};
+ghost use Rattle.answer_certificates.specs.Universes.{UniversesAreSmall};
 
 use bisect::{boxes_are_listed, one_answer};
 use box_traces::{certificates_exist, rules_fit_steps};
 use box_tree::few_cuts_end;
 use derivation::best_tables_exist;
 use saturate::rules_are_lawful;
+use script_truths::universes_extend;
 use universe::universes_are_one;
 
 /// Nothing is done. The clauses tell a caller that what derivations over a script's universe
@@ -54,4 +57,19 @@ pub fn answers_have_certificates()
     scripts_have_roots();
     subjects_are_written();
     certificates_exist();
+}
+
+// Nothing is done. The clause says how many premises instances have together beyond four each:
+// those of hints alone have more.
+fn premises_are_few()
+    ensures { PremisesAreFew }
+{}
+
+/// Nothing is done. The clause tells a caller that the universe of a script has no more premises
+/// than one text can ask for.
+pub fn universes_are_small()
+    ensures { UniversesAreSmall }
+{
+    premises_are_few();
+    universes_extend();
 }

@@ -4,7 +4,10 @@ ghost use Rattle.script_claims.specs.declared.claim.Claim.{Claim};
 ghost use Rattle.universe.specs.Universes.{IsUniverse};
 ghost use Rattle.answer_certificates.specs.Scripts.{HasCases, ScriptsHaveRoom, HasSlots, GoalsHaveSlots};
 
-use script_grammar::{Script, spelled_are_short, spelled_have_few_cases, spelled_have_few_hints};
+use script_grammar::{
+    Script, spelled_are_short, spelled_have_few_cases, spelled_have_few_constraints,
+    spelled_have_few_hints,
+};
 use script_shape::shape::leaves_are_of_trees;
 use script_words::lex::lexed_once;
 use universe::{Universe, hypotheses_have_slots};
@@ -18,6 +21,7 @@ pub fn scripts_have_room()
 {
     spelled_are_short();
     spelled_have_few_hints();
+    spelled_have_few_constraints();
     spelled_have_few_cases();
     lexed_once();
     leaves_are_of_trees();

@@ -1,5 +1,5 @@
 -- What conclusions come to, one, two for a slot, and those of a whole round.
-use Rattle.std.specs.Prelude.{◌≡◌, ◌≢◌, ◌⊎◌, ◌≤◌, ◌+◌, ◌*◌, ℕ, List, [], ◌∷◌, ◌++◌, length, Option, Some, None, slice_get, map, Contains, refl}
+use Rattle.std.specs.Prelude.{◌≡◌, ◌≢◌, ◌⊎◌, ◌<◌, ◌≤◌, ◌+◌, ◌*◌, ℕ, List, [], ◌∷◌, ◌++◌, length, Option, Some, None, slice_get, map, Contains, refl}
 use Rattle.std.proofs.Common.{sym, ◌∙◌, ap, subst, inl, inr, arith}
 use Rattle.std.proofs.lemmas.List.{map-append}
 use Rattle.std.proofs.lemmas.List.Elements.{Contains-push, Contains-push_cases, Contains-append_left}
@@ -9,7 +9,10 @@ use Rattle.facts.specs.declared.fact.Fact.TheVariants as fact
 use Rattle.facts.specs.declared.fact.Slot.TheVariants as slot
 use Rattle.facts.specs.declared.instance.Instance.{Instance}
 use Rattle.facts.specs.Order.{slot_of, IsStronger}
+use Rattle.theorem_list.specs.Concludes.{concludes}
+use Rattle.pair_closure.specs.Reached.{IsEachOnce}
 use Rattle.derivation.specs.Derivations.{At}
+use Rattle.derivation.specs.Lists.{IsOnTargetList}
 use Rattle.derivation.specs.Rounds.{IsProper, Improves, IsAhead, IsSame, AllSeen}
 use Rattle.derivation.specs.Changes.{IsListed}
 use Rattle.derivation.specs.Parts.{some_same, none_some, slot_cases, void_alone}
@@ -27,9 +30,13 @@ use Rattle.box_traces.specs.Sections.{behind, ArePlaces}
 use Rattle.box_traces.specs.Writing.{IsWritable}
 use Rattle.box_trace.specs.Tables.{known_at, place_in, HasRows}
 use Rattle.box_trace.specs.Scans.{IsConclusion, ends_in, AreEndsOf, IsWide, most_for}
-use Rattle.box_trace.specs.Logs.{Comes, CanCite, GoesOnFrom, IsLonger, IsComeBy, IsSlotWritten, IsRound}
+use Rattle.rule_universe.specs.Sizes.{beyond_four}
+use Rattle.box_trace.specs.Rounds.{AddsSteps}
+use Rattle.box_trace.specs.Logs.{Comes, CanCite, GoesOnFrom, IsLonger, IsComeBy, IsSlotWritten, IsRound, more_by}
 use Rattle.box_trace.proofs.OnePlace.{slot_once}
 use Rattle.box_trace.proofs.Rows.{same_known, same_places}
+use Rattle.box_trace.proofs.Added.{adds_both, adds_one, adds_slack}
+use Rattle.box_trace.proofs.Beyond.{beyond_below, beyond_next, beyond_both, beyond_one}
 use Rattle.box_trace.proofs.Logged.{comes_improves, comes_rows, comes_first, comes_few, instance_goes_on}
 use Rattle.box_trace.proofs.Scanned.{IsWritten, written_one, written_both, wide_cases}
 use Rattle.facts.specs.CommonParts.{at_option, void_is}
@@ -37,7 +44,7 @@ use Rattle.facts.specs.CommonParts.{at_option, void_is}
 module _ (u : World) (now : Known) where
   -- One conclusion came.
   pub came : (old new : Log) (found : Found) (i : Instance) (premises : List ℕ) → HasRows u old.known → IsConclusion u (known_at u now) found → slice_get u.instances found.instance ≡ Some i →
-      premises ≡ map (place_in u now) i.premises → Comes u old i.rule i.arg premises found.fact new → IsComeBy u now found.fact old new
+      premises ≡ map (place_in u now) i.premises → Comes u old i.rule i.arg premises found.fact new → IsComeBy u now found old new
   came old new found i premises r w there e come =
       let same : w.0 ≡ i = some_same w.0 i (slice_get u.instances found.instance) w.1 there in
       let c : Comes u old (w.0).rule (w.0).arg (map (place_in u now) (w.0).premises) found.fact new =
@@ -47,6 +54,7 @@ module _ (u : World) (now : Known) where
         improves = comes_improves u old new (w.0).rule (w.0).arg ps found.fact r.proper c;
         goes_on = λ writable. instance_goes_on u writable now old new found.instance w.0 found.fact r.proper w.1 w.2 c;
         rows = comes_rows u old new (w.0).rule (w.0).arg ps found.fact r c;
+        adds = adds_one u now old new found w.0 w.1 w.2 c;
         first = comes_first u old new (w.0).rule (w.0).arg ps found.fact c;
         few = comes_few u old new (w.0).rule (w.0).arg ps found.fact c;
       }
@@ -55,7 +63,7 @@ module _ (u : World) (now : Known) where
   goes_on_both old mid new a b cut s i can = (let w = a cut s i can in b cut s w.0 w.1)
 
   -- Those of one slot came.
-  pub slot_written : (p : ℕ) (e : Ends) (old mid new : Log) → IsComeBy u now e.low.fact old mid → (IsWide (length u.nodes) p → IsComeBy u now e.high.fact mid new) →
+  pub slot_written : (p : ℕ) (e : Ends) (old mid new : Log) → IsComeBy u now e.low old mid → (IsWide (length u.nodes) p → IsComeBy u now e.high mid new) →
       ((¬ IsWide (length u.nodes) p) → new ≡ mid) → IsSlotWritten u now p e old new
   slot_written p e old mid new low wide narrow =
       elim (wide_cases u (known_at u now) (length u.nodes) p) [
@@ -66,6 +74,8 @@ module _ (u : World) (now : Known) where
               both = λ z. (known_at u mid.known, low.improves.0, high.improves.0, low.improves.1, high.improves.1);
               goes_on = λ writable. goes_on_both old mid new (low.goes_on writable) (high.goes_on writable);
               rows = high.rows;
+              adds = adds_both u now (more_by u e.low) (more_by u e.high) old mid new low.first
+                  low.adds high.adds;
               first = high.first ∙ low.first;
               two = (let a = low.few in let b = high.few in omega (arith, a, b));
               single = λ n. absurd (n y);
@@ -78,6 +88,8 @@ module _ (u : World) (now : Known) where
               both = λ z. absurd (y z);
               goes_on = low.goes_on;
               rows = low.rows;
+              adds = adds_slack u now (more_by u e.low) (more_by u e.low + more_by u e.high) old mid
+                  (omega arith) low.adds;
               first = low.first;
               two = (let a = low.few in omega (arith, a));
               single = λ n. low.few;
@@ -137,6 +149,20 @@ module _ (u : World) (at : At) (now : Known) (p : ℕ) (e : Ends) (ends : AreEnd
         | inr y ↦ (let t = w.single y in omega (arith, t, l))
       ]
 
+-- and so many premises
+pub written_adds : (u : World) → IsEachOnce u.pairs → IsOnTargetList (concludes u.nodes u.hints)
+    → (now : Known) (p : ℕ) → p < 4 * length u.nodes + length u.pairs
+    → (e : Ends) → AreEndsOf u (known_at u now) p e → (first old new : Log)
+    → old.first ≡ first.first → AddsSteps u now (2 * beyond_below u p) first old
+    → AddsSteps u now (more_by u e.low + more_by u e.high) old new
+    → AddsSteps u now (2 * beyond_below u (p + 1)) first new
+written_adds u once on_target now p inside e ends first old new f a b =
+    let most = beyond_both u once on_target (known_at u now) p inside e ends in
+    let next = beyond_next u p in
+    adds_slack u now (2 * beyond_below u p + (more_by u e.low + more_by u e.high))
+    (2 * beyond_below u (p + 1)) first new (omega (arith, most, next))
+    (adds_both u now (2 * beyond_below u p) (more_by u e.low + more_by u e.high) first old new f a b)
+
 -- ---- a whole round
 pub most_bound : (n pairs p : ℕ) → n ≤ 1024 → pairs ≤ 1024 → p ≤ 4 * n + pairs → most_for n p ≤ 8192
 most_bound n pairs p a b c = omega arith
@@ -146,13 +172,16 @@ most_more n p = omega arith
 
 -- where VOID came
 pub round_void : (u : World) (now : Known) (old new : Log) (changed : List Placed) (Seen : ℕ → Type 0) → IsAhead (setting_of u) (known_at u now) (known_at u new.known) Seen → known_at u new.known slot.Void ≡ Some fact.Void →
-    (IsWritable (setting_of u) u.hints → GoesOnFrom u now old new) → HasRows u new.known → new.first ≡ old.first → length new.steps.items ≤ length old.steps.items + 8192 → IsRound u now old new changed
-round_void u now old new changed Seen a v g r f l = record {
+    (IsWritable (setting_of u) u.hints → GoesOnFrom u now old new) → HasRows u new.known →
+    AddsSteps u now (2 * beyond_four u.instances) old new → new.first ≡ old.first →
+    length new.steps.items ≤ length old.steps.items + 8192 → IsRound u now old new changed
+round_void u now old new changed Seen a v g r d f l = record {
   ahead = ahead_void (setting_of u) (known_at u now) (known_at u new.known) Seen AllSeen fact.Void a v;
   listed = λ n. absurd (none_some fact.Void (known_at u new.known slot.Void) n v);
   placed = λ n. absurd (none_some fact.Void (known_at u new.known slot.Void) n v);
   goes_on = g;
   rows = r;
+  adds = d;
   first = f;
   few = l;
 }
@@ -170,7 +199,7 @@ begin_ahead u at new Seen same p none = ahead_begin (setting_of u) at new Seen (
 
 -- A conclusion VOID came.
 pub void_came : (u : World) (now : Known) (found : Found) (old new : Log) (changed : List Placed) → IsConclusion u (known_at u now) found → found.fact ≡ fact.Void → HasRows u old.known →
-    IsSame (known_at u now) (known_at u old.known) → IsComeBy u now found.fact old new → IsRound u now old new changed
+    IsSame (known_at u now) (known_at u old.known) → IsComeBy u now found old new → IsRound u now old new changed
 void_came u now found old new changed w v r same c =
     let at = known_at u now in
     let from = known_at u old.known in
@@ -182,7 +211,10 @@ void_came u now found old new changed w v r same c =
     round_void u now old new changed (λ j. ⊥ ⊎ (found.instance ≡ j))
     (ahead_step (setting_of u) at from (λ j. ⊥) found.instance w.0 a w.1 found.fact w.2 to k c.improves.1)
     (subst (λ f. to (slot_of f) ≡ Some f) is_void c.improves.1.written.here)
-    c.goes_on c.rows c.first (let f = c.few in omega (arith, f))
+    c.goes_on c.rows
+    (adds_slack u now (more_by u found) (2 * beyond_four u.instances) old new
+    (let b = beyond_one u found in omega (arith, b)) c.adds)
+    c.first (let f = c.few in omega (arith, f))
 
 -- ---- rounds after one another
 -- A round more, where what it read is what the log came to.

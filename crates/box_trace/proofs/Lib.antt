@@ -3,6 +3,9 @@ pub mod Rows
 pub mod EndsOrder
 pub mod Rounded
 pub mod Logged
+pub mod Added
+pub mod Counted
+pub mod Beyond
 pub mod Stepped
 pub mod Scanned
 pub mod Came
@@ -11,3 +14,4 @@ pub mod Answered
 pub mod Started
 pub mod Given
 pub mod Steps
+pub mod Short

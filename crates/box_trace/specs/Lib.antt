@@ -1,5 +1,7 @@
 pub mod Tables
+pub mod Rounds
 pub mod Ends
 pub mod Scans
 pub mod Logs
 pub mod Boxes
+pub mod Short

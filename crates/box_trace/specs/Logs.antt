@@ -1,5 +1,5 @@
 -- What becomes of a log as facts come, and where its steps may stand.
-use Rattle.std.specs.Prelude.{◌≡◌, ◌≢◌, ◌⊎◌, ◌≤◌, ◌+◌, ℕ, List, [], ◌∷◌, ◌++◌, length, Option, Some, None, Contains}
+use Rattle.std.specs.Prelude.{◌≡◌, ◌≢◌, ◌⊎◌, ◌≤◌, ◌+◌, ◌*◌, ℕ, List, [], ◌∷◌, ◌++◌, length, Option, Some, None, slice_get, Contains}
 use Rattle.facts.specs.declared.fact.Fact.{Fact}
 use Rattle.facts.specs.declared.fact.Slot.{Slot}
 use Rattle.facts.specs.declared.fact.Slot.TheVariants as slot
@@ -15,12 +15,15 @@ use Rattle.rule_universe.specs.Placed.{slots_of, IsPlaced}
 use Rattle.saturate.specs.Universes.{setting_of}
 use Rattle.box_trace.specs.declared.known.Known.{Known}
 use Rattle.box_trace.specs.declared.log.Log.{Log}
+use Rattle.box_trace.specs.declared.ends.Found.{Found}
 use Rattle.box_trace.specs.declared.ends.Ends.{Ends}
 use Rattle.box_trace.specs.Scans.{IsWide}
 use Rattle.box_traces.specs.Sections.{behind, ArePlaces, AreBelow, IsTraced}
 use Rattle.box_traces.specs.Writing.{IsWritable, givens_of}
 use Rattle.box_traces.specs.Traces.{HaveFields}
 use Rattle.box_trace.specs.Tables.{cited_at, known_at, place_in, HasRows}
+use Rattle.rule_universe.specs.Sizes.{beyond_four}
+use Rattle.box_trace.specs.Rounds.{beyond_in, AddsSteps}
 use Rattle.box_traces.specs.Coming.{coming}
 
 -- ---- one fact comes
@@ -69,11 +72,16 @@ pub record IsLonger (u : World) (most : ℕ) (old new : Log) : Type 0 where
   pub first : new.first ≡ old.first
   pub few : length new.steps.items ≤ length old.steps.items + most
 
+-- how many premises the instance has beyond four
+abbrev pub more_by : World → Found → ℕ
+more_by u found = beyond_in (slice_get u.instances found.instance)
+
 -- A conclusion from what is known now came, by one step at most.
-pub record IsComeBy (u : World) (now : Known) (c : Fact) (old new : Log) : Type 0 where
-  pub improves : (k : Fact) × Improves (known_at u old.known) (known_at u new.known) c k
+pub record IsComeBy (u : World) (now : Known) (found : Found) (old new : Log) : Type 0 where
+  pub improves : (k : Fact) × Improves (known_at u old.known) (known_at u new.known) found.fact k
   pub goes_on : IsWritable (setting_of u) u.hints → GoesOnFrom u now old new
   pub rows : HasRows u new.known
+  pub adds : AddsSteps u now (more_by u found) old new
   pub first : new.first ≡ old.first
   pub few : length new.steps.items ≤ length old.steps.items + 1
 
@@ -83,6 +91,7 @@ pub record IsSlotWritten (u : World) (now : Known) (p : ℕ) (e : Ends) (old new
   pub both : IsWide (length u.nodes) p → (mid : At) × (k : Fact) × (m : Fact) × Improves (known_at u old.known) mid e.low.fact k × Improves mid (known_at u new.known) e.high.fact m
   pub goes_on : IsWritable (setting_of u) u.hints → GoesOnFrom u now old new
   pub rows : HasRows u new.known
+  pub adds : AddsSteps u now (more_by u e.low + more_by u e.high) old new
   pub first : new.first ≡ old.first
   pub two : length new.steps.items ≤ length old.steps.items + 2
   pub single : (¬ IsWide (length u.nodes) p) → length new.steps.items ≤ length old.steps.items + 1
@@ -94,5 +103,6 @@ pub record IsRound (u : World) (now : Known) (old new : Log) (changed : List Pla
   pub placed : known_at u new.known slot.Void ≡ None → (p : Placed) → Contains changed p → IsPlaced (length u.nodes) u.pairs p
   pub goes_on : IsWritable (setting_of u) u.hints → GoesOnFrom u now old new
   pub rows : HasRows u new.known
+  pub adds : AddsSteps u now (2 * beyond_four u.instances) old new
   pub first : new.first ≡ old.first
   pub few : length new.steps.items ≤ length old.steps.items + 8192

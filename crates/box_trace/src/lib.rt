@@ -4,6 +4,7 @@
 
 mod ends;
 mod known;
+mod laws;
 mod log;
 mod marks;
 mod rounds;
@@ -12,4 +13,5 @@ mod starts;
 mod tracing;
 
 pub use known::Known;
+pub use laws::boxes_are_short;
 pub use tracing::{Traced, trace};

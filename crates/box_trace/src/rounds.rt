@@ -8,6 +8,7 @@ ghost use Rattle.rule_universe.specs.Places.{IsPlace, place_count};
 ghost use Rattle.saturate.specs.Universes.{setting_of};
 ghost use Rattle.box_trace.specs.Tables.{known_at, HasRows};
 ghost use Rattle.box_trace.specs.Logs.{IsComeBy, IsSlotWritten, IsRound, IsLonger};
+ghost use Rattle.box_trace.specs.Rounds.{HasRounds};
 ghost use Rattle.box_trace.specs.Scans.{IsConclusion, AreEndsOf, IsScanned, IsWide};
 
 use crate::ends::{Ends, Found};
@@ -34,7 +35,7 @@ fn come_by(
     requires place { IsPlace (length uni.now.nodes) uni.now.pairs (slot_of found.fact) place }
     requires rows { HasRows uni.now log.old.known }
     requires room { log.old.first + length log.old.steps.items < 2 ^ 64 }
-    ensures { OnOk result (IsComeBy uni.now now.now found.fact log.old log.new) }
+    ensures { OnOk result (IsComeBy uni.now now.now found log.old log.new) }
 {
     uni.laws();
     rules_are_lawful();
@@ -71,7 +72,8 @@ fn come_high(
     requires place { IsPlace (length uni.now.nodes) uni.now.pairs (slot_of found.fact) place }
     requires rows { HasRows uni.now log.old.known }
     requires room { log.old.first + length log.old.steps.items < 2 ^ 64 }
-    ensures wide { OnOk result (IsWide (length uni.now.nodes) place → IsComeBy uni.now now.now found.fact log.old log.new) }
+    ensures wide { OnOk result (IsWide (length uni.now.nodes) place
+        → IsComeBy uni.now now.now found log.old log.new) }
     ensures narrow { OnOk result ((¬ IsWide (length uni.now.nodes) place) → log.new ≡ log.old) }
 {
     if is_wide(uni, place as usize) {
@@ -116,6 +118,7 @@ fn write(
     ensures { OnOk result (IsRound uni.now now.now log.old log.new changed.new.items) }
 {
     uni.laws();
+    rules_are_lawful();
     changed.clear();
     for p in 0..uni.place(Slot::Void) {
         let here = ends[p as usize];
@@ -191,6 +194,7 @@ pub(crate) fn rounds(
     requires room { log.old.first + length log.old.steps.items + height * 8192 < 2 ^ 64 }
     ensures best { OnOk result (IsBestFrom (setting_of uni.now) (known_at uni.now log.old.known) height (known_at uni.now log.new.known)) }
     ensures longer { OnOk result (IsLonger uni.now (height * 8192) log.old log.new) }
+    ensures rounds { OnOk result (HasRounds uni.now height log.old log.new) }
 {
     uni.laws();
     rules_are_lawful();

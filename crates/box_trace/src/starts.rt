@@ -1,5 +1,5 @@
 //! What a box begins with.
-ghost use Rattle.std.specs.Prelude.{◌≡◌, ◌<◌, ◌≤◌, ◌+◌, ◌^◌, [], Some, IfOk, length, slice_get};
+ghost use Rattle.std.specs.Prelude.{◌≡◌, ◌<◌, ◌≤◌, ◌+◌, ◌^◌, [], None, Some, IfOk, length, slice_get};
 ghost use Rattle.facts.specs.declared.fact.Fact.{Fact as Claim};
 ghost use Rattle.facts.specs.declared.fact.Fact.TheVariants as fact;
 ghost use Rattle.derivation.specs.Known.{IsGiven};
@@ -8,6 +8,7 @@ ghost use Rattle.derivation.specs.Begun.{IsGathered, FirstLines};
 ghost use Rattle.saturate.specs.Universes.{setting_of};
 ghost use Rattle.box_trace.specs.Tables.{known_at, HasRows};
 ghost use Rattle.box_trace.specs.Boxes.{BeginsRoot, BeginsBelow};
+ghost use Rattle.box_trace.specs.Rounds.{BeginsBy, BeginsRootBy, IsStepIn, most_given};
 
 use crate::known::Known;
 use crate::log::{Log, Source};
@@ -45,6 +46,7 @@ pub(crate) fn root_start(alloc: Global, uni: &Universe, first: u64) -> Result<Lo
     requires room { first + length uni.now.hypotheses + length uni.now.nodes < 2 ^ 64 }
     ensures gathered { IfOk result (λ l. IsGathered (setting_of uni.now) (IsGiven (setting_of uni.now)) (FirstLines uni.now.nodes uni.now.hypotheses (length uni.now.nodes)) (known_at uni.now l.known)) }
     ensures begins { IfOk result (BeginsRoot uni.now first) }
+    ensures gives { IfOk result (BeginsRootBy uni.now (most_given uni.now None) first) }
 {
     uni.laws();
     let known = Known::blank(alloc, uni)?;
@@ -79,6 +81,7 @@ pub(crate) fn child_start(
     requires room { first < 2 ^ 64 }
     ensures improves { IfOk result (λ l. (k : Claim) × Improves (known_at uni.now parent.now) (known_at uni.now l.known) (fact.Bnd piece.0 piece.1) k) }
     ensures begins { IfOk result (BeginsBelow uni.now (piece.0, piece.1) parent.now first) }
+    ensures gives { IfOk result (BeginsBy uni.now (IsStepIn uni.now parent.now) 1 first) }
 {
     uni.laws();
     let known = parent.copy(alloc)?;

@@ -1,8 +1,9 @@
 //! The steps of a box.
-ghost use Rattle.std.specs.Prelude.{◌≡◌, ◌<◌, ◌≤◌, ◌+◌, ◌^◌, [], IfOk, List, length};
+ghost use Rattle.std.specs.Prelude.{◌≡◌, ◌<◌, ◌≤◌, ◌+◌, ◌^◌, [], IfOk, List, None, length};
 ghost use Rattle.derivation.specs.Known.{Piece, IsTableAt};
 ghost use Rattle.saturate.specs.Universes.{setting_of};
 ghost use Rattle.box_trace.specs.Tables.{known_at, HasRows};
+ghost use Rattle.box_trace.specs.Rounds.{AreItsRounds, AreRoundsBelow, IsByRounds};
 ghost use Rattle.box_trace.specs.Boxes.{IsSomeBox, IsOfUniverse, IsItsTable, IsTableBelow, AreRootSteps, AreStepsBelow, AreItsSteps, log_of, most_steps};
 
 use crate::known::Known;
@@ -33,6 +34,7 @@ fn trace_root(alloc: Global, uni: &Universe, height: u8, first: u64) -> Result<L
     ensures rows { IfOk result (λ l. HasRows uni.now l.known) }
     ensures steps { IfOk result (AreRootSteps uni.now first) }
     ensures few { IfOk result (λ l. length l.steps.items ≤ most_steps uni.now height) }
+    ensures rounds { IfOk result (λ l. AreItsRounds uni.now None height first l.steps.items) }
 {
     uni.laws();
     rules_are_lawful();
@@ -58,6 +60,8 @@ fn trace_child(
     ensures rows { IfOk result (λ l. HasRows uni.now l.known) }
     ensures steps { IfOk result (AreStepsBelow uni.now (piece.0, piece.1) parent.now first) }
     ensures few { IfOk result (λ l. length l.steps.items ≤ most_steps uni.now height) }
+    ensures rounds { IfOk result (λ l.
+        AreRoundsBelow uni.now parent.now height first l.steps.items) }
 {
     uni.laws();
     rules_are_lawful();
@@ -83,6 +87,8 @@ fn log_at(
     ensures rows { IfOk result (λ l. HasRows uni.now l.known) }
     ensures steps { IfOk result (AreItsSteps uni.now piece parent.entry first) }
     ensures few { IfOk result (λ l. length l.steps.items ≤ most_steps uni.now height) }
+    ensures rounds { IfOk result (λ l.
+        AreItsRounds uni.now parent.entry height first l.steps.items) }
 {
     match (piece, parent) {
         (Some(piece), Some(parent)) => trace_child(alloc, uni, piece, parent, height, first),
@@ -111,6 +117,11 @@ pub fn trace(
     // Wherever the box's section may stand, its steps are accepted, and each fact has its step among them or the parent's.
     ensures steps { IfOk result (λ t. AreItsSteps uni.now piece parent.entry first (log_of first t)) }
     ensures few { IfOk result (λ t. length t.steps.items ≤ most_steps uni.now height) }
+    // First come the steps that are given: at most one for each hypothesis and variable at the
+    // root, and below it the piece's. Then come at most 8,192 in each round, each by an instance
+    // of the universe, from steps of the parent's facts and own ones from before the round; they
+    // have four premises each, and beyond that together twice what the instances have.
+    ensures rounds { IfOk result (IsByRounds uni.now parent.entry height first) }
 {
     let log = log_at(alloc, uni, piece, parent, height, first)?;
     Ok(Traced {

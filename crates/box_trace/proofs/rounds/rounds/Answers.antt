@@ -17,6 +17,7 @@ use Rattle.box_trace.specs.Tables.{known_at}
 use Rattle.box_trace.proofs.Rows.{same_known}
 use Rattle.saturate.specs.Lists.{all_true, written_back, listed_none}
 use Rattle.box_trace.proofs.Came.{not_void, longer_round, longer_none}
+use Rattle.box_trace.proofs.Added.{has_round, rounds_none, rounds_slack}
 use Rattle.box_trace.proofs.rounds.rounds.Goals as goal
 
 pub returns-then-begun-clause-best : goal.returns-then-begun-clause-best
@@ -24,6 +25,12 @@ returns-then-begun-clause-best c =
     let u = setting_of c.args.uni.now in
     let start = known_at c.args.uni.now c.args.log.now.known in
     best_void u (InTable start) 0 c.args.height start fact.Void (best_start u start c.requires.rows.proper) (c.is_void-begun.ensures.0 c.if-begun.true) (omega arith)
+
+pub returns-then-begun-clause-rounds : goal.returns-then-begun-clause-rounds
+returns-then-begun-clause-rounds c =
+    let u = c.args.uni.now in
+    rounds_slack u 0 c.args.height c.args.log.now c.args.log.now (omega arith)
+    (rounds_none u c.args.log.now)
 
 pub loop-init : goal.loop-init
 loop-init c =
@@ -37,6 +44,7 @@ loop-init c =
       due = ap length d ∙ (length-replicate _ true ∙ ap length c.instances.ensures);
       quiet = λ k i f q z x. absurd (all_true _ k (subst (λ l. slice_get l k ≡ Some false) d z));
       longer = longer_none u (0 * 8192) c.args.log.now c.requires.rows;
+      rounds = rounds_none u c.args.log.now;
     }
 
 pub round-requires-clause-quiet : goal.round-requires-clause-quiet
@@ -54,6 +62,13 @@ returns-then-ended-clause-best c =
     best_void u G (suc c.loop.counter) c.args.height new fact.Void
     (next_best u (c.rules_are_lawful.ensures c.args.uni.now.nodes c.args.uni.now.hints) c.laws.ensures.universe.closed G c.loop.counter at new c.loop.invariant.best c.loop.invariant.no_void ahead)
     (c.is_void-ended.ensures.0 c.if-ended.true) (omega (arith, c.loop-test.true))
+
+pub returns-then-ended-clause-rounds : goal.returns-then-ended-clause-rounds
+returns-then-ended-clause-rounds c =
+    has_round c.args.uni.now c.loop.now c.loop.counter c.args.height c.args.log.now c.loop.log
+    c.round.new.log c.round.new.changed.items c.loop.invariant.rounds
+    c.loop.invariant.longer.first c.loop.invariant.now c.in_ok-round.ensures
+    (omega (arith, c.loop-test.true))
 
 pub returns-then-ended-clause-longer : goal.returns-then-ended-clause-longer
 returns-then-ended-clause-longer c =
@@ -76,6 +91,13 @@ returns-then-quiet-clause-best c =
     let both : at ≡ new = (λ k s. sym (same s) k) in
     subst (IsBest u G c.args.height) both
     (best_same u (c.rules_are_lawful.ensures c.args.uni.now.nodes c.args.uni.now.hints) c.laws.ensures.universe.closed G c.loop.counter c.args.height at new c.loop.invariant.best c.loop.invariant.no_void ahead same (omega (arith, c.loop-test.true)))
+
+pub returns-then-quiet-clause-rounds : goal.returns-then-quiet-clause-rounds
+returns-then-quiet-clause-rounds c =
+    has_round c.args.uni.now c.loop.now c.loop.counter c.args.height c.args.log.now c.loop.log
+    c.round.new.log c.round.new.changed.items c.loop.invariant.rounds
+    c.loop.invariant.longer.first c.loop.invariant.now c.in_ok-round.ensures
+    (omega (arith, c.loop-test.true))
 
 pub returns-then-quiet-clause-longer : goal.returns-then-quiet-clause-longer
 returns-then-quiet-clause-longer c =
@@ -112,9 +134,17 @@ loop-preserved c =
       due = ap length back ∙ (long ∙ c.loop.invariant.due);
       quiet = subst (λ l. IsQuiet u l new) (sym back) (quiet_after u c.mark.new.due (slots_of changed) at new ahead no_void listed marked);
       longer = longer_round w c.loop.now (c.loop.counter * 8192) ((c.loop.counter + 1) * 8192) c.args.log.now c.loop.log c.round.new.log changed c.loop.invariant.longer c.loop.invariant.now c.in_ok-round.ensures (omega arith);
+      rounds = has_round w c.loop.now c.loop.counter (c.loop.counter + 1) c.args.log.now c.loop.log
+          c.round.new.log changed c.loop.invariant.rounds c.loop.invariant.longer.first
+          c.loop.invariant.now c.in_ok-round.ensures (omega arith);
     }
 
 pub returns-clause-best : goal.returns-clause-best
 returns-clause-best c =
     let e : c.loop.counter ≡ c.args.height = omega (arith, c.loop-test.false, c.loop.auto.counter-end) in
     subst (λ n. IsBestFrom (setting_of c.args.uni.now) (known_at c.args.uni.now c.args.log.now.known) n (known_at c.args.uni.now c.loop.log.known)) e c.loop.invariant.best
+
+pub returns-clause-rounds : goal.returns-clause-rounds
+returns-clause-rounds c =
+    rounds_slack c.args.uni.now c.loop.counter c.args.height c.args.log.now c.loop.log
+    (omega (arith, c.loop-test.false, c.loop.auto.counter-end)) c.loop.invariant.rounds

@@ -5,6 +5,7 @@ use Rattle.derivation.specs.Changes.{IsQuiet}
 use Rattle.saturate.specs.Universes.{setting_of}
 use Rattle.box_trace.specs.Tables.{known_at}
 use Rattle.box_trace.specs.Logs.{IsLonger}
+use Rattle.box_trace.specs.Rounds.{HasRounds}
 use Rattle.box_trace.proofs.rounds.rounds.Given as goal
 
 abbrev pub invariant-loop : goal.invariant-loop
@@ -15,4 +16,5 @@ invariant-loop l = record {
   due : length l.due.items ≡ length l.uni.instances;
   quiet : IsQuiet (setting_of l.uni) l.due.items (known_at l.uni l.log.known);
   longer : IsLonger l.uni (l.counter * 8192) l.initial.log l.log;
+  rounds : HasRounds l.uni l.counter l.initial.log l.log;
 }

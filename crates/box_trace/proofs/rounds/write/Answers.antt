@@ -6,7 +6,10 @@ use Rattle.facts.specs.Order.{slot_of}
 use Rattle.box_trace.specs.Tables.{known_at}
 use Rattle.box_trace.specs.Scans.{held, ends_in}
 use Rattle.box_trace.proofs.Scanned.{IsWritten, written_none, written_all}
-use Rattle.box_trace.proofs.Came.{begin_ahead, written_ahead, written_listed, written_placed, written_few, goes_on_both, most_bound, most_more, not_void, round_void}
+use Rattle.box_trace.proofs.Came.{begin_ahead, written_ahead, written_listed, written_placed, written_few, written_adds, goes_on_both, most_bound, most_more, not_void, round_void}
+use Rattle.rule_universe.specs.Sizes.{beyond_four}
+use Rattle.box_trace.proofs.Added.{adds_none, adds_slack}
+use Rattle.box_trace.proofs.Beyond.{beyond_below, beyond_most, beyond_next}
 use Rattle.box_trace.proofs.rounds.write.Goals as goal
 use Rattle.box_trace.proofs.rounds.write.Goals.{in-Some+in_ok-write_slot+else-is_void+in_ok-push, in_default}
 use Rattle.saturate.specs.Lists.{none_in}
@@ -22,6 +25,7 @@ loop-p-init c =
       placed = λ x w. absurd (none_in x (subst (λ l. Contains l x) c.clear.ensures.items w));
       goes_on = λ writable cut s i can. (i, can);
       rows = c.requires.rows;
+      adds = adds_none u c.args.now.now c.args.log.now;
       first = refl;
       few = omega arith;
     }
@@ -45,9 +49,20 @@ returns-then-is_void c =
     let new = c.write_slot.new.log in
     let w = c.in_ok-write_slot.ensures in
     let few = written_few u at now c.loop-p.p c.in-Some.found ae old new w (length c.args.log.now.steps.items) c.loop-p.invariant.few in
+    let inside : c.loop-p.p < 4 * length u.nodes + length u.pairs =
+    omega (arith, c.place-p-end.ensures, c.loop-p-test.true) in
     let b = most_bound (length u.nodes) (length u.pairs) (c.loop-p.p + 1) c.laws.ensures.short c.laws.ensures.universe.few (omega (arith, c.place-p-end.ensures, c.loop-p-test.true)) in
     round_void u now c.args.log.now new c.loop-p.changed.items (IsWritten u at ends (c.loop-p.p + 1)) (written_ahead u at now c.loop-p.p c.in-Some.found ae old new w ends here c.loop-p.invariant.ahead)
-    (c.if-is_void.ensures.0 refl) (λ writable. goes_on_both u now c.args.log.now old new (c.loop-p.invariant.goes_on writable) (w.goes_on writable)) w.rows (w.first ∙ c.loop-p.invariant.first) (omega (arith, few, b))
+    (c.if-is_void.ensures.0 refl)
+    (λ writable. goes_on_both u now c.args.log.now old new (c.loop-p.invariant.goes_on writable)
+    (w.goes_on writable))
+    w.rows
+    (adds_slack u now (2 * beyond_below u (c.loop-p.p + 1)) (2 * beyond_four u.instances)
+    c.args.log.now new (let m = beyond_most u (c.loop-p.p + 1) in omega (arith, m))
+    (written_adds u c.laws.ensures.universe.once
+    (c.rules_are_lawful.ensures u.nodes u.hints).on_target now c.loop-p.p inside c.in-Some.found ae
+    c.args.log.now old new c.loop-p.invariant.first c.loop-p.invariant.adds w.adds))
+    (w.first ∙ c.loop-p.invariant.first) (omega (arith, few, b))
 
 pub loop-p-preserved : goal.loop-p-preserved
 loop-p-preserved c =
@@ -58,6 +73,8 @@ loop-p-preserved c =
     let p = c.loop-p.p in
     let old = c.loop-p.log in
     let long : p < length ends = omega (arith, c.requires.count, c.place-p-end.ensures, c.loop-p-test.true) in
+    let inside : p < 4 * length u.nodes + length u.pairs =
+    omega (arith, c.place-p-end.ensures, c.loop-p-test.true) in
     let read = ap held (slice_get_read ends (length ends) p c.index-ends-p.result refl long c.index-ends-p.is) in
     elim c.match-here.branch [
       | in-Some+in_ok-write_slot+else-is_void+in_ok-push w ↦
@@ -76,6 +93,9 @@ loop-p-preserved c =
             placed = written_placed u at now p e ae old new s before changed pushed c.loop-p.invariant.placed;
             goes_on = λ writable. goes_on_both u now c.args.log.now old new (c.loop-p.invariant.goes_on writable) (s.goes_on writable);
             rows = s.rows;
+            adds = written_adds u c.laws.ensures.universe.once
+                (c.rules_are_lawful.ensures u.nodes u.hints).on_target now p inside e ae
+                c.args.log.now old new c.loop-p.invariant.first c.loop-p.invariant.adds s.adds;
             first = s.first ∙ c.loop-p.invariant.first;
             few = written_few u at now p e ae old new s (length c.args.log.now.steps.items) c.loop-p.invariant.few;
           }))
@@ -88,6 +108,9 @@ loop-p-preserved c =
             placed = c.loop-p.invariant.placed;
             goes_on = c.loop-p.invariant.goes_on;
             rows = c.loop-p.invariant.rows;
+            adds = adds_slack u now (2 * beyond_below u p) (2 * beyond_below u (p + 1))
+                c.args.log.now old (let m = beyond_next u p in omega (arith, m))
+                c.loop-p.invariant.adds;
             first = c.loop-p.invariant.first;
             few = (let l = c.loop-p.invariant.few in omega (arith, l, m));
           }))
@@ -106,6 +129,9 @@ returns c =
       placed = λ v. c.loop-p.invariant.placed;
       goes_on = c.loop-p.invariant.goes_on;
       rows = c.loop-p.invariant.rows;
+      adds = adds_slack u c.args.now.now (2 * beyond_below u c.loop-p.p)
+          (2 * beyond_four u.instances) c.args.log.now log
+          (let m = beyond_most u c.loop-p.p in omega (arith, m)) c.loop-p.invariant.adds;
       first = c.loop-p.invariant.first;
       few = (let l = c.loop-p.invariant.few in omega (arith, l, b));
     }

@@ -1,4 +1,4 @@
-use Rattle.std.proofs.Common.{ap, subst, ◌∙◌, []}
+use Rattle.std.proofs.Common.{ap, subst, ◌∙◌, [], ℕ, arith}
 use Rattle.facts.specs.declared.fact.Fact.{Fact}
 use Rattle.facts.specs.declared.fact.Fact.TheVariants as fact
 use Rattle.derivation.specs.Derivations.{At}
@@ -10,6 +10,8 @@ use Rattle.box_trace.specs.declared.log.Log.{Log}
 use Rattle.box_trace.proofs.Logged.{comes_improves}
 use Rattle.box_trace.proofs.Rows.{same_known, same_rows}
 use Rattle.box_trace.proofs.Started.{comes_as, begins_below}
+use Rattle.box_trace.specs.Rounds.{IsStepIn}
+use Rattle.box_trace.proofs.Added.{gives_none, gives_more, same_steps}
 use Rattle.box_trace.proofs.starts.child_start.Goals as goal
 
 pub come-requires-clause-rows : goal.come-requires-clause-rows
@@ -35,3 +37,19 @@ returns-clause-begins c =
     let new = c.come.new.self in
     let come : Comes u old 102 0 [] f new = comes_as u old c.given-source.result.rule c.given-source.result.arg c.given-source.result.premises f new 102 0 c.given-source.ensures.rule c.given-source.ensures.arg c.given-source.ensures.premises c.in_ok-_piece.ensures in
     begins_below u (c.args.piece.0, c.args.piece.1) c.args.parent.now c.args.first old new same c.begin-log.ensures.steps c.begin-log.ensures.first c.requires.rows c.requires.variable come
+
+pub returns-clause-gives : goal.returns-clause-gives
+returns-clause-gives c =
+    let u = c.args.uni.now in
+    let Old : ℕ → Type 0 = IsStepIn u c.args.parent.now in
+    let f : Fact = fact.Bnd c.args.piece.0 c.args.piece.1 in
+    let old : Log = c.begin-log.result in
+    let same = ap (λ (k : Known). k.rows.items) c.begin-log.ensures.known ∙ c.in_ok-known.ensures in
+    let new = c.come.new.self in
+    let s = c.given-source in
+    let come : Comes u old 102 0 [] f new =
+    comes_as u old s.result.rule s.result.arg s.result.premises f new 102 0 s.ensures.rule
+    s.ensures.arg s.ensures.premises c.in_ok-_piece.ensures in
+    gives_more u Old 0 c.args.first 102 0 old new f (omega arith) c.begin-log.ensures.first
+    (gives_none u Old c.args.first old c.begin-log.ensures.steps
+    (same_steps u c.args.parent.now old.known same)) come

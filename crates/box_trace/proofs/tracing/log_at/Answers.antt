@@ -3,7 +3,7 @@ use Rattle.derivation.specs.Known.{IsTableAt}
 use Rattle.saturate.specs.Universes.{setting_of}
 use Rattle.box_trace.specs.Tables.{known_at}
 use Rattle.box_trace.proofs.Given.{child_box, root_box}
-use Rattle.box_trace.proofs.Steps.{own_root_steps, own_steps_below}
+use Rattle.box_trace.proofs.Steps.{own_root_steps, own_steps_below, own_rounds, own_rounds_below}
 use Rattle.box_trace.proofs.tracing.log_at.Goals as goal
 use Rattle.box_trace.proofs.tracing.log_at.Goals.{in_default-via-in-Some+in_default, in_default-via-in_default}
 use Rattle.saturate.specs.Answered.{ok_map}
@@ -36,3 +36,19 @@ returns-in_default-clause-steps c =
       | in_default-via-in-Some+in_default w ↦ inr w.in_default.is-1
       | in_default-via-in_default w ↦ inl w.in_default.is-0
     ]) steps)
+
+pub returns-in-Some-Some-clause-rounds : goal.returns-in-Some-Some-clause-rounds
+returns-in-Some-Some-clause-rounds c =
+    ok_map c.trace_child.result c.trace_child.ensures.rounds
+    (λ l rounds. own_rounds_below c.args.uni.now c.args.height c.args.first l.steps.items
+    c.args.parent c.in-Some-Some.parent c.in-Some-Some.is-1 rounds)
+
+pub returns-in_default-clause-rounds : goal.returns-in_default-clause-rounds
+returns-in_default-clause-rounds c =
+    ok_map c.trace_root.result c.trace_root.ensures.rounds
+    (λ l rounds. own_rounds c.args.uni.now c.args.height c.args.first l.steps.items c.args.piece
+    c.args.parent
+    (elim c.in_default.branch [
+      | in_default-via-in-Some+in_default w ↦ inr w.in_default.is-1
+      | in_default-via-in_default w ↦ inl w.in_default.is-0
+    ]) c.requires.given rounds)

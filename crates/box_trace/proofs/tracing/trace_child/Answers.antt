@@ -3,6 +3,8 @@ use Rattle.derivation.specs.Begun.{child_table}
 use Rattle.saturate.specs.Universes.{setting_of}
 use Rattle.box_trace.specs.Tables.{known_at}
 use Rattle.box_trace.proofs.Steps.{steps_below}
+use Rattle.box_trace.specs.Rounds.{IsStepIn}
+use Rattle.box_trace.proofs.Added.{by_rounds}
 use Rattle.box_trace.proofs.tracing.trace_child.Goals as goal
 
 pub returns-clause-table : goal.returns-clause-table
@@ -15,3 +17,10 @@ returns-clause-table c = λ above b.
 pub returns-clause-steps : goal.returns-clause-steps
 returns-clause-steps c =
     steps_below c.args.uni.now c.args.first 1 _ c.in_ok-log.log c.rounds.new.log c.in_ok-rounds.ensures.longer (c.args.piece.0, c.args.piece.1) c.args.parent.now c.in_ok-log.ensures.begins
+
+pub returns-clause-rounds : goal.returns-clause-rounds
+returns-clause-rounds c =
+    let u = c.args.uni.now in
+    by_rounds u (IsStepIn u c.args.parent.now) 1 c.args.height c.args.first c.in_ok-log.log
+    c.rounds.new.log c.in_ok-log.ensures.begins.first_is c.in_ok-log.ensures.gives
+    c.in_ok-rounds.ensures.rounds
