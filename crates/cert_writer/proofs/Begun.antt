@@ -1,5 +1,5 @@
 -- What stands before the root sections, and that the first is to begin behind it.
-use Rattle.std.specs.Prelude.{◌≡◌, ◌≤◌, ◌+◌, ◌^◌, ℕ, zero, suc, false, List, [], ◌∷◌, ◌++◌, length, map, Some, None, slice_get, refl}
+use Rattle.std.specs.Prelude.{◌≡◌, ◌≤◌, ◌+◌, ◌*◌, ◌^◌, ℕ, zero, suc, false, List, [], ◌∷◌, ◌++◌, length, map, Some, None, slice_get, refl}
 use Rattle.std.proofs.Common.{sym, ◌∙◌, ap, subst, append-nil, arith}
 use Rattle.std.proofs.lemmas.List.{append_assoc}
 use Rattle.fx_model.specs.declared.Node.{Node}
@@ -26,7 +26,13 @@ use Rattle.box_traces.specs.Roots.{roots_are_counted, cases_items}
 use Rattle.box_traces.specs.Walks.{numbered, MayBegin, IsOpen}
 use Rattle.box_traces.specs.Laws.{TracesExist}
 use Rattle.cert_writer.specs.Standing.{IsAt, most_for, steps_left, lines_left, at_root}
+use Rattle.cert_bytes.specs.declared.style.Seen.{Seen}
+use Rattle.cert_writer.specs.Bytes.{seen_in}
+use Rattle.box_trace.specs.Short.{bytes_a_box}
+use Rattle.cert_writer.proofs.Sized.{head_sized}
+use Rattle.cert_writer.specs.Heads.{head_items}
 use Rattle.cert_writer.specs.Laws.{OfAims}
+use Rattle.cert_writer.proofs.Seen.{head_seen}
 use Rattle.box_traces.specs.Moves.{lead_both, marks_due, root_due}
 
 -- ---- what they come to
@@ -133,7 +139,7 @@ ready s c (suc (suc n)) nodes k lines l e r = record { nodes_are = r.nodes_are; 
 
 -- ---- the root
 module _ (exist : TracesExist) where
-  pub begins : OfAims (λ t. t.target.number ≡ 0 → (tree : Tree) → IsProved (setting_of t.world) t.height t.world.goals tree [] 0 → steps_in (most_for t) tree + steps_left t ≤ 2 ^ 64 →
+  pub begins : OfAims (λ t. t.target.number ≡ 0 → (tree : Tree) → IsProved (setting_of t.world) t.height t.world.goals tree [] 0 → steps_in (most_for t) tree + steps_left t ≤ 8192 * bytes_a_box →
       t.lines ≡ lines_left t (lines_of_tree (setting_of t.world) t.height t.world.goals tree [] (map (λ g. line.Empty) t.world.goals)) → (c : Context) × (c.next ≡ 0) × IsAt t (at_root t c tree))
   begins t a number tree proved room shown =
       let v : Setting = setting_of t.world in
@@ -179,7 +185,11 @@ module _ (exist : TracesExist) where
       let goals : s.goals ≡ t.world.goals = a.subject.wanted in
       let empty : map (λ (g : Goal). line.Empty) t.world.goals ≡ r.lines = sym (at.lines_are ∙ ap (map (λ (g : Goal). line.Empty)) goals) in
       let none = at.next in
+      let unseen : (seen_in (head_items t.world.nodes marks n)).sections ≡ 0 =
+      ap (λ (s : Seen). s.sections) (head_seen t.world.nodes marks n) in
       let few = a.few in
+      let marked = a.subject.few_marks in
+      let head = head_sized t.world.nodes marks n a.writable.few_nodes (omega (arith, marked)) in
       let Due : List Item → Type 0 = λ x. AreDue (Some (Marks (length marks))) x in (
         r,
         at.next,
@@ -200,7 +210,8 @@ module _ (exist : TracesExist) where
             );
           };
           entered = record { opened = opened; deep = ap length at.cuts; proved = proved; lies = (at.cuts, at.case ∙ sym number, at.nodes_are) };
-          room = omega (arith, none, room);
+          room = omega (arith, none, unseen, room);
+          short = omega (arith, head, room);
           shown = shown ∙ ap (λ ls. lines_left t (lines_of_tree v t.height t.world.goals tree [] ls)) empty;
         },
       )

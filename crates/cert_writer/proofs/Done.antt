@@ -19,7 +19,8 @@ use Rattle.bisect.specs.declared.settler.State.{State}
 use Rattle.cert_bytes.specs.declared.item.Item.{Item}
 use Rattle.cert_bytes.specs.declared.item.Item.TheVariants as item
 use Rattle.cert_bytes.specs.Certificates.{HasSpelling}
-use Rattle.cert_writer.specs.Bytes.{certificate_of}
+use Rattle.cert_bytes.specs.declared.style.Seen.{Seen}
+use Rattle.cert_writer.specs.Bytes.{seen_behind, seen_in, spelled_behind}
 use Rattle.box_trace.specs.declared.known.Known.{Known}
 use Rattle.box_trace.specs.declared.tracing.Traced.{Traced}
 use Rattle.box_trace.specs.Boxes.{IsItsTable, AreItsSteps, log_of, most_steps}
@@ -27,10 +28,13 @@ use Rattle.box_trace.specs.Tables.{known_at, place_in, HasRows}
 use Rattle.box_traces.specs.Trees.{leaf, cut, IsProved}
 use Rattle.box_traces.specs.Walks.{numbered, behind_steps}
 use Rattle.answer_certificates.specs.Boxes.{range_of_piece, pieces_from}
+use Rattle.box_trace.specs.Short.{BoxesAreShort}
+use Rattle.box_trace.specs.Rounds.{IsByRounds}
 use Rattle.cert_writer.specs.Boxes.{KnowsVoid, CutsAt, IsEnd}
 use Rattle.cert_writer.specs.Standing.{Target, Place, IsAt, AreBoxSteps, own_items, inside}
 use Rattle.cert_writer.specs.Courses.{Course, IsCourse, HasBest, course, setting, below, IsBefore, IsKnownAt, AreOwnBytes}
 use Rattle.cert_writer.specs.Walks.{MayEnd, IsLast, WalkGoesOn}
+use Rattle.cert_writer.proofs.Seen.{EndsSection, own_steps_seen, seen_with}
 use Rattle.cert_writer.proofs.Turn.{begun_front, enter, enter_at}
 use Rattle.cert_writer.proofs.Own.{OwnSteps, own_steps, closed_here, box_ends, nothing_there}
 use Rattle.cert_writer.proofs.Node.{node_leaf, node_cut}
@@ -40,10 +44,17 @@ not_void at goals (Forced x points) p h = h.0
 not_void at goals (Half x m) p h = h.0
 not_void at goals Bottom p h = absurd h
 
+-- A leaf or a dead end ends a section.
+ends_section : (u : World) (k : Known) (i : Item) → IsEnd u k i → EndsSection i
+ends_section u k (item.Leaf refs) h = λ s. (refl, refl)
+ends_section u k (item.Dead r) h = λ s. (refl, refl)
+ends_section u k _ h = absurd h
+
 module _ (plan : PlanParts) (laws : WalkGoesOn plan) (u : World) (height : ℕ) (t : Target) (lines : List Line) (states : List ℕ → State) (is : IsCourse (course u plan height t lines states))
-    (path : List ℕ) (parent : Option (Bor Known)) (first : ℕ) (p : Place) (before : IsBefore (course u plan height t lines states) path parent first p)
-    (tr : Traced) (its : IsItsTable u height (piece_at plan path) parent tr.known) (rows : HasRows u tr.known) (steps : AreItsSteps u (piece_at plan path) parent first (log_of first tr))
-    (few : length tr.steps.items ≤ most_steps u height) where
+    (path : List ℕ) (parent : Option (Bor Known)) (first : Seen) (p : Place) (before : IsBefore (course u plan height t lines states) path parent first p)
+    (tr : Traced) (its : IsItsTable u height (piece_at plan path) parent tr.known) (rows : HasRows u tr.known) (steps : AreItsSteps u (piece_at plan path) parent first.steps (log_of first.steps tr))
+    (few : length tr.steps.items ≤ most_steps u height) (boxes : BoxesAreShort)
+    (rounds : IsByRounds u parent height first.steps tr) where
   abbrev c : Course
   c = course u plan height t lines states
 
@@ -51,7 +62,7 @@ module _ (plan : PlanParts) (laws : WalkGoesOn plan) (u : World) (height : ℕ) 
   best = laws.best c is
 
   pub own : OwnSteps c p tr
-  own = own_steps laws.moves laws.tables c is best path parent first p before tr its steps few
+  own = own_steps laws.moves laws.tables c is best path parent first p before tr its steps few boxes rounds
 
   table : IsTableAt (setting c) height (pieces_at plan path) (known_at u tr.known)
   table = subst (λ y. IsTableAt (setting c) height y (known_at u tr.known)) before.pieces own.table
@@ -64,11 +75,17 @@ module _ (plan : PlanParts) (laws : WalkGoesOn plan) (u : World) (height : ℕ) 
     leaf_here : p.tree ≡ leaf
     leaf_here = before.tree ∙ node_leaf c is path tr.known table whole
 
-    end_done : (n next : ℕ) → n ≡ 0 → next ≡ first + length tr.steps.items → AreOwnBytes c path p tr.known n next (certificate_of (own_items tr.steps.items i))
+    end_done : (n : ℕ) (next : Seen) → n ≡ 0 → next ≡ seen_behind first (own_items tr.steps.items i)
+        → AreOwnBytes c path p tr.known n next (spelled_behind (seen_in p.items) (own_items tr.steps.items i))
     end_done n next none same =
         let e = box_ends laws.writing laws.tables c is best path parent first p before tr own leaf_here i end in
+        let items : List Item = own_items tr.steps.items i in
+        let steps : next.steps ≡ first.steps + length tr.steps.items =
+        ap (λ (s : Seen). s.steps) same ∙ own_steps_seen first tr.steps.items i (ends_section u tr.known i end) in
+        let seen : seen_in (e.0).items ≡ next =
+        ap seen_in e.4 ∙ seen_with p.items items first before.seen_is ∙ sym same in
         record {
-          done = λ old new a. ((λ l. absurd (omega (arith, l, none))), λ z. (e.0, e.1, e.2, same ∙ sym e.3, (own_items tr.steps.items i, e.4, a)));
+          done = λ old new a. ((λ l. absurd (omega (arith, l, none))), λ z. (e.0, e.1, e.2, steps ∙ sym e.3, (items, e.4, a), seen));
           front = λ old new a. begun_front c.aim p.items (own_items tr.steps.items i) (e.0).items old new (laws.writing.ended c.aim is.aim e.0 e.1) e.4 a;
         }
 
@@ -87,25 +104,33 @@ module _ (plan : PlanParts) (laws : WalkGoesOn plan) (u : World) (height : ℕ) 
         × ((k : ℕ) → k < length points + 1 → piece_at plan (path ++ k ∷ []) ≡ Some (x, range_of_piece (piece_at plan (path ++ k ∷ []))))
     node = let n = node_cut c is laws.pieces path tr.known table x points cuts in (n.0, before.tree ∙ n.1, n.3)
 
+    few_points : length points ≤ 63
+    few_points = let proved = subst (λ y. IsProved (setting c) height u.goals y p.pieces p.depth) node.1 before.here.entered.proved in proved.2.few
+
     pub some_points : 1 ≤ length points
     some_points = let proved = subst (λ y. IsProved (setting c) height u.goals y p.pieces p.depth) node.1 before.here.entered.proved in proved.2.some
 
-    cut_done : (n next : ℕ) → n ≡ length points + 1 → next ≡ first + length tr.steps.items → AreOwnBytes c path p tr.known n next (certificate_of (own_items tr.steps.items (item.Cut x points)))
+    cut_done : (n : ℕ) (next : Seen) → n ≡ length points + 1
+        → next ≡ seen_behind first (own_items tr.steps.items (item.Cut x points))
+        → AreOwnBytes c path p tr.known n next
+        (spelled_behind (seen_in p.items) (own_items tr.steps.items (item.Cut x points)))
     cut_done n next count same =
         let tree : p.tree ≡ cut x points (pieces_from plan (below c (35 - length path)) path 0 n) = node.1 ∙ ap (λ m. cut x points (pieces_from plan (below c (35 - length path)) path 0 m)) (sym count) in
         let of_variable : (k : ℕ) → k < n → piece_at plan (path ++ k ∷ []) ≡ Some (x, range_of_piece (piece_at plan (path ++ k ∷ []))) = λ k l. node.2 k (omega (arith, l, count)) in
         let q : Place = inside p tr.steps.items x points (range_of_piece (piece_at plan (path ++ 0 ∷ []))) (below c (35 - length path) (path ++ 0 ∷ [])) (pieces_from plan (below c (35 - length path)) path (0 + 1) (length points)) in
-        let at : IsAt c.aim q = enter_at laws.tables laws.writing c is path parent first p before tr.steps.items box_steps x points n count tree in
+        let at : IsAt c.aim q = enter_at laws.tables laws.writing c is path parent first p before tr.steps.items box_steps x points (own.sized (item.Cut x points) few_points) n count tree in
         record {
           done = λ old new a. (
-            (λ l. enter laws.tables laws.writing c is best laws.one_more path parent first p before tr.steps.items box_steps tr.known known_is x points n count tree of_variable old new a next same),
+            (λ l. enter laws.tables laws.writing c is best laws.one_more path parent first p before tr.steps.items box_steps tr.known known_is x points (own.sized (item.Cut x points) few_points) n count tree of_variable old new a next same),
             λ z. absurd (omega (arith, z, count)),
           );
           front = λ old new a. begun_front c.aim p.items (own_items tr.steps.items (item.Cut x points)) q.items old new (laws.writing.begun c.aim is.aim q at) refl a;
         }
 
   -- ---- either way
-  pub own_done : (i : Item) (n next : ℕ) → IsLast u tr.known (cut_at plan path) i n → next ≡ first + length tr.steps.items → AreOwnBytes c path p tr.known n next (certificate_of (own_items tr.steps.items i))
+  pub own_done : (i : Item) (n : ℕ) (next : Seen) → IsLast u tr.known (cut_at plan path) i n
+      → next ≡ seen_behind first (own_items tr.steps.items i)
+      → AreOwnBytes c path p tr.known n next (spelled_behind (seen_in p.items) (own_items tr.steps.items i))
   own_done (item.Cut x points) n next l same = cut_done x points l.0 n next l.1 same
   own_done (item.Leaf refs) n next l same = end_done (item.Leaf refs) l.0 l.1 n next l.2 same
   own_done (item.Dead r) n next l same = end_done (item.Dead r) l.0 l.1 n next l.2 same

@@ -20,8 +20,9 @@ use Rattle.cert_bytes.specs.declared.item.Item.{Item}
 use Rattle.cert_bytes.specs.declared.item.Item.TheVariants as item
 use Rattle.cert_bytes.specs.declared.item.StepRow.{StepRow}
 use Rattle.cert_bytes.specs.declared.order.Due.TheVariants.{Sections}
+use Rattle.cert_bytes.specs.declared.style.Style.TheVariants.{Second}
 use Rattle.cert_bytes.specs.Certificates.{AreDue, AreCertificate, IsLong, IsShort}
-use Rattle.cert_writer.specs.Bytes.{certificate_of}
+use Rattle.cert_writer.specs.Bytes.{seen_in, spelled_behind, certificate_of}
 use Rattle.cert_checker.specs.declared.open.Citable.{Citable}
 use Rattle.cert_checker.specs.Contexts.{Context, first}
 use Rattle.cert_checker.specs.Steps.{step_fact}
@@ -34,15 +35,15 @@ use Rattle.box_traces.specs.Roots.{Root, AreRoots, steps_in_roots, lines_of_root
 use Rattle.box_traces.specs.Trees.{Tree, Trees, leaf, cut, last, next, AreProved, ArePoints, lines_of_tree, lines_of_trees, lines_at, leaf_lines, steps_in, steps_in_each}
 use Rattle.box_traces.specs.Walks.{behind_steps, IsEndOf, Frame, LiesIn, left_in, lines_behind, steps_behind, IsDue, Ending}
 use Rattle.box_traces.specs.Moves.{WalksGoOn, WalksMove, AreSteps, IsEntered, lead_both, next_behind}
-use Rattle.cert_writer.specs.Standing.{Aim, IsAim, IsWhole, IsBegun, Place, IsAt, Ended, HasEnded, HasWritten, AreBoxSteps, AreCited, most_for, roots_left, steps_left, lines_left, own_items, inside, closed, beside, around, next_aim, next_root, root_with}
+use Rattle.cert_writer.specs.Standing.{Aim, IsAim, IsWhole, IsBegun, Place, IsAt, Ended, HasEnded, HasWritten, AreBoxSteps, AreShort, AreCited, most_for, roots_left, steps_left, lines_left, own_items, inside, closed, beside, around, next_aim, next_root, root_with}
 use Rattle.cert_writer.specs.Laws.{OfAims}
-use Rattle.cert_writer.proofs.Spelled.{certificate_both}
+use Rattle.cert_bytes.specs.Styles.{none_seen}
+use Rattle.cert_bytes.specs.Sizes.{most_bytes_in, SpellingsAreShort}
+use Rattle.cert_writer.proofs.Sized.{sized_both}
+use Rattle.cert_writer.proofs.Seen.{spelled_both, EndsSection, sections_with}
 use Rattle.box_traces.specs.Cited.{found_long}
 
 -- ---- items one behind the other
-pub spelled_both : (items more : List Item) → certificate_of (items ++ more) ≡ certificate_of items ++ certificate_of more
-spelled_both = certificate_both
-
 more_due : (t : Aim) (items more rest : List Item) → AreCertificate (items ++ (more ++ rest)) → AreCertificate ((items ++ more) ++ rest)
 more_due t items more rest d = subst (λ y. AreCertificate y) (sym (append_assoc items more rest)) d
 
@@ -67,7 +68,7 @@ front t items c n w e =
         cases = e.cases;
         shown = e.shown;
       },
-      (certificate_of tail, spelled_both items tail),
+      (spelled_behind (seen_in items) tail, spelled_both none_seen items tail),
     )
 
 -- ---- one box
@@ -125,18 +126,19 @@ module _ (goes : WalksGoOn) (moves : WalksMove) where
   begun t a p here =
       let v : Setting = setting_of t.world in
       let en = here.entered in
-      let e = goes v t.world.hints a.writable t.height (most_for t) (enough t a) t.world.goals t.target.subject t.target.number a.subject p.tree p.context p.pieces p.depth p.frames en.opened en.deep en.proved en.lies t.target.later a.later here.room in
+      let e = goes v t.world.hints a.writable t.height (most_for t) (enough t a) t.world.goals t.target.subject t.target.number a.subject p.tree p.context p.pieces p.depth p.frames en.opened en.deep en.proved en.lies t.target.later a.later (let l = here.room in omega (arith, l)) in
       front t p.items p.context (suc (left_in p.frames + roots_left t)) here.written (subst (λ y. Ending t.target.subject p.context (suc (left_in p.frames + roots_left t)) y) (sym here.shown) e)
 
   pub ended : OfAims (λ t. (e : Ended) → HasEnded t e → IsBegun t (certificate_of e.items))
   ended t a e here =
       let v : Setting = setting_of t.world in
-      let r = moves.rest v t.world.hints a.writable t.height (most_for t) (enough t a) t.world.goals t.target.subject t.target.number a.subject e.begin e.context e.lines e.frames here.lies here.ended t.target.later a.later here.room in
+      let r = moves.rest v t.world.hints a.writable t.height (most_for t) (enough t a) t.world.goals t.target.subject t.target.number a.subject e.begin e.context e.lines e.frames here.lies here.ended t.target.later a.later (let l = here.room in omega (arith, l)) in
       front t e.items e.context (left_in e.frames + roots_left t) here.written (subst (λ y. Ending t.target.subject e.context (left_in e.frames + roots_left t) y) (sym here.shown) r)
 
   pub enters : OfAims (λ t. (p : Place) (rows : List StepRow) (x : ExprId) (points : List Dyadic) (i : Interval) (tree : Tree) (later : Trees) → p.tree ≡ cut x points (next i tree later) → IsAt t p →
-      AreBoxSteps t p rows → IsAt t (inside p rows x points i tree later))
-  enters t a p rows x points i tree later e here own =
+      AreBoxSteps t p rows → AreShort t rows (item.Cut x points)
+      → IsAt t (inside p rows x points i tree later))
+  enters t a p rows x points i tree later e here own small =
       let v : Setting = setting_of t.world in
       let most : ℕ = most_for t in
       let whole_tree : Tree = cut x points (next i tree later) in
@@ -159,7 +161,18 @@ module _ (goes : WalksGoOn) (moves : WalksMove) where
       (λ rest r. ((ps.some, (short, (ps.few, ps.rising))), subst (λ n. Due n rest) more r)) in
       let n = next_behind p.context rows in
       let k = own.few in
-      let room : p.context.next + (most + (steps_in most tree + steps_in_each most later) + steps_behind most p.frames + steps_left t) ≤ 2 ^ 64 = subst (λ y. p.context.next + (steps_in most y + steps_behind most p.frames + steps_left t) ≤ 2 ^ 64) e here.room in
+      let q = sections_with p.items rows (item.Cut x points) (λ s. (refl, refl)) in
+      let room : p.context.next + (seen_in p.items).sections
+      + (most + (steps_in most tree + steps_in_each most later) + steps_behind most p.frames + steps_left t)
+      ≤ 2 ^ 63 =
+      subst (λ y. p.context.next + (seen_in p.items).sections
+      + (steps_in most y + steps_behind most p.frames + steps_left t) ≤ 2 ^ 63) e here.room in
+      let sized = sized_both p.items (own_items rows (item.Cut x points)) in
+      let short_here : most_bytes_in p.items
+      + (most + (steps_in most tree + steps_in_each most later) + steps_behind most p.frames + steps_left t)
+      + 39 ≤ 2 ^ 44 =
+      subst (λ y. most_bytes_in p.items
+      + (steps_in most y + steps_behind most p.frames + steps_left t) + 39 ≤ 2 ^ 44) e here.short in
       let shown : t.lines ≡ lines_left t (lines_behind v t.height t.world.goals p.frames (lines_of_tree v t.height t.world.goals whole_tree p.pieces p.context.lines)) =
       subst (λ y. t.lines ≡ lines_left t (lines_behind v t.height t.world.goals p.frames (lines_of_tree v t.height t.world.goals y p.pieces p.context.lines))) e here.shown in
       let same : d.lines ≡ p.context.lines = own.steps.later.lines in
@@ -167,20 +180,30 @@ module _ (goes : WalksGoOn) (moves : WalksMove) where
         written = written_more t p.items (own_items rows (item.Cut x points)) p.context (after d (item.Cut x points)) (suc left) (suc left_next)
             here.written (own_leads t p.context rows (item.Cut x points) own.steps m.0) due;
         entered = m.1;
-        room = omega (arith, n, k, room);
+        room = omega (arith, n, k, q, room);
+        short = omega (arith, sized, small, short_here);
         shown = subst (λ y. t.lines ≡ lines_left t (lines_behind v t.height t.world.goals p.frames (lines_of_tree v t.height t.world.goals whole_tree p.pieces y))) (sym same) shown;
       }
 
   -- what is so of each end of a box's own section
-  close : (t : Aim) (p : Place) (rows : List StepRow) (l : Item) (lines : List Line) → p.tree ≡ leaf → IsAt t p → AreSteps t.target.subject p.context rows → length rows ≤ most_for t → JudgesItem t.target.subject (behind_steps p.context rows) l None →
+  close : (t : Aim) (p : Place) (rows : List StepRow) (l : Item) (lines : List Line) → p.tree ≡ leaf → IsAt t p → AreSteps t.target.subject p.context rows → length rows < most_for t → AreShort t rows l → EndsSection l → JudgesItem t.target.subject (behind_steps p.context rows) l None →
       ((rest : List Item) → AreDue (Some (Sections (left_in p.frames + roots_left t))) rest → AreDue (Some (Sections (suc (left_in p.frames + roots_left t)))) (l ∷ rest)) →
       IsEndOf p.context (after (behind_steps p.context rows) l) lines → (after (behind_steps p.context rows) l).next ≡ (behind_steps p.context rows).next →
       lines_of_tree (setting_of t.world) t.height t.world.goals leaf p.pieces p.context.lines ≡ lines → HasEnded t (closed p rows l lines)
-  close t p rows l lines e here steps k j due end same shown =
+  close t p rows l lines e here steps k small one j due end same shown =
       let v : Setting = setting_of t.world in
       let most : ℕ = most_for t in
       let n = next_behind p.context rows in
-      let room : p.context.next + (most + steps_behind most p.frames + steps_left t) ≤ 2 ^ 64 = subst (λ y. p.context.next + (steps_in most y + steps_behind most p.frames + steps_left t) ≤ 2 ^ 64) e here.room in
+      let q = sections_with p.items rows l one in
+      let room : p.context.next + (seen_in p.items).sections
+      + (most + steps_behind most p.frames + steps_left t) ≤ 2 ^ 63 =
+      subst (λ y. p.context.next + (seen_in p.items).sections
+      + (steps_in most y + steps_behind most p.frames + steps_left t) ≤ 2 ^ 63) e here.room in
+      let sized = sized_both p.items (own_items rows l) in
+      let short_here : most_bytes_in p.items
+      + (most + steps_behind most p.frames + steps_left t) + 39 ≤ 2 ^ 44 =
+      subst (λ y. most_bytes_in p.items
+      + (steps_in most y + steps_behind most p.frames + steps_left t) + 39 ≤ 2 ^ 44) e here.short in
       let all : t.lines ≡ lines_left t (lines_behind v t.height t.world.goals p.frames (lines_of_tree v t.height t.world.goals leaf p.pieces p.context.lines)) =
       subst (λ y. t.lines ≡ lines_left t (lines_behind v t.height t.world.goals p.frames (lines_of_tree v t.height t.world.goals y p.pieces p.context.lines))) e here.shown in
       record {
@@ -188,14 +211,15 @@ module _ (goes : WalksGoOn) (moves : WalksMove) where
             here.written (own_leads t p.context rows l steps j) (own_due t p.context rows l (left_in p.frames + roots_left t) (left_in p.frames + roots_left t) steps due);
         ended = end;
         lies = here.entered.lies;
-        room = omega (arith, same, n, k, room);
+        room = omega (arith, same, n, k, q, room);
+        short = omega (arith, sized, small, short_here);
         shown = subst (λ y. t.lines ≡ lines_left t (lines_behind v t.height t.world.goals p.frames y)) shown all;
       }
 
-  pub settles : OfAims (λ t. (p : Place) (rows : List StepRow) (refs : List ℕ) → p.tree ≡ leaf → IsAt t p → AreBoxSteps t p rows →
+  pub settles : OfAims (λ t. (p : Place) (rows : List StepRow) (refs : List ℕ) → p.tree ≡ leaf → IsAt t p → AreBoxSteps t p rows → AreShort t rows (item.Leaf refs) →
       table_at (setting_of t.world) t.height p.pieces slot.Void ≡ None → AreCited (behind_steps p.context rows).steps (table_at (setting_of t.world) t.height p.pieces) t.world.goals refs →
       HasEnded t (closed p rows (item.Leaf refs) (lines_of_tree (setting_of t.world) t.height t.world.goals leaf p.pieces p.context.lines)))
-  settles t a p rows refs e here own none cited =
+  settles t a p rows refs e here own small none cited =
       let v : Setting = setting_of t.world in
       let most : ℕ = most_for t in
       let d : Context = behind_steps p.context rows in
@@ -208,25 +232,31 @@ module _ (goes : WalksGoOn) (moves : WalksMove) where
       let shown : lines_with d.steps p.context.lines refs ≡ lines = cited_lines d.steps at t.world.goals refs p.context.lines cited ∙ sym by_void in
       let n = next_behind p.context rows in
       let k = own.few in
-      let room : p.context.next + (most + steps_behind most p.frames + steps_left t) ≤ 2 ^ 64 = subst (λ y. p.context.next + (steps_in most y + steps_behind most p.frames + steps_left t) ≤ 2 ^ 64) e here.room in
+      let room : p.context.next + (seen_in p.items).sections
+      + (most + steps_behind most p.frames + steps_left t) ≤ 2 ^ 63 =
+      subst (λ y. p.context.next + (seen_in p.items).sections
+      + (steps_in most y + steps_behind most p.frames + steps_left t) ≤ 2 ^ 63) e here.room in
       let long : d.next ≤ 2 ^ 64 = omega (arith, n, k, room) in
       let count = cited_count d.steps at t.world.goals refs cited in
       let goals = a.subject.few_goals in
-      close t p rows (item.Leaf refs) lines e here own.steps k m.0
+      close t p rows (item.Leaf refs) lines e here own.steps k small (λ s. (refl, refl)) m.0
       (λ rest r. ((omega (arith, count, goals), cited_long d.steps at d.next t.world.goals refs own.behind.below long cited), r))
       (subst (λ y. IsEndOf p.context (after d (item.Leaf refs)) y) shown m.1) refl refl
 
-  pub voids : OfAims (λ t. (p : Place) (rows : List StepRow) (r : ℕ) → p.tree ≡ leaf → IsAt t p → AreSteps t.target.subject p.context rows → length rows ≤ most_for t →
+  pub voids : OfAims (λ t. (p : Place) (rows : List StepRow) (r : ℕ) → p.tree ≡ leaf → IsAt t p → AreSteps t.target.subject p.context rows → length rows < most_for t → AreShort t rows (item.Dead r) →
       table_at (setting_of t.world) t.height p.pieces slot.Void ≡ Some fact.Void → step_fact (behind_steps p.context rows).steps r ≡ Some fact.Void → HasEnded t (closed p rows (item.Dead r) p.context.lines))
-  voids t a p rows r e here steps k void is =
+  voids t a p rows r e here steps k small void is =
       let v : Setting = setting_of t.world in
       let most : ℕ = most_for t in
       let d : Context = behind_steps p.context rows in
       let m = moves.void v t.world.hints a.writable t.height most (enough t a) t.world.goals t.target.subject t.target.number a.subject p.context p.pieces rows r here.entered.opened steps is in
       let n = next_behind p.context rows in
-      let room : p.context.next + (most + steps_behind most p.frames + steps_left t) ≤ 2 ^ 64 = subst (λ y. p.context.next + (steps_in most y + steps_behind most p.frames + steps_left t) ≤ 2 ^ 64) e here.room in
+      let room : p.context.next + (seen_in p.items).sections
+      + (most + steps_behind most p.frames + steps_left t) ≤ 2 ^ 63 =
+      subst (λ y. p.context.next + (seen_in p.items).sections
+      + (steps_in most y + steps_behind most p.frames + steps_left t) ≤ 2 ^ 63) e here.room in
       let long : d.next ≤ 2 ^ 64 = omega (arith, n, k, room) in
-      close t p rows (item.Dead r) p.context.lines e here steps k m.0
+      close t p rows (item.Dead r) p.context.lines e here steps k small (λ s. (refl, refl)) m.0
       (λ rest q. ((tt, found_long d.steps r d.next fact.Void (below_behind p.context rows here.entered.opened.below) long is), q))
       m.1 refl (ap (λ o. leaf_lines o (table_at v t.height p.pieces) t.world.goals p.context.lines) void)
 
@@ -241,15 +271,32 @@ module _ (goes : WalksGoOn) (moves : WalksMove) where
       let l : fr.piece + 1 ≤ length fr.points = left.0 in
       let count : length fr.points - fr.piece + left_in frames + roots_left t ≡ suc (length fr.points - (fr.piece + 1) + left_in frames + roots_left t) = omega (arith, l) in
       let w : HasWritten t e.items e.context (left_in (fr ∷ frames) + roots_left t) = subst (λ y. HasWritten t e.items e.context (left_in y + roots_left t)) same here.written in
-      let room : e.context.next + (steps_in_each most fr.later + steps_behind most frames + steps_left t) ≤ 2 ^ 64 = subst (λ y. e.context.next + (steps_behind most y + steps_left t) ≤ 2 ^ 64) same here.room in
+      let room : e.context.next + (seen_in e.items).sections
+      + (steps_in_each most fr.later + steps_behind most frames + steps_left t) ≤ 2 ^ 63 =
+      subst (λ y. e.context.next + (seen_in e.items).sections
+      + (steps_behind most y + steps_left t) ≤ 2 ^ 63) same here.room in
       let all : t.lines ≡ lines_left t (lines_behind v t.height t.world.goals frames (lines_of_trees v t.height t.world.goals fr.var fr.later fr.pieces e.lines)) = subst (λ y. t.lines ≡ lines_left t (lines_behind v t.height t.world.goals y e.lines)) same here.shown in
       let all_next : t.lines ≡ lines_left t (lines_behind v t.height t.world.goals frames (lines_of_trees v t.height t.world.goals fr.var (next i tree later) fr.pieces e.lines)) =
       subst (λ y. t.lines ≡ lines_left t (lines_behind v t.height t.world.goals frames (lines_of_trees v t.height t.world.goals fr.var y fr.pieces e.lines))) is all in
-      let room_next : e.context.next + (steps_in most tree + steps_in_each most later + steps_behind most frames + steps_left t) ≤ 2 ^ 64 = subst (λ y. e.context.next + (steps_in_each most y + steps_behind most frames + steps_left t) ≤ 2 ^ 64) is room in
+      let room_next : e.context.next + (seen_in e.items).sections
+      + (steps_in most tree + steps_in_each most later + steps_behind most frames + steps_left t)
+      ≤ 2 ^ 63 =
+      subst (λ y. e.context.next + (seen_in e.items).sections
+      + (steps_in_each most y + steps_behind most frames + steps_left t) ≤ 2 ^ 63) is room in
+      let short_here : most_bytes_in e.items
+      + (steps_in_each most fr.later + steps_behind most frames + steps_left t) + 39 ≤ 2 ^ 44 =
+      subst (λ y. most_bytes_in e.items + (steps_behind most y + steps_left t) + 39 ≤ 2 ^ 44) same
+      here.short in
+      let short_next : most_bytes_in e.items
+      + (steps_in most tree + steps_in_each most later + steps_behind most frames + steps_left t) + 39
+      ≤ 2 ^ 44 =
+      subst (λ y. most_bytes_in e.items
+      + (steps_in_each most y + steps_behind most frames + steps_left t) + 39 ≤ 2 ^ 44) is short_here in
       record {
         written = subst (λ n. HasWritten t e.items e.context n) count w;
         entered = m;
         room = omega (arith, room_next);
+        short = omega (arith, short_next);
         shown = subst (λ y. t.lines ≡ lines_left t (lines_behind v t.height t.world.goals frames (lines_of_trees v t.height t.world.goals fr.var (next i tree later) fr.pieces y))) (sym here.ended.shown) all_next;
       }
 
@@ -263,13 +310,21 @@ module _ (goes : WalksGoOn) (moves : WalksMove) where
       let l : fr.piece + 1 ≡ length fr.points + 1 = left in
       let count : length fr.points - fr.piece + left_in frames + roots_left t ≡ left_in frames + roots_left t = omega (arith, l) in
       let w : HasWritten t e.items e.context (left_in (fr ∷ frames) + roots_left t) = subst (λ y. HasWritten t e.items e.context (left_in y + roots_left t)) same here.written in
-      let room : e.context.next + (steps_in_each most fr.later + steps_behind most frames + steps_left t) ≤ 2 ^ 64 = subst (λ y. e.context.next + (steps_behind most y + steps_left t) ≤ 2 ^ 64) same here.room in
+      let room : e.context.next + (seen_in e.items).sections
+      + (steps_in_each most fr.later + steps_behind most frames + steps_left t) ≤ 2 ^ 63 =
+      subst (λ y. e.context.next + (seen_in e.items).sections
+      + (steps_behind most y + steps_left t) ≤ 2 ^ 63) same here.room in
       let all : t.lines ≡ lines_left t (lines_behind v t.height t.world.goals frames (lines_of_trees v t.height t.world.goals fr.var fr.later fr.pieces e.lines)) = subst (λ y. t.lines ≡ lines_left t (lines_behind v t.height t.world.goals y e.lines)) same here.shown in
+      let short_here : most_bytes_in e.items
+      + (steps_in_each most fr.later + steps_behind most frames + steps_left t) + 39 ≤ 2 ^ 44 =
+      subst (λ y. most_bytes_in e.items + (steps_behind most y + steps_left t) + 39 ≤ 2 ^ 44) same
+      here.short in
       record {
         written = subst (λ n. HasWritten t e.items e.context n) count w;
         ended = m;
         lies = lies.1;
         room = omega (arith, room);
+        short = omega (arith, short_here);
         shown = subst (λ y. t.lines ≡ lines_left t (lines_behind v t.height t.world.goals frames (lines_of_trees v t.height t.world.goals fr.var y fr.pieces e.lines))) is all;
       }
 
@@ -286,19 +341,31 @@ module _ (goes : WalksGoOn) (moves : WalksMove) where
       let w : HasWritten t e.items e.context (suc (0 + length later)) =
       subst (λ n. HasWritten t e.items e.context n) (let n : 0 + length (r ∷ later) ≡ suc (0 + length later) = omega arith in n)
       (subst (λ rs. HasWritten t e.items e.context (0 + length rs)) is (subst (λ y. HasWritten t e.items e.context (left_in y + roots_left t)) same here.written)) in
-      let room : e.context.next + (0 + (steps_in most tree + steps_in_roots most later)) ≤ 2 ^ 64 =
-      subst (λ rs. e.context.next + (0 + steps_in_roots most rs) ≤ 2 ^ 64) is (subst (λ y. e.context.next + (steps_behind most y + steps_left t) ≤ 2 ^ 64) same here.room) in
+      let room : e.context.next + (seen_in e.items).sections
+      + (0 + (steps_in most tree + steps_in_roots most later)) ≤ 2 ^ 63 =
+      subst (λ rs. e.context.next + (seen_in e.items).sections
+      + (0 + steps_in_roots most rs) ≤ 2 ^ 63) is
+      (subst (λ y. e.context.next + (seen_in e.items).sections
+      + (steps_behind most y + steps_left t) ≤ 2 ^ 63) same here.room) in
       let all : t.lines ≡ lines_of_roots t.height t.world.goals (r ∷ later) e.lines =
       subst (λ rs. t.lines ≡ lines_of_roots t.height t.world.goals rs e.lines) is (subst (λ y. t.lines ≡ lines_left t (lines_behind v t.height t.world.goals y e.lines)) same here.shown) in
+      let short_here : most_bytes_in e.items
+      + (0 + (steps_in most tree + steps_in_roots most later)) + 39 ≤ 2 ^ 44 =
+      subst (λ rs. most_bytes_in e.items + (0 + steps_in_roots most rs) + 39 ≤ 2 ^ 44) is
+      (subst (λ y. most_bytes_in e.items + (steps_behind most y + steps_left t) + 39 ≤ 2 ^ 44) same
+      here.short) in
       record {
         written = record { leads = w.leads; due = w.due };
         entered = m;
         room = omega (arith, room);
+        short = omega (arith, short_here);
         shown = subst (λ y. t.lines ≡ lines_of_roots t.height t.world.goals (r ∷ later) y) (sym here.ended.shown) all;
       }
 
-  pub whole : OfAims (λ t. (e : Ended) → e.frames ≡ [] → t.target.later ≡ [] → HasEnded t e → IsWhole t (certificate_of e.items))
-  whole t a e same last_case here =
+  pub whole : SpellingsAreShort
+      → OfAims (λ t. (e : Ended) → e.frames ≡ [] → t.target.later ≡ [] → HasEnded t e
+      → IsWhole t (certificate_of (e.items ++ item.End ∷ [])))
+  whole spell t a e same last_case here =
       let v : Setting = setting_of t.world in
       let lies : LiesIn v t.height t.world.goals t.target.number e.begin [] = subst (λ y. LiesIn v t.height t.world.goals t.target.number e.begin y) same here.lies in
       let w : HasWritten t e.items e.context 0 =
@@ -318,5 +385,9 @@ module _ (goes : WalksGoOn) (moves : WalksMove) where
           cases = number ∙ of;
           shown = here.ended.shown ∙ sym all;
         },
-        sym (spelled_both e.items (item.End ∷ []) ∙ append-nil (certificate_of e.items)),
+        refl,
+        (let s = spell (Second none_seen) (e.items ++ item.End ∷ []) in
+            let b = sized_both e.items (item.End ∷ []) in
+            let l = here.short in
+            omega (arith, s, b, l)),
       )

@@ -1,4 +1,6 @@
 mod Taken
+mod Seen
+mod Sized
 mod GoesOn
 mod Begun
 mod Spelled

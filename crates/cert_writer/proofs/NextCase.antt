@@ -22,11 +22,15 @@ use Rattle.saturate.specs.Universes.{setting_of}
 use Rattle.answer_certificates.specs.Boxes.{boxes_of}
 use Rattle.answer_certificates.specs.Roots.{AreRootsOf}
 use Rattle.answer_certificates.specs.Scripts.{in_case, HasSlots}
-use Rattle.cert_writer.specs.Bytes.{certificate_of}
+use Rattle.cert_bytes.specs.declared.item.Item.TheVariants as item
+use Rattle.cert_bytes.specs.declared.style.Seen.{Seen}
+use Rattle.cert_bytes.specs.Styles.{none_seen}
+use Rattle.cert_writer.specs.Bytes.{seen_in, spelled_behind, certificate_of}
 use Rattle.cert_writer.specs.Standing.{IsAim, IsBegun, Ended, HasEnded, next_root}
 use Rattle.cert_writer.specs.Courses.{Course, IsCourse, course, IsBefore, IsPast, Grew, GrewToFront}
 use Rattle.cert_writer.specs.Cases.{Task, task, plan_in, target_of, aim_of, whole_aim, IsBeforeCase, StandsAt, OfStanding, GrewFront}
 use Rattle.cert_writer.specs.Laws.{WritingGoesOn}
+use Rattle.cert_writer.proofs.Seen.{spelled_both}
 use Rattle.cert_writer.proofs.Turn.{appends_none, begun_still}
 
 -- ---- lists
@@ -52,17 +56,23 @@ root_piece plan = refl
 
 -- ---- before a case
 -- What is written is a front.
-pub stands_begun : WritingGoesOn → (w : Task) (number : ℕ) (cases : List (List Claim)) (next : ℕ)
+pub stands_begun : WritingGoesOn → (w : Task) (number : ℕ) (cases : List (List Claim)) (next : Seen)
     (items : List Item) → StandsAt w number cases next items
     → IsBegun (whole_aim w) (certificate_of items)
-stands_begun go w number [] next items (all, accepted, same) =
-    (all, accepted, ([], sym same ∙ sym (append-nil (certificate_of items))))
+stands_begun go w number [] next items (whole, seen) = (
+  whole.0,
+  whole.1,
+  (
+    spelled_behind (seen_in items) (item.End ∷ []),
+    sym whole.2 ∙ spelled_both none_seen items (item.End ∷ []),
+  ),
+)
 stands_begun go w number (claims ∷ later) next items b =
     subst (λ is. IsBegun (whole_aim w) (certificate_of is)) b.items_are
     (go.begun (aim_of w number claims b.roots) b.aim b.place b.here)
 
 -- Where nothing is written it is so.
-pub still : WritingGoesOn → (s : View) (u : World) (rounds depth number next : ℕ)
+pub still : WritingGoesOn → (s : View) (u : World) (rounds depth number : ℕ) (next : Seen)
     (told : Option (List ℕ)) → OfStanding s u rounds depth number next
     (λ w items. GrewFront w items told told)
 still go s u rounds depth number next told t lines items stands =
@@ -75,13 +85,13 @@ next_case : WritingGoesOn → (w : Task) (number : ℕ) (claims : List Claim)
     (later : List (List Claim)) (roots : List Root)
     → AreRootsOf w.script w.world w.rounds w.depth later roots
     → IsAim (aim_of w number claims roots) → (e : Ended) → HasEnded (aim_of w number claims roots) e
-    → e.frames ≡ [] → (next : ℕ) → next ≡ e.context.next
+    → e.frames ≡ [] → (next : Seen) → next.steps ≡ e.context.next → seen_in e.items ≡ next
     → StandsAt w (number + 1) later next e.items
-next_case go w number claims [] [] are aim e ended frames next same =
-    go.whole (aim_of w number claims []) aim e frames refl ended
-next_case go w number claims [] (r ∷ roots) are aim e ended frames next same = absurd are
-next_case go w number claims (c ∷ later) [] are aim e ended frames next same = absurd are
-next_case go w number claims (c ∷ later) (r ∷ roots) are aim e ended frames next same =
+next_case go w number claims [] [] are aim e ended frames next same seen =
+    (go.whole (aim_of w number claims []) aim e frames refl ended, seen)
+next_case go w number claims [] (r ∷ roots) are aim e ended frames next same seen = absurd are
+next_case go w number claims (c ∷ later) [] are aim e ended frames next same seen = absurd are
+next_case go w number claims (c ∷ later) (r ∷ roots) are aim e ended frames next same seen =
     let t = aim_of w number claims (r ∷ roots) in
     let tree : Tree = boxes_of (plan_in w c) are.0.states in
     let here : Root = record { setting = setting_of (in_case w.world c); tree = tree } in
@@ -97,8 +107,14 @@ next_case go w number claims (c ∷ later) (r ∷ roots) are aim e ended frames 
       aim = record {
         writable = root.writable;
         subject = root.subject_is;
-        enough =
-            aim.enough;
+        enough = aim.enough;
+        small = record {
+          hypotheses = root.writable.few_hypotheses;
+          nodes = aim.small.nodes;
+          premises = aim.small.premises;
+        };
+        low = aim.low;
+        wide = aim.wide;
         later = aim.later.1;
         few = aim.few;
       };
@@ -109,11 +125,12 @@ next_case go w number claims (c ∷ later) (r ∷ roots) are aim e ended frames 
       pieces = refl;
       frames = refl;
       next_is = sym same;
+      seen_is = seen;
       items_are = refl;
     }
 
 -- The walk over the boxes of a case, with its universe and its plan.
-module _ (w : Task) (number : ℕ) (claims : List Claim) (later : List (List Claim)) (next : ℕ)
+module _ (w : Task) (number : ℕ) (claims : List Claim) (later : List (List Claim)) (next : Seen)
     (items : List Item) (b : IsBeforeCase w number claims later next items) where
   abbrev pub over : World → PlanParts → Course
   over u plan = course u plan w.rounds (target_of w number b.roots) w.lines b.states
@@ -155,9 +172,10 @@ module _ (w : Task) (number : ℕ) (claims : List Claim) (later : List (List Cla
           pieces = b.pieces ∙ sym (root_pieces q);
           box = subst (λ x. IsBox v w.rounds x None p.pieces) (sym (root_piece q)) b.pieces;
           of = subst (λ x. IsOfUniverse v x None) (sym (root_piece q)) tt;
-          section = subst (λ x. IsItsSection v x None next (numbered p.context)
+          section = subst (λ x. IsItsSection v x None next.steps (numbered p.context)
               (open_piece p.context.cuts)) (sym (root_piece q))
               ((b.next_is, b.here.entered.opened.below), none);
+          seen_is = ap seen_in b.items_are ∙ b.seen_is;
         }))
 
     -- Broken off in them it leaves a front.
@@ -166,7 +184,7 @@ module _ (w : Task) (number : ℕ) (claims : List Claim) (later : List (List Cla
     front_case old new h = subst (λ is. GrewFront w is old new) b.items_are h
 
     -- Behind them it stands before the next case.
-    pub past_case : WritingGoesOn → (old new : Option (List ℕ)) (number_next : ℕ)
+    pub past_case : WritingGoesOn → (old new : Option (List ℕ)) (number_next : Seen)
         → IsPast (over u plan) b.place old number_next new
         → (more : List Item) × Grew items old new more
         × StandsAt w (number + 1) later number_next more
@@ -177,5 +195,5 @@ module _ (w : Task) (number : ℕ) (claims : List Claim) (later : List (List Cla
           e.items,
           subst (λ is. Grew is old new e.items) b.items_are past.4,
           next_case go w number claims later b.roots b.are b.aim e ended
-              (past.2 ∙ b.frames) number_next past.3,
+              (past.2 ∙ b.frames) number_next past.3 past.5,
         )

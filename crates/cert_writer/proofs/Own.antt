@@ -3,6 +3,7 @@ use Rattle.std.specs.Prelude.{◌≡◌, ◌<◌, ◌≤◌, ◌+◌, ◌^◌, �
 use Rattle.std.specs.Borrow.{Bor}
 use Rattle.std.specs.List.{AllByRecursion}
 use Rattle.std.proofs.Common.{sym, ◌∙◌, ap, subst, inl, inr, arith}
+use Rattle.std.proofs.lemmas.List.{length-map}
 use Rattle.facts.specs.declared.fact.Fact.{Fact}
 use Rattle.facts.specs.declared.fact.Fact.TheVariants as fact
 use Rattle.facts.specs.declared.fact.Slot.TheVariants as slot
@@ -17,6 +18,8 @@ use Rattle.box_tree.specs.Plans.{piece_at}
 use Rattle.cert_bytes.specs.declared.item.Item.{Item}
 use Rattle.cert_bytes.specs.declared.item.Item.TheVariants as item
 use Rattle.cert_bytes.specs.declared.item.StepRow.{StepRow}
+use Rattle.cert_bytes.specs.declared.style.Seen.{Seen}
+use Rattle.cert_writer.specs.Bytes.{seen_in}
 use Rattle.cert_checker.specs.Contexts.{Context, open_piece}
 use Rattle.cert_checker.specs.Open.{Numbered}
 use Rattle.cert_checker.specs.Steps.{step_fact}
@@ -31,7 +34,9 @@ use Rattle.box_traces.specs.Trees.{Tree, leaf, cut, AllSettled, IsProved, IsSett
 use Rattle.box_traces.specs.Walks.{numbered, behind_steps, IsBehind, steps_behind}
 use Rattle.box_traces.specs.Moves.{WalksMove, AreSteps, next_behind}
 use Rattle.cert_writer.specs.Boxes.{HasShortList, KnowsVoid, IsClosed, IsEnd, refs_in}
-use Rattle.cert_writer.specs.Standing.{Aim, IsAim, Place, IsAt, Ended, HasEnded, AreCited, most_for, steps_left, own_items, closed}
+use Rattle.box_trace.specs.Short.{EndsBox, BoxesAreShort}
+use Rattle.box_trace.specs.Rounds.{IsByRounds}
+use Rattle.cert_writer.specs.Standing.{AreShort, Aim, IsAim, Place, IsAt, Ended, HasEnded, AreCited, most_for, steps_left, own_items, closed}
 use Rattle.cert_writer.specs.Courses.{Course, IsCourse, HasBest, IsBefore, setting, best_at}
 use Rattle.cert_writer.specs.Laws.{WritingGoesOn}
 use Rattle.cert_writer.proofs.GoesOn.{enough}
@@ -41,7 +46,8 @@ use Rattle.facts.specs.CommonParts.{at_option, void_is}
 -- What is so of a box's own steps.
 pub record OwnSteps (c : Course) (p : Place) (t : Traced) : Type 0 where
   pub steps : AreSteps c.aim.target.subject p.context t.steps.items
-  pub few : length t.steps.items ≤ most_for c.aim
+  pub few : length t.steps.items < most_for c.aim
+  pub sized : (last : Item) → EndsBox last → AreShort c.aim t.steps.items last
   pub short : AllByRecursion HasShortList t.steps.items
   pub placed : ArePlaces (numbered (behind_steps p.context t.steps.items)) (known_at c.aim.world t.known) (place_in c.aim.world t.known)
   pub table : IsTableAt (setting c) c.aim.height p.pieces (known_at c.aim.world t.known)
@@ -89,48 +95,61 @@ one_box : (most : ℕ) (tree : Tree) → most ≤ steps_in most tree
 one_box most leaf = let l : most ≤ most = omega arith in l
 one_box most (cut x points trees) = let l : most ≤ most + steps_in_each most trees = omega arith in l
 
-fits : (start first most more rest : ℕ) (tree : Tree) → start ≡ first → start + (steps_in most tree + more + rest) ≤ 2 ^ 64 → first + most ≤ 2 ^ 64
-fits start first most more rest tree e h = let l = one_box most tree in omega (arith, e, h, l)
+fits : (start passed first sections most more rest : ℕ) (tree : Tree) → start ≡ first → passed ≡ sections
+    → start + passed + (steps_in most tree + more + rest) ≤ 2 ^ 63 → first + sections + most ≤ 2 ^ 63
+fits start passed first sections most more rest tree e s h =
+    let l = one_box most tree in omega (arith, e, s, h, l)
 
 -- A trace has fewer steps than there is room for.
 fewer : (t : Aim) → IsAim t → most_steps t.world t.height < most_for t
 fewer t a = let l = a.enough in let h = a.writable.few_hypotheses in omega (arith, l, h)
 
-module _ (c : Course) (path : List ℕ) (parent : Option (Bor Known)) (first : ℕ) (p : Place) (b : IsBefore c path parent first p) where
-  pub first_is : p.context.next ≡ first
-  first_is = next_is c.aim.world (piece_at c.plan path) parent first (numbered p.context) (open_piece p.context.cuts) b.section
+module _ (c : Course) (path : List ℕ) (parent : Option (Bor Known)) (first : Seen) (p : Place) (b : IsBefore c path parent first p) where
+  pub first_is : p.context.next ≡ first.steps
+  first_is = next_is c.aim.world (piece_at c.plan path) parent first.steps (numbered p.context) (open_piece p.context.cuts) b.section
 
   -- so many more behind the box's steps
-  pub next_behind_own : (rows : List StepRow) → (behind_steps p.context rows).next ≡ first + length rows
+  pub next_behind_own : (rows : List StepRow) → (behind_steps p.context rows).next ≡ first.steps + length rows
   next_behind_own rows = next_behind p.context rows ∙ ap (λ n. n + length rows) first_is
 
-  room_here : first + most_for c.aim ≤ 2 ^ 64
-  room_here = fits p.context.next first (most_for c.aim) (steps_behind (most_for c.aim) p.frames) (steps_left c.aim) p.tree first_is b.here.room
+  room_here : first.steps + first.sections + most_for c.aim ≤ 2 ^ 63
+  room_here =
+      let same : (seen_in p.items).sections ≡ first.sections = ap (λ (s : Seen). s.sections) b.seen_is in
+      fits p.context.next (seen_in p.items).sections first.steps first.sections (most_for c.aim)
+      (steps_behind (most_for c.aim) p.frames) (steps_left c.aim) p.tree first_is same b.here.room
 
   pub some_box : IsSomeBox c.aim.world c.aim.height (piece_at c.plan path) parent
   some_box = (p.pieces, b.box)
 
-  pub has_room : IsCourse c → first + most_steps c.aim.world c.aim.height < 2 ^ 64
+  pub has_room : IsCourse c → first.steps + most_steps c.aim.world c.aim.height < 2 ^ 64
   has_room a = let l = fewer c.aim a.aim in let h = room_here in omega (arith, l, h)
+
+  -- for the box's steps and its end, with what was seen
+  pub has_sections : IsCourse c → (first.steps + most_steps c.aim.world c.aim.height < 2 ^ 63)
+      × (first.sections < 2 ^ 63)
+  has_sections a =
+      let l = fewer c.aim a.aim in
+      let h = room_here in (omega (arith, l, h), omega (arith, l, h))
 
 pub few_hypotheses : (c : Course) → IsCourse c → length c.aim.world.hypotheses ≤ 65536
 few_hypotheses c a = a.aim.writable.few_hypotheses
 
 -- ---- the box's steps
 module _ (moves : WalksMove) (one : TablesAreOne) where
-  pub own_steps : (c : Course) → IsCourse c → HasBest c → (path : List ℕ) (parent : Option (Bor Known)) (first : ℕ) (p : Place) → IsBefore c path parent first p → (t : Traced) →
-      IsItsTable c.aim.world c.aim.height (piece_at c.plan path) parent t.known → AreItsSteps c.aim.world (piece_at c.plan path) parent first (log_of first t) →
-      length t.steps.items ≤ most_steps c.aim.world c.aim.height → OwnSteps c p t
-  own_steps c a best path parent first p b t its steps count =
+  pub own_steps : (c : Course) → IsCourse c → HasBest c → (path : List ℕ) (parent : Option (Bor Known)) (first : Seen) (p : Place) → IsBefore c path parent first p → (t : Traced) →
+      IsItsTable c.aim.world c.aim.height (piece_at c.plan path) parent t.known → AreItsSteps c.aim.world (piece_at c.plan path) parent first.steps (log_of first.steps t) →
+      length t.steps.items ≤ most_steps c.aim.world c.aim.height
+      → BoxesAreShort → IsByRounds c.aim.world parent c.aim.height first.steps t → OwnSteps c p t
+  own_steps c a best path parent first p b t its steps count boxes rounds =
       let u : World = c.aim.world in
       let height : ℕ = c.aim.height in
       let most : ℕ = most_for c.aim in
       let rows : List StepRow = t.steps.items in
       let at : At = known_at u t.known in
       let opened = b.here.entered.opened in
-      let traced : IsTracedIn u (open_piece p.context.cuts) (numbered p.context) (log_of first t) = steps a.aim.writable (numbered p.context) (open_piece p.context.cuts) b.section in
+      let traced : IsTracedIn u (open_piece p.context.cuts) (numbered p.context) (log_of first.steps t) = steps a.aim.writable (numbered p.context) (open_piece p.context.cuts) b.section in
       let l = fewer c.aim a.aim in
-      let few : length rows ≤ most = omega (arith, count, l) in
+      let few : length rows < most = omega (arith, count, l) in
       let n = first_is c path parent first p b in
       let h = room_here c path parent first p b in
       let room : p.context.next + length rows ≤ 2 ^ 64 = omega (arith, n, few, h) in
@@ -138,6 +157,10 @@ module _ (moves : WalksMove) (one : TablesAreOne) where
       record {
         steps = moves.written (setting c) u.hints a.aim.writable height most (enough c.aim a.aim) u.goals c.aim.target.subject c.aim.target.number a.aim.subject p.context p.pieces rows opened (traced.0).accepted traced.1 room;
         few = few;
+        sized = λ last ends.
+            let size = boxes u parent height first.steps rows last a.aim.small a.aim.low rounds ends in
+            let wide = a.aim.wide in
+            omega (arith, size, wide);
         short = short_lists rows traced.1;
         placed = subst (λ s. ArePlaces s at (place_in u t.known)) (numbered_behind p.context rows) (traced.0).placed;
         table = table;
@@ -146,6 +169,15 @@ module _ (moves : WalksMove) (one : TablesAreOne) where
             moves.placed (setting c) u.hints a.aim.writable height most (enough c.aim a.aim) u.goals c.aim.target.subject c.aim.target.number a.aim.subject p.context p.pieces rows (place_in u t.known) opened
             (λ s f e. (traced.0).placed s f (sym (same s) ∙ e));
       }
+
+-- a leaf has a reference for each goal
+refs_few : (c : Course) → IsCourse c → (p : Place) (t : Traced) (refs : List ℕ)
+    → refs ≡ refs_in c.aim.world t.known c.aim.world.goals → length refs ≤ 65535
+refs_few c a p t refs e =
+    let l : length refs ≡ length c.aim.world.goals =
+    ap length e ∙ length-map c.aim.world.goals (λ (g : Goal). place_in c.aim.world t.known g.of) in
+    let few_goals = a.aim.subject.few_goals in
+    omega (arith, l, few_goals)
 
 -- ---- a box that isn't cut
 module _ (one : TablesAreOne) where
@@ -165,15 +197,15 @@ module _ (one : TablesAreOne) where
 
 module _ (goes : WritingGoesOn) (one : TablesAreOne) where
   -- Its section ends with its last item.
-  pub box_ends : (c : Course) → IsCourse c → HasBest c → (path : List ℕ) (parent : Option (Bor Known)) (first : ℕ) (p : Place) → IsBefore c path parent first p → (t : Traced) → OwnSteps c p t →
+  pub box_ends : (c : Course) → IsCourse c → HasBest c → (path : List ℕ) (parent : Option (Bor Known)) (first : Seen) (p : Place) → IsBefore c path parent first p → (t : Traced) → OwnSteps c p t →
       p.tree ≡ leaf → (i : Item) → IsEnd c.aim.world t.known i →
-      (e : Ended) × HasEnded c.aim e × (e.frames ≡ p.frames) × (e.context.next ≡ first + length t.steps.items) × (e.items ≡ p.items ++ own_items t.steps.items i)
+      (e : Ended) × HasEnded c.aim e × (e.frames ≡ p.frames) × (e.context.next ≡ first.steps + length t.steps.items) × (e.items ≡ p.items ++ own_items t.steps.items i)
   box_ends c a best path parent first p b t own e (item.Dead r) h =
       let rows : List StepRow = t.steps.items in
       let there : step_fact (behind_steps p.context rows).steps r ≡ Some fact.Void = subst (λ n. step_fact (behind_steps p.context rows).steps n ≡ Some fact.Void) (sym h.1) (own.placed slot.Void fact.Void h.0) in
       let void = void_too (setting c) c.aim.height p.pieces (known_at c.aim.world t.known) own.table (best_at c p.pieces) (best p.pieces) fact.Void h.0 in (
         closed p rows (item.Dead r) p.context.lines,
-        goes.voids c.aim a.aim p rows r e b.here own.steps own.few void there,
+        goes.voids c.aim a.aim p rows r e b.here own.steps own.few (own.sized (item.Dead r) tt) void there,
         refl,
         next_behind_own c path parent first p b rows,
         refl,
@@ -188,7 +220,7 @@ module _ (goes : WritingGoesOn) (one : TablesAreOne) where
       let d : Context = behind_steps p.context rows in
       let cited : AreCited d.steps all u.goals refs = subst (λ rs. AreCited d.steps all u.goals rs) (sym h.2) (are_cited u t.known (numbered d) all u.goals same own.placed h.1) in (
         closed p rows (item.Leaf refs) (lines_of_tree (setting c) c.aim.height u.goals leaf p.pieces p.context.lines),
-        goes.settles c.aim a.aim p rows refs e b.here (record { steps = own.steps; behind = own.behind none; few = own.few }) (same slot.Void ∙ none) cited,
+        goes.settles c.aim a.aim p rows refs e b.here (record { steps = own.steps; behind = own.behind none; few = own.few }) (own.sized (item.Leaf refs) (refs_few c a p t refs h.2)) (same slot.Void ∙ none) cited,
         refl,
         next_behind_own c path parent first p b rows,
         refl,

@@ -22,7 +22,9 @@ use Rattle.box_tree.specs.Plans.{piece_at, pieces_at, with_last}
 use Rattle.cert_bytes.specs.declared.item.Item.{Item}
 use Rattle.cert_bytes.specs.declared.item.Item.TheVariants as item
 use Rattle.cert_bytes.specs.declared.item.StepRow.{StepRow}
-use Rattle.cert_writer.specs.Bytes.{certificate_of}
+use Rattle.cert_bytes.specs.declared.style.Seen.{Seen}
+use Rattle.cert_bytes.specs.Styles.{none_seen}
+use Rattle.cert_writer.specs.Bytes.{seen_behind, seen_in, spelled_behind, certificate_of}
 use Rattle.cert_checker.specs.Contexts.{open_piece, piece_fact}
 use Rattle.cert_checker.specs.Open.{Numbered}
 use Rattle.cert_checker.specs.Steps.{step_fact, met_with, IsEnough}
@@ -36,19 +38,19 @@ use Rattle.box_traces.specs.Walks.{numbered, behind_steps, Frame, IsPieceOf, Lie
 use Rattle.box_traces.specs.Moves.{frame_of, turned, next_behind}
 use Rattle.answer_certificates.specs.Boxes.{range_of_piece, pieces_from}
 use Rattle.cert_writer.specs.Files.{AppendsFront, appends_both}
-use Rattle.cert_writer.specs.Standing.{Aim, IsBegun, Place, IsAt, Ended, HasEnded, AreBoxSteps, own_items, inside, beside, around}
+use Rattle.cert_writer.specs.Standing.{Aim, IsBegun, Place, IsAt, Ended, HasEnded, AreBoxSteps, AreShort, own_items, inside, beside, around}
 use Rattle.cert_writer.specs.Courses.{Course, IsCourse, HasBest, setting, best_at, below, Grew, GrewToFront, IsBefore, IsPast, IsKnownAt, IsWithin, HasDone}
 use Rattle.cert_writer.specs.Laws.{WritingGoesOn}
-use Rattle.cert_writer.proofs.GoesOn.{spelled_both}
+use Rattle.cert_writer.proofs.Seen.{seen_both, spelled_both, own_steps_seen, seen_with}
 
 -- ---- what the file takes
 -- A front of items that stand behind those before.
-pub begun_front : (t : Aim) (before more items : List Item) (old new : Option (List ℕ)) → IsBegun t (certificate_of items) → items ≡ before ++ more → AppendsFront old new (certificate_of more) → GrewToFront t before old new
+pub begun_front : (t : Aim) (before more items : List Item) (old new : Option (List ℕ)) → IsBegun t (certificate_of items) → items ≡ before ++ more → AppendsFront old new (spelled_behind (seen_in before) more) → GrewToFront t before old new
 begun_front t before more items old new b e a =
     let front : List ℕ = a.0 in
     let rest : List ℕ = (a.1).0 in
     let tail : List ℕ = (b.2).0 in
-    let spelled : certificate_of items ≡ certificate_of before ++ (front ++ rest) = ap certificate_of e ∙ (spelled_both before more ∙ ap (λ bs. certificate_of before ++ bs) (a.1).1) in
+    let spelled : certificate_of items ≡ certificate_of before ++ (front ++ rest) = ap certificate_of e ∙ (spelled_both none_seen before more ∙ ap (λ bs. certificate_of before ++ bs) (a.1).1) in
     let left : certificate_of items ≡ (certificate_of before ++ front) ++ rest = spelled ∙ sym (append_assoc (certificate_of before) front rest) in
     let whole : certificate_of b.0 ≡ (certificate_of before ++ front) ++ (rest ++ tail) = (b.2).1 ∙ (ap (λ bs. bs ++ tail) left ∙ append_assoc (certificate_of before ++ front) rest tail) in
     (front, a.2, (b.0, b.1, (rest ++ tail, whole)))
@@ -67,14 +69,26 @@ pub begun_later : (t : Aim) (before items : List Item) (old mid new : Option (Li
 begun_later t before items old mid new g f =
     let more : List Item = g.0 in
     let front : List ℕ = f.0 in
-    let spelled : certificate_of items ≡ certificate_of before ++ certificate_of more = ap certificate_of g.1 ∙ spelled_both before more in
-    let both : certificate_of items ++ front ≡ certificate_of before ++ (certificate_of more ++ front) = ap (λ bs. bs ++ front) spelled ∙ append_assoc (certificate_of before) (certificate_of more) front in
-    (certificate_of more ++ front, appends_both old mid new (certificate_of more) front g.2 f.1, subst (λ bs. IsBegun t bs) both f.2)
+    let bytes : List ℕ = spelled_behind (seen_in before) more in
+    let spelled : certificate_of items ≡ certificate_of before ++ bytes =
+    ap certificate_of g.1 ∙ spelled_both none_seen before more in
+    let both : certificate_of items ++ front ≡ certificate_of before ++ (bytes ++ front) =
+    ap (λ bs. bs ++ front) spelled ∙ append_assoc (certificate_of before) bytes front in
+    (bytes ++ front, appends_both old mid new bytes front g.2 f.1, subst (λ bs. IsBegun t bs) both f.2)
 
 pub grew_both : (before items later : List Item) (old mid new : Option (List ℕ)) → Grew before old mid items → Grew items mid new later → Grew before old new later
 grew_both before items later old mid new g h =
     let e : later ≡ before ++ (g.0 ++ h.0) = h.1 ∙ (ap (λ y. y ++ h.0) g.1 ∙ append_assoc before g.0 h.0) in
-    (g.0 ++ h.0, e, subst (λ bs. Appends old new bs) (sym (spelled_both g.0 h.0)) (appends_both old mid new (certificate_of g.0) (certificate_of h.0) g.2 h.2))
+    let s : Seen = seen_in before in
+    let more : Appends mid new (spelled_behind (seen_behind s g.0) h.0) =
+    subst (λ q. Appends mid new (spelled_behind q h.0)) (ap seen_in g.1 ∙ seen_both none_seen before g.0) h.2
+    in (
+      g.0 ++ h.0,
+      e,
+      subst (λ bs. Appends old new bs) (sym (spelled_both s g.0 h.0))
+          (appends_both old mid new (spelled_behind s g.0) (spelled_behind (seen_behind s g.0) h.0)
+          g.2 more),
+    )
 
 -- ---- a piece of a box
 -- the number of the next step where the section of a box begins
@@ -91,7 +105,7 @@ IsCutAs c fr k i = (p : Fact) × (piece_fact (cut_of fr.var fr.points 0 0) k ≡
 cut_number : (x : ExprId) (points : List Dyadic) (n k : ℕ) (p : Fact) → piece_fact (cut_of x points 0 0) k ≡ Some p → piece_fact (cut_of x points (k + 1) n) (k + 1 - 1) ≡ Some p
 cut_number x points n k p e = let m : k + 1 - 1 ≡ k = omega arith in ap (λ j. piece_fact (cut_of x points 0 0) j) m ∙ e
 
-pub child_of : (c : Course) (path : List ℕ) (known : Known) (p : Place) (old : Option (List ℕ)) (n i number : ℕ) (new : Option (List ℕ)) (w : IsWithin c path known p old n i number new) (child : List ℕ) → child ≡ path ++ i ∷ [] →
+pub child_of : (c : Course) (path : List ℕ) (known : Known) (p : Place) (old : Option (List ℕ)) (n i : ℕ) (number : Seen) (new : Option (List ℕ)) (w : IsWithin c path known p old n i number new) (child : List ℕ) → child ≡ path ++ i ∷ [] →
     (b : Bor Known) → b.now ≡ known → IsBefore c child (Some b) number w.place
 child_of c path known p old n i number new w child e b q = subst (λ y. IsBefore c y (Some b) number w.place) (sym e) (w.before b q)
 
@@ -101,12 +115,12 @@ module _ (one : TablesAreOne) where
       one (setting c) c.aim.height (pieces_at c.plan path) (known_at c.aim.world known) (best_at c (pieces_at c.plan path)) k.table (best (pieces_at c.plan path)) k.no_void
 
   -- The certificate stands where a piece of the box begins: the walk is before it.
-  pub piece_before : (c : Course) → HasBest c → (path : List ℕ) (known : Known) (i first : ℕ) (q : Place) (fr : Frame) (frames : List Frame) → IsAt c.aim q → q.frames ≡ fr ∷ frames →
+  pub piece_before : (c : Course) → HasBest c → (path : List ℕ) (known : Known) (i : ℕ) (first : Seen) (q : Place) (fr : Frame) (frames : List Frame) → IsAt c.aim q → q.frames ≡ fr ∷ frames →
       IsKnownAt c path known (numbered fr.steps) → fr.pieces ≡ pieces_at c.plan path → q.pieces ≡ (fr.var, range_of_piece (piece_at c.plan (path ++ i ∷ []))) ∷ fr.pieces →
       piece_at c.plan (path ++ i ∷ []) ≡ Some (fr.var, range_of_piece (piece_at c.plan (path ++ i ∷ []))) →
-      pieces_at c.plan (path ++ i ∷ []) ≡ with_last (piece_at c.plan (path ++ i ∷ [])) (pieces_at c.plan path) → q.tree ≡ below c (35 - length path) (path ++ i ∷ []) → q.context.next ≡ first →
+      pieces_at c.plan (path ++ i ∷ []) ≡ with_last (piece_at c.plan (path ++ i ∷ [])) (pieces_at c.plan path) → q.tree ≡ below c (35 - length path) (path ++ i ∷ []) → q.context.next ≡ first.steps → seen_in q.items ≡ first →
       IsCutAs c fr fr.piece (range_of_piece (piece_at c.plan (path ++ i ∷ []))) → (b : Bor Known) → b.now ≡ known → IsBefore c (path ++ i ∷ []) (Some b) first q
-  piece_before c best path known i first q fr frames here f k ps qs at more tree number cut_as b e =
+  piece_before c best path known i first q fr frames here f k ps qs at more tree number seen cut_as b e =
       let u : World = c.aim.world in
       let v : Setting = setting c in
       let here_path : List ℕ = path ++ i ∷ [] in
@@ -132,27 +146,29 @@ module _ (one : TablesAreOne) where
         pieces = qs ∙ (ap (λ y. piece ∷ y) ps ∙ sym (more ∙ ap (λ o. with_last o (pieces_at c.plan path)) at));
         box = subst (λ o. IsBox u c.aim.height o (Some b) q.pieces) (sym at) (fr.pieces, qs, table);
         of = subst (λ o. IsOfUniverse u o (Some b)) (sym at) (low, subst (λ z. HasRows u z) (sym e) k.rows);
-        section = subst (λ o. IsItsSection u o (Some b) first (numbered q.context) (open_piece q.context.cuts)) (sym at)
+        section = subst (λ o. IsItsSection u o (Some b) first.steps (numbered q.context) (open_piece q.context.cuts)) (sym at)
             (cut_as.0, opened, ((number, here.entered.opened.below), placed, left_known));
+        seen_is = seen;
       }
 
   module _ (go : WritingGoesOn) where
-    pub enter_at : (c : Course) → IsCourse c → (path : List ℕ) (parent : Option (Bor Known)) (first : ℕ) (p : Place) → IsBefore c path parent first p → (rows : List StepRow) → AreBoxSteps c.aim p rows →
-        (x : ExprId) (points : List Dyadic) (n : ℕ) → n ≡ length points + 1 → p.tree ≡ cut x points (pieces_from c.plan (below c (35 - length path)) path 0 n) →
+    pub enter_at : (c : Course) → IsCourse c → (path : List ℕ) (parent : Option (Bor Known)) (first : Seen) (p : Place) → IsBefore c path parent first p → (rows : List StepRow) → AreBoxSteps c.aim p rows →
+        (x : ExprId) (points : List Dyadic) → AreShort c.aim rows (item.Cut x points) → (n : ℕ) → n ≡ length points + 1 → p.tree ≡ cut x points (pieces_from c.plan (below c (35 - length path)) path 0 n) →
         IsAt c.aim (inside p rows x points (range_of_piece (piece_at c.plan (path ++ 0 ∷ []))) (below c (35 - length path) (path ++ 0 ∷ [])) (pieces_from c.plan (below c (35 - length path)) path (0 + 1) (length points)))
-    enter_at c a path parent first p before rows own x points n count tree =
+    enter_at c a path parent first p before rows own x points small n count tree =
         let one_more : n ≡ suc (length points) = omega (arith, count) in
         go.enters c.aim a.aim p rows x points (range_of_piece (piece_at c.plan (path ++ 0 ∷ []))) (below c (35 - length path) (path ++ 0 ∷ [])) (pieces_from c.plan (below c (35 - length path)) path (0 + 1) (length points))
-        (tree ∙ ap (λ m. cut x points (pieces_from c.plan (below c (35 - length path)) path 0 m)) one_more) before.here own
+        (tree ∙ ap (λ m. cut x points (pieces_from c.plan (below c (35 - length path)) path 0 m)) one_more) before.here own small
 
     -- Behind its steps the box is cut, and the walk is before its first piece.
     pub enter : (c : Course) → IsCourse c → HasBest c → ((path : List ℕ) (i : ℕ) → pieces_at c.plan (path ++ i ∷ []) ≡ with_last (piece_at c.plan (path ++ i ∷ [])) (pieces_at c.plan path)) →
-        (path : List ℕ) (parent : Option (Bor Known)) (first : ℕ) (p : Place) → IsBefore c path parent first p → (rows : List StepRow) → AreBoxSteps c.aim p rows →
-        (known : Known) → IsKnownAt c path known (numbered (behind_steps p.context rows)) → (x : ExprId) (points : List Dyadic) (n : ℕ) → n ≡ length points + 1 →
+        (path : List ℕ) (parent : Option (Bor Known)) (first : Seen) (p : Place) → IsBefore c path parent first p → (rows : List StepRow) → AreBoxSteps c.aim p rows →
+        (known : Known) → IsKnownAt c path known (numbered (behind_steps p.context rows)) → (x : ExprId) (points : List Dyadic) → AreShort c.aim rows (item.Cut x points) → (n : ℕ) → n ≡ length points + 1 →
         p.tree ≡ cut x points (pieces_from c.plan (below c (35 - length path)) path 0 n) →
         ((k : ℕ) → k < n → piece_at c.plan (path ++ k ∷ []) ≡ Some (x, range_of_piece (piece_at c.plan (path ++ k ∷ [])))) →
-        (old new : Option (List ℕ)) → Appends old new (certificate_of (own_items rows (item.Cut x points))) → (number : ℕ) → number ≡ first + length rows → IsWithin c path known p old n 0 number new
-    enter c a best more path parent first p before rows own known k x points n count tree of_variable old new grew number same =
+        (old new : Option (List ℕ)) → Appends old new (spelled_behind (seen_in p.items) (own_items rows (item.Cut x points))) → (number : Seen)
+        → number ≡ seen_behind first (own_items rows (item.Cut x points)) → IsWithin c path known p old n 0 number new
+    enter c a best more path parent first p before rows own known k x points small n count tree of_variable old new grew number same =
         let u : World = c.aim.world in
         let v : Setting = setting c in
         let r : Interval = range_of_piece (piece_at c.plan (path ++ 0 ∷ [])) in
@@ -162,15 +178,20 @@ module _ (one : TablesAreOne) where
         let node : p.tree ≡ cut x points (next r inner later) = tree ∙ ap (λ m. cut x points (pieces_from c.plan (below c (35 - length path)) path 0 m)) one_more in
         let q : Place = inside p rows x points r inner later in
         let fr : Frame = frame_of p.context rows x points later p.pieces (p.depth + 1) in
-        let at : IsAt c.aim q = enter_at c a path parent first p before rows own x points n count tree in
+        let at : IsAt c.aim q = enter_at c a path parent first p before rows own x points small n count tree in
         let proved : IsProved v c.aim.height u.goals (cut x points (next r inner later)) p.pieces p.depth = subst (λ t. IsProved v c.aim.height u.goals t p.pieces p.depth) node before.here.entered.proved in
         let d = next_behind p.context rows in
-        let f = next_is u (piece_at c.plan path) parent first (numbered p.context) (open_piece p.context.cuts) before.section in
+        let f = next_is u (piece_at c.plan path) parent first.steps (numbered p.context) (open_piece p.context.cuts) before.section in
         let left : n - (0 + 1) ≡ length points = omega (arith, count) in
+        let items : List Item = own_items rows (item.Cut x points) in
+        let steps : number.steps ≡ first.steps + length rows =
+        ap (λ (s : Seen). s.steps) same
+        ∙ own_steps_seen first rows (item.Cut x points) (λ s. (refl, refl)) in
         record {
           place = q;
           frame = fr;
-          before = piece_before c best path known 0 number q fr p.frames at refl k before.pieces refl (of_variable 0 (omega (arith, count))) (more path 0) refl (omega (arith, d, f, same)) (proved.3.1);
+          before = piece_before c best path known 0 number q fr p.frames at refl k before.pieces refl (of_variable 0 (omega (arith, count))) (more path 0) refl (omega (arith, d, f, steps))
+              (seen_with p.items items first before.seen_is ∙ sym same) (proved.3.1);
           frames = refl;
           later = ap (λ m. pieces_from c.plan (below c (35 - length path)) path (0 + 1) m) (sym left);
           pieces = before.pieces;
@@ -181,7 +202,7 @@ module _ (one : TablesAreOne) where
 
     -- Behind the section of a piece the walk is before the next piece, or behind the box.
     pub turn : (c : Course) → IsCourse c → HasBest c → ((path : List ℕ) (i : ℕ) → pieces_at c.plan (path ++ i ∷ []) ≡ with_last (piece_at c.plan (path ++ i ∷ [])) (pieces_at c.plan path)) →
-        (path : List ℕ) (known : Known) (p : Place) (old new : Option (List ℕ)) (n i number : ℕ) (w : IsWithin c path known p old n i number new) → i < n → (later : ℕ) (newer : Option (List ℕ)) →
+        (path : List ℕ) (known : Known) (p : Place) (old new : Option (List ℕ)) (n i : ℕ) (number : Seen) (w : IsWithin c path known p old n i number new) → i < n → (later : Seen) (newer : Option (List ℕ)) →
         IsPast c w.place new later newer → HasDone c path known p old n (i + 1) later newer
     turn c a best more path known p old new n i number w l later newer past = (goes_on, comes_out)
       where
@@ -219,7 +240,7 @@ module _ (one : TablesAreOne) where
             record {
               place = q;
               frame = f;
-              before = piece_before c best path known j later q f p.frames at refl w.known_is w.pieces refl (w.of_variable j m) (more path j) refl (sym past.3) proved.1;
+              before = piece_before c best path known j later q f p.frames at refl w.known_is w.pieces refl (w.of_variable j m) (more path j) refl (sym past.3) past.5 proved.1;
               frames = refl;
               later = refl;
               pieces = w.pieces;
@@ -232,4 +253,4 @@ module _ (one : TablesAreOne) where
         comes_out m =
             let none : n - (i + 1) ≡ 0 = omega (arith, m) in
             let node : fr.later ≡ last = w.later ∙ ap (λ k. pieces_from c.plan (below c (35 - length path)) path (i + 1) k) none in
-            (around e fr p.frames, go.ends c.aim a.aim e fr p.frames frames_are node ended, refl, past.3, grown)
+            (around e fr p.frames, go.ends c.aim a.aim e fr p.frames frames_are node ended, refl, past.3, grown, past.5)

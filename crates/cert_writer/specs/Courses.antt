@@ -15,7 +15,8 @@ use Rattle.box_tree.specs.Regions.{PlanParts}
 use Rattle.bisect.specs.declared.settler.State.{State}
 use Rattle.settler.specs.Standing.{AreStates}
 use Rattle.cert_bytes.specs.declared.item.Item.{Item}
-use Rattle.cert_writer.specs.Bytes.{certificate_of}
+use Rattle.cert_bytes.specs.declared.style.Seen.{Seen}
+use Rattle.cert_writer.specs.Bytes.{seen_in, spelled_behind, certificate_of}
 use Rattle.cert_checker.specs.Contexts.{open_piece}
 use Rattle.cert_checker.specs.Open.{Numbered}
 use Rattle.box_trace.specs.declared.known.Known.{Known}
@@ -75,40 +76,49 @@ HasBest c = (pieces : List Piece) → IsTableAt (setting c) c.aim.height pieces 
 -- ---- what the file takes
 -- From the one state to the other it took the bytes of the items that stand behind these.
 abbrev pub Grew : List Item → Option (List ℕ) → Option (List ℕ) → List Item → Type 0
-Grew before old new items = (more : List Item) × (items ≡ before ++ more) × Appends old new (certificate_of more)
+Grew before old new items = (more : List Item) × (items ≡ before ++ more)
+    × Appends old new (spelled_behind (seen_in before) more)
 
 -- It took some bytes, with which those of the items before are a front of a certificate that is accepted with all lines.
 abbrev pub GrewToFront : Aim → List Item → Option (List ℕ) → Option (List ℕ) → Type 0
 GrewToFront t before old new = (bytes : List ℕ) × Appends old new bytes × IsBegun t (certificate_of before ++ bytes)
 
 -- ---- where the walk stands
--- Before the box at the path: the place is that of its section, whose next step has the number `next`; what is known at its parent is given.
-pub record IsBefore (c : Course) (path : List ℕ) (parent : Option (Bor Known)) (next : ℕ) (p : Place) : Type 0 where
+-- Before the box at the path: the place is that of its section, before which the items so far were
+-- seen; what is known at its parent is given.
+pub record IsBefore (c : Course) (path : List ℕ) (parent : Option (Bor Known)) (seen : Seen)
+    (p : Place) : Type 0 where
   pub here : IsAt c.aim p
   pub tree : p.tree ≡ below c (36 - length path) path
   pub pieces : p.pieces ≡ pieces_at c.plan path
   pub box : IsBox c.aim.world c.aim.height (piece_at c.plan path) parent p.pieces
   pub of : IsOfUniverse c.aim.world (piece_at c.plan path) parent
-  pub section : IsItsSection c.aim.world (piece_at c.plan path) parent next (numbered p.context) (open_piece p.context.cuts)
+  pub section : IsItsSection c.aim.world
+      (piece_at c.plan path) parent seen.steps (numbered p.context)
+      (open_piece p.context.cuts)
+  pub seen_is : seen_in p.items ≡ seen
 
 -- The walk over this universe stands before the box at the path, for some target, lines and states.
-abbrev pub IsSomewhere : World → PlanParts → ℕ → List ℕ → Option (Bor Known) → ℕ → Type 0
-IsSomewhere u plan height path parent next =
+abbrev pub IsSomewhere : World → PlanParts → ℕ → List ℕ → Option (Bor Known) → Seen → Type 0
+IsSomewhere u plan height path parent seen =
     (t : Target) × (lines : List Line)
     × (states : List ℕ → State) × (p : Place) × IsCourse (course u plan height t lines states)
-    × IsBefore (course u plan height t lines states) path parent next p
+    × IsBefore (course u plan height t lines states) path parent seen p
 
 -- This is so wherever it may stand.
-abbrev pub OnCourses : World → PlanParts → ℕ → List ℕ → Option (Bor Known) → ℕ → (Course → Place → Type 0) → Type 0
-OnCourses u plan height path parent next P =
+abbrev pub OnCourses : World → PlanParts
+    → ℕ → List ℕ → Option (Bor Known) → Seen → (Course → Place → Type 0) → Type 0
+OnCourses u plan height path parent seen P =
     (t : Target) (lines : List Line) (states : List ℕ → State) (p : Place)
     → IsCourse (course u plan height t lines states)
-    → IsBefore (course u plan height t lines states) path parent next p →
+    → IsBefore (course u plan height t lines states) path parent seen p →
     P (course u plan height t lines states) p
 
--- Behind the section that began at the place p, where the file held what `old` tells.
-abbrev pub IsPast : Course → Place → Option (List ℕ) → ℕ → Option (List ℕ) → Type 0
-IsPast c p old next new = (e : Ended) × HasEnded c.aim e × (e.frames ≡ p.frames) × (next ≡ e.context.next) × Grew p.items old new e.items
+-- Behind the section that began at the place p, where the file held what `old` tells: so much was
+-- seen.
+abbrev pub IsPast : Course → Place → Option (List ℕ) → Seen → Option (List ℕ) → Type 0
+IsPast c p old seen new = (e : Ended) × HasEnded c.aim e × (e.frames ≡ p.frames)
+    × (seen.steps ≡ e.context.next) × Grew p.items old new e.items × (seen_in e.items ≡ seen)
 
 -- What is known at the box at the path, which isn't VOID, and where its steps are.
 pub record IsKnownAt (c : Course) (path : List ℕ) (known : Known) (steps : Numbered) : Type 0 where
@@ -118,10 +128,11 @@ pub record IsKnownAt (c : Course) (path : List ℕ) (known : Known) (steps : Num
   pub placed : ArePlaces steps (known_at c.aim.world known) (place_in c.aim.world known)
 
 -- In the box at the path, whose section began at p and which is cut into n pieces: before piece i.
-pub record IsWithin (c : Course) (path : List ℕ) (known : Known) (p : Place) (old : Option (List ℕ)) (n i next : ℕ) (new : Option (List ℕ)) : Type 0 where
+pub record IsWithin (c : Course) (path : List ℕ) (known : Known) (p : Place)
+    (old : Option (List ℕ)) (n i : ℕ) (seen : Seen) (new : Option (List ℕ)) : Type 0 where
   pub place : Place
   pub frame : Frame
-  pub before : (b : Bor Known) → b.now ≡ known → IsBefore c (path ++ i ∷ []) (Some b) next place
+  pub before : (b : Bor Known) → b.now ≡ known → IsBefore c (path ++ i ∷ []) (Some b) seen place
   pub frames : place.frames ≡ frame ∷ p.frames
   pub later : frame.later ≡ pieces_from c.plan (below c (35 - length path)) path (i + 1) (n - (i + 1))
   pub pieces : frame.pieces ≡ pieces_at c.plan path
@@ -130,10 +141,14 @@ pub record IsWithin (c : Course) (path : List ℕ) (known : Known) (p : Place) (
   pub grew : Grew p.items old new place.items
 
 -- The first i of its n pieces have ended: the walk stands before piece i, or behind the box.
-abbrev pub HasDone : Course → List ℕ → Known → Place → Option (List ℕ) → ℕ → ℕ → ℕ → Option (List ℕ) → Type 0
-HasDone c path known p old n i next new = (i < n → IsWithin c path known p old n i next new) × (i ≡ n → IsPast c p old next new)
+abbrev pub HasDone : Course → List ℕ
+    → Known → Place → Option (List ℕ) → ℕ → ℕ → Seen → Option (List ℕ) → Type 0
+HasDone c path known p old n i seen new = (i < n → IsWithin c path known p old n i seen new)
+    × (i ≡ n → IsPast c p old seen new)
 
 -- Bytes that a file may take behind p: with all of them it stands in the box or behind it, and with a front of them it holds a front.
-pub record AreOwnBytes (c : Course) (path : List ℕ) (p : Place) (known : Known) (n next : ℕ) (bytes : List ℕ) : Type 0 where
-  pub done : (old new : Option (List ℕ)) → Appends old new bytes → HasDone c path known p old n 0 next new
+pub record AreOwnBytes (c : Course) (path : List ℕ)
+    (p : Place) (known : Known) (n : ℕ) (seen : Seen) (bytes : List ℕ) : Type 0 where
+  pub done : (old new : Option (List ℕ))
+      → Appends old new bytes → HasDone c path known p old n 0 seen new
   pub front : (old new : Option (List ℕ)) → AppendsFront old new bytes → GrewToFront c.aim p.items old new

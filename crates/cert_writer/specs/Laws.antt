@@ -1,5 +1,5 @@
 -- What is promised of a certificate that is written box by box.
-use Rattle.std.specs.Prelude.{◌≡◌, ◌≤◌, ◌+◌, ◌^◌, ℕ, List, [], ◌∷◌, length, map, Some, None}
+use Rattle.std.specs.Prelude.{◌≡◌, ◌<◌, ◌≤◌, ◌+◌, ◌*◌, ◌^◌, ℕ, List, [], ◌∷◌, ◌++◌, length, map, Some, None}
 use Rattle.fx_model.specs.declared.ExprId.{ExprId}
 use Rattle.dyadic.specs.declared.number.Dyadic.{Dyadic}
 use Rattle.interval.specs.declared.interval.Interval.{Interval}
@@ -11,6 +11,7 @@ use Rattle.derivation.specs.Exists.{table_at}
 use Rattle.saturate.specs.Universes.{setting_of}
 use Rattle.cert_bytes.specs.declared.item.Item.TheVariants as item
 use Rattle.cert_bytes.specs.declared.item.StepRow.{StepRow}
+use Rattle.box_trace.specs.Short.{bytes_a_box}
 use Rattle.cert_writer.specs.Bytes.{certificate_of}
 use Rattle.cert_checker.specs.Contexts.{Context}
 use Rattle.cert_checker.specs.Steps.{step_fact}
@@ -18,7 +19,7 @@ use Rattle.box_traces.specs.Trees.{Tree, Trees, leaf, cut, last, next, IsProved,
 use Rattle.box_traces.specs.Roots.{Root}
 use Rattle.box_traces.specs.Walks.{behind_steps, Frame}
 use Rattle.box_traces.specs.Moves.{AreSteps}
-use Rattle.cert_writer.specs.Standing.{Aim, IsAim, IsWhole, IsBegun, Place, IsAt, Ended, HasEnded, AreBoxSteps, AreCited, most_for, steps_left, lines_left, at_root, inside, closed, beside, around, next_aim, next_root, root_with}
+use Rattle.cert_writer.specs.Standing.{Aim, IsAim, IsWhole, IsBegun, Place, IsAt, Ended, HasEnded, AreBoxSteps, AreShort, AreCited, most_for, steps_left, lines_left, at_root, inside, closed, beside, around, next_aim, next_root, root_with}
 
 -- This is so of each aim.
 abbrev pub OfAims : (Aim → Type 0) → Type 0
@@ -26,10 +27,10 @@ OfAims P = (t : Aim) → IsAim t → P t
 
 pub record WritingGoesOn : Type 0 where
   -- Behind the head the root section of the first case is to begin, with step 0, where its tree is
-  -- proved and all steps can be numbered.
+  -- proved and there are no more than 8,192 boxes of all cases.
   pub begins : OfAims (λ t. t.target.number ≡ 0
       → (tree : Tree) → IsProved (setting_of t.world) t.height t.world.goals tree [] 0
-      → steps_in (most_for t) tree + steps_left t ≤ 2 ^ 64 →
+      → steps_in (most_for t) tree + steps_left t ≤ 8192 * bytes_a_box →
       t.lines ≡ lines_left t (lines_of_tree
       (setting_of t.world) t.height t.world.goals tree [] (map (λ g. line.Empty) t.world.goals))
       → (c : Context) × (c.next ≡ 0) × IsAt t (at_root t c tree))
@@ -39,14 +40,17 @@ pub record WritingGoesOn : Type 0 where
   pub ended : OfAims (λ t. (e : Ended) → HasEnded t e → IsBegun t (certificate_of e.items))
   -- Behind its steps a box is cut, and its first piece begins;
   pub enters : OfAims (λ t. (p : Place) (rows : List StepRow) (x : ExprId) (points : List Dyadic) (i : Interval) (tree : Tree) (later : Trees) → p.tree ≡ cut x points (next i tree later) → IsAt t p →
-      AreBoxSteps t p rows → IsAt t (inside p rows x points i tree later))
+      AreBoxSteps t p rows → AreShort t rows (item.Cut x points)
+      → IsAt t (inside p rows x points i tree later))
   -- or a leaf ends it,
-  pub settles : OfAims (λ t. (p : Place) (rows : List StepRow) (refs : List ℕ) → p.tree ≡ leaf → IsAt t p → AreBoxSteps t p rows →
+  pub settles : OfAims (λ t. (p : Place) (rows : List StepRow) (refs : List ℕ)
+      → p.tree ≡ leaf → IsAt t p → AreBoxSteps t p rows → AreShort t rows (item.Leaf refs) →
       table_at (setting_of t.world) t.height p.pieces slot.Void ≡ None → AreCited (behind_steps p.context rows).steps (table_at (setting_of t.world) t.height p.pieces) t.world.goals refs →
       HasEnded t (closed p rows (item.Leaf refs) (lines_of_tree (setting_of t.world) t.height t.world.goals leaf p.pieces p.context.lines)))
   -- or a step that concludes VOID, whatever else its steps conclude.
   pub voids : OfAims (λ t. (p : Place) (rows : List StepRow) (r : ℕ) → p.tree ≡ leaf
-      → IsAt t p → AreSteps t.target.subject p.context rows → length rows ≤ most_for t →
+      → IsAt t p → AreSteps t.target.subject p.context rows → length rows < most_for t
+      → AreShort t rows (item.Dead r) →
       table_at (setting_of t.world) t.height p.pieces slot.Void ≡ Some fact.Void → step_fact (behind_steps p.context rows).steps r ≡ Some fact.Void → HasEnded t (closed p rows (item.Dead r) p.context.lines))
   -- Behind a section the next piece begins,
   pub follows : OfAims (λ t. (e : Ended) (fr : Frame) (i : Interval) (tree : Tree) (later : Trees) (frames : List Frame) → e.frames ≡ fr ∷ frames → fr.later ≡ next i tree later → HasEnded t e →
@@ -58,6 +62,7 @@ pub record WritingGoesOn : Type 0 where
       (e : Ended) (hypotheses : List Fact) (tree : Tree) (later : List Root)
       → e.frames ≡ [] → t.target.later ≡ root_with t.world hypotheses tree ∷ later → HasEnded t e →
       IsAt (next_aim t hypotheses later) (next_root e tree))
-  -- and behind that of the last the certificate is whole.
+  -- and behind that of the last, with the end, the certificate is whole.
   pub whole : OfAims (λ t. (e : Ended)
-      → e.frames ≡ [] → t.target.later ≡ [] → HasEnded t e → IsWhole t (certificate_of e.items))
+      → e.frames ≡ [] → t.target.later ≡ [] → HasEnded t e
+      → IsWhole t (certificate_of (e.items ++ item.End ∷ [])))

@@ -1,5 +1,5 @@
 -- Where a certificate that is being written stands.
-use Rattle.std.specs.Prelude.{◌≡◌, ◌≤◌, ◌+◌, ◌*◌, ◌^◌, ⊤, ℕ, suc, List, [], ◌∷◌, ◌++◌, length, map, Some}
+use Rattle.std.specs.Prelude.{◌≡◌, ◌<◌, ◌≤◌, ◌+◌, ◌*◌, ◌^◌, ⊤, ℕ, suc, List, [], ◌∷◌, ◌++◌, length, map, Some}
 use Rattle.fx_model.specs.declared.ExprId.{ExprId}
 use Rattle.dyadic.specs.declared.number.Dyadic.{Dyadic}
 use Rattle.interval.specs.declared.interval.Interval.{Interval}
@@ -17,7 +17,10 @@ use Rattle.cert_bytes.specs.declared.item.StepRow.{StepRow}
 use Rattle.cert_bytes.specs.declared.order.Due.TheVariants.{Sections}
 use Rattle.cert_bytes.specs.Certificates.{AreDue, AreCertificate}
 use Rattle.cert_bytes.specs.Fronts.{IsFront}
-use Rattle.cert_writer.specs.Bytes.{certificate_of}
+use Rattle.cert_bytes.specs.Sizes.{most_bytes_in}
+use Rattle.rule_universe.specs.Sizes.{IsSmall}
+use Rattle.box_trace.specs.Short.{bytes_a_box}
+use Rattle.cert_writer.specs.Bytes.{certificate_of, seen_in}
 use Rattle.cert_checker.specs.declared.open.Citable.{Citable}
 use Rattle.cert_checker.specs.declared.subject.Subject.{Subject}
 use Rattle.cert_checker.specs.Contexts.{Context, first}
@@ -62,10 +65,14 @@ pub record IsAim (t : Aim) : Type 0 where
   pub subject : trees.IsSubjectOf t.target.subject t.target.number
       (setting_of t.world) t.world.hints t.world.goals
   pub enough : steps_needed t.world t.height ≤ t.target.most
+  -- a box has so many bytes at most, and may have more
+  pub small : IsSmall t.world
+  pub low : t.height ≤ 64
+  pub wide : bytes_a_box ≤ t.target.most
   pub later : AreRoots t.target.subject t.world.hints t.height t.target.most t.world.goals t.world.nodes (t.target.number + 1) t.target.later
   pub few : length t.target.subject.cases ≤ 64
 
--- how many steps a box may have
+-- how many steps, and how many bytes, a box may have
 abbrev pub most_for : Aim → ℕ
 most_for t = t.target.most
 
@@ -81,10 +88,11 @@ steps_left t = steps_in_roots t.target.most t.target.later
 abbrev pub lines_left : Aim → List Line → List Line
 lines_left t lines = lines_of_roots t.height t.world.goals t.target.later lines
 
--- The bytes spell a certificate that is accepted with the lines.
+-- The bytes spell a certificate that is accepted with the lines, and are 2^44 at most.
 abbrev pub IsWhole : Aim → List ℕ → Type 0
 IsWhole t bytes = (items : List Item)
     × Accepts t.target.subject items t.lines × (bytes ≡ certificate_of items)
+    × (length bytes ≤ 2 ^ 44)
 
 -- The bytes are a front of such.
 abbrev pub IsBegun : Aim → List ℕ → Type 0
@@ -110,8 +118,13 @@ pub record Place : Type 0 where
 pub record IsAt (t : Aim) (p : Place) : Type 0 where
   pub written : HasWritten t p.items p.context (suc (left_in p.frames + roots_left t))
   pub entered : IsEntered (setting_of t.world) t.world.hints t.height (most_for t) t.world.goals t.target.subject t.target.number p.context p.tree p.pieces p.depth p.frames
-  pub room : p.context.next + (steps_in
-      (most_for t) p.tree + steps_behind (most_for t) p.frames + steps_left t) ≤ 2 ^ 64
+  -- each box that is left takes fewer steps than it may have, and is one section more
+  pub room : p.context.next + (seen_in p.items).sections
+      + (steps_in (most_for t) p.tree + steps_behind (most_for t) p.frames + steps_left t) ≤ 2 ^ 63
+  -- and no more bytes than it may have; the end has 39
+  pub short : most_bytes_in p.items
+      + (steps_in (most_for t) p.tree + steps_behind (most_for t) p.frames + steps_left t) + 39
+      ≤ 2 ^ 44
   pub shown : t.lines ≡ lines_left t
       (lines_behind (setting_of t.world) t.height t.world.goals p.frames
       (lines_of_tree (setting_of t.world) t.height t.world.goals p.tree p.pieces p.context.lines))
@@ -129,7 +142,10 @@ pub record HasEnded (t : Aim) (e : Ended) : Type 0 where
   pub written : HasWritten t e.items e.context (left_in e.frames + roots_left t)
   pub ended : IsEndOf e.begin e.context e.lines
   pub lies : LiesIn (setting_of t.world) t.height t.world.goals t.target.number e.begin e.frames
-  pub room : e.context.next + (steps_behind (most_for t) e.frames + steps_left t) ≤ 2 ^ 64
+  pub room : e.context.next + (seen_in e.items).sections
+      + (steps_behind (most_for t) e.frames + steps_left t) ≤ 2 ^ 63
+  pub short : most_bytes_in e.items + (steps_behind (most_for t) e.frames + steps_left t) + 39
+      ≤ 2 ^ 44
   pub shown : t.lines ≡ lines_left t
       (lines_behind (setting_of t.world) t.height t.world.goals e.frames e.lines)
 
@@ -151,7 +167,7 @@ pub record AreBoxSteps (t : Aim) (p : Place) (rows : List StepRow) : Type 0 wher
   pub steps : AreSteps t.target.subject p.context rows
   pub behind : IsBehind (setting_of t.world) t.height t.target.number
       (behind_steps p.context rows) p.pieces
-  pub few : length rows ≤ most_for t
+  pub few : length rows < most_for t
 
 -- Each goal has a step with the table's fact on its slot, which settles it.
 abbrev pub AreCited : List Citable → At → List Goal → List ℕ → Type 0
@@ -162,6 +178,10 @@ AreCited steps at _ _ = ⊥
 -- the box's items: its steps, and what is behind them
 abbrev pub own_items : List StepRow → Item → List Item
 own_items rows last = map item.Step rows ++ last ∷ []
+
+-- they have no more bytes than a box may have
+abbrev pub AreShort : Aim → List StepRow → Item → Type 0
+AreShort t rows last = most_bytes_in (own_items rows last) ≤ most_for t
 
 -- the box's first piece is to begin
 abbrev pub inside : Place → List StepRow → ExprId → List Dyadic → Interval → Tree → Trees → Place

@@ -1,9 +1,12 @@
 -- What a written certificate is to a script.
-use Rattle.std.specs.Prelude.{◌≡◌, ◌≤◌, ◌⊎◌, ⊤, ℕ, List, Option, Some, None}
+use Rattle.std.specs.Prelude.{◌≡◌, ◌≤◌, ◌⊎◌, ◌^◌, ⊤, ℕ, List, length, Option, Some, None}
 use Rattle.goals.specs.declared.line.Line.{Line}
 use Rattle.script_grammar.specs.Spells.{View}
 use Rattle.settler.specs.Answers.{options, IsProved}
+use Rattle.cert_bytes.specs.declared.style.Style.TheVariants.{Second}
+use Rattle.cert_bytes.specs.Certificates.{SpellsAs}
 use Rattle.cert_bytes.specs.Fronts.{IsFront}
+use Rattle.cert_bytes.specs.Styles.{none_seen}
 use Rattle.script_checker.specs.Checking.{AreAcceptedFor}
 
 -- With so many rounds, and boxes that are halved so often at most, of which there may be some
@@ -17,15 +20,21 @@ abbrev pub OfProved : View → ℕ → ℕ → (List Line → Type 0) → Type 0
 OfProved s rounds depth P = (boxes : ℕ) (lines : List Line) → boxes ≤ 8192
     → IsProved s (options rounds depth boxes) lines → P lines
 
--- The bytes are a front of a certificate that is accepted for the script with the lines.
-abbrev pub IsAcceptedFront : View → List Line → List ℕ → Type 0
-IsAcceptedFront s lines bytes = (all : List ℕ) × AreAcceptedFor s all lines × IsFront bytes all
+-- The bytes are accepted for the script with the lines, and spell their items in version 2, in
+-- which certificates are written.
+pub record AreWrittenFor (s : View) (bytes : List ℕ) (lines : List Line) : Type 0 where
+  pub accepted : AreAcceptedFor s bytes lines
+  pub spells : SpellsAs (Second none_seen) bytes accepted.accepted.items
 
--- A file whose bytes are told holds such a certificate now.
+-- The bytes are a front of such.
+abbrev pub IsAcceptedFront : View → List Line → List ℕ → Type 0
+IsAcceptedFront s lines bytes = (all : List ℕ) × AreWrittenFor s all lines × IsFront bytes all
+
+-- A file whose bytes are told holds such a certificate now, of 2^44 bytes at most.
 abbrev pub HoldsCertificate : View → List Line → Option (List ℕ) → Option (List ℕ) → Type 0
 HoldsCertificate s lines None new = ⊤
 HoldsCertificate s lines (Some old) new = (bytes : List ℕ) × (new ≡ Some bytes)
-    × AreAcceptedFor s bytes lines
+    × AreWrittenFor s bytes lines × (length bytes ≤ 2 ^ 44)
 
 -- It holds what it held, or a front of such a certificate, which may be nothing.
 abbrev pub HoldsFront : View → List Line → Option (List ℕ) → Option (List ℕ) → Type 0

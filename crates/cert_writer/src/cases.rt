@@ -3,21 +3,28 @@ ghost use Rattle.std.specs.Prelude.{◌≡◌, ◌≢◌, ◌<◌, ◌≤◌, �
 ghost use Rattle.script_claims.specs.declared.claim.Claim.{Claim};
 ghost use Rattle.script_grammar.specs.Cases.{cases_of};
 ghost use Rattle.universe.specs.Universes.{IsUniverse};
+ghost use Rattle.std.specs.Io.KnownBytes.{Appends};
+ghost use Rattle.cert_bytes.specs.declared.item.Item.TheVariants as item;
+ghost use Rattle.cert_bytes.specs.Styles.{none_seen};
+ghost use Rattle.cert_writer.specs.Bytes.{spelling_of};
+ghost use Rattle.cert_writer.specs.Files.{AppendsFront};
 ghost use Rattle.cert_writer.specs.Walks.{HasWriteCause};
 ghost use Rattle.cert_writer.specs.Cases.{bare, Stands, OfStanding, GoesOn, IsCompleted, GrewFront};
 
+use crate::file::append_all;
 use crate::laws::writing_goes_on;
 use crate::walk::{WriteStop, write_box};
 use answer_certificates::script_has_room;
 use box_tree::Plan;
+use cert_bytes::{Item, Seen, write_item2};
 use fx_edge::{Folder, Path};
 use rule_universe::Universe;
 use script_grammar::Script;
 use std::alloc::Global;
 use universe::assume;
 
-// Writes the root section of the case with this number, whose first step has the number `first`. It
-// answers the number of the next step.
+// Writes the root section of the case with this number, where this was seen before it. It answers
+// what was seen behind it.
 fn write_case<F: Folder>(
     alloc: Global,
     script: &Script<'_>,
@@ -27,17 +34,17 @@ fn write_case<F: Folder>(
     folder: &mut F,
     name: &str,
     number: usize,
-    first: u64,
-) -> Result<u64, WriteStop>
+    seen: Seen,
+) -> Result<Seen, WriteStop>
     requires universe { (before : List Claim) × IsUniverse script.now before universe.old }
     requires number { number < length (cases_of script.now) }
     requires depth { depth ≤ 32 }
-    requires stands { Stands script.now (bare universe.old) rounds depth number first }
+    requires stands { Stands script.now (bare universe.old) rounds depth number seen }
     ensures ok { IfOk result (λ next.
-        OfStanding script.now (bare universe.old) rounds depth number first
+        OfStanding script.now (bare universe.old) rounds depth number seen
         (λ w items. GoesOn w (number + 1) next items
         (F.told folder.old name.now) (F.told folder.new name.now))) }
-    ensures err { OnErr result (OfStanding script.now (bare universe.old) rounds depth number first
+    ensures err { OnErr result (OfStanding script.now (bare universe.old) rounds depth number seen
         (λ w items. GrewFront w items (F.told folder.old name.now) (F.told folder.new name.now))) }
     ensures universe { OnOk result
         ((before : List Claim) × IsUniverse script.now before universe.new) }
@@ -64,12 +71,12 @@ fn write_case<F: Folder>(
         name,
         Path::root(),
         None,
-        first,
+        seen,
     )?;
     Ok(next)
 }
 
-// Writes the root sections of all cases, in order.
+// Writes the root sections of all cases, in order. It answers what was seen.
 pub(crate) fn write_cases<F: Folder>(
     alloc: Global,
     script: &Script<'_>,
@@ -78,25 +85,48 @@ pub(crate) fn write_cases<F: Folder>(
     depth: u8,
     folder: &mut F,
     name: &str,
-) -> Result<(), WriteStop>
+) -> Result<Seen, WriteStop>
     requires universe { (before : List Claim) × IsUniverse script.now before universe.old }
     requires depth { depth ≤ 32 }
-    requires stands { Stands script.now (bare universe.old) rounds depth 0 0 }
-    ensures ok { OnOk result (OfStanding script.now (bare universe.old) rounds depth 0 0
-        (λ w items. IsCompleted w items
+    requires stands { Stands script.now (bare universe.old) rounds depth 0 none_seen }
+    ensures ok { IfOk result (λ seen.
+        OfStanding script.now (bare universe.old) rounds depth 0 none_seen
+        (λ w items. IsCompleted w seen items
         (F.told folder.old name.now) (F.told folder.new name.now))) }
-    ensures err { OnErr result (OfStanding script.now (bare universe.old) rounds depth 0 0
+    ensures err { OnErr result (OfStanding script.now (bare universe.old) rounds depth 0 none_seen
         (λ w items. GrewFront w items (F.told folder.old name.now) (F.told folder.new name.now))) }
     ensures others { (other : List ℕ) → other ≢ name.now
         → F.told folder.new other ≡ F.told folder.old other }
     ensures cause { HasWriteCause (F.write_faults folder.old) (F.write_faults folder.new) result }
     ensures quiet { F.read_faults folder.new ≡ F.read_faults folder.old }
 {
-    let mut next = 0;
+    let mut next = Seen::none();
     for number in 0..script.case_count() {
         next = write_case(
             alloc, script, universe, rounds, depth, folder, name, number, next,
         )?;
     }
+    Ok(next)
+}
+
+// Writes what stands behind the last section: how many sections and steps there are.
+pub(crate) fn write_end<F: Folder>(
+    alloc: Global,
+    folder: &mut F,
+    name: &str,
+    seen: Seen,
+) -> Result<(), WriteStop>
+    ensures ok { OnOk result (Appends (F.told folder.old name.now) (F.told folder.new name.now)
+        (spelling_of seen item.End)) }
+    ensures err { OnErr result (AppendsFront (F.told folder.old name.now)
+        (F.told folder.new name.now) (spelling_of seen item.End)) }
+    ensures others { (other : List ℕ) → other ≢ name.now
+        → F.told folder.new other ≡ F.told folder.old other }
+    ensures cause { HasWriteCause (F.write_faults folder.old) (F.write_faults folder.new) result }
+    ensures quiet { F.read_faults folder.new ≡ F.read_faults folder.old }
+{
+    let mut bytes = Vec::new(alloc);
+    write_item2(&Item::End, seen, &mut bytes)?;
+    append_all(folder, name, &bytes)?;
     Ok(())
 }

@@ -1,15 +1,25 @@
 //! The head of a certificate.
 ghost use Rattle.std.specs.Prelude.{◌≡◌, ◌++◌, ◌≤◌, length, map, OnOk};
 ghost use Rattle.cert_bytes.specs.declared.item.Item.TheVariants as item;
-ghost use Rattle.cert_writer.specs.Bytes.{certificate_of};
+ghost use Rattle.cert_bytes.specs.Certificates.{HasSpelling};
+ghost use Rattle.cert_bytes.specs.Styles.{none_seen};
+ghost use Rattle.cert_writer.specs.Bytes.{spelling_of, certificate_of};
 ghost use Rattle.box_traces.specs.Roots.{cases_items};
 ghost use Rattle.cert_writer.specs.Heads.{head_items};
 
-use cert_bytes::{Item, write_item};
+use cert_bytes::{Item, Seen, write_item2};
 use expr_dag::Dag;
 use facts::HintMark;
 use fx_model::ExprId;
 use std::alloc::AllocError;
+
+// Appends an item that stands before the first step and before the end of the first section.
+fn put(item: &Item, out: &mut Vec<u8>) -> Result<(), AllocError>
+    requires { HasSpelling item.now }
+    ensures { OnOk result (out.new.items ≡ out.old.items ++ spelling_of none_seen item.now) }
+{
+    write_item2(item, Seen::none(), out)
+}
 
 // Appends the nodes.
 fn spell_nodes(nodes: &Dag, out: &mut Vec<u8>) -> Result<(), AllocError>
@@ -17,7 +27,7 @@ fn spell_nodes(nodes: &Dag, out: &mut Vec<u8>) -> Result<(), AllocError>
 {
     nodes.laws();
     for k in 0..nodes.len() {
-        write_item(&Item::Node(nodes.node(ExprId(k))), out)?;
+        put(&Item::Node(nodes.node(ExprId(k))), out)?;
     }
     Ok(())
 }
@@ -27,7 +37,7 @@ fn spell_marks(marks: &[HintMark], out: &mut Vec<u8>) -> Result<(), AllocError>
     ensures { OnOk result (out.new.items ≡ out.old.items ++ certificate_of (map item.Mark marks.now)) }
 {
     for mark in marks {
-        write_item(&Item::Mark(*mark), out)?;
+        put(&Item::Mark(*mark), out)?;
     }
     Ok(())
 }
@@ -38,7 +48,7 @@ fn spell_cases(count: usize, out: &mut Vec<u8>) -> Result<(), AllocError>
     ensures { OnOk result (out.new.items ≡ out.old.items ++ certificate_of (cases_items count)) }
 {
     if count >= 2 {
-        write_item(&Item::Cases(count as u8), out)?;
+        put(&Item::Cases(count as u8), out)?;
     }
     Ok(())
 }
@@ -57,9 +67,9 @@ pub(crate) fn spell_head(
     ensures { OnOk result (out.new.items
         ≡ out.old.items ++ certificate_of (head_items nodes.now marks.now cases)) }
 {
-    write_item(&Item::Nodes(nodes.len()), out)?;
+    put(&Item::Nodes(nodes.len()), out)?;
     spell_nodes(nodes, out)?;
-    write_item(&Item::Marks(marks.len() as u16), out)?;
+    put(&Item::Marks(marks.len() as u16), out)?;
     spell_marks(marks, out)?;
     spell_cases(cases, out)?;
     Ok(())

@@ -5,6 +5,7 @@ ghost use Rattle.cert_writer.specs.Walks.{WalkGoesOn};
 use answer_certificates::pieces_are_of_cuts;
 use box_traces::{certificates_exist, walks_move};
 use box_tree::Plan;
+use cert_bytes::spellings_are_short;
 use derivation::{best_tables_exist, boxes_come_to_one_state};
 use saturate::rules_are_lawful;
 
@@ -15,6 +16,7 @@ pub fn writing_goes_on()
 {
     certificates_exist();
     walks_move();
+    spellings_are_short();
 }
 
 // Nothing is done. The clause tells what the walk over the plan's boxes goes by.

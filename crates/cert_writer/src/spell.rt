@@ -1,9 +1,9 @@
 //! What is spelled of a box.
-ghost use Rattle.std.specs.Prelude.{◌≡◌, ◌++◌, map, IfOk, OnOk};
+ghost use Rattle.std.specs.Prelude.{◌≡◌, ◌<◌, ◌≤◌, ◌+◌, ◌^◌, ◌++◌, length, map, IfOk, OnOk};
 ghost use Rattle.std.specs.List.{AllByRecursion};
 ghost use Rattle.cert_bytes.specs.declared.item.Item.TheVariants as item;
 ghost use Rattle.cert_bytes.specs.Certificates.{HasSpelling};
-ghost use Rattle.cert_writer.specs.Bytes.{certificate_of};
+ghost use Rattle.cert_writer.specs.Bytes.{seen_behind, spelled_behind};
 ghost use Rattle.box_trace.specs.Tables.{known_at};
 ghost use Rattle.box_traces.specs.Traces.{HaveFields};
 ghost use Rattle.box_traces.specs.Trees.{AllSettled};
@@ -11,7 +11,7 @@ ghost use Rattle.cert_writer.specs.Boxes.{HasShortList, HasRanges, refs_in};
 ghost use Rattle.cert_writer.specs.Standing.{own_items};
 
 use box_trace::Known;
-use cert_bytes::{Item, StepRow, write_item};
+use cert_bytes::{Item, Seen, StepRow, write_item2};
 use goals::Goal;
 use rule_universe::Universe;
 use std::alloc::{AllocError, Global};
@@ -24,18 +24,30 @@ fn has_ranges(row: &StepRow)
     let _arg = row.arg;
 }
 
-// Appends the steps as items. The numbers of their rules and their arguments have room in the steps' fields, since their types keep that.
-// `Err` only where memory runs out; a front of the items may then be there.
-pub(crate) fn spell_steps(rows: Vec<StepRow>, out: &mut Vec<u8>) -> Result<(), AllocError>
-    requires { AllByRecursion HasShortList rows.items }
-    ensures spelled { OnOk result (out.new.items ≡ out.old.items ++ certificate_of (map item.Step rows.items)) }
+// Appends the steps as items, where this was seen before them, and answers what is behind them. The
+// numbers of their rules and their arguments have room in the steps' fields, since their types keep
+// that. `Err` only where memory runs out; a front of the items may then be there.
+pub(crate) fn spell_steps(
+    rows: Vec<StepRow>,
+    seen: Seen,
+    out: &mut Vec<u8>,
+) -> Result<Seen, AllocError>
+    requires lists { AllByRecursion HasShortList rows.items }
+    requires steps { seen.steps + length rows.items ≤ 2 ^ 63 }
+    requires sections { seen.sections < 2 ^ 63 }
+    ensures spelled { IfOk result (λ next. out.new.items
+        ≡ out.old.items ++ spelled_behind seen (map item.Step rows.items)) }
+    ensures seen { IfOk result (λ next. next ≡ seen_behind seen (map item.Step rows.items)) }
     ensures fields { OnOk result (HaveFields rows.items) }
 {
+    let mut next = seen;
     for row in rows {
         has_ranges(&row);
-        write_item(&Item::Step(row), out)?;
+        let item = Item::Step(row);
+        write_item2(&item, next, out)?;
+        next = next.after(&item);
     }
-    Ok(())
+    Ok(next)
 }
 
 // The step of each goal's fact. `Err` only where memory runs out.
@@ -60,19 +72,25 @@ pub(crate) fn refs_of(
     Ok(refs)
 }
 
-// The bytes of a box's own items: its steps, and the last. `Err` only where memory runs out.
+// The bytes of a box's own items, its steps and the last, where this was seen before them; and what
+// is seen behind them. `Err` only where memory runs out.
 pub(crate) fn spell_box(
     alloc: Global,
     steps: Vec<StepRow>,
     last: &Item,
-) -> Result<Vec<u8>, AllocError>
-    requires steps { AllByRecursion HasShortList steps.items }
+    seen: Seen,
+) -> Result<(Vec<u8>, Seen), AllocError>
+    requires lists { AllByRecursion HasShortList steps.items }
     requires last { HasSpelling last.now }
-    ensures spelled { IfOk result (λ bytes. bytes.items ≡ certificate_of (own_items steps.items last.now)) }
-    ensures fields { IfOk result (λ bytes. HaveFields steps.items) }
+    requires steps { seen.steps + length steps.items < 2 ^ 63 }
+    requires sections { seen.sections < 2 ^ 63 }
+    ensures spelled { IfOk result (λ r.
+        r.0.items ≡ spelled_behind seen (own_items steps.items last.now)) }
+    ensures seen { IfOk result (λ r. r.1 ≡ seen_behind seen (own_items steps.items last.now)) }
+    ensures fields { IfOk result (λ r. HaveFields steps.items) }
 {
     let mut bytes = Vec::new(alloc);
-    spell_steps(steps, &mut bytes)?;
-    write_item(last, &mut bytes)?;
-    Ok(bytes)
+    let behind = spell_steps(steps, seen, &mut bytes)?;
+    write_item2(last, behind, &mut bytes)?;
+    Ok((bytes, behind.after(last)))
 }

@@ -10,9 +10,9 @@ use crate::ending::{cut_of, end_of};
 use crate::file::append_all;
 use crate::laws::{walk_goes_on, writing_goes_on};
 use crate::spell::spell_box;
-use box_trace::{Known, Traced, trace};
+use box_trace::{Known, Traced, boxes_are_short, trace};
 use box_tree::{Cut, Plan};
-use cert_bytes::{CutPoints, Item};
+use cert_bytes::{CutPoints, Item, Seen};
 use fx_edge::{Failed, Folder, Path};
 use rule_universe::Universe;
 use std::alloc::{AllocError, Global};
@@ -61,12 +61,13 @@ fn last_item(
     Ok((end_of(alloc, uni, known)?, 0))
 }
 
-// What a box's pieces need behind its own items: what is known there, how many pieces there are, and the number of the next step.
+// What a box's pieces need behind its own items: what is known there, how many pieces there are,
+// and what was seen.
 #[derive(Drop)]
 struct Own {
     known: Known,
     pieces: u8,
-    next: u64,
+    next: Seen,
 }
 
 // The bytes of the box's own items.
@@ -77,18 +78,19 @@ fn own_bytes(
     rounds: u8,
     path: &Path,
     parent: Option<&Known>,
-    first: u64,
+    seen: Seen,
 ) -> Result<(Vec<u8>, Own), AllocError>
-    requires somewhere { IsSomewhere uni.now plan.now rounds path.now parent first }
-    ensures own { IfOk result (λ r. OnCourses uni.now plan.now rounds path.now parent.entry first (λ c p. AreOwnBytes c path.now p r.1.known r.1.pieces r.1.next r.0.items)) }
+    requires somewhere { IsSomewhere uni.now plan.now rounds path.now parent seen }
+    ensures own { IfOk result (λ r. OnCourses uni.now plan.now rounds path.now parent.entry seen
+        (λ c p. AreOwnBytes c path.now p r.1.known r.1.pieces r.1.next r.0.items)) }
     ensures room { IfOk result (λ r. 0 < r.1.pieces → length path.now < 36) }
     ensures pieces { IfOk result (λ r. r.1.pieces ≤ 64) }
 {
     walk_goes_on(plan);
-    let Traced { steps, known } = trace(alloc, uni, plan.piece(path), parent, rounds, first)?;
-    let next = first + steps.len() as u64;
+    boxes_are_short();
+    let Traced { steps, known } = trace(alloc, uni, plan.piece(path), parent, rounds, seen.steps)?;
     let (last, pieces) = last_item(alloc, uni, plan.cut(path), &known)?;
-    let bytes = spell_box(alloc, steps, &last)?;
+    let (bytes, next) = spell_box(alloc, steps, &last, seen)?;
     Ok((
         bytes,
         Own {
@@ -109,26 +111,27 @@ fn write_own<F: Folder>(
     name: &str,
     path: &Path,
     parent: Option<&Known>,
-    first: u64,
+    seen: Seen,
 ) -> Result<Own, WriteStop>
-    requires somewhere { IsSomewhere uni.now plan.now rounds path.now parent first }
-    ensures ok { IfOk result (λ own. OnCourses uni.now plan.now rounds path.now parent.entry first
+    requires somewhere { IsSomewhere uni.now plan.now rounds path.now parent seen }
+    ensures ok { IfOk result (λ own. OnCourses uni.now plan.now rounds path.now parent.entry seen
         (λ c p. HasDone c path.now own.known p (F.told folder.old name.now) own.pieces 0 own.next (F.told folder.new name.now))) }
     ensures room { IfOk result (λ own. 0 < own.pieces → length path.now < 36) }
     ensures pieces { IfOk result (λ own. own.pieces ≤ 64) }
-    ensures err { OnErr result (OnCourses uni.now plan.now rounds path.now parent.entry first
+    ensures err { OnErr result (OnCourses uni.now plan.now rounds path.now parent.entry seen
         (λ c p. GrewToFront c.aim p.items (F.told folder.old name.now) (F.told folder.new name.now))) }
     ensures others { (other : List ℕ) → other ≢ name.now → F.told folder.new other ≡ F.told folder.old other }
     ensures cause { HasWriteCause (F.write_faults folder.old) (F.write_faults folder.new) result }
     ensures quiet { F.read_faults folder.new ≡ F.read_faults folder.old }
 {
     writing_goes_on();
-    let (bytes, own) = own_bytes(alloc, uni, plan, rounds, path, parent, first)?;
+    let (bytes, own) = own_bytes(alloc, uni, plan, rounds, path, parent, seen)?;
     append_all(folder, name, &bytes)?;
     Ok(own)
 }
 
-// Writes the section of the box at the path and of those below it. It answers the number of the next step.
+// Writes the section of the box at the path and of those below it, where this was seen before it.
+// It answers what was seen behind it.
 pub(crate) fn write_box<F: Folder>(
     alloc: Global,
     uni: &Universe,
@@ -138,19 +141,19 @@ pub(crate) fn write_box<F: Folder>(
     name: &str,
     path: Path,
     parent: Option<&Known>,
-    first: u64,
-) -> Result<u64, WriteStop>
-    requires somewhere { IsSomewhere uni.now plan.now rounds path parent first }
-    ensures ok { IfOk result (λ next. OnCourses uni.now plan.now rounds path parent.entry first
+    seen: Seen,
+) -> Result<Seen, WriteStop>
+    requires somewhere { IsSomewhere uni.now plan.now rounds path parent seen }
+    ensures ok { IfOk result (λ next. OnCourses uni.now plan.now rounds path parent.entry seen
         (λ c p. IsPast c p (F.told folder.old name.now) next (F.told folder.new name.now))) }
-    ensures err { OnErr result (OnCourses uni.now plan.now rounds path parent.entry first
+    ensures err { OnErr result (OnCourses uni.now plan.now rounds path parent.entry seen
         (λ c p. GrewToFront c.aim p.items (F.told folder.old name.now) (F.told folder.new name.now))) }
     ensures others { (other : List ℕ) → other ≢ name.now → F.told folder.new other ≡ F.told folder.old other }
     ensures cause { HasWriteCause (F.write_faults folder.old) (F.write_faults folder.new) result }
     ensures quiet { F.read_faults folder.new ≡ F.read_faults folder.old }
 {
     walk_goes_on(plan);
-    let own = write_own(alloc, uni, plan, rounds, folder, name, &path, parent, first)?;
+    let own = write_own(alloc, uni, plan, rounds, folder, name, &path, parent, seen)?;
     let mut next = own.next;
     for i in 0..own.pieces {
         next = write_box(

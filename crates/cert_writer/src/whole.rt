@@ -6,24 +6,27 @@ ghost use Rattle.script_checker.specs.Subjects.{IsSubjectOf};
 ghost use Rattle.cert_writer.specs.Walks.{HasWriteCause};
 ghost use Rattle.cert_writer.specs.Written.{IsProvedWith, OfProved, HoldsCertificate, HoldsFront};
 
-use crate::cases::write_cases;
+use crate::cases::{write_cases, write_end};
 use crate::file::append_all;
 use crate::head::spell_head;
 use crate::laws::writing_goes_on;
 use crate::walk::WriteStop;
-use answer_certificates::{script_has_room, scripts_have_roots, subjects_are_written};
+use answer_certificates::{
+    script_has_room, scripts_have_roots, subjects_are_written, universes_are_small,
+};
 use cert_checker::Subject;
 use fx_edge::Folder;
 use rule_universe::Universe;
 use script_grammar::Script;
 use std::alloc::Global;
 
-/// Makes the file new and writes to it the certificate of a script that is proved. The universe is
-/// the script's, the subject what its certificates are judged against; its boxes are settled in so
-/// many rounds (0 to 64) and halved so often at most (0 to 32). What is assumed in the universe
-/// before the call is no matter; behind it some case's claims may be. `Failed` comes only where a
-/// write of the folder failed in this call, `OutOfMemory` only where memory runs out. After a stop
-/// the file holds what it held, where making it new failed, or a front of such a certificate.
+/// Makes the file new and writes to it the certificate of a script that is proved, in version 2.
+/// The universe is the script's, the subject what its certificates are judged against; its boxes
+/// are settled in so many rounds (0 to 64) and halved so often at most (0 to 32). What is assumed
+/// in the universe before the call is no matter; behind it some case's claims may be. `Failed`
+/// comes only where a write of the folder failed in this call, `OutOfMemory` only where memory runs
+/// out. After a stop the file holds what it held, where making it new failed, or a front of such a
+/// certificate.
 pub fn write_cert<F: Folder>(
     alloc: Global,
     script: &Script<'_>,
@@ -54,11 +57,13 @@ pub fn write_cert<F: Folder>(
     script_has_room(script, universe);
     scripts_have_roots();
     subjects_are_written();
+    universes_are_small();
     folder.fresh(name)?;
     let mut bytes = Vec::new(alloc);
     let cases = subject.cases.as_slice().len();
     spell_head(universe.dag(), subject.marks.as_slice(), cases, &mut bytes)?;
     append_all(folder, name, &bytes)?;
-    write_cases(alloc, script, universe, rounds, depth, folder, name)?;
+    let seen = write_cases(alloc, script, universe, rounds, depth, folder, name)?;
+    write_end(alloc, folder, name, seen)?;
     Ok(())
 }

@@ -1,5 +1,5 @@
 -- What `prove` wrote, `check` answers.
-use Rattle.std.proofs.Common.{◌≡◌, ◌≤◌, List, length, Option, Some, None, sym, ap, ◌∙◌, subst, inl, inr}
+use Rattle.std.proofs.Common.{◌≡◌, ◌≤◌, ◌^◌, List, length, Option, Some, None, sym, ap, ◌∙◌, subst, inl, inr}
 use Rattle.std.specs.Io.KnownBytes.{Appends}
 use Rattle.goals.specs.declared.line.Line.{Line}
 use Rattle.script_grammar.specs.Spells.{View}
@@ -31,13 +31,18 @@ same_command words c d e f = let h : Some c ≡ Some d = sym e ∙ f in cc h
 answered_for : (a : Asked) (told : Told) (text lines : Bytes) → told a.script ≡ Some text → CommandPrints (Prove a) told Answered lines → IsAnswered (options_of a) text lines
 answered_for a told text lines e (read, is, p) = subst (λ (w : Bytes). IsAnswered (options_of a) w lines) (same_text (told a.script) text read e is) p
 
-accepted_in : (s : View) (shown : List Line) (before after : Option Bytes) (old bytes : Bytes) → before ≡ Some old → after ≡ Some bytes → HoldsCertificate s shown before after
-    → AreAcceptedFor s bytes shown
+-- the bytes are accepted, and short
+abbrev AreHeld : View → Bytes → List Line → Type 0
+AreHeld s bytes shown = AreAcceptedFor s bytes shown × (length bytes ≤ 2 ^ 44)
+
+accepted_in : (s : View) (shown : List Line) (before after : Option Bytes) (old bytes : Bytes)
+    → before ≡ Some old → after ≡ Some bytes → HoldsCertificate s shown before after
+    → AreHeld s bytes shown
 accepted_in s shown None after old bytes e f h = cc
-accepted_in s shown (Some was) after old bytes e f (all, is, accepts) =
+accepted_in s shown (Some was) after old bytes e f (all, is, accepts, short) =
     let h : Some all ≡ Some bytes = sym is ∙ f in
     let one : all ≡ bytes = cc h in
-    subst (λ (b : Bytes). AreAcceptedFor s b shown) one accepts
+    subst (λ (b : Bytes). AreHeld s b shown) one (accepts.accepted, short)
 
 module _ (words : List Bytes) (outside : Outside) (told_new : Told) (text lines bytes : Bytes) (w : HasWritten words outside told_new text lines bytes) where
   printed : IsAnswered (options_of w.asked) text lines
@@ -45,7 +50,7 @@ module _ (words : List Bytes) (outside : Outside) (told_new : Told) (text lines 
       answered_for w.asked outside.told text lines w.script
       (subst (λ (c : Command). CommandPrints c outside.told Answered lines) (same_command words w.prints.0 (Prove w.asked) w.prints.1 w.reads) w.prints.2)
 
-  certified : (a : IsAnswered (options_of w.asked) text lines) → AreAcceptedFor a.script bytes a.shown
+  certified : (a : IsAnswered (options_of w.asked) text lines) → AreHeld a.script bytes a.shown
   certified a =
       let run = w.certifies w.asked w.name w.reads w.names in
       let c : IsCertified (options_of w.asked) text w.before w.after Answered (outside.told w.name) (told_new w.name) =
@@ -97,7 +102,7 @@ module _ (words : List Bytes) (outside : Outside) (text bytes : Bytes) (k : AskF
   }
 
 pub written_are_answered : SpelledAreAccepted → DefinedOnce → WrittenAreAnswered
-written_are_answered law once words checking outside there told_new text lines bytes w short k =
+written_are_answered law once words checking outside there told_new text lines bytes w k =
     let a = printed words outside told_new text lines bytes w in
     let c = certified words outside told_new text lines bytes w a in
-    answered_again checking there text bytes k once lines (check_prints checking there text bytes k lines (checked law (options_of w.asked) text lines bytes short a c))
+    answered_again checking there text bytes k once lines (check_prints checking there text bytes k lines (checked law (options_of w.asked) text lines bytes c.1 a c.0))

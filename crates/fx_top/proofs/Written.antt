@@ -37,7 +37,7 @@ use Rattle.fx_top.proofs.Once.{proved_alone}
 -- a certificate is a front of one
 front_of : (s : View) (shown : List Line) (old new : Option Bytes) → HoldsCertificate s shown old new → HoldsFront s shown old new
 front_of s shown None new h = tt
-front_of s shown (Some old) new (bytes, e, accepted) = inr (bytes, e, (bytes, accepted, ([], sym (append-nil bytes))))
+front_of s shown (Some old) new (bytes, e, accepted, short) = inr (bytes, e, (bytes, accepted, ([], sym (append-nil bytes))))
 
 -- what it held
 pub front_kept : (s : View) (shown : List Line) (old new : Option Bytes) → new ≡ old → HoldsFront s shown old new

@@ -137,10 +137,11 @@ pub record AreAnswered (words : List Bytes) (outside : Outside) (lines : Bytes) 
   pub comes : (before after : Option Bytes) (result : Status) → EndsAs (Prints words outside) before after result → Comes status.Answered result
   pub takes : (before after : Option Bytes) → EndsAs (Prints words outside) before after status.Answered → Appends before after lines
 
--- What `prove` wrote, `check` answers with the lines that `prove` printed, whatever else its folder has. (Byte 2^44 is one too many.)
+-- What `prove` wrote, `check` answers with the lines that `prove` printed, whatever else its folder
+-- has.
 abbrev pub WrittenAreAnswered : Type 0
 WrittenAreAnswered = (words checking : List Bytes) (outside there : Outside) (told_new : Told) (text lines bytes : Bytes) → HasWritten words outside told_new text lines bytes
-    → length bytes ≤ 17592186044416 → AskForCheck checking there.told text bytes → AreAnswered checking there lines
+    → AskForCheck checking there.told text bytes → AreAnswered checking there lines
 
 -- ---- before the lines are put
 

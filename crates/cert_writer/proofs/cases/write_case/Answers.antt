@@ -18,9 +18,9 @@ returns-in_err-claims-clause-err g c =
     let told = g.F.Folder.told c.args.folder.now c.args.name.now in
     let u = bare c.args.universe.now in
     on_err c.from_residual.result (OfStanding c.args.script.now u c.args.rounds c.args.depth
-    c.args.number c.args.first (λ w items. GrewFront w items told told))
+    c.args.number c.args.seen (λ w items. GrewFront w items told told))
     (still c.writing_goes_on.ensures c.args.script.now u c.args.rounds c.args.depth c.args.number
-    c.args.first told)
+    c.args.seen told)
 
 pub new-requires-clause-normal : goal.new-requires-clause-normal
 new-requires-clause-normal g c =
@@ -33,9 +33,9 @@ returns-in_err-plan-clause-err g c =
     let told = g.F.Folder.told c.args.folder.now c.args.name.now in
     let u = bare c.args.universe.now in
     on_err c.from_residual-in_err-plan.result (OfStanding c.args.script.now u c.args.rounds
-    c.args.depth c.args.number c.args.first (λ w items. GrewFront w items told told))
+    c.args.depth c.args.number c.args.seen (λ w items. GrewFront w items told told))
     (still c.writing_goes_on.ensures c.args.script.now u c.args.rounds c.args.depth c.args.number
-    c.args.first told)
+    c.args.seen told)
 
 pub assume-requires-clause-claims : goal.assume-requires-clause-claims
 assume-requires-clause-claims g c =
@@ -56,10 +56,10 @@ returns-in_err-assume-clause-err g c =
     let told = g.F.Folder.told c.args.folder.now c.args.name.now in
     let u = bare c.args.universe.now in
     on_err c.from_residual-in_err-assume.result
-    (OfStanding c.args.script.now u c.args.rounds c.args.depth c.args.number c.args.first
+    (OfStanding c.args.script.now u c.args.rounds c.args.depth c.args.number c.args.seen
     (λ w items. GrewFront w items told told))
     (still c.writing_goes_on.ensures c.args.script.now u c.args.rounds c.args.depth c.args.number
-    c.args.first told)
+    c.args.seen told)
 
 pub write_box-requires : goal.write_box-requires
 write_box-requires g c =
@@ -69,7 +69,7 @@ write_box-requires g c =
     let later = drop (c.args.number + 1) cs in
     let st = c.requires.stands in
     let w = task s (bare c.args.universe.now) c.args.rounds c.args.depth st.0 st.1 in
-    let b = subst (λ xs. StandsAt w c.args.number xs c.args.first st.2)
+    let b = subst (λ xs. StandsAt w c.args.number xs c.args.seen st.2)
     (drop_there cs c.args.number claims c.in_ok-claims.ensures.value) st.3 in
     let same = c.in_ok-assume.ensures.assumed ∙ ap
     (λ xs. assuming c.args.universe.now (facts_of xs)) c.deref-2.ensures.value in
@@ -81,10 +81,10 @@ write_box-requires g c =
         w.lines,
         b.states,
         b.place,
-        is_course w c.args.number claims later c.args.first st.2 b c.assume.new.universe
+        is_course w c.args.number claims later c.args.seen st.2 b c.assume.new.universe
             c.in_ok-plan.plan same cuts c.laws-3.ensures.universe c.script_has_room.ensures.slots
             c.laws-2.ensures,
-        is_before w c.args.number claims later c.args.first st.2 b c.assume.new.universe
+        is_before w c.args.number claims later c.args.seen st.2 b c.assume.new.universe
             c.in_ok-plan.plan same cuts c.root.result c.root.ensures,
       );
     }
@@ -102,19 +102,19 @@ returns-in_err-next-clause-err g c =
     let cuts = c.in_ok-plan.ensures ∙ (λ i. plan_by (c.deref.ensures.value i)
     (c.hints.ensures.value i) c.args.depth) in
     on_err c.from_residual-in_err-next.result (OfStanding s
-    (bare c.args.universe.now) c.args.rounds c.args.depth c.args.number c.args.first
+    (bare c.args.universe.now) c.args.rounds c.args.depth c.args.number c.args.seen
     (λ w items. GrewFront w items old new))
     (λ t lines items stands.
     let w = task s (bare c.args.universe.now) c.args.rounds c.args.depth t lines in
-    let b = subst (λ xs. StandsAt w c.args.number xs c.args.first items)
+    let b = subst (λ xs. StandsAt w c.args.number xs c.args.seen items)
     (drop_there cs c.args.number claims c.in_ok-claims.ensures.value) stands in
-    front_case w c.args.number claims later c.args.first items b c.assume.new.universe
+    front_case w c.args.number claims later c.args.seen items b c.assume.new.universe
     c.in_ok-plan.plan same cuts old new
     (c.in_err-next.ensures.err (target_of w c.args.number b.roots) w.lines b.states b.place
-    (is_course w c.args.number claims later c.args.first items b c.assume.new.universe
+    (is_course w c.args.number claims later c.args.seen items b c.assume.new.universe
     c.in_ok-plan.plan same cuts c.laws-3.ensures.universe c.script_has_room.ensures.slots
     c.laws-2.ensures)
-    (is_before w c.args.number claims later c.args.first items b c.assume.new.universe
+    (is_before w c.args.number claims later c.args.seen items b c.assume.new.universe
     c.in_ok-plan.plan same cuts c.root.result c.root.ensures)))
 
 pub returns-clause-ok : goal.returns-clause-ok
@@ -130,15 +130,15 @@ returns-clause-ok g c = λ t lines items stands.
     let cuts = c.in_ok-plan.ensures ∙ (λ i. plan_by (c.deref.ensures.value i)
     (c.hints.ensures.value i) c.args.depth) in
     let w = task s (bare c.args.universe.now) c.args.rounds c.args.depth t lines in
-    let b = subst (λ xs. StandsAt w c.args.number xs c.args.first items)
+    let b = subst (λ xs. StandsAt w c.args.number xs c.args.seen items)
     (drop_there cs c.args.number claims c.in_ok-claims.ensures.value) stands in
-    past_case w c.args.number claims later c.args.first items b c.assume.new.universe
+    past_case w c.args.number claims later c.args.seen items b c.assume.new.universe
     c.in_ok-plan.plan same cuts c.writing_goes_on.ensures old new c.in_ok-next.next
     (c.in_ok-next.ensures.ok (target_of w c.args.number b.roots) w.lines b.states b.place
-    (is_course w c.args.number claims later c.args.first items b c.assume.new.universe
+    (is_course w c.args.number claims later c.args.seen items b c.assume.new.universe
     c.in_ok-plan.plan same cuts c.laws-3.ensures.universe c.script_has_room.ensures.slots
     c.laws-2.ensures)
-    (is_before w c.args.number claims later c.args.first items b c.assume.new.universe
+    (is_before w c.args.number claims later c.args.seen items b c.assume.new.universe
     c.in_ok-plan.plan same cuts c.root.result c.root.ensures))
 
 pub returns-clause-universe : goal.returns-clause-universe

@@ -2,6 +2,7 @@ use Rattle.std.specs.Prelude.{◌+◌, refl}
 use Rattle.std.proofs.Common.{sym, ◌∙◌, subst, arith}
 use Rattle.std.proofs.lemmas.List.{drop_all}
 use Rattle.script_grammar.specs.Cases.{cases_of}
+use Rattle.cert_bytes.specs.Styles.{none_seen}
 use Rattle.cert_writer.specs.Files.{on_err}
 use Rattle.cert_writer.specs.Cases.{bare, task, whole_aim, StandsAt, StandsBefore, OfStanding, GrewFront}
 use Rattle.cert_writer.proofs.NextCase.{grew_none}
@@ -16,7 +17,8 @@ loop-number-init g c = record {
     items,
     grew_none items
         (g.F.Folder.told c.args.folder.now c.args.name.now),
-    stands,
+    subst (λ q. StandsBefore (task c.args.script.now (bare c.args.universe.now) c.args.rounds
+        c.args.depth t lines) 0 q items) (sym c.none-next.ensures) stands,
   );
   others = λ other n. refl;
   later = omega arith;
@@ -50,7 +52,7 @@ returns-in_err-next-clause-err g c =
     let new = g.F.Folder.told c.write_case.new.folder c.args.name.now in
     let inv = c.loop-number.invariant in
     on_err c.from_residual.result (OfStanding s
-    (bare c.args.universe.now) c.args.rounds c.args.depth 0 0
+    (bare c.args.universe.now) c.args.rounds c.args.depth 0 none_seen
     (λ w items. GrewFront w items old new))
     (λ t lines items stands.
     let h = inv.done t lines items stands in

@@ -13,5 +13,5 @@ returns c = record {
   follows = follows c.certificates_exist.ensures.walks c.walks_move.ensures;
   ends = ends c.certificates_exist.ensures.walks c.walks_move.ensures;
   next_case = next_case c.certificates_exist.ensures.walks c.walks_move.ensures;
-  whole = whole c.certificates_exist.ensures.walks c.walks_move.ensures;
+  whole = whole c.certificates_exist.ensures.walks c.walks_move.ensures c.spellings_are_short.ensures;
 }

@@ -22,7 +22,7 @@ returns-in_err-next-clause-err g t c =
     let old = g.F.Folder.told c.args.folder.now c.args.name.now in
     let mid = g.F.Folder.told c.loop-i.folder c.args.name.now in
     let new = g.F.Folder.told c.write_box.new.folder c.args.name.now in
-    on_err c.from_residual-in_err-next.result (OnCourses c.args.uni.now c.args.plan.now c.args.rounds c.args.path c.args.parent c.args.first (λ x p. GrewToFront x.aim p.items old new))
+    on_err c.from_residual-in_err-next.result (OnCourses c.args.uni.now c.args.plan.now c.args.rounds c.args.path c.args.parent c.args.seen (λ x p. GrewToFront x.aim p.items old new))
     (λ q lines states p is before.
     let x = course c.args.uni.now c.args.plan.now c.args.rounds q lines states in
     let w = (c.loop-i.invariant.done q lines states p is before).0 c.loop-i-test.true in

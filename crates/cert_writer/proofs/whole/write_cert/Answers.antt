@@ -8,7 +8,7 @@ use Rattle.cert_writer.specs.Files.{AppendsFront, on_err}
 use Rattle.cert_writer.specs.Cases.{bare, task}
 use Rattle.cert_writer.specs.Written.{OfProved, HoldsFront}
 use Rattle.cert_writer.proofs.Start.{start, head_of}
-use Rattle.cert_writer.proofs.Held.{head_spelled, not_fresh, not_headed, half_headed, broken_off, completed}
+use Rattle.cert_writer.proofs.Held.{head_spelled, not_fresh, not_headed, half_headed, broken_off, not_ended, completed}
 use Rattle.cert_writer.proofs.whole.write_cert.Goals as goal
 
 pub returns-in_err-fresh-clause-err : goal.returns-in_err-fresh-clause-err
@@ -23,7 +23,7 @@ returns-in_err-fresh-clause-err g c =
     (λ boxes lines few proved.
     let w = task s (bare u) c.args.rounds c.args.depth t lines in
     let st = start c.writing_goes_on.ensures c.scripts_have_roots.ensures.roots
-    c.subjects_are_written.ensures.few s u t c.args.rounds c.args.depth
+    c.subjects_are_written.ensures.few c.universes_are_small.ensures s u t c.args.rounds c.args.depth
     c.script_has_room.ensures.cases c.requires.subject c.requires.rounds c.requires.depth boxes
     lines few proved in
     not_fresh c.writing_goes_on.ensures s w c.requires.subject st old new
@@ -41,7 +41,7 @@ returns-in_err-spell_head-clause-err g c =
     (λ boxes lines few proved.
     let w = task s (bare u) c.args.rounds c.args.depth t lines in
     let st = start c.writing_goes_on.ensures c.scripts_have_roots.ensures.roots
-    c.subjects_are_written.ensures.few s u t c.args.rounds c.args.depth
+    c.subjects_are_written.ensures.few c.universes_are_small.ensures s u t c.args.rounds c.args.depth
     c.script_has_room.ensures.cases c.requires.subject c.requires.rounds c.requires.depth boxes
     lines few proved in
     not_headed c.writing_goes_on.ensures s w c.requires.subject st old new c.in_ok-fresh.ensures.ok)
@@ -69,7 +69,7 @@ returns-in_err-append_all-clause-err g c =
     (λ boxes lines few proved.
     let w = task s (bare u) c.args.rounds c.args.depth t lines in
     let st = start c.writing_goes_on.ensures c.scripts_have_roots.ensures.roots
-    c.subjects_are_written.ensures.few s u t c.args.rounds c.args.depth
+    c.subjects_are_written.ensures.few c.universes_are_small.ensures s u t c.args.rounds c.args.depth
     c.script_has_room.ensures.cases c.requires.subject c.requires.rounds c.requires.depth boxes
     lines few proved in
     let bytes = head_spelled w c.dag.result.now c.as_slice.result.now
@@ -89,13 +89,13 @@ write_cases-requires-clause-stands g c =
     let p = c.requires.proved in
     let w = task s (bare u) c.args.rounds c.args.depth t p.1 in
     let st = start c.writing_goes_on.ensures c.scripts_have_roots.ensures.roots
-    c.subjects_are_written.ensures.few s u t c.args.rounds c.args.depth
+    c.subjects_are_written.ensures.few c.universes_are_small.ensures s u t c.args.rounds c.args.depth
     c.script_has_room.ensures.cases c.requires.subject c.requires.rounds c.requires.depth p.0
     p.1 p.2 p.3 in
     (t, p.1, head_of w, st)
 
-pub returns-in_err-write_cases-clause-err : goal.returns-in_err-write_cases-clause-err
-returns-in_err-write_cases-clause-err g c =
+pub returns-in_err-seen-clause-err : goal.returns-in_err-seen-clause-err
+returns-in_err-seen-clause-err g c =
     let s = c.args.script.now in
     let u = c.args.universe.now in
     let t = c.args.subject.now in
@@ -103,12 +103,12 @@ returns-in_err-write_cases-clause-err g c =
     let fresh = g.F.Folder.told c.fresh.new.self c.args.name.now in
     let mid = g.F.Folder.told c.append_all.new.folder c.args.name.now in
     let new = g.F.Folder.told c.write_cases.new.folder c.args.name.now in
-    on_err c.from_residual-in_err-write_cases.result
+    on_err c.from_residual-in_err-seen.result
     (OfProved s c.args.rounds c.args.depth (λ lines. HoldsFront s lines old new))
     (λ boxes lines few proved.
     let w = task s (bare u) c.args.rounds c.args.depth t lines in
     let st = start c.writing_goes_on.ensures c.scripts_have_roots.ensures.roots
-    c.subjects_are_written.ensures.few s u t c.args.rounds c.args.depth
+    c.subjects_are_written.ensures.few c.universes_are_small.ensures s u t c.args.rounds c.args.depth
     c.script_has_room.ensures.cases c.requires.subject c.requires.rounds c.requires.depth boxes
     lines few proved in
     let bytes = head_spelled w c.dag.result.now c.as_slice.result.now
@@ -119,7 +119,35 @@ returns-in_err-write_cases-clause-err g c =
     c.in_ok-fresh.ensures.ok
     (subst (λ bs. Appends fresh mid bs) (c.deref.ensures.value ∙ bytes)
     c.in_ok-append_all.ensures.ok)
-    (c.in_err-write_cases.ensures.err t lines (head_of w) st))
+    (c.in_err-seen.ensures.err t lines (head_of w) st))
+
+pub returns-in_err-write_end-clause-err : goal.returns-in_err-write_end-clause-err
+returns-in_err-write_end-clause-err g c =
+    let s = c.args.script.now in
+    let u = c.args.universe.now in
+    let t = c.args.subject.now in
+    let old = g.F.Folder.told c.args.folder.now c.args.name.now in
+    let fresh = g.F.Folder.told c.fresh.new.self c.args.name.now in
+    let mid = g.F.Folder.told c.append_all.new.folder c.args.name.now in
+    let all = g.F.Folder.told c.write_cases.new.folder c.args.name.now in
+    let new = g.F.Folder.told c.write_end.new.folder c.args.name.now in
+    on_err c.from_residual-in_err-write_end.result
+    (OfProved s c.args.rounds c.args.depth (λ lines. HoldsFront s lines old new))
+    (λ boxes lines few proved.
+    let w = task s (bare u) c.args.rounds c.args.depth t lines in
+    let st = start c.writing_goes_on.ensures c.scripts_have_roots.ensures.roots
+    c.subjects_are_written.ensures.few c.universes_are_small.ensures s u t c.args.rounds c.args.depth
+    c.script_has_room.ensures.cases c.requires.subject c.requires.rounds c.requires.depth boxes
+    lines few proved in
+    let bytes = head_spelled w c.dag.result.now c.as_slice.result.now
+    (length c.as_slice-cases.result.now) c.new-bytes.result.items c.spell_head.new.out.items
+    c.new-bytes.ensures.items c.dag.ensures c.as_slice.ensures
+    (ap length c.as_slice-cases.ensures) c.in_ok-spell_head.ensures in
+    not_ended c.writing_goes_on.ensures s w c.requires.subject st old fresh mid all new
+    c.in_ok-seen.seen c.in_ok-fresh.ensures.ok
+    (subst (λ bs. Appends fresh mid bs) (c.deref.ensures.value ∙ bytes)
+    c.in_ok-append_all.ensures.ok)
+    (c.in_ok-seen.ensures.ok t lines (head_of w) st) c.in_err-write_end.ensures.err)
 
 pub returns-clause-ok : goal.returns-clause-ok
 returns-clause-ok g c = λ boxes lines few proved.
@@ -129,18 +157,19 @@ returns-clause-ok g c = λ boxes lines few proved.
     let old = g.F.Folder.told c.args.folder.now c.args.name.now in
     let fresh = g.F.Folder.told c.fresh.new.self c.args.name.now in
     let mid = g.F.Folder.told c.append_all.new.folder c.args.name.now in
-    let new = g.F.Folder.told c.write_cases.new.folder c.args.name.now in
+    let all = g.F.Folder.told c.write_cases.new.folder c.args.name.now in
+    let new = g.F.Folder.told c.write_end.new.folder c.args.name.now in
     let w = task s (bare u) c.args.rounds c.args.depth t lines in
     let st = start c.writing_goes_on.ensures c.scripts_have_roots.ensures.roots
-    c.subjects_are_written.ensures.few s u t c.args.rounds c.args.depth
+    c.subjects_are_written.ensures.few c.universes_are_small.ensures s u t c.args.rounds c.args.depth
     c.script_has_room.ensures.cases c.requires.subject c.requires.rounds c.requires.depth boxes
     lines few proved in
     let bytes = head_spelled w c.dag.result.now c.as_slice.result.now
     (length c.as_slice-cases.result.now) c.new-bytes.result.items c.spell_head.new.out.items
     c.new-bytes.ensures.items c.dag.ensures c.as_slice.ensures
     (ap length c.as_slice-cases.ensures) c.in_ok-spell_head.ensures in
-    completed c.writing_goes_on.ensures s w c.requires.subject st old fresh mid new
-    c.in_ok-fresh.ensures.ok
+    completed c.writing_goes_on.ensures s w c.requires.subject st old fresh mid all new
+    c.in_ok-seen.seen c.in_ok-fresh.ensures.ok
     (subst (λ bs. Appends fresh mid bs) (c.deref.ensures.value ∙ bytes)
     c.in_ok-append_all.ensures.ok)
-    (c.in_ok-write_cases.ensures.ok t lines (head_of w) st)
+    (c.in_ok-seen.ensures.ok t lines (head_of w) st) c.in_ok-write_end.ensures.ok
