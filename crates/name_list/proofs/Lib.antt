@@ -1,0 +1,5 @@
+pub mod First
+pub mod Once
+pub mod Texts
+pub mod FrontLines
+pub mod Fronts
