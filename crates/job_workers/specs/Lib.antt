@@ -1,0 +1,4 @@
+pub mod Posts
+pub mod Members
+pub mod Ready
+pub mod Results

@@ -1,0 +1,17 @@
+-- What a worker needs to take jobs.
+use Rattle.std.specs.Prelude.{◌≡◌, ◌≢◌, ◌<◌, ℕ, List, [], All, length, slice_index_or, false}
+use Rattle.box_deques.specs.Seen.{Lane, Thief, Hand, HasPass}
+
+-- the hand can steal through each of these, which are thieves of other lanes
+abbrev pub CanSteal : ℕ → Hand → List Thief → Type 0
+CanSteal capacity hand thieves = All (λ (t : Thief).
+    HasPass hand.seats t.number t.name capacity × (hand.number ≢ t.number)) thieves
+
+-- a lane for an index that is none
+abbrev pub no_lane : Lane
+no_lane = record { number = 0; pushed = []; takes = []; dry = false; hands = 0; name = (0, 0) }
+
+-- a thief of one of the lanes, which isn't that of this number
+abbrev pub IsThief : List Lane → ℕ → Thief → Type 0
+IsThief lanes me t = (t.number < length lanes) × (t.number ≢ me)
+    × (t.name ≡ (slice_index_or lanes t.number no_lane).name)
