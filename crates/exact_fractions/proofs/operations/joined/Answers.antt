@@ -1,0 +1,9 @@
+use Rattle.std.proofs.Common.{◌≡◌, arith, to_z, of_z}
+use Rattle.std.specs.Int.{w128}
+use Rattle.std.proofs.lemmas.Int.{ints}
+use Rattle.exact_fractions.proofs.Numbers.{sum_over}
+use Rattle.exact_fractions.proofs.operations.joined.Goals as goal
+
+pub returns : goal.returns
+returns c = let top : to_z w128 (of_z w128 c.args.top) ≡ c.args.top = omega (arith, ints) in
+    rw (c.reduced.ensures, top, c.requires.top, c.requires.bottom) (sum_over _ _)
