@@ -1,0 +1,175 @@
+-- The faults that a word tells where it is taken.
+use Rattle.std.specs.Prelude.{ℕ, ◌+◌, ◌||◌, not, nat_lt, List, [], ◌∷◌, ◌++◌, length, Option, Some, None, Bool, true, false, if◌then◌else◌}
+use Rattle.std.specs.Option.{option_map}
+use Rattle.std.specs.Str.Parse.{digits_value}
+use Rattle.fixprog.specs.declared.fault.ProgKind.{ProgKind}
+use Rattle.fixprog.specs.declared.fault.ProgKind.TheVariants as kind
+use Rattle.fixprog.specs.declared.fault.ProgFault.{ProgFault}
+use Rattle.fixprog.specs.declared.program.Mark.{Mark}
+use Rattle.fixprog.specs.declared.program.Mark.TheVariants as mark
+use Rattle.fixprog.specs.declared.token.Token.{Token}
+use Rattle.fixprog.specs.Words.{Name, Word}
+use Rattle.fixprog.specs.Grammar.{Operand, named, given, Digits, Bound, mark_words, bound_words, Way, Statement, statement_words}
+use Rattle.fixprog.specs.Formats.{format_of, is_format}
+use Rattle.fixprog.specs.Faults.{Fault, Before, is_among, is_literal, is_outside, is_crossed, is_way}
+use Rattle.fixprog.specs.First.{fault, start_of, is_before}
+use Rattle.fixprog.specs.Standing.{Part, part_words, between, input_name, input_format, lower, lower_marked, upper, upper_marked, step_format, step_way, step_operand, step_negated, step_second, step_places, output_name, Head, bound_of, name_in, literal_in, format_in, way_in, operand_in, digits_in, ended, Standing, nothing_read, stands_after}
+
+-- A fault is made of its kind, and of whether it is one of the first word of a bound, or of the
+-- word itself.
+module _ {A : Type 0} (make : Bool → ProgKind → A) where
+  abbrev pub one_if : Bool → ProgKind → List A
+  one_if b k = if b then make false k ∷ [] else []
+
+  abbrev pub weight_finds : Before → ℕ → List A
+  weight_finds b weight = one_if (nat_lt 128 (b.weight + weight)) kind.Limit
+
+  abbrev pub new_name_finds : Before → ℕ → Option Name → List A
+  new_name_finds b weight None = []
+  new_name_finds b weight (Some text) = (one_if (is_among b.names text) kind.NameUsed
+      ++ one_if (nat_lt 32 (length text)) kind.Limit) ++ weight_finds b weight
+
+  abbrev pub known_name_finds : Before → Name → List A
+  known_name_finds b text = one_if (not (is_among b.names text)) kind.Undefined
+      ++ one_if (nat_lt 32 (length text)) kind.Limit
+
+  abbrev pub output_finds : Before → Option Name → List A
+  output_finds b None = []
+  output_finds b (Some text) = known_name_finds b text ++ weight_finds b 1
+
+  abbrev pub literal_finds : List ℕ → List A
+  literal_finds text = one_if (not (is_literal text)) kind.LiteralLimit
+
+  abbrev pub format_finds : Option (List ℕ) → List A
+  format_finds None = []
+  format_finds (Some text) = one_if (not (is_format (format_of text))) kind.BadFormat
+
+  abbrev pub bound_finds : Bool → List ℕ → List A
+  bound_finds bad text = (if bad then make true kind.BadRange ∷ [] else []) ++ literal_finds text
+
+  abbrev pub lower_finds : Head → Mark → Option (List ℕ) → List A
+  lower_finds h m None = []
+  lower_finds h m (Some text) = bound_finds (is_outside (format_of h.format) (bound_of m text)) text
+
+  abbrev pub upper_finds : Head → Bound → Mark → Option (List ℕ) → List A
+  upper_finds h a m None = []
+  upper_finds h a m (Some text) = bound_finds (is_outside (format_of h.format) (bound_of m text)
+      || is_crossed a (bound_of m text)) text
+
+  abbrev pub way_finds : Option Way → List A
+  way_finds None = []
+  way_finds (Some v) = one_if (not (is_way v)) kind.BadDirection
+
+  abbrev pub operand_finds : Before → Option Operand → List A
+  operand_finds b None = []
+  operand_finds b (Some (named text)) = known_name_finds b text
+  operand_finds b (Some (given text)) = literal_finds text
+
+  abbrev pub places_finds : Option Digits → List A
+  places_finds None = []
+  places_finds (Some k) = one_if (nat_lt 63 (digits_value 10 k.text)) kind.Limit
+
+  abbrev pub finds : Before → Part → Word → List A
+  finds b between w = new_name_finds b 1 (name_in w)
+  finds b input_name w = new_name_finds b 2 (name_in w)
+  finds b (input_format n) w = format_finds (format_in w)
+  finds b (lower h) w = lower_finds h mark.Unmarked (literal_in w)
+  finds b (lower_marked h m) w = lower_finds h m (literal_in w)
+  finds b (upper h a) w = upper_finds h a mark.Unmarked (literal_in w)
+  finds b (upper_marked h a m) w = upper_finds h a m (literal_in w)
+  finds b (step_format n) w = format_finds (format_in w)
+  finds b (step_way h) w = way_finds (way_in w)
+  finds b (step_operand x) w = operand_finds b (operand_in w)
+  finds b (step_negated x) w = operand_finds b (operand_in w)
+  finds b (step_second x a j) w = operand_finds b (operand_in w)
+  finds b (step_places x a k) w = places_finds (digits_in w)
+  finds b output_name w = output_finds b (name_in w)
+  finds b p w = []
+
+-- ---- in bytes
+
+-- where the bound that the word is in begins, if the word before is its sign
+abbrev pub bound_at : Part → ℕ → ℕ → ℕ
+bound_at (lower_marked h m) last at = last
+bound_at (upper_marked h a m) last at = last
+bound_at p last at = at
+
+abbrev pub at_byte : ℕ → ℕ → Bool → ProgKind → ProgFault
+at_byte first at e k = fault k (if e then first else at)
+
+-- the faults that a word at this byte tells, where the one before began at `last`
+abbrev pub found : Before → Part → Word → ℕ → ℕ → List ProgFault
+found b p w last at = finds (at_byte (bound_at p last at) at) b p w
+
+-- the earlier of a fault so far and one more
+abbrev pub earlier : Option ProgFault → ProgFault → Option ProgFault
+earlier None f = Some f
+earlier (Some first) f = if is_before f first then Some f else Some first
+
+abbrev pub first_from : Option ProgFault → List ProgFault → Option ProgFault
+first_from o [] = o
+first_from o (f ∷ fs) = first_from (earlier o f) fs
+
+-- ---- in words
+
+-- the number of the word that is due, where the statement's first has the number i, as
+-- `statement_faults` has it
+abbrev pub due : ℕ → Part → ℕ
+due i between = i
+due i input_name = i + 1
+due i (input_format n) = i + 3
+due i (lower h) = i + 5 + 0
+due i (lower_marked h m) = i + 5 + length (mark_words m)
+due i (upper h a) = i + 5 + length (bound_words a) + 1 + 0
+due i (upper_marked h a m) = i + 5 + length (bound_words a) + 1 + length (mark_words m)
+due i (step_format n) = i + 2
+due i (step_way h) = i + 3
+due i (step_operand b) = i + 5
+due i (step_negated b) = i + 5 + 1
+due i (step_second b a j) = i + 5 + 2
+due i (step_places b a k) = i + 5 + 2
+due i output_name = i + 1
+due i p = i + length (part_words p)
+
+abbrev pub bound_due : ℕ → Part → ℕ
+bound_due i (lower h) = i + 5
+bound_due i (lower_marked h m) = i + 5
+bound_due i (upper h a) = i + 5 + length (bound_words a) + 1
+bound_due i (upper_marked h a m) = i + 5 + length (bound_words a) + 1
+bound_due i p = due i p
+
+abbrev pub placed : List Token → Fault → ProgFault
+placed tokens f = fault f.kind (start_of tokens f.word)
+
+abbrev pub at_word : ℕ → Part → Bool → ProgKind → Fault
+at_word i p e k = record { kind = k; word = if e then bound_due i p else due i p; told = due i p }
+
+-- A standing, the number of the first word of its statement, and the faults so far.
+pub record Course : Type 0 where
+  pub stands : Standing
+  pub begin : ℕ
+  pub faults : List Fault
+
+abbrev pub begin_after : ℕ → Option Statement → ℕ
+begin_after i None = i
+begin_after i (Some x) = i + length (statement_words x)
+
+abbrev pub course_after : Course → Word → Option Course
+course_after c w =
+    option_map (λ s. record {
+      stands = s;
+      begin = begin_after c.begin (ended c.stands.part w);
+      faults = c.faults ++ finds (at_word c.begin c.stands.part) c.stands.before c.stands.part w;
+    }) (stands_after c.stands w)
+
+abbrev pub goes_on : Option Course → Word → Option Course
+goes_on None w = None
+goes_on (Some c) w = course_after c w
+
+-- the course of some words
+abbrev pub course_of : Option Course → List Word → Option Course
+course_of o [] = o
+course_of o (w ∷ ws) = course_of (goes_on o w) ws
+
+abbrev pub nothing_judged : Course
+nothing_judged = record { stands = nothing_read; begin = 0; faults = [] }

@@ -1,0 +1,15 @@
+pub mod Words
+pub mod Lex
+pub mod Grammar
+pub mod Formats
+pub mod Faults
+pub mod First
+pub mod Standing
+pub mod Finding
+pub mod Execution
+pub mod Turned
+pub mod Views
+pub mod Printed
+pub mod Answer
+pub mod Read
+pub mod Examples

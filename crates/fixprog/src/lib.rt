@@ -1,0 +1,16 @@
+//! Fixed-point programs, turned into scripts whose goals say that no step wraps.
+#![tactic(auto)]
+
+pub mod fault;
+mod format;
+mod judge;
+pub mod lex;
+mod part;
+mod print;
+mod program;
+mod reader;
+#[cfg(test)]
+mod tests;
+pub mod token;
+pub mod turn;
+mod word;
