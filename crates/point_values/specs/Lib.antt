@@ -1,0 +1,12 @@
+pub mod Rows
+pub mod Known
+pub mod Numbers
+pub mod Truth
+pub mod Text
+pub mod Walk
+pub mod Shown
+pub mod Evaluation
+pub mod Along
+pub mod Among
+pub mod Within
+pub mod Told
