@@ -1,0 +1,11 @@
+pub mod Numbers
+pub mod Kept
+pub mod Cuts
+pub mod CasesFirst
+pub mod Trims
+pub mod Enough
+pub mod AllUsed
+pub mod Ordered
+pub mod Counts
+pub mod Flagging
+pub mod Leaving

@@ -1,0 +1,4 @@
+pub mod Trimmed
+pub mod Used
+pub mod Flags
+pub mod Law

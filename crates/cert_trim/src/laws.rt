@@ -1,0 +1,14 @@
+//! What trimming promises, for callers to cite. Nothing here is done at run time.
+ghost use Rattle.cert_trim.specs.Law.{TrimmedAreAccepted, AcceptsTrimmed, AllLeftAreUsed, LedCiteEarlier, SpelledStaySo};
+
+/// Nothing is done. The clauses tell a caller that items with which nothing is wrong have nothing
+/// wrong without steps that no other item cites, and lead to the same lines; that they cite earlier
+/// steps alone; that without its unused steps each step of a certificate is used; and that what is
+/// left has spellings.
+pub fn trimmed_are_accepted()
+    ensures any { TrimmedAreAccepted }
+    ensures used { AcceptsTrimmed }
+    ensures left { AllLeftAreUsed }
+    ensures earlier { LedCiteEarlier }
+    ensures spelled { SpelledStaySo }
+{}
