@@ -1,0 +1,4 @@
+pub mod Statuses
+pub mod Runs
+pub mod Fates
+pub mod Ends

@@ -1,0 +1,59 @@
+-- A run: what is told and counted before and after it, and how it ended.
+use Rattle.std.specs.Prelude.{◌≡◌, ℕ, List, Option}
+use Rattle.std.specs.Io.KnownBytes.{Appends, Keeps}
+use Rattle.fx_edge.specs.Outside.{Rose}
+use Rattle.whole_texts.specs.Pieces.{AppendsFront}
+use Rattle.command_runs.specs.declared.status.Status.{Status}
+
+abbrev pub Bytes : Type 0
+Bytes = List ℕ
+
+-- the bytes of each name, where the folder tells them
+abbrev pub Told : Type 0
+Told = Bytes → Option Bytes
+
+-- What is told and counted at one time: the bytes of each name and those that the sink took, where
+-- they are told, and how often reads and writes of the folder and puts of the sink have failed.
+pub record Seen : Type 0 where
+  pub told : Told
+  pub taken : Option Bytes
+  pub reads : ℕ
+  pub writes : ℕ
+  pub puts : ℕ
+
+abbrev pub seen : Told → Option Bytes → ℕ → ℕ → ℕ → Seen
+seen told taken reads writes puts =
+    record { told = told; taken = taken; reads = reads; writes = writes; puts = puts }
+
+-- What is seen before a run and after it, and its status.
+pub record Run : Type 0 where
+  pub before : Seen
+  pub after : Seen
+  pub status : Status
+
+abbrev pub run : Seen → Seen → Status → Run
+run before after status = record { before = before; after = after; status = status }
+
+-- a read of the folder failed in this run; a write; a put of the sink
+abbrev pub ReadFailed : Run → Type 0
+ReadFailed r = Rose r.before.reads r.after.reads
+
+abbrev pub WriteFailed : Run → Type 0
+WriteFailed r = Rose r.before.writes r.after.writes
+
+abbrev pub PutFailed : Run → Type 0
+PutFailed r = Rose r.before.puts r.after.puts
+
+-- the bytes of this name are those before
+abbrev pub IsKept : Run → Bytes → Type 0
+IsKept r name = r.after.told name ≡ r.before.told name
+
+-- the sink took nothing; these lines whole; a front of them, which may be nothing
+abbrev pub IsSilent : Run → Type 0
+IsSilent r = Keeps r.before.taken r.after.taken
+
+abbrev pub Puts : Run → Bytes → Type 0
+Puts r lines = Appends r.before.taken r.after.taken lines
+
+abbrev pub PutsFront : Run → Bytes → Type 0
+PutsFront r lines = AppendsFront r.before.taken r.after.taken lines

@@ -1,0 +1,10 @@
+//! Whole texts: read from a folder, written to a new file, put into a sink.
+#![tactic(auto)]
+
+mod put;
+mod read;
+mod write;
+
+pub use put::put_all;
+pub use read::{ReadStop, read_text};
+pub use write::{append_all, write_new};

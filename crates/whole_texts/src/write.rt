@@ -1,0 +1,42 @@
+// Whole texts written to a new file.
+ghost use Rattle.std.specs.Prelude.{◌≡◌, ◌≢◌, ℕ, List, OnOk, OnErr};
+ghost use Rattle.std.specs.Io.KnownBytes.{Appends};
+ghost use Rattle.fx_edge.specs.Outside.{HasCause};
+ghost use Rattle.whole_texts.specs.Pieces.{AppendsFront, HoldsAll, HoldsFront};
+
+use fx_edge::{Failed, Folder};
+
+/// Adds all of the bytes to the file, in as many pieces as the folder takes. `Failed` where a write
+/// failed; the file then took a front of them.
+pub fn append_all<F: Folder>(folder: &mut F, name: &str, bytes: &[u8]) -> Result<(), Failed>
+    ensures ok { OnOk result
+        (Appends (F.told folder.old name.now) (F.told folder.new name.now) bytes.now) }
+    ensures err { OnErr result
+        (AppendsFront (F.told folder.old name.now) (F.told folder.new name.now) bytes.now) }
+    ensures others { (other : List ℕ) → other ≢ name.now
+        → F.told folder.new other ≡ F.told folder.old other }
+    ensures cause { HasCause (F.write_faults folder.old) (F.write_faults folder.new) result }
+    ensures quiet { F.read_faults folder.new ≡ F.read_faults folder.old }
+{
+    let mut done = 0;
+    while done < bytes.len() {
+        done += folder.append(name, &bytes[done..])?;
+    }
+    Ok(())
+}
+
+/// Makes the file new, and writes all of the bytes to it. `Failed` where a write failed; the file
+/// then holds what it held, or a front of the bytes.
+pub fn write_new<F: Folder>(folder: &mut F, name: &str, bytes: &[u8]) -> Result<(), Failed>
+    ensures ok { OnOk result
+        (HoldsAll bytes.now (F.told folder.old name.now) (F.told folder.new name.now)) }
+    ensures err { OnErr result
+        (HoldsFront bytes.now (F.told folder.old name.now) (F.told folder.new name.now)) }
+    ensures others { (other : List ℕ) → other ≢ name.now
+        → F.told folder.new other ≡ F.told folder.old other }
+    ensures cause { HasCause (F.write_faults folder.old) (F.write_faults folder.new) result }
+    ensures quiet { F.read_faults folder.new ≡ F.read_faults folder.old }
+{
+    folder.fresh(name)?;
+    append_all(folder, name, bytes)
+}
