@@ -1,5 +1,13 @@
 pub mod Numbers
 pub mod Simple
+pub mod Names
+pub mod Options
 pub mod Reading
 pub mod Made
 pub mod Check
+pub mod Upgrade
+pub mod Fix
+pub mod At
+pub mod Trim
+pub mod Batch
+pub mod Usage

@@ -20,7 +20,8 @@ bare_app name = record { top = record (new_app name).top { no_binary_name = true
 
 -- ---- names of files
 
--- a script's name, and a certificate's, if there is one: neither is empty, and they aren't equal
+-- a name, as that of a script, and another, as that of a certificate, if there is one: neither is
+-- empty, and they aren't equal
 abbrev pub are_names : Text → Option Text → Bool
 are_names script None = not (length script == 0)
 are_names script (Some cert) = not (length script == 0) && (not (length cert == 0) && not (bytes_eq script cert))

@@ -1,11 +1,10 @@
 // The words after `prove`.
-ghost use Rattle.std.specs.Prelude.{◌≡◌, ◌≤◌, map, string_bytes, IfOk, IfErr, IfSome, Some, None};
+ghost use Rattle.std.specs.Prelude.{◌≡◌, map, string_bytes, IfOk, IfErr, IfSome, Some, None};
 ghost use Rattle.std.specs.Option.{option_map};
 ghost use Rattle.clap.specs.Words.{app_of, found_of, first_value};
-ghost use Rattle.command_line.specs.Numbers.{number_or};
-ghost use Rattle.command_line.specs.Reading.{prove_app, asked, asked_of, asked_from, given_by, AreInRange};
+ghost use Rattle.command_line.specs.Reading.{prove_app, asked, asked_of, asked_from, AreInRange};
 
-use crate::numbers::number;
+use crate::options::{options_in, with_options};
 use crate::simple::{WordsError, are_names, bare, matches_by, name, option};
 use clap::{ArgMatches, Command};
 use std::alloc::{AllocError, Global};
@@ -30,56 +29,30 @@ pub struct Request<'a> {
 fn prove_command<'a>(alloc: Global) -> Result<Command<'a>, AllocError>
     ensures { IfOk result (λ c. app_of c ≡ prove_app) }
 {
-    bare(alloc, "prove")
+    let command = bare(alloc, "prove")
         .arg(name(alloc, "script"))?
-        .arg(option(alloc, "cert"))?
-        .arg(option(alloc, "rounds"))?
-        .arg(option(alloc, "depth"))?
-        .arg(option(alloc, "boxes"))?
-        .arg(option(alloc, "workers"))
-}
-
-// The number of an option, or its default.
-fn option_number(
-    matches: &ArgMatches<'_>,
-    name: &str,
-    default: u32,
-    low: u32,
-    high: u32,
-) -> Option<u32>
-    requires low { low ≤ default }
-    requires high { default ≤ high }
-    requires digits { high ≤ 9999 }
-    ensures is { result ≡ number_or default low high (first_value (found_of matches.now) name.now) }
-    ensures range { IfSome result (λ n. (low ≤ n) × (n ≤ high)) }
-{
-    match matches.get_str(name) {
-        Some(text) => number(text, low, high),
-        None => Some(default),
-    }
+        .arg(option(alloc, "cert"))?;
+    with_options(alloc, command)
 }
 
 // The request in what clap found.
 fn request_from<'a>(matches: &ArgMatches<'a>) -> Option<Request<'a>>
-    ensures is { option_map asked_of result ≡ asked_from (given_by (first_value (found_of matches.now))) }
+    ensures is { option_map asked_of result ≡ asked_from (first_value (found_of matches.now)) }
     ensures range { IfSome result AreInRange }
 {
     let script = matches.get_str("script")?;
     let cert = matches.get_str("cert");
-    let rounds = option_number(matches, "rounds", 20, 1, 64)?;
-    let depth = option_number(matches, "depth", 16, 0, 32)?;
-    let boxes = option_number(matches, "boxes", 4096, 1, 8192)?;
-    let workers = option_number(matches, "workers", 4, 1, 16)?;
+    let options = options_in(matches, 4096, 8192)?;
     if !are_names(script, cert) {
         return None;
     }
     Some(Request {
         script,
         cert,
-        rounds: rounds as u8,
-        depth: depth as u8,
-        boxes,
-        workers: workers as u8,
+        rounds: options.rounds,
+        depth: options.depth,
+        boxes: options.boxes,
+        workers: options.workers,
     })
 }
 

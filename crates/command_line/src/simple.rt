@@ -42,7 +42,8 @@ pub fn bare<'a>(alloc: Global, name: &'a str) -> Command<'a>
         .disable_help_flag(true)
 }
 
-/// Whether a script, and a certificate, if there is one, may have these names: neither is empty, and they aren't equal.
+/// Whether a script, and a certificate, if there is one, may have these names, and so may any
+/// other two files: neither is empty, and they aren't equal.
 pub fn are_names(script: &str, cert: Option<&str>) -> bool
     ensures { result ≡ are_names script.now (option_map (λ c. c.now) cert.entry) }
 {

@@ -1,16 +1,22 @@
 // Words after a command, and what they ask for, worked out by hand.
+use crate::at::read_at;
+use crate::batch::read_batch;
 use crate::check::read_check;
+use crate::fix::read_fix;
 use crate::made::read_gen;
 use crate::prove::read_prove;
 use crate::simple::WordsError;
+use crate::trim::read_trim;
+use crate::upgrade::read_upgrade;
 use std::alloc::{AllocError, Global};
+use std::fmt::Debug;
 use std::process::Abort;
 use std::test::Fail;
 
-// What is asked for: the script, rounds, depth, boxes and workers.
+// What is asked for: the name, rounds, depth, boxes and workers.
 type Numbers = (&'static str, u8, u8, u32, u8);
 
-// Words, and what they ask for, if it is anything.
+// Words after `prove`, and what they ask for, if it is anything.
 const ROWS: [(&[&str], Option<Numbers>); 39] = [
     (&["a"], Some(("a", 20, 16, 4096, 4))),
     (&["-"], Some(("-", 20, 16, 4096, 4))),
@@ -140,7 +146,7 @@ const DEGREES: [(&[&str], Option<u8>); 18] = [
     (&["--help"], None),
 ];
 
-// Words after `check`, and the names of the script and the certificate that they ask for, if they do.
+// Words after a command of two names, and the names that they ask for, if they do.
 const NAMES: [(&[&str], Option<(&str, &str)>); 14] = [
     (&["a", "b"], Some(("a", "b"))),
     (&["b", "a"], Some(("b", "a"))),
@@ -158,6 +164,56 @@ const NAMES: [(&[&str], Option<(&str, &str)>); 14] = [
     (&["a", "-b"], None),
 ];
 
+// Words after `trim`, and the names of the script, the certificate and the new one that they ask
+// for, if they do.
+const TRIMS: [(&[&str], Option<(&str, &str, &str)>); 13] = [
+    (&["a", "b", "c"], Some(("a", "b", "c"))),
+    (&["c", "a", "b"], Some(("c", "a", "b"))),
+    (&["a", "b", "--", "-c"], Some(("a", "b", "-c"))),
+    // too few, and too many
+    (&["a", "b"], None),
+    (&["a", "b", "--"], None),
+    (&["a", "b", "c", "d"], None),
+    // an empty one
+    (&["", "b", "c"], None),
+    (&["a", "", "c"], None),
+    (&["a", "b", ""], None),
+    // two that are equal
+    (&["a", "a", "c"], None),
+    (&["a", "b", "a"], None),
+    (&["a", "b", "b"], None),
+    // no option is there
+    (&["a", "b", "c", "--cert=d"], None),
+];
+
+// Words after `batch`, and what they ask for, if it is anything.
+const BATCHES: [(&[&str], Option<Numbers>); 15] = [
+    (&["a"], Some(("a", 20, 16, 256, 4))),
+    (&["--", "-a"], Some(("-a", 20, 16, 256, 4))),
+    (&["--boxes", "512", "a"], Some(("a", 20, 16, 512, 4))),
+    (
+        &["a", "--rounds=1", "--depth=0", "--boxes=1", "--workers=1"],
+        Some(("a", 1, 0, 1, 1)),
+    ),
+    (
+        &["--workers=16", "--depth=32", "--rounds=64", "a"],
+        Some(("a", 64, 32, 256, 16)),
+    ),
+    // the number of names, and an empty one
+    (&[], None),
+    (&["a", "b"], None),
+    (&[""], None),
+    // numbers out of their ranges
+    (&["a", "--rounds", "65"], None),
+    (&["a", "--depth", "33"], None),
+    (&["a", "--boxes", "0"], None),
+    (&["a", "--boxes", "513"], None),
+    (&["a", "--workers", "17"], None),
+    // an option of `prove` alone, and one given twice
+    (&["a", "--cert", "b"], None),
+    (&["a", "--boxes=1", "--boxes=1"], None),
+];
+
 // The words, as texts of their own.
 fn words_of(alloc: Global, words: &[&str]) -> Result<Vec<String>, AllocError> {
     let mut all = Vec::new(alloc);
@@ -167,57 +223,32 @@ fn words_of(alloc: Global, words: &[&str]) -> Result<Vec<String>, AllocError> {
     Ok(all)
 }
 
-// The words ask for this.
-fn asks(
+// What was read is what the words ask for.
+fn is_wanted<T: Debug + PartialEq + Drop>(
     rt: &impl Abort,
-    alloc: Global,
     line: &[&str],
-    wanted: Option<Numbers>,
-) -> Result<(), Fail> {
-    let words = words_of(alloc, line)?;
-    match read_prove(alloc, &words) {
+    found: Result<T, WordsError>,
+    wanted: Option<T>,
+) {
+    match found {
         Ok(found) => {
-            let numbers = (
-                found.script,
-                found.rounds,
-                found.depth,
-                found.boxes,
-                found.workers,
-            );
-            assert_eq!(rt; Some(numbers), wanted, "{line:?}");
+            assert_eq!(rt; Some(found), wanted, "{line:?}");
         }
         Err(error) => {
             assert_eq!(rt; error, WordsError::Usage, "{line:?}");
             assert!(rt; wanted.is_none(), "{line:?}");
         }
     }
-    Ok(())
 }
 
 #[test]
 fn words_are_read(rt: HostRuntime) -> Result<(), Fail> {
     for (line, wanted) in ROWS {
-        asks(&rt, rt.alloc(), line, wanted)?;
-    }
-    Ok(())
-}
-
-// The words ask for these names.
-fn asks_cert(
-    rt: &impl Abort,
-    alloc: Global,
-    line: &[&str],
-    wanted: Option<(&str, Option<&str>)>,
-) -> Result<(), Fail> {
-    let words = words_of(alloc, line)?;
-    match read_prove(alloc, &words) {
-        Ok(found) => {
-            assert_eq!(rt; Some((found.script, found.cert)), wanted, "{line:?}");
-        }
-        Err(error) => {
-            assert_eq!(rt; error, WordsError::Usage, "{line:?}");
-            assert!(rt; wanted.is_none(), "{line:?}");
-        }
+        let words = words_of(rt.alloc(), line)?;
+        let found = read_prove(rt.alloc(), &words).map(|r| (
+            r.script, r.rounds, r.depth, r.boxes, r.workers,
+        ));
+        is_wanted(&rt, line, found, wanted);
     }
     Ok(())
 }
@@ -225,27 +256,9 @@ fn asks_cert(
 #[test]
 fn certs_are_read(rt: HostRuntime) -> Result<(), Fail> {
     for (line, wanted) in CERTS {
-        asks_cert(&rt, rt.alloc(), line, wanted)?;
-    }
-    Ok(())
-}
-
-// The words ask for this degree.
-fn asks_degree(
-    rt: &impl Abort,
-    alloc: Global,
-    line: &[&str],
-    wanted: Option<u8>,
-) -> Result<(), Fail> {
-    let words = words_of(alloc, line)?;
-    match read_gen(alloc, &words) {
-        Ok(degree) => {
-            assert_eq!(rt; Some(degree), wanted, "{line:?}");
-        }
-        Err(error) => {
-            assert_eq!(rt; error, WordsError::Usage, "{line:?}");
-            assert!(rt; wanted.is_none(), "{line:?}");
-        }
+        let words = words_of(rt.alloc(), line)?;
+        let found = read_prove(rt.alloc(), &words).map(|r| (r.script, r.cert));
+        is_wanted(&rt, line, found, wanted);
     }
     Ok(())
 }
@@ -253,27 +266,8 @@ fn asks_degree(
 #[test]
 fn degrees_are_read(rt: HostRuntime) -> Result<(), Fail> {
     for (line, wanted) in DEGREES {
-        asks_degree(&rt, rt.alloc(), line, wanted)?;
-    }
-    Ok(())
-}
-
-// The words ask for these names.
-fn asks_names(
-    rt: &impl Abort,
-    alloc: Global,
-    line: &[&str],
-    wanted: Option<(&str, &str)>,
-) -> Result<(), Fail> {
-    let words = words_of(alloc, line)?;
-    match read_check(alloc, &words) {
-        Ok(found) => {
-            assert_eq!(rt; Some((found.script, found.cert)), wanted, "{line:?}");
-        }
-        Err(error) => {
-            assert_eq!(rt; error, WordsError::Usage, "{line:?}");
-            assert!(rt; wanted.is_none(), "{line:?}");
-        }
+        let words = words_of(rt.alloc(), line)?;
+        is_wanted(&rt, line, read_gen(rt.alloc(), &words), wanted);
     }
     Ok(())
 }
@@ -281,7 +275,37 @@ fn asks_names(
 #[test]
 fn names_are_read(rt: HostRuntime) -> Result<(), Fail> {
     for (line, wanted) in NAMES {
-        asks_names(&rt, rt.alloc(), line, wanted)?;
+        let words = words_of(rt.alloc(), line)?;
+        let checked = read_check(rt.alloc(), &words).map(|r| (r.script, r.cert));
+        is_wanted(&rt, line, checked, wanted);
+        let upgraded = read_upgrade(rt.alloc(), &words).map(|r| (r.cert, r.new));
+        is_wanted(&rt, line, upgraded, wanted);
+        let fixed = read_fix(rt.alloc(), &words).map(|r| (r.program, r.script));
+        is_wanted(&rt, line, fixed, wanted);
+        let at = read_at(rt.alloc(), &words).map(|r| (r.script, r.point));
+        is_wanted(&rt, line, at, wanted);
+    }
+    Ok(())
+}
+
+#[test]
+fn three_names_are_read(rt: HostRuntime) -> Result<(), Fail> {
+    for (line, wanted) in TRIMS {
+        let words = words_of(rt.alloc(), line)?;
+        let found = read_trim(rt.alloc(), &words).map(|r| (r.script, r.cert, r.new));
+        is_wanted(&rt, line, found, wanted);
+    }
+    Ok(())
+}
+
+#[test]
+fn batches_are_read(rt: HostRuntime) -> Result<(), Fail> {
+    for (line, wanted) in BATCHES {
+        let words = words_of(rt.alloc(), line)?;
+        let found = read_batch(rt.alloc(), &words).map(|r| (
+            r.list, r.rounds, r.depth, r.boxes, r.workers,
+        ));
+        is_wanted(&rt, line, found, wanted);
     }
     Ok(())
 }
