@@ -115,7 +115,9 @@ pub fn accepted_items<F: Folder>(
     ensures exact { (all : List ℕ)
         → F.told folder.old reader.old.ahead.name ≡ Some all → (o : Outcome)
         → ComesOf subject (cursor_of all reader.old.ahead) o → IsAnswer o (lines_of result) }
-    // The bytes spell the items, which are accepted.
+    // The items are read from the bytes to their end, and are what the bytes spell and accepted.
+    ensures read { (all : List ℕ) → F.told folder.old reader.old.ahead.name ≡ Some all
+        → IfOk result (λ a. AreRead Head (cursor_of all reader.old.ahead) a.items.items) }
     ensures accepts { (all : List ℕ) → F.told folder.old reader.old.ahead.name ≡ Some all
         → AreBytes all → IfOk result (AreAcceptedItems subject all) }
     // Whatever the bytes are, nothing is wrong with the items, and each has a spelling.

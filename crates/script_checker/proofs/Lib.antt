@@ -3,3 +3,4 @@ pub mod Settled
 pub mod Held
 pub mod OneSubject
 pub mod CaseFacts
+pub mod Kept

@@ -4,9 +4,11 @@
 mod cases;
 mod check;
 mod claims;
+mod items;
 mod laws;
 mod subject;
 
 pub use check::check_script;
+pub use items::script_items;
 pub use laws::{accepted_lines_hold_of_scripts, checks_are_one};
 pub use subject::subject_of;
