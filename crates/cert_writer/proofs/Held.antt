@@ -20,7 +20,7 @@ use Rattle.cert_checker.specs.Accepted.{Accepts}
 use Rattle.cert_writer.specs.Standing.{Aim, IsWhole, IsBegun}
 use Rattle.cert_writer.specs.Courses.{Grew, GrewToFront}
 use Rattle.cert_writer.specs.Cases.{Task, whole_aim, StandsBefore, GrewFront, IsCompleted}
-use Rattle.cert_writer.specs.Files.{AppendsFront}
+use Rattle.whole_texts.specs.Pieces.{AppendsFront}
 use Rattle.cert_writer.specs.Laws.{WritingGoesOn}
 use Rattle.cert_writer.specs.Written.{AreWrittenFor, IsAcceptedFront, HoldsCertificate, HoldsFront}
 use Rattle.cert_writer.proofs.NextCase.{stands_begun}

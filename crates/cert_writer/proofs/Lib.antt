@@ -1,4 +1,3 @@
-mod Taken
 mod Seen
 mod Sized
 mod GoesOn

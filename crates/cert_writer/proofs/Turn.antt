@@ -37,7 +37,7 @@ use Rattle.box_traces.specs.Trees.{Tree, Trees, cut, last, next, cut_of, IsProve
 use Rattle.box_traces.specs.Walks.{numbered, behind_steps, Frame, IsPieceOf, LiesIn}
 use Rattle.box_traces.specs.Moves.{frame_of, turned, next_behind}
 use Rattle.answer_certificates.specs.Boxes.{range_of_piece, pieces_from}
-use Rattle.cert_writer.specs.Files.{AppendsFront, appends_both}
+use Rattle.whole_texts.specs.Pieces.{AppendsFront, appends_both}
 use Rattle.cert_writer.specs.Standing.{Aim, IsBegun, Place, IsAt, Ended, HasEnded, AreBoxSteps, AreShort, own_items, inside, beside, around}
 use Rattle.cert_writer.specs.Courses.{Course, IsCourse, HasBest, setting, best_at, below, Grew, GrewToFront, IsBefore, IsPast, IsKnownAt, IsWithin, HasDone}
 use Rattle.cert_writer.specs.Laws.{WritingGoesOn}

@@ -27,7 +27,7 @@ use Rattle.box_traces.specs.Trees.{Tree}
 use Rattle.box_traces.specs.Walks.{numbered, Frame}
 use Rattle.answer_certificates.specs.Scripts.{HasSlots}
 use Rattle.answer_certificates.specs.Boxes.{range_of_piece, pieces_from, boxes_below}
-use Rattle.cert_writer.specs.Files.{AppendsFront}
+use Rattle.whole_texts.specs.Pieces.{AppendsFront}
 use Rattle.cert_writer.specs.Standing.{Target, Aim, IsAim, IsBegun, Place, IsAt, Ended, HasEnded}
 
 -- ---- what is walked over

@@ -7,11 +7,10 @@ ghost use Rattle.std.specs.Io.KnownBytes.{Appends};
 ghost use Rattle.cert_bytes.specs.declared.item.Item.TheVariants as item;
 ghost use Rattle.cert_bytes.specs.Styles.{none_seen};
 ghost use Rattle.cert_writer.specs.Bytes.{spelling_of};
-ghost use Rattle.cert_writer.specs.Files.{AppendsFront};
+ghost use Rattle.whole_texts.specs.Pieces.{AppendsFront};
 ghost use Rattle.cert_writer.specs.Walks.{HasWriteCause};
 ghost use Rattle.cert_writer.specs.Cases.{bare, Stands, OfStanding, GoesOn, IsCompleted, GrewFront};
 
-use crate::file::append_all;
 use crate::laws::writing_goes_on;
 use crate::walk::{WriteStop, write_box};
 use answer_certificates::script_has_room;
@@ -22,6 +21,7 @@ use rule_universe::Universe;
 use script_grammar::Script;
 use std::alloc::Global;
 use universe::assume;
+use whole_texts::append_all;
 
 // Writes the root section of the case with this number, where this was seen before it. It answers
 // what was seen behind it.

@@ -3,7 +3,6 @@
 
 mod cases;
 mod ending;
-mod file;
 mod head;
 mod laws;
 mod spell;

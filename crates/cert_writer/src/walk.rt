@@ -7,7 +7,6 @@ ghost use Rattle.cert_writer.specs.Walks.{MayEnd, IsLast, HasWriteCause};
 ghost use Rattle.cert_writer.specs.declared.walk.WriteStop.TheVariants as WriteStop;
 
 use crate::ending::{cut_of, end_of};
-use crate::file::append_all;
 use crate::laws::{walk_goes_on, writing_goes_on};
 use crate::spell::spell_box;
 use box_trace::{Known, Traced, boxes_are_short, trace};
@@ -16,6 +15,7 @@ use cert_bytes::{CutPoints, Item, Seen};
 use fx_edge::{Failed, Folder, Path};
 use rule_universe::Universe;
 use std::alloc::{AllocError, Global};
+use whole_texts::append_all;
 
 /// Why a certificate wasn't written whole.
 #[derive(Clone, Copy, PartialEq, Eq, Debug)]

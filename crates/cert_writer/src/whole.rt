@@ -7,7 +7,6 @@ ghost use Rattle.cert_writer.specs.Walks.{HasWriteCause};
 ghost use Rattle.cert_writer.specs.Written.{IsProvedWith, OfProved, HoldsCertificate, HoldsFront};
 
 use crate::cases::{write_cases, write_end};
-use crate::file::append_all;
 use crate::head::spell_head;
 use crate::laws::writing_goes_on;
 use crate::walk::WriteStop;
@@ -19,6 +18,7 @@ use fx_edge::Folder;
 use rule_universe::Universe;
 use script_grammar::Script;
 use std::alloc::Global;
+use whole_texts::append_all;
 
 /// Makes the file new and writes to it the certificate of a script that is proved, in version 2.
 /// The universe is the script's, the subject what its certificates are judged against; its boxes

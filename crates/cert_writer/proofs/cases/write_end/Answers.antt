@@ -3,7 +3,8 @@ use Rattle.std.specs.Io.KnownBytes.{Appends}
 use Rattle.std.proofs.Common.{◌∙◌, ap, subst, refl}
 use Rattle.cert_bytes.specs.declared.item.Item.TheVariants as item
 use Rattle.cert_writer.specs.Bytes.{spelling_of}
-use Rattle.cert_writer.specs.Files.{AppendsFront, on_err}
+use Rattle.cert_writer.specs.Files.{on_err}
+use Rattle.whole_texts.specs.Pieces.{AppendsFront}
 use Rattle.cert_writer.proofs.Turn.{appends_none}
 use Rattle.cert_writer.proofs.cases.write_end.Goals as goal
 

@@ -4,7 +4,8 @@ use Rattle.std.proofs.Common.{◌∙◌, ap, subst, arith}
 use Rattle.std.proofs.lemmas.List.{length-map}
 use Rattle.script_grammar.specs.Cases.{cases_of}
 use Rattle.script_checker.specs.Subjects.{facts_of}
-use Rattle.cert_writer.specs.Files.{AppendsFront, on_err}
+use Rattle.cert_writer.specs.Files.{on_err}
+use Rattle.whole_texts.specs.Pieces.{AppendsFront}
 use Rattle.cert_writer.specs.Cases.{bare, task}
 use Rattle.cert_writer.specs.Written.{OfProved, HoldsFront}
 use Rattle.cert_writer.proofs.Start.{start, head_of}
