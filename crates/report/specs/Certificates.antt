@@ -1,9 +1,11 @@
--- The printed lines of certificates that aren't accepted, as bytes. Each ends with a line feed.
+-- The printed lines of certificates that aren't accepted, or are rewritten, as bytes. Each ends
+-- with a line feed.
 use Rattle.std.specs.Prelude.{◌++◌, codes}
 use Rattle.std.specs.Fmt.{decimal}
 use Rattle.cert_bytes.specs.declared.fault.CertFault.{CertFault}
 use Rattle.cert_bytes.specs.declared.fault.CertKind.{CertKind}
 use Rattle.cert_bytes.specs.declared.fault.CertKind.TheVariants as kind
+use Rattle.cert_bytes.specs.declared.style.Seen.{Seen}
 use Rattle.cert_checker.specs.declared.fault.CheckFault.{CheckFault}
 use Rattle.cert_checker.specs.declared.fault.CheckFault.TheVariants as fault
 use Rattle.report.specs.Lines.{Bytes}
@@ -37,3 +39,13 @@ check_fault_text (fault.BadCases count) = codes "BadCases " ++ decimal count
 -- of the first item that isn't accepted
 abbrev pub check_fault_line : CheckFault → Bytes
 check_fault_line f = codes "certificate: " ++ check_fault_text f ++ codes "\n"
+
+-- of a certificate that was rewritten: how many sections and steps it has
+abbrev pub upgraded_line : Seen → Bytes
+upgraded_line counts =
+    codes "upgraded: " ++ decimal counts.sections ++ codes " sections, "
+    ++ decimal counts.steps ++ codes " steps\n"
+
+-- of one that would be too long
+abbrev pub new_too_long_line : Bytes
+new_too_long_line = codes "certificate: NewTooLong at 17592186044416\n"

@@ -61,14 +61,6 @@ refusal_line r = codes "script: " ++ kind_text r.kind ++ codes " at " ++ decimal
 
 -- ---- other lines
 
--- of a file that wasn't read whole
-abbrev pub read_fault_line : Bytes → Bytes
-read_fault_line name = codes "read fault: " ++ name ++ codes "\n"
-
--- of words that ask for nothing: the commands with their names and options. Each further command stands behind a bar.
-abbrev pub usage_line : Bytes
-usage_line = codes "usage: fixprove prove SCRIPT [--cert FILE] [--rounds N] [--depth N] [--boxes N] [--workers N] | check SCRIPT CERT | gen N\n"
-
 -- of a script that needs more expressions than a universe may have
 abbrev pub expressions_text : Bytes
 expressions_text = codes "limit: more than 1024 expressions\n"

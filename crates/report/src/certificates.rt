@@ -1,9 +1,9 @@
-//! Lines of certificates that aren't accepted.
+//! Lines of certificates that aren't accepted, or are rewritten.
 
 ghost use Rattle.std.specs.Prelude.{◌≡◌, IfOk, string_bytes};
 ghost use Rattle.report.specs.Certificates as spec;
 
-use cert_bytes::{CertFault, CertKind};
+use cert_bytes::{CertFault, CertKind, Seen};
 use cert_checker::CheckFault;
 use std::alloc::{AllocError, Global};
 
@@ -65,4 +65,22 @@ pub fn check_fault_line(alloc: Global, fault: CheckFault) -> Result<Vec<u8>, All
     let text = check_fault_text(alloc, fault)?;
     let line = format!(in alloc; "certificate: {text}\n")?;
     Ok(line.into_bytes())
+}
+
+/// The line of a certificate that was rewritten: how many sections and steps it has. `Err` only
+/// where memory runs out.
+pub fn upgraded_line(alloc: Global, counts: Seen) -> Result<Vec<u8>, AllocError>
+    ensures { IfOk result (λ line. line.items ≡ spec.upgraded_line counts) }
+{
+    let sections = counts.sections;
+    let steps = counts.steps;
+    let line = format!(in alloc; "upgraded: {sections} sections, {steps} steps\n")?;
+    Ok(line.into_bytes())
+}
+
+/// The line of a certificate that would be too long, were it rewritten.
+pub fn new_too_long_line() -> &'static [u8]
+    ensures { result.now ≡ spec.new_too_long_line }
+{
+    "certificate: NewTooLong at 17592186044416\n".as_bytes()
 }

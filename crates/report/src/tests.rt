@@ -6,7 +6,7 @@ use crate::certificates::{cert_fault_line, check_fault_line};
 use crate::parts::part;
 use crate::proved::{answer_text, put_goal_line};
 use crate::refusals::refusal_line;
-use crate::runs::{boxes_text, expressions_text, read_fault_line, usage};
+use crate::runs::{boxes_text, expressions_text};
 use cert_bytes::{CertFault, CertKind};
 use cert_checker::CheckFault;
 use dyadic::{Dyadic, End};
@@ -186,19 +186,13 @@ fn certificates(rt: HostRuntime) -> Result<(), Fail> {
 }
 
 #[test]
-fn other_lines(rt: HostRuntime) -> Result<(), Fail> {
-    assert_eq!(rt;
-        usage(),
-        "usage: fixprove prove SCRIPT [--cert FILE] [--rounds N] [--depth N] [--boxes N] [--workers N] | check SCRIPT CERT | gen N\n".as_bytes()
-    );
+fn limit_lines(rt: HostRuntime) -> Result<(), Fail> {
     assert_eq!(rt;
         expressions_text(),
         "limit: more than 1024 expressions\n".as_bytes()
     );
     let line = boxes_text(rt.alloc(), 14)?;
     assert_eq!(rt; line.as_slice(), "limit: more than 14 boxes\n".as_bytes());
-    let line = read_fault_line(rt.alloc(), "a.fx")?;
-    assert_eq!(rt; line.as_slice(), "read fault: a.fx\n".as_bytes());
     Ok(())
 }
 
