@@ -7,3 +7,4 @@ pub mod Held
 pub mod Cases
 pub mod Open
 pub mod One
+pub mod Calls

@@ -16,4 +16,4 @@ pub use laws::{
     answers_are_one, one_case_is_all, open_leaves_are_first, plans_fit, proved_answers_hold,
     proved_lines_are_tight,
 };
-pub use run::answer;
+pub use run::{answer, answer_alone};

@@ -1,4 +1,4 @@
-use Rattle.std.specs.Prelude.{◌≡◌, ◌≤◌, ◌+◌, List, [], ◌∷◌, Some, drop, slice_get}
+use Rattle.std.specs.Prelude.{◌≡◌, ◌≤◌, ◌+◌, [], ◌∷◌, Some, drop, slice_get}
 use Rattle.std.specs.List.{AllByRecursion}
 use Rattle.std.proofs.Common.{arith, sym, ◌∙◌, ap, subst, refl}
 use Rattle.std.proofs.lemmas.Option.{slice_get-get_or}
@@ -10,7 +10,6 @@ use Rattle.box_tree.specs.Plans.{cut_at}
 use Rattle.bisect.specs.Trees.{tree_of}
 use Rattle.case_trees.specs.declared.outcome.CaseOutcome.TheVariants as cases
 use Rattle.case_trees.specs.Gathered.{Seen, EndsAs, IsWithin}
-use Rattle.settler.specs.declared.cases.Case.{Case}
 use Rattle.settler.specs.Cases.{trees_in}
 use Rattle.settler.specs.Decided.{state_at}
 use Rattle.settler.specs.Frames.{Fits}
@@ -67,8 +66,8 @@ assume-requires-clause-normal g c =
     let item : slice_get cs c.loop-case.case-index ≡ Some case = slice_get-get_or cs c.loop-case.case-index case (omega (arith, c.loop-case-test.true)) ∙ ap Some (sym c.case-item.is) in
     subst (AllByRecursion HasNormalBounds) (sym c.as_slice.ensures) (planned_at s cs c.requires.cases c.loop-case.case-index case item).1.normal
 
-pub answer_tree-requires-clause-fits : goal.answer_tree-requires-clause-fits
-answer_tree-requires-clause-fits g c κs within =
+pub answered-requires-clause-fits : goal.answered-requires-clause-fits
+answered-requires-clause-fits g c =
     let s = c.args.script.now in
     let cs = c.args.cases.now in
     let case = c.case-item.result in
@@ -77,8 +76,8 @@ answer_tree-requires-clause-fits g c κs within =
     let universe : IsUniverse s case.claims c.assume.new.universe = subst (λ claims. IsUniverse s claims c.assume.new.universe) c.as_slice.ensures c.in_ok-assume.ensures.universe in
     subst (Fits c.assume.new.universe) (sym is.1.plan) (c.plans_fit.ensures s case.claims is.0 universe)
 
-pub answer_tree-requires-clause-boxes : goal.answer_tree-requires-clause-boxes
-answer_tree-requires-clause-boxes g c κs within =
+pub answered-requires-clause-boxes : goal.answered-requires-clause-boxes
+answered-requires-clause-boxes g c =
     let left = c.left-left.ensures.left in
     let limit = c.loop-case.invariant.limit in
     let most = c.requires.boxes in

@@ -7,7 +7,7 @@ use Rattle.settler.specs.Answers.{Options, options}
 use Rattle.settler.specs.Cases.{AreCases}
 use Rattle.settler.proofs.Planned.{as_many}
 use Rattle.settler.proofs.Comes.{comes_to, each_holds}
-use Rattle.settler.proofs.run.answer.Goals as goal
+use Rattle.settler.proofs.run.answer_by.Goals as goal
 
 pub answer_cases-requires-clause-few : goal.answer_cases-requires-clause-few
 answer_cases-requires-clause-few g c =
