@@ -1,0 +1,14 @@
+//! What is answered to a script's text under options: a status and lines.
+#![tactic(auto)]
+
+mod answers;
+mod found;
+mod laws;
+mod made;
+mod options;
+
+pub use answers::{answer, answer_alone, lines_for};
+pub use found::{Found, found_of, prove_script, prove_script_alone};
+pub use laws::{made_answers_are_one, text_answers_are_one};
+pub use made::made_answer;
+pub use options::{Options, made_options, options_of};

@@ -1,0 +1,86 @@
+// The status and the lines for the made script.
+ghost use Rattle.std.specs.Prelude.{◌≡◌, IfOk};
+ghost use Rattle.made_script.specs.Script.{script_text};
+ghost use Rattle.script_grammar.specs.Spells.{IsRefused};
+ghost use Rattle.script_answers.specs.Answers.{IsFound, MadePrints, first_line, made_options};
+
+use crate::found::{Found, prove_script};
+use crate::options::made_options;
+use command_runs::Status;
+use fx_edge::Gate;
+use goals::Line;
+use made_script::made_script;
+use report::proved::made_text;
+use report::refusals::refusal_line;
+use script_grammar::{ParseStop, Script, parse};
+use script_judge::refusal::Refusal;
+use std::alloc::{AllocError, Global};
+use std::sync::Wait;
+use std::thread::Threads;
+
+// The first line.
+fn first_line(lines: &[Line]) -> Line
+    ensures { result ≡ first_line lines.now }
+{
+    match lines {
+        [] => Line::None,
+        [line, ..] => *line,
+    }
+}
+
+// The status and the lines for what was found of the made script of degree n.
+#[tactic(auto, using(crate::proofs::MadeText::made_stopped, crate::proofs::MadeText::made_proved))]
+fn made_lines(
+    alloc: Global,
+    n: u8,
+    script: &Script<'_>,
+    found: Found,
+) -> Result<(Status, Vec<u8>), AllocError>
+    requires text { script.now.text ≡ script_text n }
+    requires found { IsFound made_options script.now found }
+    ensures { IfOk result (λ r. MadePrints n r.0 r.1.items) }
+{
+    match found {
+        Found::Stopped(status, lines) => Ok((status, lines)),
+        Found::Proved(boxes, shown) => {
+            let line = made_text(alloc, n, boxes, first_line(shown.as_slice()))?;
+            Ok((Status::Answered, line))
+        }
+    }
+}
+
+// The status and the lines for a made script that is refused.
+#[tactic(auto, using(crate::proofs::MadeText::made_refused))]
+fn made_refusal(
+    alloc: Global,
+    n: u8,
+    text: &[u8],
+    refusal: Refusal,
+) -> Result<(Status, Vec<u8>), AllocError>
+    requires text { text.now ≡ script_text n }
+    requires refused { IsRefused text.now refusal }
+    ensures { IfOk result (λ r. MadePrints n r.0 r.1.items) }
+{
+    Ok((Status::Script, refusal_line(alloc, refusal)?))
+}
+
+/// What is answered to the made script of degree n: the status and all lines. `Err` only where
+/// memory runs out. It may wait.
+pub fn made_answer<G: Gate, R: Threads + Wait + Sync>(
+    rt: &R,
+    alloc: Global,
+    n: u8,
+    gate: &G,
+) -> Result<(Status, Vec<u8>), AllocError>
+    ensures { IfOk result (λ r. MadePrints n r.0 r.1.items) }
+{
+    let text = made_script(alloc, n)?;
+    match parse(alloc, &text) {
+        Ok(script) => {
+            let found = prove_script(rt, alloc, &script, made_options(), gate)?;
+            made_lines(alloc, n, &script, found)
+        }
+        Err(ParseStop::Refused(refusal)) => made_refusal(alloc, n, &text, refusal),
+        Err(ParseStop::OutOfMemory) => Err(AllocError),
+    }
+}
