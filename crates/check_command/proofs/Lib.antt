@@ -1,0 +1,4 @@
+pub mod Checked
+pub mod Complete
+pub mod Once
+pub mod Ends

@@ -1,0 +1,40 @@
+// What `check` does.
+ghost use Rattle.command_line.specs.Check.{check_of};
+ghost use Rattle.command_runs.specs.Runs.{run, seen};
+ghost use Rattle.check_command.specs.Command.{IsCheckRun};
+
+use crate::check::check_answer;
+use crate::laws::check_answers_are_one;
+use command_line::CheckRequest;
+use command_runs::{Status, print, print_stop};
+use fx_edge::{Folder, Sink};
+use std::alloc::Global;
+use whole_texts::read_text;
+
+// How much of a script's text is read, in bytes: one more than a script may have.
+const MOST: usize = (1 << 20) + 1;
+
+/// Reads a script and then a certificate of it, and puts the lines that it shows, where it is
+/// accepted for the script; else its first fault. It is read only where the script's text spells a
+/// script. Nothing is written.
+pub fn run_check<F: Folder, O: Sink>(
+    alloc: Global,
+    request: CheckRequest<'_>,
+    folder: &mut F,
+    out: &mut O,
+) -> Status
+    ensures run { let before = seen (F.told folder.old) (O.taken out.old)
+        (F.read_faults folder.old) (F.write_faults folder.old) (O.faults out.old) in
+        let after = seen (F.told folder.new) (O.taken out.new)
+        (F.read_faults folder.new) (F.write_faults folder.new) (O.faults out.new) in
+        IsCheckRun (check_of request.entry) (run before after result) }
+{
+    check_answers_are_one();
+    match read_text(alloc, folder, request.script, MOST) {
+        Ok(text) => match check_answer(alloc, &text, request.cert, folder) {
+            Ok((status, lines)) => print(out, &lines, status),
+            Err(stop) => print_stop(alloc, request.cert, stop, out),
+        },
+        Err(stop) => print_stop(alloc, request.script, stop, out),
+    }
+}

@@ -1,0 +1,117 @@
+-- What is left in the file for the certificate of a script that is answered with lines.
+use Rattle.std.specs.Prelude.{◌≡◌, ⊤, List, Option, Some, None, Result, Ok, Err, OnOk, OnErr}
+use Rattle.std.proofs.Common.{inl, inr, refl, sym, subst, ◌∙◌}
+use Rattle.goals.specs.declared.line.Line.{Line}
+use Rattle.script_grammar.specs.Spells.{View, Spells, SpellsOnce}
+use Rattle.settler.specs.Answers.{Options, IsProved}
+use Rattle.cert_writer.specs.Written.{OfProved, HoldsCertificate, HoldsFront}
+use Rattle.command_runs.specs.Runs.{Bytes, Told}
+use Rattle.command_runs.specs.Fates.{Left, Leaves, Makes, begun}
+use Rattle.command_runs.specs.Fates.Left.{Whole}
+use Rattle.command_runs.specs.declared.status.Status.{Status}
+use Rattle.command_runs.specs.declared.status.Status.TheVariants as status
+use Rattle.script_answers.specs.Answers.{AreAllowed, IsAnswered, ProvePrints, options_from}
+use Rattle.script_answers.specs.declared.options.Options.{Options as Asking}
+use Rattle.prove_command.specs.Certified.{IsCertified, IsStopped, left_by}
+use Rattle.prove_command.specs.Command.{IsCertificateOf, MakesFor, TextFate}
+use Rattle.prove_command.specs.declared.certify.Certified.{Certified}
+use Rattle.prove_command.proofs.Fates.{of_made}
+
+-- ---- of one file
+-- a certificate of it stands there whole
+whole_left : (cut : Type 0) (s : View) (shown : List Line) (old new : Option Bytes)
+    → HoldsCertificate s shown old new
+    → (left : Left) × Makes (IsCertificateOf cut s shown) left × Leaves left old new
+whole_left cut s shown None new h = (Whole None, (None, refl, tt), refl)
+whole_left cut s shown (Some old) new (bytes, is, written, short) =
+    (Whole (Some bytes), (Some bytes, refl, record { written = written; short = inr short }), is)
+
+-- what it held does, or a front of one
+front_left : (s : View) (shown : List Line) (old new : Option Bytes) → HoldsFront s shown old new
+    → (left : Left) × Makes (IsCertificateOf ⊤ s shown) left × Leaves (begun left) old new
+front_left s shown None new h = (Whole None, (None, refl, tt), inl refl)
+front_left s shown (Some old) new (inl same) = (Whole None, (None, refl, tt), inr same)
+front_left s shown (Some old) new (inr (front, is, (all, written, begins))) = (
+  Whole (Some all),
+  (Some all, refl, record { written = written; short = inl tt }),
+  inr (front, begins, is),
+)
+
+-- a file has one name
+name_same : (x y : Bytes) (cert : Option Bytes) → cert ≡ Some x → cert ≡ Some y → x ≡ y
+name_same x y cert e f = let h : Some x ≡ Some y = sym e ∙ f in cc h
+
+-- what the writer says, of these options
+module _ (s : View) (a : Asking) (allowed : AreAllowed a) (P : List Line → Type 0) where
+  of_options : OfProved s a.rounds a.depth P → (lines : List Line)
+      → IsProved s (options_from a) lines → P lines
+  of_options so lines p = so a.boxes lines allowed.boxes.1 p
+
+  pub ok_options : {T E : Type 0} (r : Result T E) → OnOk r (OfProved s a.rounds a.depth P)
+      → OnOk r ((lines : List Line) → IsProved s (options_from a) lines → P lines)
+  ok_options (Ok x) so = of_options so
+  ok_options (Err e) so = tt
+
+  pub err_options : {T E : Type 0} (r : Result T E) → OnErr r (OfProved s a.rounds a.depth P)
+      → OnErr r ((lines : List Line) → IsProved s (options_from a) lines → P lines)
+  err_options (Ok x) so = tt
+  err_options (Err e) so = of_options so
+
+-- ---- of a script that is answered
+module _ (once : SpellsOnce) (o : Options) (s : View) (spelled : Spells s.text s) (lines : Bytes)
+    (t : Status) (is : t ≡ status.Answered) (p : ProvePrints o s.text t lines) where
+  abbrev answered : IsAnswered o s.text lines
+  answered = subst (λ u. ProvePrints o s.text u lines) is p
+
+  script_is : answered.script ≡ s
+  script_is = once s.text answered.script s answered.proved.spelled spelled
+
+  shown_is : IsProved s o answered.shown
+  shown_is = subst (λ (v : View). IsProved v o answered.shown) script_is
+      (answered.boxes, answered.proved.proved)
+
+  -- it is proved
+  pub is_proved : (shown : List Line) × IsProved s o shown
+  is_proved = (answered.shown, shown_is)
+
+  -- what is so of its lines, is so of those of the answer
+  so : (P : View → List Line → Type 0) → ((shown : List Line) → IsProved s o shown → P s shown)
+      → P answered.script answered.shown
+  so P h = subst (λ (v : View). P v answered.shown) (sym script_is) (h answered.shown shown_is)
+
+  left_of : {T E : Type 0} (w : Result T E) (old new : Option Bytes)
+      → OnOk w ((shown : List Line) → IsProved s o shown → HoldsCertificate s shown old new)
+      → OnErr w ((shown : List Line) → IsProved s o shown → HoldsFront s shown old new)
+      → (left : Left) × Makes (IsCertificateOf (IsStopped w) answered.script answered.shown) left
+      × Leaves (left_by w left) old new
+  left_of (Ok x) old new ok err =
+      whole_left ⊥ answered.script answered.shown old new
+      (so (λ v shown. HoldsCertificate v shown old new) ok)
+  left_of (Err e) old new ok err =
+      front_left answered.script answered.shown old new
+      (so (λ v shown. HoldsFront v shown old new) err)
+
+  -- its certificate is written, as far as that came
+  pub is_certified : (c : Certified) (cert : Option Bytes) (name : Bytes) (old new : Told)
+      → c.status ≡ t → c.lines.items ≡ lines → cert ≡ Some name
+      → OnOk c.written ((shown : List Line) → IsProved s o shown
+      → HoldsCertificate s shown (old name) (new name))
+      → OnErr c.written ((shown : List Line) → IsProved s o shown
+      → HoldsFront s shown (old name) (new name))
+      → IsCertified o s.text cert old new c
+  is_certified c cert name old new same_status same_lines named ok err =
+      let l = left_of c.written (old name) (new name) ok err in
+      let makes = subst
+      (λ k. MakesFor k (IsCertificateOf (IsStopped c.written) answered.script answered.shown) l.0)
+      (sym named) l.1 in
+      let here = of_made (IsStopped c.written) cert o s.text lines c.status l.0 (same_status ∙ is)
+      (answered, makes) in
+      record {
+        left = l.0;
+        made = subst (λ (ms : Bytes). TextFate (IsStopped c.written) cert o s.text c.status ms l.0)
+            (sym same_lines) here;
+        file = λ n given.
+            subst (λ (m : Bytes). Leaves (left_by c.written l.0) (old m) (new m))
+            (name_same name n cert named given) l.2;
+        named = λ stopped none. let h : Some name ≡ None = sym named ∙ none in cc h;
+      }

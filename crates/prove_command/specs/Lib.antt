@@ -1,0 +1,3 @@
+pub mod Command
+pub mod Certified
+pub mod Follows
