@@ -1,0 +1,11 @@
+mod Next
+mod Begun
+mod Leads
+mod Spelled
+mod Read
+mod Turn
+mod Measured
+mod Held
+mod Rewritten
+mod Stopped
+mod Upgraded

@@ -1,0 +1,99 @@
+//! Items of a certificate, read in either version and spelled in version 2.
+ghost use Rattle.std.specs.Prelude.{◌≡◌, ◌≤◌, ◌<◌, ◌^◌, ℕ, List, Some, None, Err, IfOk, IsErrOf, false};
+ghost use Rattle.fx_edge.specs.Outside.{Rose};
+ghost use Rattle.cert_bytes.specs.declared.item.Item.{Item};
+ghost use Rattle.cert_bytes.specs.declared.fault.CertFault.{CertFault};
+ghost use Rattle.cert_bytes.specs.declared.fault.Stop.TheVariants as CertStop;
+ghost use Rattle.cert_bytes.specs.declared.order.Due.TheVariants.{Done};
+ghost use Rattle.cert_bytes.specs.declared.style.Style.TheVariants.{Second};
+ghost use Rattle.cert_bytes.specs.Pieces.{AgreesTold, cursor_of};
+ghost use Rattle.cert_bytes.specs.Due.{is_end};
+ghost use Rattle.cert_bytes.specs.ReadOut.{HasFault};
+ghost use Rattle.cert_bytes.specs.Reading.{item_at};
+ghost use Rattle.cert_bytes.specs.Styles.{IsFew};
+ghost use Rattle.cert_upgrade.specs.Items.{AreItemsFor, Respells};
+ghost use Rattle.cert_upgrade.specs.Spelled.{certificate_of, seen_in, told_length};
+
+use crate::fitting::item_fits;
+use cert_bytes::{Item, Reader, Seen, Stop, certificates_are_spelled_once, write_item2};
+use fx_edge::Folder;
+use std::alloc::Global;
+
+/// As many bytes as a certificate may have.
+pub(crate) const MOST: u64 = 1 << 44;
+
+// Whether it is the end.
+fn is_end(item: &Item) -> bool
+    ensures { result ≡ is_end item.now }
+{
+    matches!(item, Item::End)
+}
+
+// Reads the next item and adds what it spells in version 2, where this was seen before it. It
+// answers what is seen behind it, and whether it is the end.
+pub(crate) fn respell<F: Folder>(
+    reader: &mut Reader,
+    folder: &mut F,
+    seen: Seen,
+    out: &mut Vec<u8>,
+) -> Result<(Seen, bool), Stop>
+    requires sound { reader.old.fault ≡ None }
+    requires due { ¬ (reader.old.due ≡ Done) }
+    requires agrees { AgreesTold (F.told folder.old reader.old.ahead.name) reader.old.ahead }
+    requires few { IsFew (Second seen) reader.old.ahead.at }
+    requires within { reader.old.ahead.at ≤ 2 ^ 44 }
+    ensures ok { IfOk result (λ r. Respells (F.told folder.old reader.old.ahead.name) reader.old
+        reader.new seen r.0 r.1 out.old.items out.new.items) }
+    ensures fault { (all : List ℕ) → F.told folder.old reader.old.ahead.name ≡ Some all
+        → (f : CertFault) → IsErrOf result (CertStop.Fault f)
+        → item_at reader.old.due (cursor_of all reader.old.ahead) ≡ Err f }
+    ensures grows { IfOk result (λ r. r.1 ≡ false → reader.old.ahead.at < reader.new.ahead.at) }
+    ensures later { IfOk result (λ r. reader.old.ahead.at ≤ reader.new.ahead.at) }
+    ensures within { reader.new.ahead.at ≤ 2 ^ 44 }
+    ensures agrees { AgreesTold (F.told folder.new reader.new.ahead.name) reader.new.ahead }
+    ensures name { reader.new.ahead.name ≡ reader.old.ahead.name }
+    ensures told { (other : List ℕ) → F.told folder.new other ≡ F.told folder.old other }
+    ensures reads { F.read_faults folder.old ≤ F.read_faults folder.new }
+    ensures cause { IsErrOf result CertStop.Failed
+        → Rose (F.read_faults folder.old) (F.read_faults folder.new) }
+    ensures quiet { F.write_faults folder.new ≡ F.write_faults folder.old }
+{
+    let item = reader.next(folder)?;
+    item_fits(&item);
+    write_item2(&item, seen, out)?;
+    Ok((seen.after(&item), is_end(&item)))
+}
+
+// What the certificate's items come to: how many steps and sections they have, and how many bytes
+// they spell in version 2, as far as that is told from more than 2^44. It is read to its end.
+pub(crate) fn measure<F: Folder>(
+    alloc: Global,
+    folder: &mut F,
+    name: &str,
+) -> Result<(Seen, u64), Stop>
+    ensures ok { IfOk result (λ r. (items : List Item)
+        × AreItemsFor (F.told folder.old name.now) items
+        × (r.0 ≡ seen_in items) × (r.1 ≡ told_length (certificate_of items))) }
+    ensures fault { (all : List ℕ) → F.told folder.old name.now ≡ Some all
+        → (f : CertFault) → IsErrOf result (CertStop.Fault f) → HasFault all f }
+    ensures told { (other : List ℕ) → F.told folder.new other ≡ F.told folder.old other }
+    ensures reads { F.read_faults folder.old ≤ F.read_faults folder.new }
+    ensures cause { IsErrOf result CertStop.Failed
+        → Rose (F.read_faults folder.old) (F.read_faults folder.new) }
+    ensures quiet { F.write_faults folder.new ≡ F.write_faults folder.old }
+{
+    certificates_are_spelled_once();
+    let mut reader = Reader::new(alloc, name)?;
+    let mut bytes = Vec::new(alloc);
+    let mut seen = Seen::none();
+    let mut length = 0u64;
+    let mut ended = false;
+    while !ended {
+        bytes.clear();
+        let (next, last) = respell(&mut reader, folder, seen, &mut bytes)?;
+        length = length.saturating_add(bytes.len() as u64).min(MOST + 1);
+        seen = next;
+        ended = last;
+    }
+    Ok((seen, length))
+}

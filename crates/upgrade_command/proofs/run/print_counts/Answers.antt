@@ -1,0 +1,11 @@
+use Rattle.std.proofs.Common.{inr, subst, rules}
+use Rattle.report.specs.Certificates.{upgraded_line}
+use Rattle.command_runs.specs.Ends.{IsPut}
+use Rattle.command_runs.specs.declared.status.Status.TheVariants.{Answered}
+use Rattle.upgrade_command.proofs.run.print_counts.Goals as goal
+
+pub returns-in-Ok : goal.returns-in-Ok
+returns-in-Ok g c = inr (subst
+    (λ lines. IsPut Answered lines (g.O.Sink.taken c.args.out.now) (g.O.Sink.taken c.print.new.out)
+    (g.O.Sink.faults c.args.out.now) (g.O.Sink.faults c.print.new.out) c.print.result)
+    (search rules) c.print.ensures)
