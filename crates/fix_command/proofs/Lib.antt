@@ -1,0 +1,3 @@
+pub mod Cut
+pub mod Fated
+pub mod Ended

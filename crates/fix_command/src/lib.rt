@@ -1,0 +1,11 @@
+//! The command `fix`: it reads a fixed-point program, and writes the script whose goals say that no
+//! step wraps.
+#![tactic(auto)]
+
+mod fix;
+mod lines;
+#[cfg(test)]
+mod tests;
+mod turned;
+
+pub use fix::run_fix;
