@@ -22,6 +22,7 @@ pub mod Saying
 pub mod BoundValues
 pub mod Own
 pub mod Telling
+pub mod Outputs
 pub mod Promised
 pub mod Rows
 pub mod StepRows

@@ -2,6 +2,7 @@
 use Rattle.std.proofs.Common.{◌≡◌, inl, inr, ℕ, ℤ, List, [], ◌∷◌, ◌++◌, map, None, refl, sym, ap, ◌∙◌, subst, arith, append-nil}
 use Rattle.std.specs.List.{AllByRecursion}
 use Rattle.expr_dag.specs.Extended.{ValuesStay}
+use Rattle.facts.specs.CommonParts.{all_from}
 use Rattle.script_words.specs.declared.lex.Token.{Token}
 use Rattle.script_words.specs.Quiet.{EndsBeforeQuiet}
 use Rattle.script_shape.specs.Tree.{Formula, no_hint}
@@ -26,7 +27,8 @@ use Rattle.fixprog.specs.Execution.{Values, value_or_zero, name_value, step_valu
 use Rattle.fixprog.specs.Turned.{script_of}
 use Rattle.fixprog.specs.First.{SpelledAreFaultless, WordsAreAlone}
 use Rattle.fixprog.specs.Answer.{ScriptsAreText, ScriptsAreShort}
-use Rattle.program_truths.specs.Promise.{Tells, TellsRuns, ScriptsTellRuns, ScriptsAreScripts, NoRunWraps}
+use Rattle.program_truths.specs.Promise.{goal_names, assignment_of, Tells, TellsRuns, ScriptsTellRuns, ScriptsAreScripts, NoRunWraps}
+use Rattle.program_truths.specs.Outputs.{OutputsLie}
 use Rattle.program_truths.proofs.Trees.{step_expr, script_from, program_formula, tree_of}
 use Rattle.program_truths.proofs.Spelled.{faultless_is_read}
 use Rattle.program_truths.proofs.Knowing.{IsFront, Knows}
@@ -37,6 +39,7 @@ use Rattle.program_truths.proofs.Own.{HasEntry, Covers, Keeps, AreOwn, AreGiven,
 use Rattle.program_truths.proofs.Passed.{program_judged}
 use Rattle.program_truths.proofs.Refused.{refused_nowhere}
 use Rattle.program_truths.proofs.Telling.{HaveEntries, AreTold, told_kept, said_grow, said, hypothesis_values, goal_values, run_ends, run_within, hypotheses_true, goals_true, goals_within}
+use Rattle.program_truths.proofs.Outputs.{goals_plain, lies_in_line}
 
 -- ---- the meaning of the tree
 
@@ -201,6 +204,7 @@ module _ (law : EndsBeforeQuiet) (stay : ValuesStay) (told : LiteralsAreTold) (o
         subst (TellsRuns p) (sym e)
         (record {
           hintless = refl;
+          plain = goals_plain p.steps (outputs p) (assumed p);
           tells = tells_words stay told once p faultless read.tokens;
         })
 
@@ -209,6 +213,20 @@ module _ (law : EndsBeforeQuiet) (stay : ValuesStay) (told : LiteralsAreTold) (o
         let runs = scripts_tell_runs text p spelled s script in
         let t = runs.tells words range in
         t.ends.1 (h _ t.meets)
+
+    pub outputs_lie : OutputsLie
+    outputs_lie text p spelled s script lines hold words range =
+        let runs = scripts_tell_runs text p spelled s script in
+        let t = runs.tells words range in
+        let a = assignment_of p s words in
+        let h = hold a t.meets in
+        let e = t.ends.1 (all_from (IsTrueAt s.nodes a) s.goals (λ k c g. (h k c g).3)) in
+        record {
+          last = e.0;
+          ends = e.1;
+          within = λ k x g. lies_in_line s a e.0 lines k x (goal_names p) runs.plain h
+              (t.steps e.0 e.1) g;
+        }
 
 -- ---- the script is one
 

@@ -1,5 +1,5 @@
 -- What a program's script says of its runs.
-use Rattle.std.specs.Prelude.{◌≡◌, ◌↔◌, ℕ, ℤ, List, [], ◌∷◌, ◌++◌, map, Option}
+use Rattle.std.specs.Prelude.{◌≡◌, ◌↔◌, ⊤, ℕ, ℤ, List, [], ◌∷◌, ◌++◌, map, Option}
 use Rattle.std.specs.List.{AllByRecursion}
 use Rattle.fx_model.specs.Fraction.{Fraction}
 use Rattle.fx_model.specs.Expression.{Assignment, value}
@@ -31,6 +31,12 @@ subject (Multiple x k) = x
 subject (Above x w) = x
 subject (Below x w) = x
 
+-- The claim bounds a value by numbers, or asks for its bounds.
+abbrev pub IsPlain : Claim → Type 0
+IsPlain (Bounded x lower upper) = ⊤
+IsPlain (Asked x) = ⊤
+IsPlain _ = ⊥
+
 -- the values of the expressions that the claims are about
 abbrev pub subject_values : View → Assignment → List Claim → List (Option Fraction)
 subject_values s a claims = map (λ c. value s.nodes a (subject c)) claims
@@ -60,9 +66,11 @@ pub record Tells (p : Program) (s : View) (words : List ℤ) : Type 0 where
   pub steps : (vs : Values) → execution_of p words ≡ values vs
       → subject_values s (assignment_of p s words) s.goals ≡ map (entry_of vs) (goal_names p)
 
--- The script has no hints, and tells each run of the program on words in range.
+-- The script has no hints, each goal is about one value, and the script tells each run of the
+-- program on words in range.
 pub record TellsRuns (p : Program) (s : View) : Type 0 where
   pub hintless : s.hints ≡ no_hints
+  pub plain : AllByRecursion IsPlain s.goals
   pub tells : (words : List ℤ) → AreInRange p.inputs words → Tells p s words
 
 -- The text of a program's script, where it spells a script, tells the program's runs.
