@@ -1,0 +1,4 @@
+pub mod Trimmable
+pub mod Once
+pub mod Written
+pub mod Ends

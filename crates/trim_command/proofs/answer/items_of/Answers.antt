@@ -1,0 +1,21 @@
+use Rattle.std.proofs.Common.{IfOk}
+use Rattle.cert_bytes.specs.declared.order.Due.TheVariants.{Head}
+use Rattle.cert_bytes.specs.ReadOut.{AreBytes, AreRead}
+use Rattle.cert_checker.specs.Keeping.{lines_of}
+use Rattle.script_checker.specs.Checking.{AreAcceptedItemsFor, ChecksFor}
+use Rattle.trim_command.proofs.Trimmable.{from_first, trimmable}
+use Rattle.trim_command.proofs.answer.items_of.Goals as goal
+
+pub returns-clause-trimmable : goal.returns-clause-trimmable
+returns-clause-trimmable g c =
+    let told = g.F.Folder.told c.args.folder.now in
+    let result = c.script_items.result in
+    let s = c.args.script.now in
+    let at = from_first told c.args.name.now c.in_ok-reader.reader c.in_ok-reader.ensures.begins in
+    trimmable c.trimmed_are_accepted.ensures.used c.trimmed_are_accepted.ensures.left s
+    (told c.args.name.now) result
+    (at (λ all p. ChecksFor s p (lines_of result)) c.script_items.ensures.checks)
+    (at (λ all p. IfOk result (λ a. AreRead Head p a.items.items)) c.script_items.ensures.read)
+    (at (λ all p. AreBytes all → IfOk result (AreAcceptedItemsFor s all))
+    c.script_items.ensures.accepts)
+    c.script_items.ensures.led

@@ -1,0 +1,13 @@
+//! The command `trim`: writes a certificate of a script anew, without its unused steps.
+#![tactic(auto)]
+
+mod answer;
+mod command;
+mod laws;
+mod lines;
+mod stop;
+#[cfg(test)]
+mod tests;
+mod writing;
+
+pub use command::run_trim;
