@@ -1,0 +1,4 @@
+pub mod Once
+pub mod Cut
+pub mod Ends
+pub mod Meeting

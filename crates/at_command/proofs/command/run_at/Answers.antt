@@ -1,0 +1,76 @@
+use Rattle.std.proofs.Common.{Err, ap, rules, subst, ◌∙◌}
+use Rattle.whole_texts.specs.Texts.{IsText}
+use Rattle.command_line.specs.At.{at_of}
+use Rattle.command_runs.specs.Ends.{IsPutBy}
+use Rattle.command_runs.specs.Runs.{Run, run, seen}
+use Rattle.fx_edge.specs.Outside.{rose_later}
+use Rattle.at_command.specs.Told.{AtPrints}
+use Rattle.at_command.proofs.Ends.{put_is, pointless_is, unread_is}
+use Rattle.at_command.proofs.command.run_at.Goals as goal
+
+pub returns-in-Ok-at_answer : goal.returns-in-Ok-at_answer
+returns-in-Ok-at_answer g c = record {
+  run =
+      let f = g.F.Folder in
+      let o = g.O.Sink in
+      let a = at_of c.args.request in
+      let here = c.args.folder.now in
+      let there = c.at_answer.new.folder in
+      let read = c.deref.result.now in
+      let s = c.in-Ok-at_answer.status in
+      let lines = c.in-Ok-at_answer.lines.items in
+      let found = c.in-Ok-at_answer.ensures in
+      let before = seen (f.told here) (o.taken c.args.out.now) (f.read_faults here)
+      (f.write_faults here) (o.faults c.args.out.now) in
+      let after = seen (f.told there) (o.taken c.print.new.out) (f.read_faults there)
+      (f.write_faults there) (o.faults c.print.new.out) in
+      let r : Run = run before after c.print.result in
+      put_is c.at_statuses_are_one.ensures a r
+      (λ name. found.told name ∙ c.in-Ok.ensures.told name) read
+      (subst (IsText 1048577 (f.told here a.script)) (search rules) c.in-Ok.ensures.text) s lines
+      (subst (λ known. AtPrints read known s lines) (c.in-Ok.ensures.told a.point) found.prints)
+      (subst (λ text. IsPutBy s text r) (search rules) c.print.ensures);
+}
+
+pub returns-in-Ok : goal.returns-in-Ok
+returns-in-Ok g c = record {
+  run =
+      let f = g.F.Folder in
+      let o = g.O.Sink in
+      let a = at_of c.args.request in
+      let here = c.args.folder.now in
+      let there = c.at_answer.new.folder in
+      let stopped = c.in-Err-at_answer.ensures in
+      let before = seen (f.told here) (o.taken c.args.out.now) (f.read_faults here)
+      (f.write_faults here) (o.faults c.args.out.now) in
+      let after = seen (f.told there) (o.taken c.print_stop.new.out) (f.read_faults there)
+      (f.write_faults there) (o.faults c.print_stop.new.out) in
+      let r : Run = run before after c.print_stop.result in
+      pointless_is c.at_statuses_are_one.ensures a r
+      (λ name. stopped.told name ∙ c.in-Ok.ensures.told name) c.deref.result.now
+      (subst (IsText 1048577 (f.told here a.script)) (search rules) c.in-Ok.ensures.text)
+      c.in-Err-at_answer.stop
+      (λ e. (
+        stopped.script (ap Err e),
+        rose_later (f.read_faults here) (f.read_faults c.read_text.new.folder)
+            (f.read_faults there) c.in-Ok.ensures.later (stopped.cause (ap Err e)),
+      ))
+      c.print_stop.ensures;
+}
+
+pub returns : goal.returns
+returns g c = record {
+  run =
+      let f = g.F.Folder in
+      let o = g.O.Sink in
+      let here = c.args.folder.now in
+      let there = c.read_text.new.folder in
+      let out = c.print_stop-in-Err.new.out in
+      let before = seen (f.told here) (o.taken c.args.out.now) (f.read_faults here)
+      (f.write_faults here) (o.faults c.args.out.now) in
+      let after = seen (f.told there) (o.taken out) (f.read_faults there) (f.write_faults there)
+      (o.faults out) in
+      unread_is c.at_statuses_are_one.ensures (at_of c.args.request)
+      (run before after c.print_stop-in-Err.result) c.in-Err.ensures.told c.in-Err.stop
+      (λ e. c.in-Err.ensures.cause (ap Err e)) c.print_stop-in-Err.ensures;
+}

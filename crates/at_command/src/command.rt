@@ -1,0 +1,42 @@
+// What `at` does.
+ghost use Rattle.command_line.specs.At.{at_of};
+ghost use Rattle.command_runs.specs.Runs.{run, seen};
+ghost use Rattle.at_command.specs.Command.{IsAtRun};
+
+use crate::laws::at_statuses_are_one;
+use crate::point::at_answer;
+use command_line::AtRequest;
+use command_runs::{Status, print, print_stop};
+use fx_edge::{Folder, Sink};
+use std::alloc::Global;
+use whole_texts::read_text;
+
+// How much of a script's text is read, in bytes: one more than a script may have.
+const MOST: usize = (1 << 20) + 1;
+
+/// Reads a script and then a point, and puts what the script's claims and assumed hints are at the
+/// point; or the point's first fault, or the first place with a number that is too wide. The point
+/// is read only where the script's text spells a script. Nothing is written.
+pub fn run_at<F: Folder, O: Sink>(
+    alloc: Global,
+    request: AtRequest<'_>,
+    folder: &mut F,
+    out: &mut O,
+) -> Status
+    // Each status comes only with its lines; where all that is read is told, that status comes
+    // which has them.
+    ensures run { let before = seen (F.told folder.old) (O.taken out.old)
+        (F.read_faults folder.old) (F.write_faults folder.old) (O.faults out.old) in
+        let after = seen (F.told folder.new) (O.taken out.new)
+        (F.read_faults folder.new) (F.write_faults folder.new) (O.faults out.new) in
+        IsAtRun (at_of request.entry) (run before after result) }
+{
+    at_statuses_are_one();
+    match read_text(alloc, folder, request.script, MOST) {
+        Ok(text) => match at_answer(alloc, &text, request.point, folder) {
+            Ok((status, lines)) => print(out, &lines, status),
+            Err(stop) => print_stop(alloc, request.point, stop, out),
+        },
+        Err(stop) => print_stop(alloc, request.script, stop, out),
+    }
+}

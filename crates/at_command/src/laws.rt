@@ -1,0 +1,25 @@
+// One status is defined for a text and a point, and what the last line says is so.
+ghost use Rattle.at_command.specs.Laws.{AtStatusesAreOne, MeetingIsMet};
+
+use point_eval::meeting_is_told;
+use point_text::points_are_one;
+use script_grammar::script_or_refusal;
+use universe::marks_are_one;
+
+/// The law that a text and a point have one status, where the point's bytes are told or the text is
+/// no script. Nothing is done.
+pub fn at_statuses_are_one()
+    ensures { AtStatusesAreOne }
+{
+    script_or_refusal();
+    points_are_one();
+    marks_are_one();
+}
+
+/// The law that a point's assignment meets the script wherever the last line of its evaluation says
+/// so. Nothing is done.
+pub fn meeting_points_meet()
+    ensures { MeetingIsMet }
+{
+    meeting_is_told();
+}

@@ -1,0 +1,13 @@
+//! The command `at`: evaluates a script exactly at one point, and prints what its claims and hints
+//! are there.
+#![tactic(auto)]
+
+mod command;
+mod laws;
+mod lines;
+mod point;
+#[cfg(test)]
+mod tests;
+
+pub use command::run_at;
+pub use laws::{at_statuses_are_one, meeting_points_meet};
