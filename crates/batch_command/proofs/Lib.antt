@@ -1,0 +1,5 @@
+mod Ends
+mod Listed
+mod Once
+mod Placed
+mod Taken

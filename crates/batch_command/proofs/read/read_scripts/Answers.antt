@@ -1,0 +1,49 @@
+use Rattle.std.proofs.Common.{◌≡◌, ◌<◌, ◌++◌, ◌∙◌, [], ◌∷◌, IsErrOf, ap, arith, length, map, refl, rules, string_bytes, subst, sym, take}
+use Rattle.fx_edge.specs.Outside.{Rose, rose_later}
+use Rattle.whole_texts.specs.Texts.{IsText}
+use Rattle.whole_texts.specs.declared.read.ReadStop.TheVariants.{Fault}
+use Rattle.command_runs.specs.Statuses.{read_fault_line}
+use Rattle.batch_command.specs.Told.{AreRead}
+use Rattle.batch_command.proofs.Taken.{is_in, one_more, take_more}
+use Rattle.batch_command.proofs.read.read_scripts.Goals as goal
+
+pub returns-in-Err-Fault-clause-texts : goal.returns-in-Err-Fault-clause-texts
+returns-in-Err-Fault-clause-texts g c =
+    let all = c.args.names.now in
+    let i = c.loop-name.name-index in
+    let name = c.name-item.result in
+    let faults = g.F.Folder.read_faults in
+    let same : c.deref-in-Err-Fault.result.now ≡ string_bytes name = search rules in
+    let h : i < length all = omega arith in
+    let rose : Rose (faults c.loop-name.folder) (faults c.read_text.new.folder) = search rules in (
+      string_bytes name,
+      is_in all i name h c.name-item.is,
+      rose_later (faults c.args.folder.now) (faults c.loop-name.folder)
+          (faults c.read_text.new.folder) c.loop-name.invariant.later rose,
+      c.in_ok-read_fault_line-in-Err-Fault.ensures ∙ ap read_fault_line same,
+    )
+
+pub loop-name-preserved : goal.loop-name-preserved
+loop-name-preserved g c =
+    let told = g.F.Folder.told c.args.folder.now in
+    let all = c.args.names.now in
+    let i = c.loop-name.name-index in
+    let name = c.name-item.result in
+    let inv = c.loop-name.invariant in
+    let same : c.deref.result.now ≡ string_bytes name = search rules in
+    let h : i < length all = omega arith in
+    let is : IsText 1048577 (told (string_bytes name)) c.in-Ok.text.items =
+    subst (λ k. IsText 1048577 k c.in-Ok.text.items)
+    (inv.told c.deref.result.now ∙ ap told same) c.in-Ok.ensures.text in
+    record {
+      told = λ other. c.read_text.ensures.told other ∙ inv.told other;
+      later = let later = c.read_text.ensures.later in let before = inv.later in
+          omega (arith, later, before);
+      read =
+          subst (λ names. AreRead told names c.push.new.self.items)
+          (sym (take_more all i name h c.name-item.is))
+          (subst (AreRead told (take i (map string_bytes all) ++ string_bytes name ∷ []))
+          (sym c.in_ok-push-in-Ok.ensures.items)
+          (one_more told (take i (map string_bytes all)) c.loop-name.texts.items (string_bytes name)
+          c.in-Ok.text inv.read is));
+    }

@@ -1,0 +1,43 @@
+// The texts of a list's names.
+ghost use Rattle.std.specs.Prelude.{◌≡◌, ◌≤◌, ℕ, List, IfOk, map, string_bytes};
+ghost use Rattle.fx_edge.specs.Outside.{Rose};
+ghost use Rattle.batch_command.specs.Told.{AreTexts};
+
+use command_runs::read_fault_line;
+use fx_edge::Folder;
+use std::alloc::{AllocError, Global};
+use whole_texts::{ReadStop, read_text};
+
+/// How much of a script's text is read, in bytes: one more than a script may have.
+const MOST: usize = (1 << 20) + 1;
+
+/// What came of reading the names of a list.
+#[derive(Drop)]
+pub enum Texts {
+    /// The text of each name, in order.
+    Read(Vec<Vec<u8>>),
+    /// A read of the folder failed: its line.
+    Unread(Vec<u8>),
+}
+
+/// The texts of these names. `Err` only where memory runs out.
+pub fn read_scripts<F: Folder>(
+    alloc: Global,
+    folder: &mut F,
+    names: &[String],
+) -> Result<Texts, AllocError>
+    ensures texts { IfOk result (AreTexts (F.told folder.old)
+        (Rose (F.read_faults folder.old) (F.read_faults folder.new)) (map string_bytes names.now)) }
+    ensures told { (other : List ℕ) → F.told folder.new other ≡ F.told folder.old other }
+    ensures later { F.read_faults folder.old ≤ F.read_faults folder.new }
+{
+    let mut texts = Vec::new(alloc);
+    for name in names {
+        match read_text(alloc, folder, name, MOST) {
+            Ok(text) => texts.push(text)?,
+            Err(ReadStop::Fault) => return Ok(Texts::Unread(read_fault_line(alloc, name)?)),
+            Err(ReadStop::OutOfMemory) => return Err(AllocError),
+        }
+    }
+    Ok(Texts::Read(texts))
+}
