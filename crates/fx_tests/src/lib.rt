@@ -20,6 +20,10 @@ mod literals;
 #[cfg(test)]
 mod made;
 #[cfg(test)]
+mod made_files;
+#[cfg(test)]
+mod read_only;
+#[cfg(test)]
 mod refusals;
 #[cfg(test)]
 mod runs;

@@ -7,7 +7,7 @@ const PRODUCT: &[u8] = b"{ x in [1,2] /\\ y in [3,5] -> x * y in ? }\n";
 
 /// What is printed where the words ask for nothing.
 pub const USAGE: &str =
-    "usage: fixprove prove SCRIPT [--cert FILE] [--rounds N] [--depth N] [--boxes N] [--workers N] | check SCRIPT CERT | gen N\n";
+    "usage: fixprove prove SCRIPT [--cert FILE] [--rounds N] [--depth N] [--boxes N] [--workers N] | check SCRIPT CERT | gen N | upgrade CERT NEW | fix PROGRAM SCRIPT | at SCRIPT POINT | trim SCRIPT CERT NEW | batch LIST [--rounds N] [--depth N] [--boxes N] [--workers N]\n";
 
 const WRONG: [&[&str]; 30] = [
     &[],

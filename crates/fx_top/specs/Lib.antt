@@ -1,6 +1,2 @@
-pub mod Command
-pub mod Outside
-pub mod Answers
-pub mod Checked
+pub mod Commands
 pub mod Run
-pub mod Written

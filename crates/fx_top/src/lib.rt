@@ -1,15 +1,9 @@
-//! The top call of the prover: reads a script, proves its goals or checks a certificate of them, and prints the answer.
+//! The top call of the prover: it reads the words of the command line, and runs the command that
+//! they name.
 #![tactic(auto)]
 
-mod answer;
-mod certify;
-mod check;
-mod found;
-mod options;
-mod outside;
-mod print;
 mod run;
+mod wanted;
 
-pub use run::{
-    Status, answer_besides_read_faults_is_defined_once, fx_run, written_certificates_are_answered,
-};
+pub use command_runs::Status;
+pub use run::fx_run;

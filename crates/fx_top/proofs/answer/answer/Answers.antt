@@ -1,8 +1,0 @@
-use Rattle.std.proofs.Common.{ℕ, List, IfOk, ap, subst}
-use Rattle.script_grammar.specs.Spells.{View}
-use Rattle.fx_top.specs.Answers.{ProvePrints, options_from}
-use Rattle.fx_top.proofs.answer.answer.Goals as goal
-
-pub returns-in_ok-found-in-Ok : goal.returns-in_ok-found-in-Ok
-returns-in_ok-found-in-Ok g c =
-    subst (λ (text : List ℕ). IfOk c.lines_for.result (λ r. ProvePrints (options_from c.args.options) text r.0 r.1.items)) (ap (λ (v : View). v.text) c.in-Ok.ensures.spelled.says) c.lines_for.ensures
