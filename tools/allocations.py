@@ -4,7 +4,7 @@
 Use, in the repository:   python3 tools/allocations.py [PROGRAM]     (PROGRAM: the built one, crates/fx_main/out/fx_main)
 
 A run is done once as it is, and then once for each of its allocations, which alone is refused. Then the status is 8, the
-lines are a front of the run's, and the file of --cert holds what it held or a front of the certificate; or else the run
+lines are a front of the run's, and the file that is written holds what it held or a front of what the run wrote; or else the run
 answers as it did, which a program may that needs no memory there. Prints a line for each run: how many allocations there are,
 how often each status came, and the first runs that ended in another way. Ends with 1 where there are any.
 
@@ -25,6 +25,11 @@ FILES = {
     "halved.fx": b"{ x in [0,1] -> x * (1 - x) in [0,0.3] } x * (1 - x) $ x;\n",
     "open.fx": b"{ x in [0,1] -> x * (1 - x) in [0,0.1] }\n",
     "refused.fx": b"{ x in [1,0 -> x in ? }\n",
+    "square.fix": b"in x : s16.15 [0,0.5]; y : s16.15 dn = x * x; out y;\n",
+    "refused.fix": b"in x : s16.15 [0,1]; out x;\n",
+    "third.point": b"x = 1 / 3;\n",
+    "refused.point": b"x = 1; x = 2;\n",
+    "all.list": b"product.fx\nhalved.fx\nopen.fx\n",
 }
 RUNS = (
     "prove product.fx",
@@ -38,6 +43,14 @@ RUNS = (
     "check halved.fx halved.cert",
     "check halved.fx product.cert",
     "gen 1",
+    "upgrade product.cert new.cert",
+    "fix square.fix new.cert",
+    "fix refused.fix new.cert",
+    "trim product.fx product.cert new.cert",
+    "at open.fx third.point",
+    "at open.fx refused.point",
+    "batch all.list --workers 1",
+    "batch all.list --workers 4",
 )
 # Counts the calls for memory in the first bytes of the file COUNT, and refuses the call with the number in REFUSE.
 REFUSES = r"""
@@ -90,7 +103,7 @@ int posix_memalign(void **place, size_t align, size_t size) {
 
 
 class Room:
-    """A folder with the scripts, their certificates, and the library that refuses."""
+    """A folder with the scripts and programs, certificates, and the library that refuses."""
 
     def __init__(self, folder, program):
         self.folder, self.program, self.library = folder, program, f"{folder}/refuses.so"
@@ -110,7 +123,7 @@ class Room:
             return it.read()
 
     def run(self, words, refused=0):
-        """Runs the program; returns its status, what it printed, what the file of --cert holds, and how many allocations there were."""
+        """Runs the program; returns its status, what it printed, what the file that is written holds, and how many allocations there were."""
         self.write("new.cert", OLD)
         self.write("count", bytes(8))
         env = {**os.environ, "LD_PRELOAD": self.library, "REFUSE": str(refused), "COUNT": f"{self.folder}/count"}

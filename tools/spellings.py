@@ -1,11 +1,12 @@
 #!/usr/bin/env python3
-"""Tries whether `prove SCRIPT --cert FILE` writes the script over where both are spellings of one path.
+"""Tries whether a command writes a file over that it reads, where both names are spellings of one path.
 
 Use, in the repository:   python3 tools/spellings.py [PROGRAM]     (PROGRAM: the built one, crates/fx_main/out/fx_main)
 
-Each spelling is tried in a folder of its own, as FILE and as SCRIPT, with a script that is proved; and then two names of two
-files. Prints a line for each: whether the script kept its bytes, the status, and the first line that was printed. Ends with 1
-where a script was lost, where one path had another status than 2 or 7, or where the two files had another than 0.
+Each spelling is tried in a folder of its own, as the file that is written and as the one that is read, for `prove --cert`, `upgrade`,
+`fix` and `trim`; and then names of files that differ. Prints a line for each: whether the file that is read kept its bytes, the status,
+and the first line that was printed. Ends with 1 where a file was lost, where one path had another status than 2 or 7, or where the
+files that differ had another than 0.
 """
 import os
 import subprocess
@@ -13,50 +14,69 @@ import sys
 import tempfile
 
 TOP = os.path.dirname(os.path.dirname(os.path.abspath(__file__)))
-SCRIPT = b"{ x in [1,2] /\\ y in [3,5] -> x * y in ? }\n"
+FILES = {
+    "s.fx": b"{ x in [1,2] /\\ y in [3,5] -> x * y in ? }\n",
+    "p.fix": b"in x : s16.15 [0,0.5]; y : s16.15 dn = x * x; out y;\n",
+    # a certificate of the script, in version 1
+    "c.cert": bytes.fromhex("4658504301000300000000000105000000010000016400000100000000000000000000010000000000000000000001000100"
+                            "0000016400010100010000000000000000030000000000000000000005000000000001060000010002000000000000000003"
+                            "00000000000000000000050001000002000000000000000000000000000000010300010000000000000002"),
+}
+# what is tried: the file that is read, and the words with its name and that of the file that is written
+COMMANDS = {
+    "prove --cert": ("s.fx", lambda read, new: ["prove", read, "--cert", new]),
+    "upgrade": ("c.cert", lambda read, new: ["upgrade", read, new]),
+    "fix": ("p.fix", lambda read, new: ["fix", read, new]),
+    "trim over the script": ("s.fx", lambda read, new: ["trim", read, "c.cert", new]),
+    "trim over the certificate": ("c.cert", lambda read, new: ["trim", "s.fx", read, new]),
+}
 
 
-def linked(make, name="other"):
-    """A name that is made to lead to the script."""
+def linked(make, rest=""):
+    """A name that is made to lead to the file, with what stands behind it."""
 
-    def spelled(folder):
-        make(folder)
-        return name
+    def spelled(folder, name):
+        make(folder, name)
+        return "other" + (rest and f"{rest}{name}")
 
     return spelled
 
 
-# what is tried, and the spelling of s.fx in the folder
+# what is tried, and the spelling of the file in the folder
 SPELLINGS = {
-    "./": lambda folder: "./s.fx",
-    "two slashes": lambda folder: ".//s.fx",
-    "a folder and back": lambda folder: "below/../s.fx",
-    "an absolute path": lambda folder: f"{folder}/s.fx",
-    "through /proc": lambda folder: "/proc/self/cwd/s.fx",
-    "a symbolic link": linked(lambda folder: os.symlink("s.fx", f"{folder}/other")),
-    "a link to a link": linked(lambda folder: (os.symlink("s.fx", f"{folder}/link"), os.symlink("link", f"{folder}/other"))),
-    "a link to its folder": linked(lambda folder: os.symlink(".", f"{folder}/other"), "other/s.fx"),
-    "a hard link": linked(lambda folder: os.link(f"{folder}/s.fx", f"{folder}/other")),
+    "./": lambda folder, name: f"./{name}",
+    "two slashes": lambda folder, name: f".//{name}",
+    "a folder and back": lambda folder, name: f"below/../{name}",
+    "an absolute path": lambda folder, name: f"{folder}/{name}",
+    "through /proc": lambda folder, name: f"/proc/self/cwd/{name}",
+    "a symbolic link": linked(lambda folder, name: os.symlink(name, f"{folder}/other")),
+    "a link to a link": linked(lambda folder, name: (os.symlink(name, f"{folder}/link"), os.symlink("link", f"{folder}/other"))),
+    "a link to its folder": linked(lambda folder, name: os.symlink(".", f"{folder}/other"), "/"),
+    "a hard link": linked(lambda folder, name: os.link(f"{folder}/{name}", f"{folder}/other")),
 }
 
 
-def plain(_):
-    return "s.fx"
+def plain(_, name):
+    return name
 
 
-def attempt(program, what, script, cert, statuses):
-    """Runs the program in a folder of its own with these names; returns whether the script kept its bytes, and the status is one of these."""
+def attempt(program, what, command, read, new, statuses):
+    """Runs the program in a folder of its own with these names; returns whether the file kept its bytes, and the status is one of these."""
+    kept, words_of = COMMANDS[command]
     with tempfile.TemporaryDirectory() as folder:
         folder = os.path.realpath(folder)
         os.mkdir(f"{folder}/below")
-        with open(f"{folder}/s.fx", "wb") as it:
-            it.write(SCRIPT)
-        words = [program, "prove", script(folder), "--cert", cert(folder)]
+        for name, content in FILES.items():
+            with open(f"{folder}/{name}", "wb") as it:
+                it.write(content)
+        words = [program, *words_of(read(folder, kept), new(folder, kept))]
         ran = subprocess.run(words, cwd=folder, stdin=subprocess.DEVNULL, stdout=subprocess.PIPE, check=False)
-        with open(f"{folder}/s.fx", "rb") as it:
-            is_kept = it.read() == SCRIPT
+        is_kept = True
+        for name, content in FILES.items():
+            with open(f"{folder}/{name}", "rb") as it:
+                is_kept &= it.read() == content
     line = ran.stdout.decode(errors="replace").partition("\n")[0]
-    print(f"{what}: {'kept' if is_kept else 'LOST'}, status {ran.returncode}{f', {line}' if line else ''}", flush=True)
+    print(f"{command}, {what}: {'kept' if is_kept else 'LOST'}, status {ran.returncode}{f', {line}' if line else ''}", flush=True)
     return is_kept and ran.returncode in statuses
 
 
@@ -68,11 +88,12 @@ def main(words):
     if not os.path.isfile(program):
         sys.exit(f"{program} isn't there: ./fixprove build builds the program")
     is_well = True
-    is_well &= attempt(program, "the same word", plain, plain, (2, 7))
-    for what, spelling in SPELLINGS.items():
-        is_well &= attempt(program, f"--cert by {what}", plain, spelling, (2, 7))
-        is_well &= attempt(program, f"SCRIPT by {what}", spelling, plain, (2, 7))
-    is_well &= attempt(program, "two files", plain, lambda folder: "s.cert", (0,))
+    for command in COMMANDS:
+        is_well &= attempt(program, "the same word", command, plain, plain, (2, 7))
+        for what, spelling in SPELLINGS.items():
+            is_well &= attempt(program, f"the new file by {what}", command, plain, spelling, (2, 7))
+            is_well &= attempt(program, f"the old one by {what}", command, spelling, plain, (2, 7))
+        is_well &= attempt(program, "two files", command, plain, lambda folder, name: "new", (0,))
     return 0 if is_well else 1
 
 

@@ -61,8 +61,14 @@ def attempt(words, folder):
 
 def main(words):
     options = words[: words.index("--")] if "--" in words else words
-    if words[:1] == ["prove"] and any(it.partition("=")[0] == "--cert" for it in options):
-        say("--cert writes a file, which only the proved program does: ./fixprove build proves and builds it")
+    is_certified = words[:1] == ["prove"] and any(it.partition("=")[0] == "--cert" for it in options)
+    if is_certified or words[:1] in (["upgrade"], ["fix"], ["trim"]):
+        what = "--cert" if is_certified else words[0]
+        say(f"{what} writes a file, which only the proved program does: ./fixprove build proves and builds it")
+        return CANNOT_RUN
+    if words[:1] == ["batch"]:
+        # its list names files, which would have to be handed in under their own names
+        say("batch reads the files that its list names, which only the proved program does: ./fixprove build proves and builds it")
         return CANNOT_RUN
     say("this runs the program's sources unproved: a minute or two, and far longer for a large script; ./fixprove build proves and builds the program")
     for it in (signal.SIGTERM, signal.SIGHUP, signal.SIGINT):
