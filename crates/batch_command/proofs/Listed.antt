@@ -96,7 +96,8 @@ all_printed failed o told names texts answers s lines r p same all =
     let plain = batch_of_scripts o told names (status_of answers) (lines_under names answers) b in
     subst (λ t. ScriptsPrint failed o told names t lines) (sym same)
     (subst (ScriptsPrint failed o told names (status_of answers)) (sym all)
-    (scripts_print failed o told names (status_of answers) (lines_under names answers) plain.is_read b))
+    (scripts_print failed o told names (status_of answers) (lines_under names answers)
+    plain.is_read b))
 
 -- the same of a call's result
 pub all_printed_so : {E : Type 0} (failed : Type 0) (o : Options) (told : Told) (names : List Bytes)
@@ -165,7 +166,8 @@ module _ (failed : Type 0) (a : AskedBatch) (told : Told) (text : Bytes)
       let (t, known, g) = told_fault fronts (told a.list) text is f h in (t, known, (f, g, e))
 
   pub list_printed : FaultlessAreWhole → IsFaultOf text None → (s : Status) (lines : Bytes)
-      → ScriptsPrint failed (options_of a) told (lines_of text) s lines → Prints failed a told s lines
+      → ScriptsPrint failed (options_of a) told (lines_of text) s lines
+      → Prints failed a told s lines
   list_printed whole none status.ReadFault lines (name, there, f, e) =
       (name, inr (text, told_whole whole (told a.list) text is none, (none, there)), f, e)
   list_printed whole none status.List lines b =

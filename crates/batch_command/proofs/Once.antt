@@ -27,7 +27,8 @@ batch_once : TextAnswersAreOne → (o : Options) (told : Told) (names : List Byt
     → IsBatch o told names t ms → s ≡ t
 batch_once one o told [] tells s t ls ms p q = p.0 ∙ sym q.0
 batch_once one o told (n ∷ names) tells s t ls ms
-    (s0, s1, own, later, (text, is, p), b, e, l) (t0, t1, own2, later2, (other, there, q), c, f, m) =
+    (s0, s1, own, later, (text, is, p), b, e, l)
+    (t0, t1, own2, later2, (other, there, q), c, f, m) =
     let all = tells n (inl refl) in
     let first : s0 ≡ t0 = (one o all.0 s0 t0 own own2
     (subst (λ w. ProvePrints o w s0 own) (told_is (told n) all.0 text all.1 is) p)

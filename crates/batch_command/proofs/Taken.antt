@@ -25,7 +25,8 @@ next i = omega arith
 -- one name more
 pub take_more : (names : List (String Global)) (i : ℕ) (name : String Global) → i < length names
     → name ≡ get_or names i name
-    → take (i + 1) (map string_bytes names) ≡ take i (map string_bytes names) ++ string_bytes name ∷ []
+    → take (i + 1) (map string_bytes names)
+    ≡ take i (map string_bytes names) ++ string_bytes name ∷ []
 take_more [] i name h e = absurd (omega (arith, h))
 take_more (n ∷ names) zero name h e = ap (λ x. string_bytes x ∷ []) (sym e)
 take_more (n ∷ names) (suc i) name h e =

@@ -26,7 +26,8 @@ first_other s later = s
 -- that isn't answered.
 abbrev pub IsBatch : Options → Told → List Bytes → Status → Bytes → Type 0
 IsBatch o told [] s lines = (s ≡ status.Answered) × (lines ≡ [])
-IsBatch o told (name ∷ names) s lines = (t : Status) × (u : Status) × (own : Bytes) × (later : Bytes)
+IsBatch o told (name ∷ names) s lines =
+    (t : Status) × (u : Status) × (own : Bytes) × (later : Bytes)
     × OfText told name (λ text. ProvePrints o text t own) × IsBatch o told names u later
     × (s ≡ first_other t u) × (lines ≡ script_line name ++ own ++ later)
 

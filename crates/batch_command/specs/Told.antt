@@ -43,7 +43,8 @@ status_of (a ∷ answers) = first_other a.0 (status_of answers)
 
 -- the lines of answers under these names
 abbrev pub lines_under : List Bytes → List (Status × Vec ℕ Global) → Bytes
-lines_under (name ∷ names) (a ∷ answers) = script_line name ++ a.1.items ++ lines_under names answers
+lines_under (name ∷ names) (a ∷ answers) =
+    script_line name ++ a.1.items ++ lines_under names answers
 lines_under _ _ = []
 
 -- What is to be put: what comes of the list, or the line of a read that failed.

@@ -38,8 +38,8 @@ fn options_of(request: BatchRequest<'_>) -> Options
     }
 }
 
-// The status and all lines of the scripts of these names (1 to 64), each of which is read before any
-// is proved. `Err` only where memory runs out.
+// The status and all lines of the scripts of these names (1 to 64), each of which is read before
+// any is proved. `Err` only where memory runs out.
 fn prove_scripts<F: Folder, G: Gate, R: Threads + Wait + Sync>(
     rt: &R,
     alloc: Global,
@@ -95,10 +95,10 @@ fn batch<F: Folder, G: Gate, R: Threads + Wait + Sync>(
     }
 }
 
-/// Reads a list of names, and puts for each name, in order, what `prove` puts for its script. All
-/// scripts are read before any is proved; workers prove them, each script by one of them. The status
-/// is that of the first script whose status isn't `Answered`. A list that is at fault is refused.
-/// Nothing is written. It may wait.
+/// Reads a list of names, and puts for each name, in order, its line and what `prove` puts for its
+/// script. All scripts are read before any is proved; workers prove them, each script by one of
+/// them. The status is that of the first script whose status isn't `Answered`. A list that is at
+/// fault is refused. Nothing is written. It may wait.
 pub fn run_batch<F: Folder, O: Sink, G: Gate, R: Threads + Wait + Sync>(
     rt: &R,
     alloc: Global,
@@ -108,8 +108,8 @@ pub fn run_batch<F: Folder, O: Sink, G: Gate, R: Threads + Wait + Sync>(
     gate: &G,
 ) -> Status
     requires { AreInBatchRange request }
-    // Each status comes only with its lines; where all that is read is told, that status comes which
-    // has them, whatever the workers' number and schedule.
+    // Each status comes only with its lines; where all that is read is told, that status comes
+    // which has them, whatever the workers' number and schedule.
     ensures run { let before = seen (F.told folder.old) (O.taken out.old)
         (F.read_faults folder.old) (F.write_faults folder.old) (O.faults out.old) in
         let after = seen (F.told folder.new) (O.taken out.new)

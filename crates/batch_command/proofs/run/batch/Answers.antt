@@ -46,4 +46,5 @@ returns-in-Err-Fault-read_list-clause-prints g c =
     let h : IsFaultOf c.deref.result.now (Some f) = search rules in
     let faults = g.F.Folder.read_faults in
     fault_printed (Rose (faults c.args.folder.now) (faults c.read_text.new.folder))
-    (batch_of c.args.request) told c.deref.result.now is c.fronts_decide.ensures.fault f _ h c.in_ok-list_fault_line-in-Err-Fault-read_list.ensures
+    (batch_of c.args.request) told c.deref.result.now is c.fronts_decide.ensures.fault f _ h
+    c.in_ok-list_fault_line-in-Err-Fault-read_list.ensures

@@ -10,14 +10,16 @@ pub answer_texts-requires-clause-some : goal.answer_texts-requires-clause-some
 answer_texts-requires-clause-some g c κs within =
     let read : AreRead (g.F.Folder.told c.args.folder.now) (map string_bytes c.args.names.now)
     c.deref.result.now = search rules in
-    let many = texts_many (g.F.Folder.told c.args.folder.now) c.args.names.now c.deref.result.now read in
+    let many = texts_many (g.F.Folder.told c.args.folder.now) c.args.names.now
+    c.deref.result.now read in
     omega (arith, many, c.requires.some)
 
 pub answer_texts-requires-clause-few : goal.answer_texts-requires-clause-few
 answer_texts-requires-clause-few g c κs within =
     let read : AreRead (g.F.Folder.told c.args.folder.now) (map string_bytes c.args.names.now)
     c.deref.result.now = search rules in
-    let many = texts_many (g.F.Folder.told c.args.folder.now) c.args.names.now c.deref.result.now read in
+    let many = texts_many (g.F.Folder.told c.args.folder.now) c.args.names.now
+    c.deref.result.now read in
     omega (arith, many, c.requires.few)
 
 pub print_answers-requires : goal.print_answers-requires
@@ -26,9 +28,10 @@ print_answers-requires g c =
     c.deref.result.now = search rules in
     let answers : AreAnswers (options_from c.args.options) c.deref.result.now
     c.deref-in-Read.result.now = search rules in
-    let many = texts_many (g.F.Folder.told c.args.folder.now) c.args.names.now c.deref.result.now read in
-    let answered = as_many (options_from c.args.options) c.deref.result.now c.deref-in-Read.result.now
-    answers in
+    let many = texts_many (g.F.Folder.told c.args.folder.now) c.args.names.now
+    c.deref.result.now read in
+    let answered = as_many (options_from c.args.options) c.deref.result.now
+    c.deref-in-Read.result.now answers in
     record { many = omega (arith, many, answered) }
 
 pub returns-in_ok-answers-in-Read-clause-prints : goal.returns-in_ok-answers-in-Read-clause-prints
