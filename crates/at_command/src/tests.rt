@@ -4,86 +4,79 @@ use crate::command::run_at;
 use command_line::AtRequest;
 use command_runs::Status;
 use fx_edge::{MemFolder, MemSink};
-use std::alloc::Global;
-use std::process::Abort;
-use std::test::Fail;
+use std::alloc::{AllocError, Global};
 
-// A run on a folder with these texts as "s" and "p", whose calls of these numbers fail, has this
-// status and these lines.
-fn run_is(
-    rt: &impl Abort,
-    alloc: Global,
-    script: &[u8],
-    point: &[u8],
-    failing: &[u64],
-    wanted: (Status, &str),
-) -> Result<(), Fail> {
+const NAMES: AtRequest<'static> = AtRequest {
+    script: "s",
+    point: "p",
+};
+
+// A script and a point, with their status and lines.
+type Row = (&'static str, &'static str, Status, &'static str);
+
+const ROWS: [Row; 6] = [
+    (
+        "@rnd = fixed<-4,dn>; y = rnd(x); { x in [0,1] -> y - x in ? }",
+        "x = 1 / 3;",
+        Status::Answered,
+        "hypothesis 1: holds\ngoal 1: -1/48\npoint: meets\n",
+    ),
+    (
+        "{ x in [1,2] -> 1 / (x - x) in ? }",
+        "x = 1;",
+        Status::Answered,
+        "hypothesis 1: holds\ngoal 1: no value\npoint: meets\n",
+    ),
+    (
+        "{ x in ? }",
+        "x = 1b200;",
+        Status::TooWide,
+        "too wide: entry 1\n",
+    ),
+    ("{ x in ? }", "", Status::Point, "point: Missing at 0\n"),
+    (
+        "{ x in ? }",
+        "x = = 1;",
+        Status::Point,
+        "point: Unexpected at 4\n",
+    ),
+    (
+        "{ x in }",
+        "x = 1;",
+        Status::Script,
+        "script: Unexpected at 7\n",
+    ),
+];
+
+// Whether the row's status and lines come over a folder, of which these calls fail, and a sink that
+// move few bytes in a call.
+fn comes(alloc: Global, row: Row, failing: &[u64]) -> Result<bool, AllocError> {
     let mut files = Vec::new(alloc);
-    files.push((String::from_str(alloc, "s")?, script.to_vec(alloc)?))?;
-    files.push((String::from_str(alloc, "p")?, point.to_vec(alloc)?))?;
+    files.push((
+        String::from_str(alloc, "s")?,
+        row.0.as_bytes().to_vec(alloc)?,
+    ))?;
+    files.push((
+        String::from_str(alloc, "p")?,
+        row.1.as_bytes().to_vec(alloc)?,
+    ))?;
     let mut folder = MemFolder::new(alloc, files, failing.to_vec(alloc)?, 100, 7)?;
     let mut out = MemSink::new(alloc, Vec::new(alloc), 300, 5)?;
-    let request = AtRequest {
-        script: "s",
-        point: "p",
-    };
-    let status = run_at(alloc, request, &mut folder, &mut out);
-    assert_eq!(rt; status, wanted.0, "{}", wanted.1);
-    assert_eq!(rt; out.bytes(), wanted.1.as_bytes(), "{}", wanted.1);
-    Ok(())
+    let status = run_at(alloc, NAMES, &mut folder, &mut out);
+    Ok(status == row.2 && out.bytes() == row.3.as_bytes())
 }
 
 #[test]
-fn points_have_their_answers(rt: HostRuntime) -> Result<(), Fail> {
-    let rows: [(&[u8], &[u8], Status, &str); 7] = [
-        (
-            b"@rnd = fixed<-4,dn>; y = rnd(x); { x in [0,1] -> y - x in ? }",
-            b"x = 1 / 3;",
-            Status::Answered,
-            "hypothesis 1: holds\ngoal 1: -1/48\npoint: meets\n",
-        ),
-        (
-            b"{ x in [1,2] -> 1 / (x - x) in ? }",
-            b"x = 1;",
-            Status::Answered,
-            "hypothesis 1: holds\ngoal 1: no value\npoint: meets\n",
-        ),
-        (
-            b"{ x in ? }",
-            b"x = 1b200;",
-            Status::TooWide,
-            "too wide: entry 1\n",
-        ),
-        (
-            b"{ x * x in ? }",
-            b"x = 1b64;",
-            Status::TooWide,
-            "too wide: node 1\n",
-        ),
-        (b"{ x in ? }", b"", Status::Point, "point: Missing at 0\n"),
-        (
-            b"{ x in ? }",
-            b"x = = 1;",
-            Status::Point,
-            "point: Unexpected at 4\n",
-        ),
-        (
-            b"{ x in }",
-            b"x = 1;",
-            Status::Script,
-            "script: Unexpected at 7\n",
-        ),
-    ];
-    for (script, point, status, lines) in rows {
-        run_is(&rt, rt.alloc(), script, point, &[], (status, lines))?;
+fn points_have_their_answers(rt: HostRuntime) {
+    for row in ROWS {
+        assert_eq!(rt; comes(rt.alloc(), row, &[]), Ok(true));
     }
-    Ok(())
 }
 
 #[test]
-fn failed_reads_name_their_files(rt: HostRuntime) -> Result<(), Fail> {
-    let first = (Status::ReadFault, "read fault: s\n");
-    run_is(&rt, rt.alloc(), b"{ x in ? }", b"x = 1;", &[2], first)?;
-    let second = (Status::ReadFault, "read fault: p\n");
-    run_is(&rt, rt.alloc(), b"{ x in ? }", b"x = 1;", &[4], second)
+fn failed_reads_name_their_files(rt: HostRuntime) {
+    let script = ("{ x in ? }", "x = 1;", Status::ReadFault, "read fault: s\n");
+    assert_eq!(rt; comes(rt.alloc(), script, &[2]), Ok(true));
+    let point = ("{ x in ? }", "x = 1;", Status::ReadFault, "read fault: p\n");
+    assert_eq!(rt; comes(rt.alloc(), point, &[4]), Ok(true));
 }

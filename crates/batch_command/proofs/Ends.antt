@@ -1,5 +1,5 @@
 -- How a run of `batch` ends.
-use Rattle.std.specs.Prelude.{◌≡◌, List, Option, None, refl}
+use Rattle.std.specs.Prelude.{◌≡◌, None, refl}
 use Rattle.command_line.specs.Batch.{AskedBatch}
 use Rattle.name_list.specs.Lists.{FaultsAreOne}
 use Rattle.command_runs.specs.Ends.{IsPutBy, put_runs, run_by, starved_of, unread_kept, unread_once}

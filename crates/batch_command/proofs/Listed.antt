@@ -2,7 +2,7 @@
 use Rattle.std.specs.Prelude.{◌≡◌, ◌≢◌, ◌≤◌, List, [], ◌∷◌, Option, Some, None, Result, Ok, Err, IfOk, length, take, refl}
 use Rattle.std.specs.declared.vec.Vec.{Vec}
 use Rattle.std.specs.declared.alloc.Global.{Global}
-use Rattle.std.proofs.Common.{◌∙◌, ap, arith, sym, subst, inl, inr, ℕ, suc}
+use Rattle.std.proofs.Common.{◌∙◌, ap, arith, sym, subst, inr, ℕ, suc}
 use Rattle.std.proofs.lemmas.List.{length-take}
 use Rattle.fx_edge.specs.Outside.{Rose, rose_later}
 use Rattle.settler.specs.Answers.{Options}
@@ -12,13 +12,13 @@ use Rattle.name_list.specs.Fronts.{FrontsDecide, FaultlessAreWhole}
 use Rattle.name_list.specs.Lists.{IsFaultOf, lines_of}
 use Rattle.command_line.specs.Batch.{AskedBatch}
 use Rattle.command_runs.specs.Runs.{Bytes, Told}
-use Rattle.command_runs.specs.Fates.{IsTold, OfText, ending}
+use Rattle.command_runs.specs.Fates.{IsTold, ending}
 use Rattle.command_runs.specs.Fates.Ending.{Done}
 use Rattle.command_runs.specs.declared.status.Status.{Status}
 use Rattle.command_runs.specs.declared.status.Status.TheVariants as status
 use Rattle.script_answers.specs.Answers.{ProvePrints}
 use Rattle.script_answers.specs.Texts.{told_prints}
-use Rattle.batch_command.specs.Command.{IsBatch, ListPrints, first_other, options_of}
+use Rattle.batch_command.specs.Command.{IsBatch, first_other, options_of}
 use Rattle.batch_command.specs.Lines.{list_fault_line}
 use Rattle.batch_command.specs.Told.{AreAnswers, AreRead, Prints, ScriptsPrint, lines_under, status_of}
 

@@ -3,7 +3,7 @@ use Rattle.std.specs.Prelude.{◌≡◌, ◌<◌, ◌+◌, ◌++◌, ℕ, zero, 
 use Rattle.std.specs.declared.string.String.{String}
 use Rattle.std.specs.declared.vec.Vec.{Vec}
 use Rattle.std.specs.declared.alloc.Global.{Global}
-use Rattle.std.proofs.Common.{arith, ap, sym, ◌∙◌, subst, inl, inr, get_or}
+use Rattle.std.proofs.Common.{arith, ap, sym, ◌∙◌, inl, inr, get_or}
 use Rattle.std.proofs.lemmas.List.{length-map}
 use Rattle.whole_texts.specs.Texts.{IsText}
 use Rattle.command_runs.specs.Runs.{Bytes, Told}

@@ -1,7 +1,6 @@
-use Rattle.std.proofs.Common.{◌≡◌, ◌<◌, ◌++◌, ◌∙◌, [], ◌∷◌, IsErrOf, ap, arith, length, map, refl, rules, string_bytes, subst, sym, take}
+use Rattle.std.proofs.Common.{◌≡◌, ◌<◌, ◌++◌, ◌∙◌, [], ◌∷◌, ap, arith, length, map, rules, string_bytes, subst, sym, take}
 use Rattle.fx_edge.specs.Outside.{Rose, rose_later}
 use Rattle.whole_texts.specs.Texts.{IsText}
-use Rattle.whole_texts.specs.declared.read.ReadStop.TheVariants.{Fault}
 use Rattle.command_runs.specs.Statuses.{read_fault_line}
 use Rattle.batch_command.specs.Told.{AreRead}
 use Rattle.batch_command.proofs.Taken.{is_in, one_more, take_more}

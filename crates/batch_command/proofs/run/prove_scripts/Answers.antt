@@ -1,5 +1,4 @@
-use Rattle.std.proofs.Common.{◌≡◌, ◌≤◌, ◌∙◌, IfOk, arith, ap, length, map, rules, string_bytes, subst, sym}
-use Rattle.fx_edge.specs.Outside.{Rose}
+use Rattle.std.proofs.Common.{arith, map, rules, string_bytes}
 use Rattle.script_answers.specs.Answers.{options_from}
 use Rattle.batch_command.specs.Told.{AreAnswers, AreRead}
 use Rattle.batch_command.proofs.Listed.{all_printed_so, as_many}

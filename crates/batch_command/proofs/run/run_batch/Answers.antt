@@ -1,4 +1,4 @@
-use Rattle.std.proofs.Common.{◌≡◌, refl, rules, subst}
+use Rattle.std.proofs.Common.{rules, subst}
 use Rattle.fx_edge.specs.Outside.{Rose}
 use Rattle.command_line.specs.Batch.{batch_of}
 use Rattle.command_runs.specs.Ends.{IsPut}
