@@ -65,6 +65,9 @@ SCRIPTS = [
     ("two boxes on each level, 59 boxes", TREE, (1, 2, 4), ["--rounds", "64", "--depth", "32"]),
 ]
 
+# A list for `batch`: this many scripts, of degrees 4 to 9.
+LISTED = [made(4 + i % 6) for i in range(28)]
+
 
 def run(words):
     """Processor seconds, wall seconds, status and what is printed."""
@@ -108,6 +111,15 @@ def main(words):
             if os.path.exists(cert):
                 measured(f"{name}, check of {os.path.getsize(cert)} bytes", [program, "check", path, cert], runs)
                 os.remove(cert)
+        names = [os.path.join(folder, f"{i}.fx") for i in range(len(LISTED))]
+        for path, text in zip(names, LISTED):
+            with open(path, "w", encoding="utf-8") as file:
+                file.write(text)
+        listed = os.path.join(folder, "scripts.list")
+        with open(listed, "w", encoding="utf-8") as file:
+            file.write("".join(f"{path}\n" for path in names))
+        for count in (1, 2, 4):
+            measured(f"batch of {len(names)} scripts, {count} worker" + "s" * (count > 1), [program, "batch", listed, "--boxes", "512", "--workers", str(count)], runs)
 
 
 if __name__ == "__main__":

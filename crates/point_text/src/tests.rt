@@ -1,127 +1,53 @@
-//! Scripts and points, each with what is printed of them by an independent program.
+//! Points, and what is read of them. The faults are those of an independent program.
 
 use crate::{PointFault, PointKind, PointStop, read_point};
-use point_eval::{EvalStop, Place, evaluate};
-use rewrite_hints::marks_of;
 use script_grammar::parse;
 use std::alloc::Global;
-use std::process::Abort;
-use std::test::Fail;
 
-fn kind_name(kind: PointKind) -> &'static str {
-    match kind {
-        PointKind::NotText => "NotText",
-        PointKind::BadToken => "BadToken",
-        PointKind::Unexpected => "Unexpected",
-        PointKind::Unknown => "Unknown",
-        PointKind::Twice => "Twice",
-        PointKind::ZeroDivisor => "ZeroDivisor",
-        PointKind::LiteralLimit => "LiteralLimit",
-        PointKind::Limit => "Limit",
-        PointKind::Missing => "Missing",
-    }
-}
+const SCRIPT: &str = "{ x in ? /\\ y in ? }";
 
-fn fault_line(alloc: Global, fault: PointFault) -> Result<String, Fail> {
-    let kind = kind_name(fault.kind);
-    let at = fault.at;
-    Ok(format!(in alloc; "point: {kind} at {at}\n")?)
-}
+// A text, the kind of its fault, and the byte at which it stands.
+type Row = (&'static str, PointKind, u32);
 
-fn place_line(alloc: Global, place: Place) -> Result<String, Fail> {
-    match place {
-        Place::Entry(k) => Ok(format!(in alloc; "too wide: entry {}\n", k + 1)?),
-        Place::Node(k) => Ok(format!(in alloc; "too wide: node {}\n", k)?),
-        Place::Hypothesis(k) => Ok(format!(in alloc; "too wide: hypothesis {}\n", k + 1)?),
-        Place::Goal(k) => Ok(format!(in alloc; "too wide: goal {}\n", k + 1)?),
-        Place::Hint(k) => Ok(format!(in alloc; "too wide: hint {}\n", k + 1)?),
-    }
-}
+const ROWS: [Row; 6] = [
+    ("", PointKind::Missing, 0),
+    ("x = 1; y = 2", PointKind::Unexpected, 12),
+    ("x = 1; z = 2; !", PointKind::Unknown, 7),
+    ("x = 1; x = 2;", PointKind::Twice, 7),
+    ("x = 1 / 0.00; y = = 1;", PointKind::ZeroDivisor, 8),
+    ("x = 1 / 0e99;", PointKind::LiteralLimit, 8),
+];
 
-// What is printed of a script and a point.
-fn printed(alloc: Global, script: &[u8], point: &[u8]) -> Result<String, Fail> {
-    let Ok(script) = parse(alloc, script) else {
-        return Ok(format!(in alloc; "refused\n")?);
+// The fault of a text that is no point of the script.
+fn fault_of(alloc: Global, point: &str) -> Option<PointFault> {
+    let Ok(script) = parse(alloc, SCRIPT.as_bytes()) else {
+        return None;
     };
-    let point = match read_point(alloc, &script, point) {
-        Ok(point) => point,
-        Err(PointStop::Fault(fault)) => return fault_line(alloc, fault),
-        Err(PointStop::OutOfMemory) => return Ok(format!(in alloc; "no memory\n")?),
-    };
-    script.laws();
-    let marks = marks_of(alloc, script.nodes(), script.hints().rewrites.as_slice())?;
-    match evaluate(alloc, &script, marks.as_slice(), &point) {
-        Ok(text) => match String::from_utf8(text) {
-            Ok(text) => Ok(text),
-            Err(_) => Ok(format!(in alloc; "no text\n")?),
-        },
-        Err(EvalStop::TooWide(place)) => place_line(alloc, place),
-        Err(EvalStop::OutOfMemory) => Ok(format!(in alloc; "no memory\n")?),
+    match read_point(alloc, &script, point.as_bytes()) {
+        Err(PointStop::Fault(fault)) => Some(fault),
+        _ => None,
     }
 }
 
-// This is printed of the script and the point.
-fn prints(
-    rt: &impl Abort,
-    alloc: Global,
-    script: &str,
-    point: &str,
-    wanted: &str,
-) -> Result<(), Fail> {
-    let text = printed(alloc, script.as_bytes(), point.as_bytes())?;
-    assert_eq!(rt; text.as_str(), wanted, "{wanted}");
-    Ok(())
+// How many rows a point of the script has.
+fn rows_of(alloc: Global, point: &str) -> usize {
+    let Ok(script) = parse(alloc, SCRIPT.as_bytes()) else {
+        return 0;
+    };
+    match read_point(alloc, &script, point.as_bytes()) {
+        Ok(point) => point.rows.as_slice().len(),
+        Err(_) => 0,
+    }
 }
 
 #[test]
-fn points_have_their_lines(rt: HostRuntime) -> Result<(), Fail> {
-    let alloc = rt.alloc();
-    let script = "@rnd = fixed<-4,dn>; y = rnd(x); { x in [0,1] -> y - x in ? }";
-    let wanted = "hypothesis 1: holds\ngoal 1: -1/48\npoint: meets\n";
-    prints(&rt, alloc, script, "x = 1 / 3;", wanted)?;
-    let script = "{ x in [1,2] -> 1 / (x - x) in ? }";
-    let wanted = "hypothesis 1: holds\ngoal 1: no value\npoint: meets\n";
-    prints(&rt, alloc, script, "x = 1;", wanted)?;
-    let script = "{ x in [0,1] \\/ x in [2,3] -> x in [0,2] }";
-    let wanted = "hypothesis 1: fails\nhypothesis 2: holds\ngoal 1: 2, holds\npoint: meets\n";
-    prints(&rt, alloc, script, "x = 2;", wanted)?;
-    let script = "{ x -/ y in [0.5,1] } x -> x + 1 { x < 0 };";
-    let wanted = "goal 1: zero, holds\nhint 1: holds\npoint: meets\n";
-    prints(&rt, alloc, script, "y = 0; x = 0; # in any order", wanted)
+fn faults_have_their_places(rt: HostRuntime) {
+    for (point, kind, at) in ROWS {
+        assert_eq!(rt; fault_of(rt.alloc(), point), Some(PointFault { kind, at }));
+    }
 }
 
 #[test]
-fn wide_numbers_and_faults_have_their_places(rt: HostRuntime) -> Result<(), Fail> {
-    let alloc = rt.alloc();
-    prints(
-        &rt,
-        alloc,
-        "{ x in ? }",
-        "x = 1b200;",
-        "too wide: entry 1\n",
-    )?;
-    prints(
-        &rt,
-        alloc,
-        "{ x * x in ? }",
-        "x = 1b64;",
-        "too wide: node 1\n",
-    )?;
-    prints(&rt, alloc, "{ x in ? }", "", "point: Missing at 0\n")?;
-    prints(
-        &rt,
-        alloc,
-        "{ x in ? }",
-        "x = = 1;",
-        "point: Unexpected at 4\n",
-    )?;
-    let wanted = "point: ZeroDivisor at 8\n";
-    prints(&rt, alloc, "{ x in ? }", "x = 1 / 0.00; x = 2;", wanted)?;
-    prints(
-        &rt,
-        alloc,
-        "{ x in ? }",
-        "x = 1; x = 2;",
-        "point: Twice at 7\n",
-    )
+fn entries_stand_in_any_order(rt: HostRuntime) {
+    assert_eq!(rt; rows_of(rt.alloc(), "y = -1 / 3; x = +0x1p2; # both"), 2);
 }
