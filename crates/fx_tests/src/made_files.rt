@@ -167,20 +167,23 @@ fn the_file_is_whole(rt: HostRuntime) -> Result<(), Fail> {
 fn calls_fail(
     rt: &(impl Abort + Threads + Wait + Sync),
     alloc: Global,
-    making: &Making<'_>,
+    words: &[&str],
+    files: &[(&str, &[u8])],
+    whole: &[u8],
 ) -> Result<(), Fail> {
     for number in 1..400u64 {
         let failing = [number];
         let outside = Outside {
             failing_calls: &failing,
-            ..sound(&making.files, 7)
+            ..sound(&*files, 7)
         };
-        let ended = run_on(rt, alloc, making.words, &outside)?;
+        let ended = run_on(rt, alloc, words, &outside)?;
+        let status = ended.status;
         let held = ended.folder.bytes("n").expect(rt, "`n` is there");
         let lines = ended.out.bytes();
-        match ended.status {
+        match status {
             Status::Answered => {
-                assert_eq!(rt; held, making.whole, "call {number}");
+                assert_eq!(rt; held, whole, "call {number}");
                 return Ok(());
             }
             Status::ReadFault => {
@@ -189,14 +192,11 @@ fn calls_fail(
                 assert!(rt; named, "call {number}");
             }
             _ => {
-                assert_eq!(rt; ended.status, Status::WriteFault, "call {number}");
+                assert_eq!(rt; status, Status::WriteFault, "call {number}");
                 assert_eq!(rt; lines, b"".as_slice(), "call {number}");
             }
         }
-        assert!(rt;
-            held == OLD || making.whole.starts_with(held),
-            "call {number}"
-        );
+        assert!(rt; held == OLD || whole.starts_with(held), "call {number}");
     }
     panic!(rt; "each run met a fault")
 }
@@ -204,7 +204,7 @@ fn calls_fail(
 #[test]
 fn a_failing_call_leaves_a_front(rt: HostRuntime) -> Result<(), Fail> {
     for making in makings() {
-        calls_fail(&rt, rt.alloc(), &making)?;
+        calls_fail(&rt, rt.alloc(), making.words, &making.files, making.whole)?;
     }
     Ok(())
 }

@@ -136,7 +136,7 @@ fn calls_fail(
         let failing = [number as u64];
         let outside = Outside {
             failing_calls: &failing,
-            ..sound(files, 16)
+            ..sound(&*files, 16)
         };
         let ended = run_on(rt, alloc, words, &outside)?;
         if ended.status == status {
@@ -146,7 +146,7 @@ fn calls_fail(
         assert_eq!(rt; ended.status, Status::ReadFault, "call {number}");
         let outside = Outside {
             failing_puts: &failing,
-            ..sound(files, 16)
+            ..sound(&*files, 16)
         };
         let ended = run_on(rt, alloc, words, &outside)?;
         if ended.status != status {
