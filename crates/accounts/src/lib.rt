@@ -1,6 +1,9 @@
 //! What became of each box, as a plain machine over events.
 #![tactic(auto)]
 
+// What callers name of the crates below.
+pub use box_tree::Plan;
+
 mod book;
 mod cuts;
 mod event;
@@ -13,6 +16,3 @@ pub use book::OpenBox;
 pub use cuts::Cuts;
 pub use event::{Event, EventRefused};
 pub use machine::Core;
-
-#[cfg(test)]
-mod tests;

@@ -254,12 +254,6 @@ impl<'p, C: Cuts> Core<'p, C> {
         let _ = &self.settled;
     }
 
-    // The hands, by the numbers of their workers.
-    #[cfg(test)]
-    pub(crate) fn hands(&self) -> &[Option<OpenBox>] {
-        self.hands.as_slice()
-    }
-
     /// The settled paths, in the order in which they were settled.
     pub fn settled(&self) -> &[Path]
         ensures { result.now ≡ self.now.account.settled }

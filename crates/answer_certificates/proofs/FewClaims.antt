@@ -7,14 +7,14 @@ use Rattle.script_shape.specs.declared.due.Due.{Due}
 use Rattle.script_shape.specs.declared.due.Due.TheVariants as d
 use Rattle.script_shape.specs.Tree.{Formula, single, and, or, implies, Script, formula, define}
 use Rattle.script_shape.specs.Roles.{Leaf, at, stated_leaves, formula_leaves, hints_leaves, definition_leaves, script_leaves}
-use Rattle.script_judge.specs.declared.counts.Place.{Place}
-use Rattle.script_judge.specs.declared.counts.Place.TheVariants as place
-use Rattle.script_judge.specs.Counts.{one_if, is_first, begins_proposition, place_after}
-use Rattle.script_judge.specs.Judge.{Seen, seen_after, Judged, nothing_seen}
-use Rattle.script_nodes.specs.Known.{Known}
-use Rattle.script_nodes.specs.Definitions.{definition_value}
-use Rattle.script_claims.specs.Claims.{stated_claim, formula_claims}
-use Rattle.script_grammar.specs.Meaning.{meaning_from}
+use Rattle.script_checker.specs.script_judge.declared.counts.Place.{Place}
+use Rattle.script_checker.specs.script_judge.declared.counts.Place.TheVariants as place
+use Rattle.script_checker.specs.script_judge.Counts.{one_if, is_first, begins_proposition, place_after}
+use Rattle.script_checker.specs.script_judge.Judge.{Seen, seen_after, Judged, nothing_seen}
+use Rattle.script_checker.specs.script_nodes.Known.{Known}
+use Rattle.script_checker.specs.script_nodes.Definitions.{definition_value}
+use Rattle.script_checker.specs.script_claims.Claims.{stated_claim, formula_claims}
+use Rattle.script_checker.specs.script_grammar.Meaning.{meaning_from}
 use Rattle.answer_certificates.proofs.Passed.{one_passed, within_limits}
 
 -- the words that stand between two propositions

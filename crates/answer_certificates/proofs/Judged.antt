@@ -11,22 +11,22 @@ use Rattle.fx_model.specs.Expression.{ChildrenBelow}
 use Rattle.expr_dag.specs.Nodes.{IsAbsent}
 use Rattle.facts.specs.declared.fact.Fact.{Fact}
 use Rattle.facts.specs.declared.hint.HintRow.{HintRow}
-use Rattle.script_claims.specs.declared.claim.Claim.{Claim}
-use Rattle.script_claims.specs.Facts.{hypothesis_fact}
-use Rattle.script_hints.specs.declared.hint.Hint.{Hint}
-use Rattle.script_grammar.specs.Spells.{View}
-use Rattle.script_grammar.specs.Cases.{cases_of}
-use Rattle.script_truths.specs.Truths.{HasUniverse}
-use Rattle.rewrite_hints.specs.Rows.{IsRowOf}
-use Rattle.rewrite_hints.specs.Marks.{AreRows}
+use Rattle.script_checker.specs.script_claims.declared.claim.Claim.{Claim}
+use Rattle.script_checker.specs.script_claims.Facts.{hypothesis_fact}
+use Rattle.script_checker.specs.script_hints.declared.hint.Hint.{Hint}
+use Rattle.script_checker.specs.script_grammar.Spells.{View}
+use Rattle.script_checker.specs.script_grammar.Cases.{cases_of}
+use Rattle.settler.specs.script_truths.Truths.{HasUniverse}
+use Rattle.script_checker.specs.rewrite_hints.Rows.{IsRowOf}
+use Rattle.script_checker.specs.rewrite_hints.Marks.{AreRows}
 use Rattle.pair_closure.specs.Closure.{difference_of, IsFollowed}
 use Rattle.pair_closure.specs.Rising.{one_list}
-use Rattle.rule_universe.specs.Worlds.{World}
-use Rattle.universe.specs.Universes as universe
-use Rattle.cert_bytes.specs.Certificates.{HasShortParts}
-use Rattle.cert_checker.specs.declared.subject.Subject.{Subject}
-use Rattle.cert_checker.specs.Steps.{case_facts}
-use Rattle.cert_checker.specs.Faults.{IsVariableBelow, IsFurther, JudgesNode}
+use Rattle.settler.specs.rule_universe.Worlds.{World}
+use Rattle.settler.specs.universe.Universes as universe
+use Rattle.box_traces.specs.cert_bytes.Certificates.{HasShortParts}
+use Rattle.box_traces.specs.cert_checker.declared.subject.Subject.{Subject}
+use Rattle.box_traces.specs.cert_checker.Steps.{case_facts}
+use Rattle.box_traces.specs.cert_checker.Faults.{IsVariableBelow, IsFurther, JudgesNode}
 use Rattle.script_checker.specs.Subjects as checker
 use Rattle.box_traces.specs.Trees.{AreTaken}
 use Rattle.answer_certificates.specs.Scripts.{HasRoom}

@@ -11,13 +11,13 @@ use Rattle.fx_model.specs.declared.Node.TheVariants.{Var}
 use Rattle.expr_dag.specs.Nodes.{IsAt, same_node, numbered, place_of, placed}
 use Rattle.expr_dag.specs.Same.{same}
 use Rattle.script_shape.specs.Tree.{Definition, names_operator, names_value, Script, formula, define}
-use Rattle.script_nodes.specs.Known.{Name, Known, entry_of, put, variable_put, name_put, named, nothing_known}
-use Rattle.script_nodes.specs.Definitions.{rounding_by, definition_value}
-use Rattle.script_nodes.specs.Sound.{IsMade}
-use Rattle.script_claims.specs.Claims.{formula_claims}
-use Rattle.script_hints.specs.Hints.{no_hints}
-use Rattle.script_grammar.specs.Meaning.{meaning_from}
-use Rattle.cert_checker.specs.Faults.{IsVariable}
+use Rattle.script_checker.specs.script_nodes.Known.{Name, Known, entry_of, put, variable_put, name_put, named, nothing_known}
+use Rattle.script_checker.specs.script_nodes.Definitions.{rounding_by, definition_value}
+use Rattle.script_checker.specs.script_nodes.Sound.{IsMade}
+use Rattle.script_checker.specs.script_claims.Claims.{formula_claims}
+use Rattle.script_checker.specs.script_hints.Hints.{no_hints}
+use Rattle.script_checker.specs.script_grammar.Meaning.{meaning_from}
+use Rattle.box_traces.specs.cert_checker.Faults.{IsVariable}
 use Rattle.pair_closure.specs.Members.{some-inj, none_at, before_last, last_at, ends_with}
 use Rattle.answer_certificates.proofs.Keeping.{expr_so, formula_so, hints_so}
 

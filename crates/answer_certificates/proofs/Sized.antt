@@ -5,10 +5,10 @@ use Rattle.fx_model.specs.declared.ExprId.{ExprId}
 use Rattle.fx_model.specs.declared.Node.{Node}
 use Rattle.expr_dag.specs.Nodes.{IsAt, IsLawful}
 use Rattle.facts.specs.declared.instance.Instance.{Instance}
-use Rattle.rule_instances.specs.InOrder.{instance_list}
-use Rattle.script_grammar.specs.Few.{constraints_in}
-use Rattle.script_truths.specs.Truths.{UniversesExtend}
-use Rattle.rule_universe.specs.Sizes.{beyond_four}
+use Rattle.settler.specs.rule_instances.InOrder.{instance_list}
+use Rattle.script_checker.specs.script_grammar.Few.{constraints_in}
+use Rattle.settler.specs.script_truths.Truths.{UniversesExtend}
+use Rattle.settler.specs.rule_universe.Sizes.{beyond_four}
 use Rattle.answer_certificates.specs.Premises.{PremisesAreFew}
 use Rattle.answer_certificates.specs.Universes.{UniversesAreSmall}
 

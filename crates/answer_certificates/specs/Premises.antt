@@ -5,11 +5,11 @@ use Rattle.fx_model.specs.declared.Node.{Node}
 use Rattle.expr_dag.specs.Nodes.{IsAt, IsLawful}
 use Rattle.facts.specs.declared.hint.HintRow.{HintRow}
 use Rattle.pair_closure.specs.Closure.{Pair}
-use Rattle.rule_instances.specs.InOrder.{instance_list}
-use Rattle.script_hints.specs.declared.hint.Hint.{Hint}
-use Rattle.script_grammar.specs.Few.{constraints_in}
-use Rattle.rewrite_hints.specs.Marks.{AreRows}
-use Rattle.rule_universe.specs.Sizes.{beyond_four}
+use Rattle.settler.specs.rule_instances.InOrder.{instance_list}
+use Rattle.script_checker.specs.script_hints.declared.hint.Hint.{Hint}
+use Rattle.script_checker.specs.script_grammar.Few.{constraints_in}
+use Rattle.script_checker.specs.rewrite_hints.Marks.{AreRows}
+use Rattle.settler.specs.rule_universe.Sizes.{beyond_four}
 
 -- Over at most 1,024 nodes a hint asks for its right side, for each divisor of its left side, and
 -- for each of its constraints, with four kinds of facts; each other instance has four premises at

@@ -1,16 +1,14 @@
 //! What holds of the certificates of scripts, for callers to cite. Nothing here is done at run time.
-ghost use Rattle.box_tree.specs.Regions.{PlanParts};
+ghost use Rattle.settler.specs.box_tree.Regions.{PlanParts};
 ghost use Rattle.answer_certificates.specs.Laws.{UniversesAreWritten, InstancesAreFew, SubjectsAreOfUniverses, TreesAreProved, PiecesAreOfCuts, ScriptsHaveRoots, AnswersHaveCertificates, AnswersAreSpelled};
 ghost use Rattle.answer_certificates.specs.Premises.{PremisesAreFew};
 ghost use Rattle.answer_certificates.specs.Universes.{UniversesAreSmall};
 
-use bisect::{boxes_are_listed, one_answer};
-use box_traces::{certificates_exist, rules_fit_steps};
-use box_tree::few_cuts_end;
-use derivation::best_tables_exist;
-use saturate::rules_are_lawful;
-use script_truths::universes_extend;
-use universe::universes_are_one;
+use box_traces::{best_tables_exist, certificates_exist, rules_fit_steps};
+use settler::{
+    boxes_are_listed, few_cuts_end, one_answer, rules_are_lawful, universes_are_one,
+    universes_extend,
+};
 
 /// Nothing is done. The clauses tell a caller that what derivations over a script's universe
 /// conclude can be written as steps, that there are at most 2^22 instances, and that in each case

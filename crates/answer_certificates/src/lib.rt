@@ -1,6 +1,10 @@
 //! The certificates of scripts' answers: each script that is proved has one that is accepted, with its lines.
 #![tactic(auto)]
 
+// What callers name of the crates below.
+pub use script_checker::{Script, subject_of};
+pub use settler::{Cut, Plan, assume};
+
 mod laws;
 mod room;
 

@@ -4,7 +4,7 @@ use Rattle.std.proofs.Common.{◌≡◌, ◌<◌, ◌≤◌, ◌^◌, List, leng
 use Rattle.std.proofs.lemmas.Bool.{cases_lt}
 use Rattle.std.proofs.lemmas.List.{length-take-le, take_all}
 use Rattle.script_nodes.specs.Known.{Name}
-use Rattle.script_grammar.specs.Spells.{View, Spells}
+use Rattle.point_text.specs.script_grammar.Spells.{View, Spells}
 use Rattle.whole_texts.specs.Texts.{IsText}
 use Rattle.point_text.specs.declared.fault.PointFault.{PointFault}
 use Rattle.point_text.specs.PointFaults.{IsPointFault, too_long, not_text, first}

@@ -1,12 +1,12 @@
 -- One status is defined for a text and a point.
 use Rattle.std.proofs.Common.{◌≡◌, List, Option, refl, sym, ◌∙◌, subst}
 use Rattle.std.proofs.lemmas.Option.{none-some}
-use Rattle.script_grammar.specs.Spells.{View, Spells, SpellsOnce}
-use Rattle.script_grammar.specs.Spells as script
-use Rattle.universe.specs.OneMark.{MarksAreOne}
-use Rattle.point_values.specs.Rows.{Row}
-use Rattle.point_values.specs.Evaluation.{IsTooWide}
-use Rattle.point_eval.specs.Judged.{judged_of}
+use Rattle.point_text.specs.script_grammar.Spells.{View, Spells, SpellsOnce}
+use Rattle.point_text.specs.script_grammar.Spells as script
+use Rattle.script_answers.specs.universe.OneMark.{MarksAreOne}
+use Rattle.point_text.specs.point_values.Rows.{Row}
+use Rattle.point_text.specs.point_values.Evaluation.{IsTooWide}
+use Rattle.point_text.specs.point_eval.Judged.{judged_of}
 use Rattle.point_text.specs.Once.{SpelledOnce, NeverBoth}
 use Rattle.command_runs.specs.Runs.{Bytes}
 use Rattle.command_runs.specs.Fates.{IsTold}

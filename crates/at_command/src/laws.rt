@@ -1,10 +1,8 @@
 // One status is defined for a text and a point, and what the last line says is so.
 ghost use Rattle.at_command.specs.Laws.{AtStatusesAreOne, MeetingIsMet};
 
-use point_eval::meeting_is_told;
-use point_text::points_are_one;
-use script_grammar::script_or_refusal;
-use universe::marks_are_one;
+use point_text::{meeting_is_told, points_are_one, script_or_refusal};
+use script_answers::marks_are_one;
 
 /// The law that a text and a point have one status, where the point's bytes are told or the text is
 /// no script. Nothing is done.

@@ -6,8 +6,6 @@ mod command;
 mod laws;
 mod lines;
 mod point;
-#[cfg(test)]
-mod tests;
 
 pub use command::run_at;
 pub use laws::{at_statuses_are_one, meeting_points_meet};

@@ -2,8 +2,7 @@
 ghost use Rattle.std.specs.Prelude.{◌≡◌, IfOk};
 ghost use Rattle.at_command.specs.Lines as spec;
 
-use point_eval::Place;
-use point_text::{PointFault, PointKind};
+use point_text::{Place, PointFault, PointKind};
 use std::alloc::{AllocError, Global};
 
 // The kind's name.

@@ -1,19 +1,16 @@
 // The status and the lines for a script and a point.
 ghost use Rattle.std.specs.Prelude.{◌≡◌, ◌≤◌, ℕ, List, IfOk, IsErrOf};
 ghost use Rattle.fx_edge.specs.Outside.{Rose};
-ghost use Rattle.script_grammar.specs.Spells.{View, Spells};
-ghost use Rattle.point_eval.specs.Points.{AreRowsOf};
+ghost use Rattle.point_text.specs.script_grammar.Spells.{View, Spells};
+ghost use Rattle.point_text.specs.point_eval.Points.{AreRowsOf};
 ghost use Rattle.at_command.specs.Told.{AtPrints, PointTells, RowsTell};
 
 use crate::lines::{point_line, wide_line};
 use command_runs::Status;
 use fx_edge::Folder;
-use point_eval::{EvalStop, Point, evaluate};
-use point_text::{PointStop, read_point};
-use report::refusals::refusal_line;
-use script_grammar::{ParseStop, Script, parse};
+use point_text::{EvalStop, ParseStop, Point, PointStop, Script, evaluate, parse, read_point};
+use script_answers::{classify, refusal_line};
 use std::alloc::{AllocError, Global};
-use universe::classify;
 use whole_texts::{ReadStop, read_text};
 
 // How much of a point's text is read, in bytes: one more than a point may have.

@@ -5,7 +5,7 @@ use Rattle.std.specs.declared.alloc.Global.{Global}
 use Rattle.std.proofs.Common.{◌∙◌, ap, arith, sym, subst, inr, ℕ, suc}
 use Rattle.std.proofs.lemmas.List.{length-take}
 use Rattle.fx_edge.specs.Outside.{Rose, rose_later}
-use Rattle.settler.specs.Answers.{Options}
+use Rattle.script_answers.specs.settler.Answers.{Options}
 use Rattle.whole_texts.specs.Texts.{IsText}
 use Rattle.name_list.specs.declared.fault.ListFault.{ListFault}
 use Rattle.name_list.specs.Fronts.{FrontsDecide, FaultlessAreWhole}

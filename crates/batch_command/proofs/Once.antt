@@ -1,7 +1,7 @@
 -- One status comes of a list that is told, and whose names are.
 use Rattle.std.specs.Prelude.{◌≡◌, ◌⊎◌, List, [], ◌∷◌, Option, Some, None, refl}
 use Rattle.std.proofs.Common.{◌∙◌, ap₂, sym, subst, inl, inr}
-use Rattle.settler.specs.Answers.{Options}
+use Rattle.script_answers.specs.settler.Answers.{Options}
 use Rattle.name_list.specs.declared.fault.ListFault.{ListFault}
 use Rattle.name_list.specs.Lists.{FaultsAreOne, IsFaultOf, lines_of}
 use Rattle.command_line.specs.Batch.{AskedBatch}

@@ -2,7 +2,7 @@
 use Rattle.std.specs.Prelude.{◌≡◌, ◌++◌, ⊤, ℕ, List, [], ◌∷◌}
 use Rattle.std.specs.declared.vec.Vec.{Vec}
 use Rattle.std.specs.declared.alloc.Global.{Global}
-use Rattle.settler.specs.Answers.{Options}
+use Rattle.script_answers.specs.settler.Answers.{Options}
 use Rattle.whole_texts.specs.Texts.{IsText}
 use Rattle.command_line.specs.Batch.{AskedBatch}
 use Rattle.command_runs.specs.Runs.{Bytes, Told}

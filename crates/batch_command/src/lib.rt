@@ -7,6 +7,3 @@ mod read;
 mod run;
 
 pub use run::run_batch;
-
-#[cfg(test)]
-mod tests;

@@ -1,6 +1,9 @@
 //! Bisection: the answer of a tree of boxes.
 #![tactic(auto)]
 
+// What callers name of the crates below.
+pub use box_tree::{Claim, Cut, Plan, few_cuts_end, lines_hold, pieces_are_of_hypotheses};
+
 mod alone;
 mod laws;
 mod lines;
@@ -12,6 +15,3 @@ pub use laws::{answers_are_told, boxes_are_listed, leaves_cover, one_answer, wal
 pub use lines::lines_of;
 pub use outcome::{Leaf, Outcome};
 pub use settler::{Posted, Settler, State, Verdict};
-
-#[cfg(test)]
-mod tests;

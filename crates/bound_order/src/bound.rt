@@ -2,17 +2,15 @@
 
 ghost use Rattle.std.specs.Prelude.{◌≡◌, ◌↔◌, Some};
 ghost use Rattle.std.specs.Option.{option_map};
-ghost use Rattle.fx_model.specs.Fraction.{Fraction};
-ghost use Rattle.dyadic.specs.Ends.{bound_of};
-ghost use Rattle.dyadic.specs.Values.{value_of as grid_value};
+ghost use Rattle.literal_order.specs.fx_model.Fraction.{Fraction};
+ghost use Rattle.literal_order.specs.dyadic.Ends.{bound_of};
+ghost use Rattle.literal_order.specs.dyadic.Values.{value_of as grid_value};
 ghost use Rattle.literal_order.specs.Values.{written_value, IsWritten};
 ghost use Rattle.bound_order.specs.Texts.{IsNumber};
 ghost use Rattle.bound_order.specs.Tests as spec;
 
-use dyadic::{Dyadic, End};
 use facts::RelativeError;
-use literal::read_bytes;
-use literal_order::Written;
+use literal_order::{Dyadic, End, Written, read_bytes};
 
 /// The number that the text of a literal stands for, or the negative of it. `None` exactly where the text is no literal
 /// within its limits.

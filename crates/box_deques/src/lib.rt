@@ -16,8 +16,3 @@ pub use lane::{Lane, pool};
 pub use pool_hands::hands;
 pub use task::{Naming, Task};
 pub use thief::Thief;
-
-#[cfg(test)]
-mod shared_tests;
-#[cfg(test)]
-mod tests;

@@ -9,20 +9,20 @@ use Rattle.facts.specs.declared.fact.Slot.{Slot}
 use Rattle.facts.specs.declared.instance.Instance.{Instance}
 use Rattle.facts.specs.Order.{slot_of}
 use Rattle.facts.specs.CommonParts.{all_as, all_last}
-use Rattle.theorem_list.specs.Concludes.{concludes}
-use Rattle.derivation.specs.Derivations.{At}
-use Rattle.derivation.specs.Rounds.{Reads, conclusion}
-use Rattle.derivation.specs.Parts.{slot_cases, conclusion_reads}
-use Rattle.cert_bytes.specs.declared.item.StepRow.{StepRow}
-use Rattle.rule_universe.specs.Worlds.{World}
-use Rattle.rule_universe.specs.declared.placed.Placed.{Placed}
+use Rattle.saturate.specs.theorem_list.Concludes.{concludes}
+use Rattle.saturate.specs.derivation.Derivations.{At}
+use Rattle.saturate.specs.derivation.Rounds.{Reads, conclusion}
+use Rattle.saturate.specs.derivation.Parts.{slot_cases, conclusion_reads}
+use Rattle.box_traces.specs.cert_bytes.declared.item.StepRow.{StepRow}
+use Rattle.saturate.specs.rule_universe.Worlds.{World}
+use Rattle.saturate.specs.rule_universe.declared.placed.Placed.{Placed}
 use Rattle.box_trace.specs.declared.known.Cited.{Cited}
 use Rattle.box_trace.specs.declared.known.Known.{Known}
 use Rattle.box_trace.specs.declared.log.Log.{Log}
 use Rattle.box_trace.specs.declared.ends.Found.{Found}
 use Rattle.box_trace.specs.Tables.{fact_of, number_of, number_or, row_of, row_in, cited_at, known_at, step_at, place_in}
 use Rattle.box_trace.specs.Logs.{kept_in, IsStep, Comes, IsRound, more_by}
-use Rattle.rule_universe.specs.Sizes.{beyond_four}
+use Rattle.saturate.specs.rule_universe.Sizes.{beyond_four}
 use Rattle.box_trace.specs.Rounds.{premises_in, beyond_in, premises_a_round, IsStepIn, IsEarlier, IsByInstance, IsRoundOf, AreRounds, IsGivenStep, AreGiven, AreByRounds, AddsSteps, BeginsBy, HasRounds}
 use Rattle.box_traces.specs.Cited.{mapped}
 use Rattle.box_traces.specs.Coming.{coming}

@@ -6,17 +6,17 @@ use Rattle.facts.specs.declared.fact.Fact.{Fact}
 use Rattle.facts.specs.declared.fact.Fact.TheVariants as fact
 use Rattle.facts.specs.declared.instance.Instance.{Instance}
 use Rattle.facts.specs.Order.{slot_of}
-use Rattle.theorem_list.specs.Concludes.{concludes}
+use Rattle.saturate.specs.theorem_list.Concludes.{concludes}
 use Rattle.pair_closure.specs.Reached.{IsEachOnce}
-use Rattle.derivation.specs.Derivations.{At}
-use Rattle.derivation.specs.Lists.{IsOnTargetList}
-use Rattle.derivation.specs.Parts.{conclusion_reads}
-use Rattle.rule_universe.specs.Worlds.{World}
-use Rattle.rule_universe.specs.Places.{IsPlace}
+use Rattle.saturate.specs.derivation.Derivations.{At}
+use Rattle.saturate.specs.derivation.Lists.{IsOnTargetList}
+use Rattle.saturate.specs.derivation.Parts.{conclusion_reads}
+use Rattle.saturate.specs.rule_universe.Worlds.{World}
+use Rattle.saturate.specs.rule_universe.Places.{IsPlace}
 use Rattle.box_trace.specs.declared.ends.Found.{Found}
 use Rattle.box_trace.specs.declared.ends.Ends.{Ends}
 use Rattle.box_trace.specs.Tables.{row_of}
-use Rattle.rule_universe.specs.Sizes.{beyond_four}
+use Rattle.saturate.specs.rule_universe.Sizes.{beyond_four}
 use Rattle.box_trace.specs.Rounds.{beyond_in}
 use Rattle.box_trace.specs.Logs.{more_by}
 use Rattle.box_trace.specs.Scans.{IsConclusion, AreEndsOf}

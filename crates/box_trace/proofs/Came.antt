@@ -9,18 +9,18 @@ use Rattle.facts.specs.declared.fact.Fact.TheVariants as fact
 use Rattle.facts.specs.declared.fact.Slot.TheVariants as slot
 use Rattle.facts.specs.declared.instance.Instance.{Instance}
 use Rattle.facts.specs.Order.{slot_of, IsStronger}
-use Rattle.theorem_list.specs.Concludes.{concludes}
+use Rattle.saturate.specs.theorem_list.Concludes.{concludes}
 use Rattle.pair_closure.specs.Reached.{IsEachOnce}
-use Rattle.derivation.specs.Derivations.{At}
-use Rattle.derivation.specs.Lists.{IsOnTargetList}
-use Rattle.derivation.specs.Rounds.{IsProper, Improves, IsAhead, IsSame, AllSeen}
-use Rattle.derivation.specs.Changes.{IsListed}
-use Rattle.derivation.specs.Parts.{some_same, none_some, slot_cases, void_alone}
-use Rattle.derivation.specs.Steps.{improved_slot, improved_stronger, old_no_void}
-use Rattle.derivation.specs.Ahead.{ahead_begin, ahead_step, ahead_void}
-use Rattle.rule_universe.specs.declared.placed.Placed.{Placed}
-use Rattle.rule_universe.specs.Worlds.{World}
-use Rattle.rule_universe.specs.Placed.{slots_of, IsPlaced}
+use Rattle.saturate.specs.derivation.Derivations.{At}
+use Rattle.saturate.specs.derivation.Lists.{IsOnTargetList}
+use Rattle.saturate.specs.derivation.Rounds.{IsProper, Improves, IsAhead, IsSame, AllSeen}
+use Rattle.saturate.specs.derivation.Changes.{IsListed}
+use Rattle.saturate.specs.derivation.Parts.{some_same, none_some, slot_cases, void_alone}
+use Rattle.saturate.specs.derivation.Steps.{improved_slot, improved_stronger, old_no_void}
+use Rattle.saturate.specs.derivation.Ahead.{ahead_begin, ahead_step, ahead_void}
+use Rattle.saturate.specs.rule_universe.declared.placed.Placed.{Placed}
+use Rattle.saturate.specs.rule_universe.Worlds.{World}
+use Rattle.saturate.specs.rule_universe.Placed.{slots_of, IsPlaced}
 use Rattle.saturate.specs.Universes.{setting_of}
 use Rattle.box_trace.specs.declared.known.Known.{Known}
 use Rattle.box_trace.specs.declared.log.Log.{Log}
@@ -30,7 +30,7 @@ use Rattle.box_traces.specs.Sections.{behind, ArePlaces}
 use Rattle.box_traces.specs.Writing.{IsWritable}
 use Rattle.box_trace.specs.Tables.{known_at, place_in, HasRows}
 use Rattle.box_trace.specs.Scans.{IsConclusion, ends_in, AreEndsOf, IsWide, most_for}
-use Rattle.rule_universe.specs.Sizes.{beyond_four}
+use Rattle.saturate.specs.rule_universe.Sizes.{beyond_four}
 use Rattle.box_trace.specs.Rounds.{AddsSteps}
 use Rattle.box_trace.specs.Logs.{Comes, CanCite, GoesOnFrom, IsLonger, IsComeBy, IsSlotWritten, IsRound, more_by}
 use Rattle.box_trace.proofs.OnePlace.{slot_once}

@@ -6,17 +6,17 @@ use Rattle.facts.specs.declared.fact.Fact.{Fact}
 use Rattle.facts.specs.declared.fact.Slot.{Slot}
 use Rattle.facts.specs.declared.instance.Instance.{Instance}
 use Rattle.facts.specs.Order.{slot_of, IsStronger}
-use Rattle.theorem_list.specs.Concludes.{concludes}
-use Rattle.derivation.specs.Derivations.{At}
-use Rattle.derivation.specs.Rounds.{IsProper, Reads, conclusion, IsKept, Improves}
-use Rattle.derivation.specs.Parts.{some_same, slot_cases, conclusion_reads}
-use Rattle.derivation.specs.Steps.{improved_proper}
-use Rattle.derivation.specs.Exists.{joined, with_fact-improves}
-use Rattle.cert_bytes.specs.declared.item.StepRow.{StepRow}
-use Rattle.cert_bytes.specs.Certificates.{IsCounted, IsShort}
-use Rattle.cert_checker.specs.Open.{Numbered, with_step}
-use Rattle.cert_checker.specs.Steps.{step_fact, step_facts, gives, met_with, IsEnough, IsConcluded, target_of}
-use Rattle.rule_universe.specs.Worlds.{World}
+use Rattle.saturate.specs.theorem_list.Concludes.{concludes}
+use Rattle.saturate.specs.derivation.Derivations.{At}
+use Rattle.saturate.specs.derivation.Rounds.{IsProper, Reads, conclusion, IsKept, Improves}
+use Rattle.saturate.specs.derivation.Parts.{some_same, slot_cases, conclusion_reads}
+use Rattle.saturate.specs.derivation.Steps.{improved_proper}
+use Rattle.saturate.specs.derivation.Exists.{joined, with_fact-improves}
+use Rattle.box_traces.specs.cert_bytes.declared.item.StepRow.{StepRow}
+use Rattle.box_traces.specs.cert_bytes.Certificates.{IsCounted, IsShort}
+use Rattle.box_traces.specs.cert_checker.Open.{Numbered, with_step}
+use Rattle.box_traces.specs.cert_checker.Steps.{step_fact, step_facts, gives, met_with, IsEnough, IsConcluded, target_of}
+use Rattle.saturate.specs.rule_universe.Worlds.{World}
 use Rattle.saturate.specs.Universes.{setting_of}
 use Rattle.box_trace.specs.declared.known.Known.{Known}
 use Rattle.box_trace.specs.declared.log.Log.{Log}

@@ -8,8 +8,8 @@ use Rattle.facts.specs.declared.fact.Slot.TheVariants as slot
 use Rattle.pair_closure.specs.Reached.{IsEachOnce}
 use Rattle.pair_closure.specs.Closure.{Pair}
 use Rattle.pair_closure.specs.Members.{some-inj}
-use Rattle.rule_universe.specs.Worlds.{IsSlot}
-use Rattle.rule_universe.specs.Places.{IsPlace, place_count}
+use Rattle.saturate.specs.rule_universe.Worlds.{IsSlot}
+use Rattle.saturate.specs.rule_universe.Places.{IsPlace, place_count}
 
 module _ (n : ℕ) (pairs : List Pair) where
   pub place_slot : (s : Slot) (p : ℕ) → IsPlace n pairs s p → IsSlot n pairs s

@@ -10,9 +10,9 @@ use Rattle.facts.specs.Order.{is_same}
 use Rattle.facts.specs.CommonParts.{expr_same, at_option}
 use Rattle.pair_closure.specs.Closure.{Pair}
 use Rattle.pair_closure.specs.Reached.{IsEachOnce}
-use Rattle.derivation.specs.Rounds.{IsProper}
-use Rattle.rule_universe.specs.Worlds.{World}
-use Rattle.rule_universe.specs.Places.{IsPlace, block_place}
+use Rattle.saturate.specs.derivation.Rounds.{IsProper}
+use Rattle.saturate.specs.rule_universe.Worlds.{World}
+use Rattle.saturate.specs.rule_universe.Places.{IsPlace, block_place}
 use Rattle.box_trace.specs.declared.known.Cited.{Cited}
 use Rattle.box_trace.specs.declared.known.Known.{Known}
 use Rattle.box_trace.specs.Tables.{one_later, pair_number, behind_blocks, row_of, flat, row_in, fact_of, number_or, cited_at, known_at, place_in, HasRows}

@@ -10,13 +10,13 @@ use Rattle.facts.specs.declared.fact.Fact.TheVariants as fact
 use Rattle.facts.specs.declared.instance.Instance.{Instance}
 use Rattle.facts.specs.Order.{slot_of}
 use Rattle.facts.specs.Laws.{IsStronger-trans}
-use Rattle.theorem_list.specs.Concludes.{concludes}
-use Rattle.derivation.specs.Derivations.{At, Beats}
-use Rattle.derivation.specs.Rounds.{conclusion, Improves, IsAhead, AllSeen}
-use Rattle.derivation.specs.Parts.{some_same}
-use Rattle.derivation.specs.Ahead.{ahead_fewer, ahead_step}
-use Rattle.rule_universe.specs.Worlds.{World}
-use Rattle.rule_universe.specs.Places.{IsPlace}
+use Rattle.saturate.specs.theorem_list.Concludes.{concludes}
+use Rattle.saturate.specs.derivation.Derivations.{At, Beats}
+use Rattle.saturate.specs.derivation.Rounds.{conclusion, Improves, IsAhead, AllSeen}
+use Rattle.saturate.specs.derivation.Parts.{some_same}
+use Rattle.saturate.specs.derivation.Ahead.{ahead_fewer, ahead_step}
+use Rattle.saturate.specs.rule_universe.Worlds.{World}
+use Rattle.saturate.specs.rule_universe.Places.{IsPlace}
 use Rattle.saturate.specs.Universes.{setting_of}
 use Rattle.box_trace.specs.declared.ends.Found.{Found}
 use Rattle.box_trace.specs.declared.ends.Ends.{Ends}

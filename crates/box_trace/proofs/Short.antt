@@ -6,13 +6,13 @@ use Rattle.std.proofs.Common.{arith, sym, ap, subst, ◌∙◌}
 use Rattle.std.proofs.lemmas.List.{length-append}
 use Rattle.fx_model.specs.declared.Node.{Node}
 use Rattle.fx_model.specs.declared.Node.TheVariants.{Var, Lit, Neg, Add, Sub, Mul, Div, Abs, Round}
-use Rattle.cert_bytes.specs.declared.item.Item.{Item}
-use Rattle.cert_bytes.specs.declared.item.Item.TheVariants as item
-use Rattle.cert_bytes.specs.declared.item.StepRow.{StepRow}
-use Rattle.cert_bytes.specs.Sizes.{most_bytes, most_bytes_in}
-use Rattle.rule_universe.specs.Worlds.{World}
+use Rattle.box_traces.specs.cert_bytes.declared.item.Item.{Item}
+use Rattle.box_traces.specs.cert_bytes.declared.item.Item.TheVariants as item
+use Rattle.box_traces.specs.cert_bytes.declared.item.StepRow.{StepRow}
+use Rattle.box_traces.specs.cert_bytes.Sizes.{most_bytes, most_bytes_in}
+use Rattle.saturate.specs.rule_universe.Worlds.{World}
 use Rattle.box_trace.specs.declared.known.Known.{Known}
-use Rattle.rule_universe.specs.Sizes.{beyond_four, IsSmall}
+use Rattle.saturate.specs.rule_universe.Sizes.{beyond_four, IsSmall}
 use Rattle.box_trace.specs.Rounds.{premises_in, premises_a_round, IsGivenStep, IsRoundOf, AreRounds, one_if_variable, variable_count, most_given, IsOfParent, AreItsRounds}
 use Rattle.box_trace.specs.Short.{EndsBox, BoxesAreShort}
 

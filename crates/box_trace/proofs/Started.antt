@@ -15,16 +15,16 @@ use Rattle.facts.specs.declared.fact.Fact.TheVariants as fact
 use Rattle.facts.specs.declared.fact.Slot.TheVariants as slot
 use Rattle.facts.specs.Order.{slot_of}
 use Rattle.facts.specs.Meets.{meet-stronger}
-use Rattle.derivation.specs.Derivations.{At}
-use Rattle.derivation.specs.Known.{Piece}
-use Rattle.derivation.specs.Rounds.{IsBlank}
-use Rattle.derivation.specs.Parts.{none_some}
-use Rattle.derivation.specs.Exists.{joined}
-use Rattle.cert_bytes.specs.Certificates.{IsShort}
-use Rattle.cert_checker.specs.Open.{Numbered}
-use Rattle.cert_checker.specs.Steps.{met_with, IsEnough, whole_line, variable_fact}
-use Rattle.rule_universe.specs.Worlds.{World}
-use Rattle.rule_universe.specs.Places.{place_count}
+use Rattle.saturate.specs.derivation.Derivations.{At}
+use Rattle.saturate.specs.derivation.Known.{Piece}
+use Rattle.saturate.specs.derivation.Rounds.{IsBlank}
+use Rattle.saturate.specs.derivation.Parts.{none_some}
+use Rattle.saturate.specs.derivation.Exists.{joined}
+use Rattle.box_traces.specs.cert_bytes.Certificates.{IsShort}
+use Rattle.box_traces.specs.cert_checker.Open.{Numbered}
+use Rattle.box_traces.specs.cert_checker.Steps.{met_with, IsEnough, whole_line, variable_fact}
+use Rattle.saturate.specs.rule_universe.Worlds.{World}
+use Rattle.saturate.specs.rule_universe.Places.{place_count}
 use Rattle.saturate.specs.Universes.{setting_of}
 use Rattle.box_trace.specs.declared.known.Known.{Known}
 use Rattle.box_trace.specs.declared.log.Log.{Log}

@@ -5,10 +5,10 @@ use Rattle.facts.specs.declared.fact.Fact.{Fact}
 use Rattle.facts.specs.Order.{slot_of, IsStronger, meet_of}
 use Rattle.facts.specs.Laws.{IsStronger-slot}
 use Rattle.pair_closure.specs.Reached.{IsEachOnce}
-use Rattle.derivation.specs.Steps.{improved_stronger}
-use Rattle.derivation.specs.Exists.{joined, or_else, with_fact, with_fact-improves}
-use Rattle.rule_universe.specs.Worlds.{World, HasSlot}
-use Rattle.rule_universe.specs.Places.{IsPlace}
+use Rattle.saturate.specs.derivation.Steps.{improved_stronger}
+use Rattle.saturate.specs.derivation.Exists.{joined, or_else, with_fact, with_fact-improves}
+use Rattle.saturate.specs.rule_universe.Worlds.{World, HasSlot}
+use Rattle.saturate.specs.rule_universe.Places.{IsPlace}
 use Rattle.box_trace.specs.declared.known.Cited.{Cited}
 use Rattle.box_trace.specs.declared.log.Log.{Log}
 use Rattle.box_trace.specs.Tables.{row_in, fact_of, number_or, cited_at, known_at, place_in, HasRows}

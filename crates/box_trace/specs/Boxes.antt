@@ -4,12 +4,12 @@ use Rattle.std.specs.Borrow.{Bor}
 use Rattle.facts.specs.declared.fact.Fact.{Fact}
 use Rattle.facts.specs.declared.fact.Fact.TheVariants as fact
 use Rattle.facts.specs.declared.fact.Slot.TheVariants as slot
-use Rattle.derivation.specs.Derivations.{At}
-use Rattle.derivation.specs.Known.{Piece, IsTableAt}
-use Rattle.derivation.specs.Exists.{joined}
-use Rattle.cert_checker.specs.Open.{Numbered}
-use Rattle.cert_checker.specs.Steps.{met_with, IsEnough}
-use Rattle.rule_universe.specs.Worlds.{World}
+use Rattle.saturate.specs.derivation.Derivations.{At}
+use Rattle.saturate.specs.derivation.Known.{Piece, IsTableAt}
+use Rattle.saturate.specs.derivation.Exists.{joined}
+use Rattle.box_traces.specs.cert_checker.Open.{Numbered}
+use Rattle.box_traces.specs.cert_checker.Steps.{met_with, IsEnough}
+use Rattle.saturate.specs.rule_universe.Worlds.{World}
 use Rattle.saturate.specs.Universes.{setting_of}
 use Rattle.box_trace.specs.declared.known.Known.{Known}
 use Rattle.box_trace.specs.declared.log.Log.{Log}

@@ -6,9 +6,9 @@ use Rattle.fx_model.specs.declared.Node.{Node}
 use Rattle.fx_model.specs.declared.Node.TheVariants.{Var}
 use Rattle.facts.specs.declared.fact.Slot.{Slot}
 use Rattle.facts.specs.declared.instance.Instance.{Instance}
-use Rattle.cert_bytes.specs.declared.item.StepRow.{StepRow}
-use Rattle.rule_universe.specs.Worlds.{World}
-use Rattle.rule_universe.specs.Sizes.{beyond_four}
+use Rattle.box_traces.specs.cert_bytes.declared.item.StepRow.{StepRow}
+use Rattle.saturate.specs.rule_universe.Worlds.{World}
+use Rattle.saturate.specs.rule_universe.Sizes.{beyond_four}
 use Rattle.box_trace.specs.declared.known.Known.{Known}
 use Rattle.box_trace.specs.declared.log.Log.{Log}
 use Rattle.box_trace.specs.declared.tracing.Traced.{Traced}

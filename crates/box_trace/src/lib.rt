@@ -2,6 +2,10 @@
 //! steps for a slot.
 #![tactic(auto)]
 
+// What callers name of the crates below.
+pub use box_traces::{Subject, certificates_exist, walks_move};
+pub use saturate::{Universe, rules_are_lawful};
+
 mod ends;
 mod known;
 mod laws;

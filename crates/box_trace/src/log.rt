@@ -2,17 +2,17 @@
 ghost use Rattle.box_traces.specs.Coming.{with_by};
 ghost use Rattle.std.specs.Prelude.{◌≡◌, ◌<◌, ◌+◌, ◌^◌, [], Some, IfNone, IfSome, OnOk, length};
 ghost use Rattle.facts.specs.Order.{slot_of, IsStronger};
-ghost use Rattle.derivation.specs.Exists.{joined};
-ghost use Rattle.rule_universe.specs.Places.{IsPlace};
+ghost use Rattle.saturate.specs.derivation.Exists.{joined};
+ghost use Rattle.saturate.specs.rule_universe.Places.{IsPlace};
 ghost use Rattle.box_trace.specs.declared.known.Cited.{Cited as Row};
 ghost use Rattle.box_trace.specs.Tables.{fact_of, number_of, number_or, HasRows};
 ghost use Rattle.box_trace.specs.Logs.{Comes};
 
 use crate::known::{Cited, Known, number_of};
-use cert_bytes::StepRow;
+use box_traces::StepRow;
 use facts::{Fact, meet, slot, stronger};
 use fx_edge::Items;
-use rule_universe::Universe;
+use saturate::Universe;
 use std::alloc::{AllocError, Global};
 
 /// The steps so far, the first with this number, and what they come to.

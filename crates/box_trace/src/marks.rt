@@ -1,10 +1,10 @@
 //! Which instances are due in the next round.
 ghost use Rattle.std.specs.Prelude.{◌≡◌, ◌≢◌, ◌⊎◌, ◌<◌, ℕ, Some, true, length, slice_get, Contains};
-ghost use Rattle.derivation.specs.Changes.{AreDue, AreUsers};
-ghost use Rattle.rule_universe.specs.declared.placed.Placed.{Placed as Placement};
-ghost use Rattle.rule_universe.specs.Placed.{IsPlaced, slots_of};
+ghost use Rattle.saturate.specs.derivation.Changes.{AreDue, AreUsers};
+ghost use Rattle.saturate.specs.rule_universe.declared.placed.Placed.{Placed as Placement};
+ghost use Rattle.saturate.specs.rule_universe.Placed.{IsPlaced, slots_of};
 
-use rule_universe::{Placed, Universe};
+use saturate::{Placed, Universe};
 
 // Marks no instance.
 fn clear(due: &mut [bool])

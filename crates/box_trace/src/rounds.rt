@@ -2,9 +2,9 @@
 ghost use Rattle.std.specs.Prelude.{◌≡◌, ◌<◌, ◌≤◌, ◌+◌, ◌*◌, ◌^◌, ◌↔◌, IsTrue, OnOk, length};
 ghost use Rattle.facts.specs.declared.fact.Fact.TheVariants as fact;
 ghost use Rattle.facts.specs.Order.{slot_of};
-ghost use Rattle.derivation.specs.Rounds.{IsSame, IsBestFrom};
-ghost use Rattle.derivation.specs.Changes.{IsQuiet};
-ghost use Rattle.rule_universe.specs.Places.{IsPlace, place_count};
+ghost use Rattle.saturate.specs.derivation.Rounds.{IsSame, IsBestFrom};
+ghost use Rattle.saturate.specs.derivation.Changes.{IsQuiet};
+ghost use Rattle.saturate.specs.rule_universe.Places.{IsPlace, place_count};
 ghost use Rattle.saturate.specs.Universes.{setting_of};
 ghost use Rattle.box_trace.specs.Tables.{known_at, HasRows};
 ghost use Rattle.box_trace.specs.Logs.{IsComeBy, IsSlotWritten, IsRound, IsLonger};
@@ -18,8 +18,7 @@ use crate::marks::mark;
 use crate::scan::{Scan, cite, instance_at};
 use facts::{Slot, slot};
 use fx_edge::Items;
-use rule_universe::{Placed, Universe};
-use saturate::rules_are_lawful;
+use saturate::{Placed, Universe, rules_are_lawful};
 use std::alloc::{AllocError, Global};
 
 // Lets what an instance concluded come to what is known.

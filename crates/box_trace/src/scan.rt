@@ -2,12 +2,12 @@
 ghost use Rattle.std.specs.Prelude.{◌≡◌, ◌<◌, ◌*◌, ◌+◌, ℕ, Some, None, IfOk, OnOk, length, slice_get, map, replicate, Contains};
 ghost use Rattle.facts.specs.declared.fact.Slot.{Slot};
 ghost use Rattle.facts.specs.declared.instance.Instance.{Instance as Applied};
-ghost use Rattle.theorem_list.specs.Concludes.{concludes};
-ghost use Rattle.derivation.specs.Rounds.{conclusion};
-ghost use Rattle.derivation.specs.Changes.{IsQuiet};
-ghost use Rattle.rule_universe.specs.declared.placed.Placed.{Placed as Placement};
-ghost use Rattle.rule_universe.specs.Places.{IsPlace, place_count};
-ghost use Rattle.rule_universe.specs.Placed.{IsPlaced, slots_of};
+ghost use Rattle.saturate.specs.theorem_list.Concludes.{concludes};
+ghost use Rattle.saturate.specs.derivation.Rounds.{conclusion};
+ghost use Rattle.saturate.specs.derivation.Changes.{IsQuiet};
+ghost use Rattle.saturate.specs.rule_universe.declared.placed.Placed.{Placed as Placement};
+ghost use Rattle.saturate.specs.rule_universe.Places.{IsPlace, place_count};
+ghost use Rattle.saturate.specs.rule_universe.Placed.{IsPlaced, slots_of};
 ghost use Rattle.saturate.specs.Universes.{setting_of};
 ghost use Rattle.box_trace.specs.Tables.{row_in, known_at, place_in, HasRows};
 ghost use Rattle.box_trace.specs.Scans.{IsBeaten, IsWith, IsConcludedBy, IsNoted, IsVisited, IsGathered};
@@ -15,10 +15,8 @@ ghost use Rattle.box_trace.specs.Scans.{IsBeaten, IsWith, IsConcludedBy, IsNoted
 use crate::ends::{Ends, Found};
 use crate::known::Known;
 use facts::{Fact, Instance, stronger};
-use rule_universe::{Placed, Universe};
-use saturate::rules_are_lawful;
+use saturate::{Placed, Universe, conclude, rules_are_lawful};
 use std::alloc::{AllocError, Global};
-use theorem_list::conclude;
 
 /// What rounds work with: by the place of a slot, the conclusions that give the ends of its fact, where one says more than is known.
 #[derive(Drop)]

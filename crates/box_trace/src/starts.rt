@@ -2,9 +2,9 @@
 ghost use Rattle.std.specs.Prelude.{◌≡◌, ◌<◌, ◌≤◌, ◌+◌, ◌^◌, [], None, Some, IfOk, length, slice_get};
 ghost use Rattle.facts.specs.declared.fact.Fact.{Fact as Claim};
 ghost use Rattle.facts.specs.declared.fact.Fact.TheVariants as fact;
-ghost use Rattle.derivation.specs.Known.{IsGiven};
-ghost use Rattle.derivation.specs.Rounds.{Improves};
-ghost use Rattle.derivation.specs.Begun.{IsGathered, FirstLines};
+ghost use Rattle.saturate.specs.derivation.Known.{IsGiven};
+ghost use Rattle.saturate.specs.derivation.Rounds.{Improves};
+ghost use Rattle.saturate.specs.derivation.Begun.{IsGathered, FirstLines};
 ghost use Rattle.saturate.specs.Universes.{setting_of};
 ghost use Rattle.box_trace.specs.Tables.{known_at, HasRows};
 ghost use Rattle.box_trace.specs.Boxes.{BeginsRoot, BeginsBelow};
@@ -16,7 +16,7 @@ use expr_dag::Node;
 use facts::{Fact, slot};
 use fx_model::ExprId;
 use interval::Interval;
-use rule_universe::Universe;
+use saturate::Universe;
 use std::alloc::{AllocError, Global};
 
 // The hypothesis with this number.

@@ -8,26 +8,26 @@ use Rattle.fx_model.specs.declared.Node.{Node}
 use Rattle.fx_model.specs.declared.Node.TheVariants as node
 use Rattle.fx_model.specs.Grid.{Bound, Below, Above, At as Number}
 use Rattle.fx_model.specs.Enclosure.{BoundLe}
-use Rattle.interval.specs.declared.interval.Interval.{Interval}
-use Rattle.interval.specs.Intervals.{range_of}
-use Rattle.interval.specs.Results.{whole_interval}
-use Rattle.facts.specs.declared.fact.Fact.{Fact}
-use Rattle.facts.specs.declared.fact.Slot.{Slot}
-use Rattle.facts.specs.declared.fact.Fact.TheVariants as fact
-use Rattle.facts.specs.declared.fact.Slot.TheVariants as slot
-use Rattle.facts.specs.declared.hint.HintRow.{HintRow}
-use Rattle.facts.specs.Order.{slot_of}
-use Rattle.facts.specs.Meets.{meet-stronger}
-use Rattle.theorem_list.specs.Concludes.{concludes}
-use Rattle.facts.specs.declared.instance.Instance.{Instance}
+use Rattle.derivation.specs.interval.declared.interval.Interval.{Interval}
+use Rattle.derivation.specs.interval.Intervals.{range_of}
+use Rattle.derivation.specs.interval.Results.{whole_interval}
+use Rattle.derivation.specs.facts.declared.fact.Fact.{Fact}
+use Rattle.derivation.specs.facts.declared.fact.Slot.{Slot}
+use Rattle.derivation.specs.facts.declared.fact.Fact.TheVariants as fact
+use Rattle.derivation.specs.facts.declared.fact.Slot.TheVariants as slot
+use Rattle.derivation.specs.facts.declared.hint.HintRow.{HintRow}
+use Rattle.derivation.specs.facts.Order.{slot_of}
+use Rattle.derivation.specs.facts.Meets.{meet-stronger}
+use Rattle.cert_checker.specs.theorem_list.Concludes.{concludes}
+use Rattle.derivation.specs.facts.declared.instance.Instance.{Instance}
 use Rattle.derivation.specs.Derivations.{Setting, At}
 use Rattle.derivation.specs.Known.{Piece}
 use Rattle.derivation.specs.Rounds.{IsProper, conclusion}
 use Rattle.derivation.specs.Parts.{conclusion_reads}
 use Rattle.derivation.specs.Exists.{joined, with_fact, with_fact-improves, with_conclusion, conclusion_of, after_instances, after_round, after_rounds, blank, with_hypotheses, line_of, with_lines, table_at}
 use Rattle.derivation.specs.Steps.{improved_proper}
-use Rattle.cert_bytes.specs.declared.item.StepRow.{StepRow}
-use Rattle.cert_bytes.specs.Certificates.{IsCounted, IsShort}
+use Rattle.cert_checker.specs.cert_bytes.declared.item.StepRow.{StepRow}
+use Rattle.cert_checker.specs.cert_bytes.Certificates.{IsCounted, IsShort}
 use Rattle.cert_checker.specs.Open.{Numbered, with_step}
 use Rattle.cert_checker.specs.Steps.{step_facts, gives, met_with, IsEnough, target_of, whole_line, variable_fact}
 use Rattle.box_traces.specs.Sections.{behind, ArePlaces, AreBelow}
@@ -35,7 +35,7 @@ use Rattle.box_traces.specs.Writing.{IsSlotKnown, IsWritable, givens_of}
 use Rattle.box_traces.specs.Traces.{Trace, IsCutTo, most_steps}
 use Rattle.box_traces.specs.Cited.{step_kept, behind_both, premises_found, fields_more, mapped, reads_length}
 use Rattle.box_traces.specs.Coming.{met_by, coming, aims, enough, coming_accepted, placed_at, traced_more, met_by_interval}
-use Rattle.facts.specs.CommonParts.{at_option}
+use Rattle.derivation.specs.facts.CommonParts.{at_option}
 
 one_longer : (rows : List StepRow) (row : StepRow) (n : ℕ) → length rows ≤ n → length (rows ++ row ∷ []) ≤ n + 1
 one_longer rows row n h = omega (arith, length-append rows (row ∷ []), h)

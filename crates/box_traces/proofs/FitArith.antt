@@ -6,20 +6,20 @@ use Rattle.fx_model.specs.Fraction.{zero_ℚ, one_ℚ}
 use Rattle.fx_model.specs.declared.ExprId.{ExprId}
 use Rattle.fx_model.specs.declared.Node.{Node}
 use Rattle.fx_model.specs.declared.Node.TheVariants as node
-use Rattle.interval.specs.declared.interval.Interval.{Interval}
-use Rattle.interval.specs.Results.{negation_of, sum_of, difference_of, product_of, quotient_of, point_of, whole_interval, size_of}
+use Rattle.derivation.specs.interval.declared.interval.Interval.{Interval}
+use Rattle.derivation.specs.interval.Results.{negation_of, sum_of, difference_of, product_of, quotient_of, point_of, whole_interval, size_of}
 use Rattle.expr_dag.specs.Shapes.{is_at}
-use Rattle.facts.specs.declared.size.Size.{Size}
-use Rattle.facts.specs.declared.fact.Fact.TheVariants as fact
-use Rattle.facts.specs.declared.fact.Slot.TheVariants as slot
-use Rattle.facts.specs.Order.{is_same}
-use Rattle.facts.specs.Parts.{size_within}
-use Rattle.facts.specs.Conclusions.{abs_of, bnd_of}
-use Rattle.theorem_arith.specs.Shapes.{is_one}
-use Rattle.theorem_arith.specs.Bounds.{literal_at, literal_rule, negation_rule, binary_rule, sum_rule, difference_rule, product_rule, difference_with_itself_rule, square_rule, quotient_rule, quotient_by_nonzero_rule, quotient_by_itself_rule}
-use Rattle.theorem_arith.specs.Sizes.{size_rule, around, value_rule, is_above, is_below, signed_fact, sign_rule, absolute_value_rule, abs_or_void, void_if_none, is_absolute_value, size_of_value_rule, size_of_negation_rule, size_of_product_rule, size_within_part, size_of_quotient_rule, size_of_sum, size_of_sum_rule}
+use Rattle.derivation.specs.facts.declared.size.Size.{Size}
+use Rattle.derivation.specs.facts.declared.fact.Fact.TheVariants as fact
+use Rattle.derivation.specs.facts.declared.fact.Slot.TheVariants as slot
+use Rattle.derivation.specs.facts.Order.{is_same}
+use Rattle.derivation.specs.facts.Parts.{size_within}
+use Rattle.derivation.specs.facts.Conclusions.{abs_of, bnd_of}
+use Rattle.cert_checker.specs.theorem_arith.Shapes.{is_one}
+use Rattle.cert_checker.specs.theorem_arith.Bounds.{literal_at, literal_rule, negation_rule, binary_rule, sum_rule, difference_rule, product_rule, difference_with_itself_rule, square_rule, quotient_rule, quotient_by_nonzero_rule, quotient_by_itself_rule}
+use Rattle.cert_checker.specs.theorem_arith.Sizes.{size_rule, around, value_rule, is_above, is_below, signed_fact, sign_rule, absolute_value_rule, abs_or_void, void_if_none, is_absolute_value, size_of_value_rule, size_of_negation_rule, size_of_product_rule, size_within_part, size_of_quotient_rule, size_of_sum, size_of_sum_rule}
 use Rattle.expr_dag.specs.Shapes.{is_at_out}
-use Rattle.facts.specs.Conclusions.{given}
+use Rattle.derivation.specs.facts.Conclusions.{given}
 use Rattle.box_traces.proofs.Fitting.{FitsSteps, only_never, given_never, bnd_never, abs_never, only_given, given_both, only_void}
 
 literal_never : (n : Option Node) (x : ExprId) → literal_at n x ≡ Some fact.Void → ⊥

@@ -8,23 +8,23 @@ use Rattle.fx_model.specs.declared.Node.{Node}
 use Rattle.fx_model.specs.declared.Node.TheVariants as node
 use Rattle.fx_model.specs.declared.ExprId.{ExprId}
 use Rattle.dyadic.specs.declared.number.Dyadic.{Dyadic}
-use Rattle.interval.specs.declared.interval.Interval.{Interval}
-use Rattle.facts.specs.declared.fact.Fact.{Fact}
-use Rattle.facts.specs.declared.fact.Slot.{Slot}
-use Rattle.facts.specs.declared.fact.Fact.TheVariants as fact
-use Rattle.facts.specs.declared.fact.Slot.TheVariants as slot
-use Rattle.facts.specs.declared.hint.HintRow.{HintRow}
+use Rattle.derivation.specs.interval.declared.interval.Interval.{Interval}
+use Rattle.derivation.specs.facts.declared.fact.Fact.{Fact}
+use Rattle.derivation.specs.facts.declared.fact.Slot.{Slot}
+use Rattle.derivation.specs.facts.declared.fact.Fact.TheVariants as fact
+use Rattle.derivation.specs.facts.declared.fact.Slot.TheVariants as slot
+use Rattle.derivation.specs.facts.declared.hint.HintRow.{HintRow}
 use Rattle.derivation.specs.Derivations.{Setting, At}
 use Rattle.derivation.specs.Known.{Piece}
 use Rattle.derivation.specs.Rounds.{IsProper}
 use Rattle.derivation.specs.Exists.{table_at}
-use Rattle.goals.specs.declared.goal.Goal.{Goal}
-use Rattle.goals.specs.declared.line.Line.{Line}
-use Rattle.cert_bytes.specs.declared.item.Item.{Item}
-use Rattle.cert_bytes.specs.declared.item.Item.TheVariants as item
-use Rattle.cert_bytes.specs.declared.item.StepRow.{StepRow}
-use Rattle.cert_bytes.specs.Certificates.{AreDue, IsShort}
-use Rattle.cert_bytes.specs.declared.order.Due.TheVariants.{Sections}
+use Rattle.derivation.specs.goals.declared.goal.Goal.{Goal}
+use Rattle.derivation.specs.goals.declared.line.Line.{Line}
+use Rattle.cert_checker.specs.cert_bytes.declared.item.Item.{Item}
+use Rattle.cert_checker.specs.cert_bytes.declared.item.Item.TheVariants as item
+use Rattle.cert_checker.specs.cert_bytes.declared.item.StepRow.{StepRow}
+use Rattle.cert_checker.specs.cert_bytes.Certificates.{AreDue, IsShort}
+use Rattle.cert_checker.specs.cert_bytes.declared.order.Due.TheVariants.{Sections}
 use Rattle.cert_checker.specs.declared.open.Citable.{Citable}
 use Rattle.cert_checker.specs.declared.open.OpenCut.{OpenCut}
 use Rattle.cert_checker.specs.declared.subject.Subject.{Subject}
@@ -43,7 +43,7 @@ use Rattle.box_traces.specs.Moves.{AreSteps, IsEntered, frame_of, turned, lead_b
 use Rattle.box_traces.specs.Cited.{below_behind, found_long}
 use Rattle.box_traces.proofs.Come.{child_trace}
 use Rattle.box_traces.proofs.Written.{AreWritten, rows_written, settled_long}
-use Rattle.facts.specs.CommonParts.{void_is}
+use Rattle.derivation.specs.facts.CommonParts.{void_is}
 
 -- ---- contexts
 -- where the sections have begun, the number of cases was judged

@@ -3,11 +3,11 @@ use Rattle.std.specs.Prelude.{◌≡◌, ◌<◌, ◌≤◌, ◌+◌, ◌^◌, �
 use Rattle.std.specs.List.{AllByRecursion}
 use Rattle.std.proofs.Common.{arith}
 use Rattle.fx_model.specs.declared.Node.{Node}
-use Rattle.facts.specs.declared.fact.Fact.{Fact}
-use Rattle.facts.specs.declared.fact.Fact.TheVariants as fact
-use Rattle.goals.specs.declared.goal.Goal.{Goal}
-use Rattle.cert_bytes.specs.declared.item.StepRow.{StepRow}
-use Rattle.cert_bytes.specs.Certificates.{IsCounted, IsLong, IsOnShort, HasRoomFor}
+use Rattle.derivation.specs.facts.declared.fact.Fact.{Fact}
+use Rattle.derivation.specs.facts.declared.fact.Fact.TheVariants as fact
+use Rattle.derivation.specs.goals.declared.goal.Goal.{Goal}
+use Rattle.cert_checker.specs.cert_bytes.declared.item.StepRow.{StepRow}
+use Rattle.cert_checker.specs.cert_bytes.Certificates.{IsCounted, IsLong, IsOnShort, HasRoomFor}
 use Rattle.cert_checker.specs.declared.open.Citable.{Citable}
 use Rattle.cert_checker.specs.Open.{Numbered, with_step}
 use Rattle.cert_checker.specs.Steps.{step_fact, step_facts, before, IsMetWith, AreKnown, Givens, IsConcluded}
@@ -15,7 +15,7 @@ use Rattle.cert_checker.specs.Faults.{AreSettled}
 use Rattle.box_traces.specs.Sections.{AreAccepted, AllBelow, AreBelow}
 use Rattle.box_traces.specs.Traces.{HasFields, HaveFields}
 use Rattle.box_traces.specs.Cited.{step_below, found_below, found_long}
-use Rattle.facts.specs.CommonParts.{at_option}
+use Rattle.derivation.specs.facts.CommonParts.{at_option}
 
 -- ---- what is found is below the next
 -- the numbers are long where the next is no longer than that

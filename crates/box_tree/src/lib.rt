@@ -1,6 +1,10 @@
 //! Where boxes are cut, and what their pieces are.
 #![tactic(auto)]
 
+// What callers name of the crates below.
+pub use script_claims::{Claim, Line, goals_are_enough, hypotheses_hold, lines_hold};
+pub use script_hints::Fact;
+
 mod boxes;
 mod cut;
 mod halves;
@@ -15,6 +19,3 @@ pub use boxes::few_cuts_end;
 pub use cut::Cut;
 pub use plan::Plan;
 pub use root::{hypotheses_are_in_the_box, pieces_are_of_hypotheses};
-
-#[cfg(test)]
-mod tests;

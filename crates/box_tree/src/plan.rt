@@ -5,9 +5,8 @@ ghost use Rattle.script_hints.specs.Few.{HaveFewPieces};
 ghost use Rattle.box_tree.specs.Ranges.{IsOrdered};
 
 use crate::range::SplitRange;
-use fx_edge::Items;
-use fx_model::ExprId;
 use script_hints::hint::Split;
+use script_hints::{ExprId, Items};
 use std::marker::Model;
 
 /// How boxes are cut.

@@ -6,8 +6,8 @@ ghost use Rattle.std.specs.List.{AllByRecursion};
 ghost use Rattle.box_tree.specs.Points as spec;
 
 use crate::range::SplitRange;
-use dyadic::{Dyadic, Points, part_down};
 use script_hints::hint::Cutting;
+use script_hints::{Dyadic, Points, part_down};
 
 /// The number i of the points that cut the range into n parts.
 fn part_at(range: SplitRange, i: u8, n: u8) -> Dyadic

@@ -11,9 +11,8 @@ use crate::next::Next;
 use crate::plan::Plan;
 use crate::points::{cut_points, piece_of};
 use crate::range::{SplitRange, put_range, range_in};
-use dyadic::{Dyadic, Points};
-use fx_model::ExprId;
 use script_hints::hint::Split;
+use script_hints::{Dyadic, ExprId, Points};
 use std::marker::Model;
 
 /// The ranges of a box, how many unconditional cuts and how many halvings are behind it, and the variable of the last cut.

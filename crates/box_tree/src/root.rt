@@ -9,21 +9,17 @@ ghost use Rattle.box_tree.specs.Plans.{cut_at, piece_at};
 ghost use Rattle.box_tree.specs.Ranges.{IsOrdered};
 ghost use Rattle.box_tree.specs.Root as spec;
 ghost use Rattle.box_tree.specs.Covers.{LieInBox};
-ghost use Rattle.fx_model.specs.Expression.{Assignment, value};
-ghost use Rattle.fx_model.specs.declared.Node.{Node};
+ghost use Rattle.script_hints.specs.fx_model.Expression.{Assignment, value};
+ghost use Rattle.script_hints.specs.fx_model.declared.Node.{Node};
 ghost use Rattle.script_claims.specs.Meets.{IsTrueAt};
 ghost use Rattle.script_claims.specs.declared.claim.Claim.{Claim};
 ghost use Rattle.script_hints.specs.declared.hint.HintList.{HintList};
 
 use crate::plan::Plan;
 use crate::range::SplitRange;
-use dyadic::{Dyadic, End};
-use facts::Fact;
-use fx_edge::Items;
-use fx_model::ExprId;
-use interval::Interval;
 use script_claims::{Claim, hypotheses_hold};
 use script_hints::hint::{Cutting, HintList, Split};
+use script_hints::{Dyadic, End, ExprId, Fact, Interval, Items};
 use std::alloc::{AllocError, Global};
 
 /// The interval as a range, where its ends are finite.

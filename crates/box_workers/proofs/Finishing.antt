@@ -6,9 +6,9 @@ use Rattle.bisect.specs.Trees.{Tree, children, child_count, all_pieces}
 use Rattle.bisect.specs.Walks.{IsListed}
 use Rattle.bisect.specs.declared.settler.State.{State}
 use Rattle.bisect.specs.declared.settler.State.TheVariants as state
-use Rattle.box_tree.specs.declared.cut.Cut.{Cut}
-use Rattle.box_tree.specs.declared.cut.Cut.TheVariants as cut
-use Rattle.box_tree.specs.Pieces.{piece_count}
+use Rattle.accounts.specs.box_tree.declared.cut.Cut.{Cut}
+use Rattle.accounts.specs.box_tree.declared.cut.Cut.TheVariants as cut
+use Rattle.accounts.specs.box_tree.Pieces.{piece_count}
 use Rattle.box_workers.specs.declared.fate.Held.{Held}
 use Rattle.box_workers.proofs.Whole.{below_law}
 use Rattle.std.proofs.lemmas.Bool.Decides.{eqb_tells}

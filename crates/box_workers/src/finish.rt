@@ -4,8 +4,8 @@ ghost use Rattle.accounts.specs.Weights.{total};
 ghost use Rattle.bisect.specs.Trees.{tree_of};
 ghost use Rattle.box_workers.specs.Gathered.{Went, below, held_rest, held_rest_of, record_rest, records_rest, left_rest, children_rest, nothing, IsAccount};
 ghost use Rattle.bisect.specs.Answers.{IsAnswer};
-ghost use Rattle.box_tree.specs.Paths.{IsPathOf};
-ghost use Rattle.box_tree.specs.Pieces.{piece_count};
+ghost use Rattle.accounts.specs.box_tree.Paths.{IsPathOf};
+ghost use Rattle.accounts.specs.box_tree.Pieces.{piece_count};
 ghost use Rattle.box_workers.specs.Ends.{TaskFits, HeldFits, RecordFits};
 ghost use Rattle.box_workers.specs.Seen as seen;
 

@@ -21,6 +21,3 @@ pub use record::Record;
 pub use task::BoxTask;
 pub use worker::work;
 pub use workers::run;
-
-#[cfg(test)]
-mod tests;

@@ -1,17 +1,17 @@
 //! What all workers of a run share.
 ghost use Rattle.std.specs.Prelude.{◌≡◌, ◌≤◌, ℕ, List, IfOk, MatchOption, length, [], None, IsTrue, false, ◌<◌, ◌+◌};
-ghost use Rattle.box_tree.specs.Paths.{IsChild, IsPathOf};
+ghost use Rattle.accounts.specs.box_tree.Paths.{IsChild, IsPathOf};
 ghost use Rattle.box_workers.specs.Gathered.{Went, below, nothing};
 ghost use Rattle.bisect.specs.Trees.{children, tree_of};
 ghost use Rattle.bisect.specs.Walks.{IsListed};
-ghost use Rattle.box_tree.specs.Pieces.{piece_count};
-ghost use Rattle.box_tree.specs.Plans.{cut_at};
+ghost use Rattle.accounts.specs.box_tree.Pieces.{piece_count};
+ghost use Rattle.accounts.specs.box_tree.Plans.{cut_at};
 
 use crate::counts::Counts;
 use crate::record::Record;
 use crate::task::BoxTask;
+use accounts::Plan;
 use bisect::{Posted, Settler, State, Verdict, Walk, boxes_are_listed, children, visit, walks_see};
-use box_tree::Plan;
 use fact_board::{Board, Token};
 use fx_edge::{Gate, Path};
 use std::alloc::{AllocError, Global};
@@ -32,7 +32,7 @@ pub struct Site<'a, S: Settler, G: Gate> {
 impl<'a, S: Settler, G: Gate> Model for Site<'a, S, G> {
     ghost use Rattle.std.specs.Prelude.{◌≡◌, ℕ, List};
     ghost use Rattle.boxcar.specs.Table.{Shelves, shelves_coded};
-    ghost use Rattle.box_tree.specs.Plans.{cut_at};
+    ghost use Rattle.accounts.specs.box_tree.Plans.{cut_at};
 
     ghost Value = { Shelves };
 

@@ -1,7 +1,7 @@
 //! One worker's loop, with all that it needs named.
 ghost use Rattle.std.specs.Prelude.{◌≡◌, ℕ, List, Some, IfNone, true, All};
 ghost use Rattle.bisect.specs.Trees.{tree_of};
-ghost use Rattle.box_tree.specs.Plans.{cut_at};
+ghost use Rattle.accounts.specs.box_tree.Plans.{cut_at};
 ghost use Rattle.box_workers.specs.Records.{IsRecord};
 ghost use Rattle.box_workers.specs.Taking.{CanSteal, RoseAt};
 
@@ -9,9 +9,9 @@ use crate::counts::Counts;
 use crate::record::{Record, work_at};
 use crate::site::Site;
 use crate::task::BoxTask;
+use accounts::Plan;
 use bisect::{Posted, Settler};
 use box_deques::{Hand, Lane, Naming, Thief};
-use box_tree::Plan;
 use fact_board::Board;
 use fx_edge::Gate;
 use std::alloc::Global;

@@ -4,11 +4,11 @@ use Rattle.std.specs.Int.{w16, w64}
 use Rattle.std.specs.Int.RustNames.{FitsSigned}
 use Rattle.std.proofs.lemmas.Int.{ints, fits_signed_from_abs}
 use Rattle.fx_model.specs.declared.ExprId.{ExprId}
-use Rattle.dyadic.specs.declared.number.Dyadic.{Dyadic}
-use Rattle.dyadic.specs.declared.number.End.{End}
-use Rattle.dyadic.specs.declared.number.End.TheVariants.{Low, At, High}
-use Rattle.interval.specs.declared.interval.Interval.{Interval}
-use Rattle.interval.specs.Meets.{interval_from, interval_from_self}
+use Rattle.facts.specs.dyadic.declared.number.Dyadic.{Dyadic}
+use Rattle.facts.specs.dyadic.declared.number.End.{End}
+use Rattle.facts.specs.dyadic.declared.number.End.TheVariants.{Low, At, High}
+use Rattle.facts.specs.interval.declared.interval.Interval.{Interval}
+use Rattle.facts.specs.interval.Meets.{interval_from, interval_from_self}
 use Rattle.facts.specs.declared.relative.RelativeError.{RelativeError}
 use Rattle.facts.specs.declared.size.Size.{Size}
 use Rattle.facts.specs.declared.place.Place.{Place}

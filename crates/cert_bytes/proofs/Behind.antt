@@ -1,7 +1,7 @@
 -- A fault of the tag, or of what stands behind it, is that of the whole; and so for two ends.
 use Rattle.std.proofs.Common.{◌≡◌, ℕ, Ok, Err, refl}
 use Rattle.cert_bytes.specs.declared.fault.CertFault.{CertFault}
-use Rattle.dyadic.specs.declared.number.End.{End}
+use Rattle.facts.specs.dyadic.declared.number.End.{End}
 use Rattle.cert_bytes.specs.Reading.{Cursor, byte_at, expr_at, pair_at, both_at, end_at, interval_at, size_at, relative_at, error_at, place_at, bnd_at, abs_at, rel_at, fix_at, nzr_at, fact_at}
 
 pub error_err : (c next : Cursor) (tag : ℕ) (f : CertFault) → tag ≡ 0 → byte_at c ≡ Ok (tag, next) → relative_at next ≡ Err f → error_at c ≡ Err f

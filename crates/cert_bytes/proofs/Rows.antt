@@ -2,9 +2,9 @@
 use Rattle.std.proofs.Common.{◌≡◌, ◌≤◌, ◌<◌, ◌-◌, ◌++◌, ◌∷◌, [], ℕ, zero, suc, Bool, true, false, List, length, drop, Result, Ok, Err, refl, sym, ap, subst, ◌∙◌, arith}
 use Rattle.std.specs.Prelude.{not}
 use Rattle.fx_model.specs.Fraction.{le_ℚ, ◌<ℚ◌}
-use Rattle.dyadic.specs.declared.number.Dyadic.{Dyadic}
-use Rattle.dyadic.specs.Values.{value_of}
-use Rattle.dyadic.specs.Rising.{point_of, IsAboveLast}
+use Rattle.facts.specs.dyadic.declared.number.Dyadic.{Dyadic}
+use Rattle.facts.specs.dyadic.Values.{value_of}
+use Rattle.facts.specs.dyadic.Rising.{point_of, IsAboveLast}
 use Rattle.cert_bytes.specs.declared.fault.CertFault.{CertFault}
 use Rattle.cert_bytes.specs.declared.fault.CertKind.TheVariants.{BadNumber}
 use Rattle.facts.specs.declared.fact.Fact.{Fact}

@@ -5,11 +5,9 @@ use crate::fault::{CertKind, Stop, fault};
 use crate::field::Field;
 use crate::kept::number_from;
 use crate::source::Source;
-use dyadic::{Dyadic, End};
-use facts::{Fact, Place, RelativeError, Size};
+use facts::{Dyadic, End, Fact, Interval, Place, RelativeError, Size};
 use fx_edge::Folder;
 use fx_model::ExprId;
-use interval::Interval;
 
 impl Field for Dyadic {
     ghost read_at = { point_at };

@@ -2,7 +2,7 @@
 ghost use Rattle.std.specs.Prelude.{◌≡◌, ◌↔◌, IsTrue, ◌+◌, ◌-◌, ◌*◌, ◌≤◌, ◌<◌, ◌^◌, negsuc};
 ghost use Rattle.cert_bytes.specs.Numbers as spec;
 
-use dyadic::Dyadic;
+use facts::Dyadic;
 use fx_model::Literal;
 
 // Whether the number has this mantissa and exponent.

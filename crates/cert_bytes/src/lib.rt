@@ -1,6 +1,9 @@
 //! The bytes of certificates: the items that they spell, one spelling for each, and where they fail.
 #![tactic(auto, using(crate::proofs::Fronts::front_then, crate::proofs::Fronts::same_front))]
 
+// What callers name of the crates below.
+pub use expr_dag::{Dag, DagFault, Node, values_stay};
+
 mod based;
 mod claims;
 mod cut_points;

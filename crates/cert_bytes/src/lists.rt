@@ -8,7 +8,7 @@ ghost use Rattle.cert_bytes.specs.Pieces.{Gives, AgreesTold, kept_of};
 use crate::fault::{CertKind, Stop, fault};
 use crate::field::Field;
 use crate::source::Source;
-use dyadic::{Dyadic, Points};
+use facts::{Dyadic, Points};
 use fx_edge::{Folder, Items};
 
 impl Source {

@@ -1,7 +1,7 @@
 //! The one spelling of each item.
 ghost use Rattle.std.specs.Prelude.{pos, negsuc, ◌≤ℤ◌, ◌≡◌, ◌++◌, ◌≤◌, ◌∷◌, [], length, OnOk, OnErr};
 ghost use Rattle.fx_model.specs.declared.ExprId.{ExprId};
-ghost use Rattle.literal.specs.Normal.{IsNormal};
+ghost use Rattle.expr_dag.specs.literal.Normal.{IsNormal};
 ghost use Rattle.expr_dag.specs.Nodes.{IsInLimits};
 ghost use Rattle.cert_bytes.specs.Spelling as spell;
 ghost use Rattle.cert_bytes.specs.declared.style.Style.TheVariants.{First, Second};
@@ -11,10 +11,8 @@ ghost use Rattle.cert_bytes.specs.Certificates.{HasSpelling, IsCounted};
 use crate::based::{distance, zigzag};
 use crate::item::{Item, StepRow};
 use crate::style::{Seen, Style};
-use dyadic::{Dyadic, End, Points};
-use facts::{Fact, HintMark};
+use facts::{Dyadic, End, Fact, HintMark, Interval, Points};
 use fx_model::{Direction, ExprId, Literal, Node};
-use interval::Interval;
 use std::alloc::AllocError;
 
 /// The bytes that each certificate begins with, before its version: "FXPC".

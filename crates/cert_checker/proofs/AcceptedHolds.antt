@@ -4,7 +4,7 @@ use Rattle.std.specs.Prelude.{⊤, map}
 use Rattle.std.specs.List.{AllByRecursion}
 use Rattle.fx_model.specs.Expression.{Assignment, IsOrdered}
 use Rattle.fx_model.specs.declared.Node.{Node}
-use Rattle.facts.specs.Holds.{Holds}
+use Rattle.goals.specs.facts.Holds.{Holds}
 use Rattle.cert_bytes.specs.declared.item.Item.{Item}
 use Rattle.cert_bytes.specs.declared.item.Item.TheVariants as item
 use Rattle.cert_bytes.specs.declared.order.Due.{Due}

@@ -3,7 +3,7 @@ use Rattle.std.proofs.Common.{◌≡◌, ◌≤◌, ◌<◌, ◌+◌, ◌==◌, 
 use Rattle.std.specs.Prelude.{slice_index_or}
 use Rattle.std.proofs.lemmas.Bool.{cases_lt}
 use Rattle.std.proofs.lemmas.List.{length-append, length-take}
-use Rattle.facts.specs.declared.fact.Fact.{Fact}
+use Rattle.goals.specs.facts.declared.fact.Fact.{Fact}
 use Rattle.cert_checker.specs.declared.open.Citable.{Citable}
 use Rattle.cert_checker.specs.Open.{nowhere, number_at, AreNumbered}
 use Rattle.cert_checker.specs.Steps.{step_fact}

@@ -1,7 +1,7 @@
 -- What is found wrong is the fault.
 use Rattle.std.proofs.Common.{◌≡◌, ◌<◌, length, ℕ, zero, suc, Bool, true, List, [], ◌∷◌, Option, Some, None, refl, sym, subst, ◌∙◌, arith}
 use Rattle.std.specs.Prelude.{slice_index_or, min, IsTrue}
-use Rattle.facts.specs.declared.fact.Fact.{Fact}
+use Rattle.goals.specs.facts.declared.fact.Fact.{Fact}
 use Rattle.cert_bytes.specs.declared.item.StepRow.{StepRow}
 use Rattle.goals.specs.declared.goal.Goal.{Goal}
 use Rattle.cert_checker.specs.declared.open.Citable.{Citable}

@@ -1,7 +1,7 @@
 -- The facts of premises, found one after the other.
 use Rattle.std.proofs.Common.{◌≡◌, ℕ, List, [], ◌∷◌, ◌++◌, Option, Some, None, refl, sym, ap, ◌∙◌, append_assoc}
 use Rattle.std.proofs.lemmas.List.{append-nil}
-use Rattle.facts.specs.declared.fact.Fact.{Fact}
+use Rattle.goals.specs.facts.declared.fact.Fact.{Fact}
 use Rattle.cert_checker.specs.declared.open.Citable.{Citable}
 use Rattle.cert_checker.specs.Steps.{step_fact, before, step_facts}
 

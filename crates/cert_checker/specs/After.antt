@@ -1,8 +1,8 @@
 -- What an item that nothing is wrong with makes of the context.
 use Rattle.std.specs.Prelude.{◌≤◌, ◌+◌, ◌||◌, ℕ, Bool, false, List, [], ◌∷◌, ◌++◌, length, take, nat_lt, if◌then◌else◌, Option, Some, None}
-use Rattle.facts.specs.declared.fact.Fact.{Fact}
+use Rattle.goals.specs.facts.declared.fact.Fact.{Fact}
 use Rattle.fx_model.specs.declared.ExprId.{ExprId}
-use Rattle.dyadic.specs.declared.number.Dyadic.{Dyadic}
+use Rattle.goals.specs.dyadic.declared.number.Dyadic.{Dyadic}
 use Rattle.cert_bytes.specs.declared.item.Item.{Item}
 use Rattle.cert_bytes.specs.declared.item.Item.TheVariants as item
 use Rattle.cert_bytes.specs.Due.{is_of_root, is_end}

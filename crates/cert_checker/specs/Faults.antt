@@ -4,10 +4,10 @@ use Rattle.fx_model.specs.Expression.{ChildrenBelow}
 use Rattle.fx_model.specs.declared.ExprId.{ExprId}
 use Rattle.fx_model.specs.declared.Node.{Node}
 use Rattle.fx_model.specs.declared.Node.TheVariants.{Var}
-use Rattle.facts.specs.declared.fact.Fact.{Fact}
-use Rattle.facts.specs.declared.fact.Fact.TheVariants as fact
-use Rattle.facts.specs.declared.hint.HintMark.{HintMark}
-use Rattle.expr_dag.specs.Nodes.{IsAbsent}
+use Rattle.goals.specs.facts.declared.fact.Fact.{Fact}
+use Rattle.goals.specs.facts.declared.fact.Fact.TheVariants as fact
+use Rattle.goals.specs.facts.declared.hint.HintMark.{HintMark}
+use Rattle.cert_bytes.specs.expr_dag.Nodes.{IsAbsent}
 use Rattle.cert_bytes.specs.declared.item.Item.{Item}
 use Rattle.cert_bytes.specs.declared.item.Item.TheVariants as item
 use Rattle.cert_bytes.specs.Due.{is_of_root}

@@ -1,7 +1,7 @@
 //! Whether a step is concluded.
 ghost use Rattle.std.specs.Prelude.{◌≡◌, ◌↔◌, IsTrue, Some, None, MatchOption, Option, IfOk, length};
 ghost use Rattle.fx_model.specs.declared.Node.{Node};
-ghost use Rattle.facts.specs.declared.fact.Fact.TheVariants as fact_of;
+ghost use Rattle.goals.specs.facts.declared.fact.Fact.TheVariants as fact_of;
 ghost use Rattle.cert_checker.specs.Contexts.{open_piece};
 ghost use Rattle.cert_checker.specs.Steps as spec;
 ghost use Rattle.cert_checker.specs.Steps.{Givens, Concludes, IsMetWith, IsLike, Found};
@@ -9,11 +9,9 @@ ghost use Rattle.cert_checker.specs.Steps.{Givens, Concludes, IsMetWith, IsLike,
 use crate::cuts::Cuts;
 use crate::open::OpenSteps;
 use crate::subject::Subject;
-use cert_bytes::StepRow;
-use expr_dag::Dag;
-use facts::{Fact, Slot, meet, slot, stronger};
+use cert_bytes::{Dag, StepRow};
 use fx_model::{ExprId, Node};
-use interval::Interval;
+use goals::{Fact, Interval, Slot, meet, slot, stronger};
 use std::alloc::AllocError;
 use theorem_list::conclude;
 

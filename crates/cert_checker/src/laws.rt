@@ -4,8 +4,7 @@ ghost use Rattle.cert_checker.specs.Met.{HoldsOverCertificates, AcceptedHolds, I
 ghost use Rattle.cert_checker.specs.Outcomes.{ComesOnce, CheckedHolds, AcceptedAreSpelled, SpelledAreAccepted};
 ghost use Rattle.cert_checker.specs.Once.{JudgedOnce, LeadsOnce, LeadsOrFails, FailsOnce};
 
-use cert_bytes::certificates_are_spelled_once;
-use expr_dag::values_stay;
+use cert_bytes::{certificates_are_spelled_once, values_stay};
 use goals::{lines_hold, settling_facts};
 use theorem_list::conclusions_are_sound;
 

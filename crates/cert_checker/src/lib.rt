@@ -1,6 +1,10 @@
 //! The checker of certificates: which items are accepted, and the lines that they show.
 #![tactic(auto)]
 
+// What callers name of the crates below.
+pub use cert_bytes::{CertFault, CertKind, Node, Reader, Seen, StepRow};
+pub use goals::{Goal, HintMark, Interval, Line};
+
 mod chain;
 mod check;
 mod conclude;

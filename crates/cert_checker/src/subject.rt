@@ -2,10 +2,9 @@
 ghost use Rattle.std.specs.Prelude.{◌≡◌};
 ghost use Rattle.cert_checker.specs.Steps.{case_facts};
 
-use expr_dag::Dag;
-use facts::{Fact, HintMark, HintRow};
+use cert_bytes::Dag;
 use fx_edge::Items;
-use goals::Goal;
+use goals::{Fact, Goal, HintMark, HintRow};
 
 /// What a script asks of its certificates.
 #[derive(Drop)]

@@ -1,4 +1,4 @@
-//! Certificates read, written and checked over folders in memory.
+//! Certificates read, written, trimmed and checked over folders in memory, and printed lines.
 #![tactic(auto)]
 
 #[cfg(test)]
@@ -9,6 +9,12 @@ mod cases;
 mod checks;
 #[cfg(test)]
 mod halved;
+#[cfg(test)]
+mod of_cert_trim;
+#[cfg(test)]
+mod of_cert_upgrade;
+#[cfg(test)]
+mod of_report;
 #[cfg(test)]
 mod second;
 #[cfg(test)]

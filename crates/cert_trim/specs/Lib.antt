@@ -1,3 +1,5 @@
+-- What callers name of the crates below.
+pub use Rattle.cert_checker.specs as cert_checker
 pub mod Trimmed
 pub mod Used
 pub mod Flags

@@ -1,6 +1,9 @@
 //! Certificates without unused steps.
 #![tactic(auto)]
 
+// What callers name of the crates below.
+pub use cert_checker::{Accepted, CheckStop, bytes_are_accepted};
+
 mod certificate;
 mod laws;
 mod left;
@@ -10,6 +13,3 @@ mod used;
 
 pub use certificate::{Trimmed, trim};
 pub use laws::trimmed_are_accepted;
-
-#[cfg(test)]
-mod tests;

@@ -7,8 +7,6 @@ mod laws;
 mod respell;
 mod rewriting;
 mod stop;
-#[cfg(test)]
-mod tests;
 
 pub use laws::items_are_one;
 pub use rewriting::upgrade;

@@ -10,12 +10,12 @@ use Rattle.goals.specs.declared.goal.Goal.{Goal}
 use Rattle.goals.specs.declared.line.Line.{Line}
 use Rattle.derivation.specs.Derivations.{At}
 use Rattle.derivation.specs.Known.{IsTableAt}
-use Rattle.rule_universe.specs.Worlds.{World}
-use Rattle.box_tree.specs.declared.cut.Cut.{Cut}
-use Rattle.box_tree.specs.declared.cut.Cut.TheVariants.{Forced, Half, Bottom}
-use Rattle.box_tree.specs.Plans.{cut_at, piece_at, pieces_at}
-use Rattle.box_tree.specs.Regions.{PlanParts}
-use Rattle.bisect.specs.declared.settler.State.{State}
+use Rattle.box_trace.specs.rule_universe.Worlds.{World}
+use Rattle.answer_certificates.specs.box_tree.declared.cut.Cut.{Cut}
+use Rattle.answer_certificates.specs.box_tree.declared.cut.Cut.TheVariants.{Forced, Half, Bottom}
+use Rattle.answer_certificates.specs.box_tree.Plans.{cut_at, piece_at, pieces_at}
+use Rattle.answer_certificates.specs.box_tree.Regions.{PlanParts}
+use Rattle.answer_certificates.specs.bisect.declared.settler.State.{State}
 use Rattle.cert_bytes.specs.declared.item.Item.{Item}
 use Rattle.cert_bytes.specs.declared.item.Item.TheVariants as item
 use Rattle.cert_bytes.specs.Certificates.{HasSpelling}
@@ -25,8 +25,8 @@ use Rattle.box_trace.specs.declared.known.Known.{Known}
 use Rattle.box_trace.specs.declared.tracing.Traced.{Traced}
 use Rattle.box_trace.specs.Boxes.{IsItsTable, AreItsSteps, log_of, most_steps}
 use Rattle.box_trace.specs.Tables.{known_at, place_in, HasRows}
-use Rattle.box_traces.specs.Trees.{leaf, cut, IsProved}
-use Rattle.box_traces.specs.Walks.{numbered, behind_steps}
+use Rattle.box_trace.specs.box_traces.Trees.{leaf, cut, IsProved}
+use Rattle.box_trace.specs.box_traces.Walks.{numbered, behind_steps}
 use Rattle.answer_certificates.specs.Boxes.{range_of_piece, pieces_from}
 use Rattle.box_trace.specs.Short.{BoxesAreShort}
 use Rattle.box_trace.specs.Rounds.{IsByRounds}

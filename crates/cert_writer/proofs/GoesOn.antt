@@ -15,7 +15,7 @@ use Rattle.goals.specs.declared.goal.Goal.{Goal}
 use Rattle.goals.specs.declared.line.Line.{Line}
 use Rattle.derivation.specs.Derivations.{Setting, At}
 use Rattle.derivation.specs.Exists.{table_at}
-use Rattle.saturate.specs.Universes.{setting_of}
+use Rattle.box_trace.specs.saturate.Universes.{setting_of}
 use Rattle.cert_bytes.specs.declared.item.Item.{Item}
 use Rattle.cert_bytes.specs.declared.item.Item.TheVariants as item
 use Rattle.cert_bytes.specs.declared.item.StepRow.{StepRow}
@@ -23,25 +23,25 @@ use Rattle.cert_bytes.specs.declared.order.Due.TheVariants.{Sections}
 use Rattle.cert_bytes.specs.declared.style.Style.TheVariants.{Second}
 use Rattle.cert_bytes.specs.Certificates.{AreDue, AreCertificate, IsLong, IsShort}
 use Rattle.cert_writer.specs.Bytes.{seen_in, spelled_behind, certificate_of}
-use Rattle.cert_checker.specs.declared.open.Citable.{Citable}
-use Rattle.cert_checker.specs.Contexts.{Context, first}
-use Rattle.cert_checker.specs.Steps.{step_fact}
-use Rattle.cert_checker.specs.Faults.{AreSettled, IsVariable, JudgesItem}
-use Rattle.cert_checker.specs.After.{after, case_behind, cuts_behind, lines_with}
-use Rattle.cert_checker.specs.Accepted.{LeadsTo}
-use Rattle.box_traces.specs.Sections.{AllBelow}
-use Rattle.box_traces.specs.Traces.{most_steps}
-use Rattle.box_traces.specs.Roots.{Root, AreRoots, steps_in_roots, lines_of_roots}
-use Rattle.box_traces.specs.Trees.{Tree, Trees, leaf, cut, last, next, AreProved, ArePoints, lines_of_tree, lines_of_trees, lines_at, leaf_lines, steps_in, steps_in_each}
-use Rattle.box_traces.specs.Walks.{behind_steps, IsEndOf, Frame, LiesIn, left_in, lines_behind, steps_behind, IsDue, Ending}
-use Rattle.box_traces.specs.Moves.{WalksGoOn, WalksMove, AreSteps, IsEntered, lead_both, next_behind}
+use Rattle.box_trace.specs.cert_checker.declared.open.Citable.{Citable}
+use Rattle.box_trace.specs.cert_checker.Contexts.{Context, first}
+use Rattle.box_trace.specs.cert_checker.Steps.{step_fact}
+use Rattle.box_trace.specs.cert_checker.Faults.{AreSettled, IsVariable, JudgesItem}
+use Rattle.box_trace.specs.cert_checker.After.{after, case_behind, cuts_behind, lines_with}
+use Rattle.box_trace.specs.cert_checker.Accepted.{LeadsTo}
+use Rattle.box_trace.specs.box_traces.Sections.{AllBelow}
+use Rattle.box_trace.specs.box_traces.Traces.{most_steps}
+use Rattle.box_trace.specs.box_traces.Roots.{Root, AreRoots, steps_in_roots, lines_of_roots}
+use Rattle.box_trace.specs.box_traces.Trees.{Tree, Trees, leaf, cut, last, next, AreProved, ArePoints, lines_of_tree, lines_of_trees, lines_at, leaf_lines, steps_in, steps_in_each}
+use Rattle.box_trace.specs.box_traces.Walks.{behind_steps, IsEndOf, Frame, LiesIn, left_in, lines_behind, steps_behind, IsDue, Ending}
+use Rattle.box_trace.specs.box_traces.Moves.{WalksGoOn, WalksMove, AreSteps, IsEntered, lead_both, next_behind}
 use Rattle.cert_writer.specs.Standing.{Aim, IsAim, IsWhole, IsBegun, Place, IsAt, Ended, HasEnded, HasWritten, AreBoxSteps, AreShort, AreCited, most_for, roots_left, steps_left, lines_left, own_items, inside, closed, beside, around, next_aim, next_root, root_with}
 use Rattle.cert_writer.specs.Laws.{OfAims}
 use Rattle.cert_bytes.specs.Styles.{none_seen}
 use Rattle.cert_bytes.specs.Sizes.{most_bytes_in, SpellingsAreShort}
 use Rattle.cert_writer.proofs.Sized.{sized_both}
 use Rattle.cert_writer.proofs.Seen.{spelled_both, EndsSection, sections_with}
-use Rattle.box_traces.specs.Cited.{found_long}
+use Rattle.box_trace.specs.box_traces.Cited.{found_long}
 
 -- ---- items one behind the other
 more_due : (t : Aim) (items more rest : List Item) → AreCertificate (items ++ (more ++ rest)) → AreCertificate ((items ++ more) ++ rest)

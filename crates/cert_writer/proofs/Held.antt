@@ -5,8 +5,8 @@ use Rattle.std.proofs.Common.{sym, ◌∙◌, ap, subst, append-nil, inl, inr}
 use Rattle.fx_edge.specs.Outside.{Empties}
 use Rattle.fx_model.specs.declared.Node.{Node}
 use Rattle.facts.specs.declared.hint.HintMark.{HintMark}
-use Rattle.script_grammar.specs.Cases.{cases_of}
-use Rattle.script_grammar.specs.Spells.{View}
+use Rattle.answer_certificates.specs.script_grammar.Cases.{cases_of}
+use Rattle.answer_certificates.specs.script_grammar.Spells.{View}
 use Rattle.cert_bytes.specs.declared.item.Item.{Item}
 use Rattle.cert_bytes.specs.declared.item.Item.TheVariants as item
 use Rattle.cert_bytes.specs.declared.style.Seen.{Seen}
@@ -14,9 +14,9 @@ use Rattle.cert_bytes.specs.declared.style.Style.TheVariants.{Second}
 use Rattle.cert_bytes.specs.Certificates.{SpellsAs}
 use Rattle.cert_bytes.specs.Styles.{none_seen}
 use Rattle.cert_writer.specs.Bytes.{seen_in, spelling_of, spelled_behind, certificate_of}
-use Rattle.script_checker.specs.Subjects.{IsSubjectOf}
+use Rattle.answer_certificates.specs.script_checker.Subjects.{IsSubjectOf}
 use Rattle.cert_writer.specs.Heads.{head_items}
-use Rattle.cert_checker.specs.Accepted.{Accepts}
+use Rattle.box_trace.specs.cert_checker.Accepted.{Accepts}
 use Rattle.cert_writer.specs.Standing.{Aim, IsWhole, IsBegun}
 use Rattle.cert_writer.specs.Courses.{Grew, GrewToFront}
 use Rattle.cert_writer.specs.Cases.{Task, whole_aim, StandsBefore, GrewFront, IsCompleted}

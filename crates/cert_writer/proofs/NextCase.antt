@@ -3,22 +3,22 @@ use Rattle.std.specs.Prelude.{◌≡◌, ◌≤◌, ◌+◌, ℕ, List, [], ◌�
 use Rattle.std.proofs.Common.{sym, ◌∙◌, ap, subst, append-nil}
 use Rattle.std.proofs.lemmas.List.{drop_more}
 use Rattle.std.proofs.lemmas.Option.{slice_get_within, get_or_from_slice_get}
-use Rattle.script_claims.specs.declared.claim.Claim.{Claim}
-use Rattle.script_grammar.specs.Cases.{cases_of}
-use Rattle.script_grammar.specs.Spells.{View}
-use Rattle.universe.specs.Universes.{facts_of}
-use Rattle.rule_universe.specs.Worlds.{World, IsWhole as IsWholeWorld}
-use Rattle.box_tree.specs.Pieces.{piece_count}
-use Rattle.box_tree.specs.Plans.{cut_at, piece_at}
-use Rattle.box_tree.specs.InRanges.{root_pieces}
-use Rattle.box_tree.specs.Regions.{PlanParts, region_below}
+use Rattle.answer_certificates.specs.script_claims.declared.claim.Claim.{Claim}
+use Rattle.answer_certificates.specs.script_grammar.Cases.{cases_of}
+use Rattle.answer_certificates.specs.script_grammar.Spells.{View}
+use Rattle.answer_certificates.specs.universe.Universes.{facts_of}
+use Rattle.box_trace.specs.rule_universe.Worlds.{World, IsWhole as IsWholeWorld}
+use Rattle.answer_certificates.specs.box_tree.Pieces.{piece_count}
+use Rattle.answer_certificates.specs.box_tree.Plans.{cut_at, piece_at}
+use Rattle.answer_certificates.specs.box_tree.InRanges.{root_pieces}
+use Rattle.answer_certificates.specs.box_tree.Regions.{PlanParts, region_below}
 use Rattle.cert_bytes.specs.declared.item.Item.{Item}
-use Rattle.cert_checker.specs.Contexts.{open_piece}
+use Rattle.box_trace.specs.cert_checker.Contexts.{open_piece}
 use Rattle.box_trace.specs.Boxes.{IsBox, IsOfUniverse, IsItsSection}
-use Rattle.box_traces.specs.Roots.{Root, IsRoot}
-use Rattle.box_traces.specs.Trees.{Tree}
-use Rattle.box_traces.specs.Walks.{numbered, LiesIn}
-use Rattle.saturate.specs.Universes.{setting_of}
+use Rattle.box_trace.specs.box_traces.Roots.{Root, IsRoot}
+use Rattle.box_trace.specs.box_traces.Trees.{Tree}
+use Rattle.box_trace.specs.box_traces.Walks.{numbered, LiesIn}
+use Rattle.box_trace.specs.saturate.Universes.{setting_of}
 use Rattle.answer_certificates.specs.Boxes.{boxes_of}
 use Rattle.answer_certificates.specs.Roots.{AreRootsOf}
 use Rattle.answer_certificates.specs.Scripts.{in_case, HasSlots}

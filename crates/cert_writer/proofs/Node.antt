@@ -13,18 +13,18 @@ use Rattle.derivation.specs.Derivations.{Setting, At}
 use Rattle.derivation.specs.Known.{Piece, Known, IsTableAt}
 use Rattle.derivation.specs.Settled.{IsMet}
 use Rattle.derivation.specs.Parts.{none_some}
-use Rattle.box_tree.specs.declared.cut.Cut.{Cut}
-use Rattle.box_tree.specs.declared.cut.Cut.TheVariants.{Forced, Half, Bottom}
-use Rattle.box_tree.specs.Plans.{cut_at, piece_at, pieces_at}
-use Rattle.box_tree.specs.Pieces.{piece_count}
-use Rattle.box_tree.specs.Regions.{PlanParts}
-use Rattle.bisect.specs.declared.settler.State.{State}
-use Rattle.bisect.specs.declared.settler.State.TheVariants as state
-use Rattle.bisect.specs.Trees.{children}
-use Rattle.settler.specs.Standing.{IsBestKnown, AreSettledBy, StandsAs}
+use Rattle.answer_certificates.specs.box_tree.declared.cut.Cut.{Cut}
+use Rattle.answer_certificates.specs.box_tree.declared.cut.Cut.TheVariants.{Forced, Half, Bottom}
+use Rattle.answer_certificates.specs.box_tree.Plans.{cut_at, piece_at, pieces_at}
+use Rattle.answer_certificates.specs.box_tree.Pieces.{piece_count}
+use Rattle.answer_certificates.specs.box_tree.Regions.{PlanParts}
+use Rattle.answer_certificates.specs.bisect.declared.settler.State.{State}
+use Rattle.answer_certificates.specs.bisect.declared.settler.State.TheVariants as state
+use Rattle.answer_certificates.specs.bisect.Trees.{children}
+use Rattle.answer_certificates.specs.settler.Standing.{IsBestKnown, AreSettledBy, StandsAs}
 use Rattle.box_trace.specs.declared.known.Known as seen
 use Rattle.box_trace.specs.Tables.{known_at}
-use Rattle.box_traces.specs.Trees.{Tree, Trees, leaf, cut, AllSettled}
+use Rattle.box_trace.specs.box_traces.Trees.{Tree, Trees, leaf, cut, AllSettled}
 use Rattle.answer_certificates.specs.Boxes.{range_of_piece, variable_of, pieces_from, cut_into, boxes_below}
 use Rattle.answer_certificates.specs.Laws.{PiecesAreOfCuts}
 use Rattle.cert_writer.specs.Boxes.{KnowsVoid, CutsAt}

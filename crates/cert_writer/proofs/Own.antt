@@ -13,26 +13,26 @@ use Rattle.derivation.specs.Known.{Piece, GivenAt, IsTableAt}
 use Rattle.derivation.specs.Rounds.{IsSame}
 use Rattle.derivation.specs.Parts.{none_some}
 use Rattle.derivation.specs.Laws.{TablesAreOne}
-use Rattle.rule_universe.specs.Worlds.{World}
-use Rattle.box_tree.specs.Plans.{piece_at}
+use Rattle.box_trace.specs.rule_universe.Worlds.{World}
+use Rattle.answer_certificates.specs.box_tree.Plans.{piece_at}
 use Rattle.cert_bytes.specs.declared.item.Item.{Item}
 use Rattle.cert_bytes.specs.declared.item.Item.TheVariants as item
 use Rattle.cert_bytes.specs.declared.item.StepRow.{StepRow}
 use Rattle.cert_bytes.specs.declared.style.Seen.{Seen}
 use Rattle.cert_writer.specs.Bytes.{seen_in}
-use Rattle.cert_checker.specs.Contexts.{Context, open_piece}
-use Rattle.cert_checker.specs.Open.{Numbered}
-use Rattle.cert_checker.specs.Steps.{step_fact}
-use Rattle.cert_checker.specs.After.{after}
+use Rattle.box_trace.specs.cert_checker.Contexts.{Context, open_piece}
+use Rattle.box_trace.specs.cert_checker.Open.{Numbered}
+use Rattle.box_trace.specs.cert_checker.Steps.{step_fact}
+use Rattle.box_trace.specs.cert_checker.After.{after}
 use Rattle.box_trace.specs.declared.known.Known.{Known}
 use Rattle.box_trace.specs.declared.tracing.Traced.{Traced}
 use Rattle.box_trace.specs.Boxes.{IsSomeBox, IsItsTable, IsTracedIn, AreItsSteps, log_of, most_steps}
 use Rattle.box_trace.specs.Tables.{known_at, place_in}
-use Rattle.box_traces.specs.Sections.{behind, ArePlaces}
-use Rattle.box_traces.specs.Traces.{HaveFields}
-use Rattle.box_traces.specs.Trees.{Tree, leaf, cut, AllSettled, IsProved, IsSettledLeaf, lines_of_tree, steps_in, steps_in_each}
-use Rattle.box_traces.specs.Walks.{numbered, behind_steps, IsBehind, steps_behind}
-use Rattle.box_traces.specs.Moves.{WalksMove, AreSteps, next_behind}
+use Rattle.box_trace.specs.box_traces.Sections.{behind, ArePlaces}
+use Rattle.box_trace.specs.box_traces.Traces.{HaveFields}
+use Rattle.box_trace.specs.box_traces.Trees.{Tree, leaf, cut, AllSettled, IsProved, IsSettledLeaf, lines_of_tree, steps_in, steps_in_each}
+use Rattle.box_trace.specs.box_traces.Walks.{numbered, behind_steps, IsBehind, steps_behind}
+use Rattle.box_trace.specs.box_traces.Moves.{WalksMove, AreSteps, next_behind}
 use Rattle.cert_writer.specs.Boxes.{HasShortList, KnowsVoid, IsClosed, IsEnd, refs_in}
 use Rattle.box_trace.specs.Short.{EndsBox, BoxesAreShort}
 use Rattle.box_trace.specs.Rounds.{IsByRounds}

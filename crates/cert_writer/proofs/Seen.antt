@@ -9,7 +9,7 @@ use Rattle.cert_bytes.specs.declared.item.Item.TheVariants as item
 use Rattle.cert_bytes.specs.declared.item.StepRow.{StepRow}
 use Rattle.cert_bytes.specs.declared.style.Seen.{Seen}
 use Rattle.cert_bytes.specs.Styles.{none_seen, seen_after}
-use Rattle.box_traces.specs.Roots.{cases_items}
+use Rattle.box_trace.specs.box_traces.Roots.{cases_items}
 use Rattle.cert_writer.specs.Bytes.{seen_behind, seen_in, spelling_of, spelled_behind}
 use Rattle.cert_writer.specs.Heads.{head_items}
 use Rattle.cert_writer.specs.Standing.{own_items}

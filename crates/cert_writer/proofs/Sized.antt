@@ -6,7 +6,7 @@ use Rattle.facts.specs.declared.hint.HintMark.{HintMark}
 use Rattle.cert_bytes.specs.declared.item.Item.{Item}
 use Rattle.cert_bytes.specs.declared.item.Item.TheVariants as item
 use Rattle.cert_bytes.specs.Sizes.{most_bytes, most_bytes_in}
-use Rattle.box_traces.specs.Roots.{cases_items}
+use Rattle.box_trace.specs.box_traces.Roots.{cases_items}
 use Rattle.cert_writer.specs.Heads.{head_items}
 
 pub sized_both : (items more : List Item)

@@ -11,12 +11,12 @@ use Rattle.facts.specs.CommonParts.{expr_same}
 use Rattle.goals.specs.declared.goal.Goal.{Goal}
 use Rattle.pair_closure.specs.Closure.{Pair}
 use Rattle.pair_closure.specs.Reached.{Has}
-use Rattle.rule_universe.specs.Worlds.{World, HasSlot}
-use Rattle.rule_universe.specs.Places.{block_place}
+use Rattle.box_trace.specs.rule_universe.Worlds.{World, HasSlot}
+use Rattle.box_trace.specs.rule_universe.Places.{block_place}
 use Rattle.box_trace.specs.declared.known.Cited.{Cited}
 use Rattle.box_trace.specs.declared.known.Known.{Known}
 use Rattle.box_trace.specs.Tables.{one_later, pair_number, behind_blocks, row_in, fact_of, known_at}
-use Rattle.box_traces.specs.Trees.{AllSettled}
+use Rattle.box_trace.specs.box_traces.Trees.{AllSettled}
 
 module _ (rows : List (Option Cited)) (f : Fact) where
   in_block : (n block : ℕ) (x : ExprId) → fact_of (row_in rows (block_place n block x)) ≡ Some f → x.0 < n

@@ -11,8 +11,8 @@ use Rattle.cert_bytes.specs.declared.item.StepRow.{StepRow}
 use Rattle.cert_bytes.specs.declared.style.Seen.{Seen}
 use Rattle.cert_bytes.specs.Styles.{none_seen}
 use Rattle.cert_writer.specs.Bytes.{seen_behind, spelling_of, spelled_behind, certificate_of}
-use Rattle.box_traces.specs.Roots.{cases_items}
-use Rattle.box_traces.specs.Traces.{HasFields, HaveFields}
+use Rattle.box_trace.specs.box_traces.Roots.{cases_items}
+use Rattle.box_trace.specs.box_traces.Traces.{HasFields, HaveFields}
 use Rattle.cert_writer.specs.Boxes.{HasShortList, HasRanges}
 use Rattle.cert_writer.specs.Heads.{head_items}
 use Rattle.cert_writer.proofs.Seen.{spelled_both, nodes_seen, marks_seen}

@@ -7,22 +7,22 @@ use Rattle.std.proofs.lemmas.Nat.{mul-le}
 use Rattle.goals.specs.declared.goal.Goal.{Goal}
 use Rattle.goals.specs.declared.line.Line.{Line}
 use Rattle.goals.specs.declared.line.Line.TheVariants as line
-use Rattle.script_claims.specs.declared.claim.Claim.{Claim}
-use Rattle.script_grammar.specs.Cases.{cases_of}
-use Rattle.script_grammar.specs.Spells.{View}
-use Rattle.rule_universe.specs.Worlds.{World}
-use Rattle.settler.specs.Answers.{Options, options, IsProved}
-use Rattle.saturate.specs.Universes.{setting_of}
+use Rattle.answer_certificates.specs.script_claims.declared.claim.Claim.{Claim}
+use Rattle.answer_certificates.specs.script_grammar.Cases.{cases_of}
+use Rattle.answer_certificates.specs.script_grammar.Spells.{View}
+use Rattle.box_trace.specs.rule_universe.Worlds.{World}
+use Rattle.answer_certificates.specs.settler.Answers.{Options, options, IsProved}
+use Rattle.box_trace.specs.saturate.Universes.{setting_of}
 use Rattle.cert_bytes.specs.declared.item.Item.{Item}
-use Rattle.cert_checker.specs.declared.subject.Subject.{Subject}
-use Rattle.script_checker.specs.Subjects.{IsSubjectOf, facts_of}
-use Rattle.box_traces.specs.Roots.{Root, AreRoots, IsRoot, steps_in_roots, lines_of_roots}
-use Rattle.box_traces.specs.Trees.{Tree}
+use Rattle.box_trace.specs.cert_checker.declared.subject.Subject.{Subject}
+use Rattle.answer_certificates.specs.script_checker.Subjects.{IsSubjectOf, facts_of}
+use Rattle.box_trace.specs.box_traces.Roots.{Root, AreRoots, IsRoot, steps_in_roots, lines_of_roots}
+use Rattle.box_trace.specs.box_traces.Trees.{Tree}
 use Rattle.answer_certificates.specs.Boxes.{boxes_of}
 use Rattle.answer_certificates.specs.Roots.{AreRootsOf, HasRoots}
 use Rattle.answer_certificates.specs.Scripts.{in_case, IsCaseOf, HasCases}
 use Rattle.answer_certificates.specs.Laws.{InstancesAreFew, ScriptsHaveRoots}
-use Rattle.rule_universe.specs.Sizes.{beyond_four}
+use Rattle.box_trace.specs.rule_universe.Sizes.{beyond_four}
 use Rattle.box_trace.specs.Short.{bytes_a_box}
 use Rattle.answer_certificates.specs.Universes.{UniversesAreSmall}
 use Rattle.cert_writer.specs.Heads.{head_items}

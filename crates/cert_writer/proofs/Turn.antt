@@ -17,25 +17,25 @@ use Rattle.derivation.specs.Known.{Piece, IsTableAt}
 use Rattle.derivation.specs.Exists.{joined}
 use Rattle.derivation.specs.Rounds.{IsSame}
 use Rattle.derivation.specs.Laws.{TablesAreOne}
-use Rattle.rule_universe.specs.Worlds.{World}
-use Rattle.box_tree.specs.Plans.{piece_at, pieces_at, with_last}
+use Rattle.box_trace.specs.rule_universe.Worlds.{World}
+use Rattle.answer_certificates.specs.box_tree.Plans.{piece_at, pieces_at, with_last}
 use Rattle.cert_bytes.specs.declared.item.Item.{Item}
 use Rattle.cert_bytes.specs.declared.item.Item.TheVariants as item
 use Rattle.cert_bytes.specs.declared.item.StepRow.{StepRow}
 use Rattle.cert_bytes.specs.declared.style.Seen.{Seen}
 use Rattle.cert_bytes.specs.Styles.{none_seen}
 use Rattle.cert_writer.specs.Bytes.{seen_behind, seen_in, spelled_behind, certificate_of}
-use Rattle.cert_checker.specs.Contexts.{open_piece, piece_fact}
-use Rattle.cert_checker.specs.Open.{Numbered}
-use Rattle.cert_checker.specs.Steps.{step_fact, met_with, IsEnough}
+use Rattle.box_trace.specs.cert_checker.Contexts.{open_piece, piece_fact}
+use Rattle.box_trace.specs.cert_checker.Open.{Numbered}
+use Rattle.box_trace.specs.cert_checker.Steps.{step_fact, met_with, IsEnough}
 use Rattle.box_trace.specs.declared.known.Known.{Known}
 use Rattle.box_trace.specs.Boxes.{IsBox, IsOfUniverse, IsItsSection}
 use Rattle.box_trace.specs.Tables.{known_at, place_in, HasRows}
-use Rattle.box_traces.specs.Sections.{ArePlaces}
-use Rattle.box_traces.specs.Traces.{IsCutTo}
-use Rattle.box_traces.specs.Trees.{Tree, Trees, cut, last, next, cut_of, IsProved, AreProved}
-use Rattle.box_traces.specs.Walks.{numbered, behind_steps, Frame, IsPieceOf, LiesIn}
-use Rattle.box_traces.specs.Moves.{frame_of, turned, next_behind}
+use Rattle.box_trace.specs.box_traces.Sections.{ArePlaces}
+use Rattle.box_trace.specs.box_traces.Traces.{IsCutTo}
+use Rattle.box_trace.specs.box_traces.Trees.{Tree, Trees, cut, last, next, cut_of, IsProved, AreProved}
+use Rattle.box_trace.specs.box_traces.Walks.{numbered, behind_steps, Frame, IsPieceOf, LiesIn}
+use Rattle.box_trace.specs.box_traces.Moves.{frame_of, turned, next_behind}
 use Rattle.answer_certificates.specs.Boxes.{range_of_piece, pieces_from}
 use Rattle.whole_texts.specs.Pieces.{AppendsFront, appends_both}
 use Rattle.cert_writer.specs.Standing.{Aim, IsBegun, Place, IsAt, Ended, HasEnded, AreBoxSteps, AreShort, own_items, inside, beside, around}

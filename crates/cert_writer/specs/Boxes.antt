@@ -8,16 +8,16 @@ use Rattle.facts.specs.declared.fact.Slot.TheVariants as slot
 use Rattle.goals.specs.declared.goal.Goal.{Goal}
 use Rattle.goals.specs.Settles.{Settles}
 use Rattle.derivation.specs.Derivations.{At}
-use Rattle.rule_universe.specs.Worlds.{World}
-use Rattle.box_tree.specs.declared.cut.Cut.{Cut}
-use Rattle.box_tree.specs.declared.cut.Cut.TheVariants.{Forced, Half, Bottom}
+use Rattle.box_trace.specs.rule_universe.Worlds.{World}
+use Rattle.answer_certificates.specs.box_tree.declared.cut.Cut.{Cut}
+use Rattle.answer_certificates.specs.box_tree.declared.cut.Cut.TheVariants.{Forced, Half, Bottom}
 use Rattle.cert_bytes.specs.declared.item.Item.{Item}
 use Rattle.cert_bytes.specs.declared.item.Item.TheVariants as item
 use Rattle.cert_bytes.specs.declared.item.StepRow.{StepRow}
 use Rattle.cert_bytes.specs.Certificates.{IsCounted, IsShort}
 use Rattle.box_trace.specs.declared.known.Known.{Known}
 use Rattle.box_trace.specs.Tables.{known_at, place_in}
-use Rattle.box_traces.specs.Trees.{AllSettled}
+use Rattle.box_trace.specs.box_traces.Trees.{AllSettled}
 
 -- the step's premises have room in its list
 abbrev pub HasShortList : StepRow → Type 0

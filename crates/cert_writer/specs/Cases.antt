@@ -1,20 +1,20 @@
 -- The walk over a script's cases, which writes the root section of each: where it stands.
 use Rattle.std.specs.Prelude.{◌≡◌, ℕ, List, [], ◌∷◌, ◌++◌, drop, Option}
 use Rattle.goals.specs.declared.line.Line.{Line}
-use Rattle.script_claims.specs.declared.claim.Claim.{Claim}
-use Rattle.script_grammar.specs.Cases.{cases_of}
-use Rattle.script_grammar.specs.Spells.{View}
-use Rattle.rule_universe.specs.Assumed.{assuming}
-use Rattle.rule_universe.specs.Worlds.{World}
-use Rattle.box_tree.specs.Regions.{PlanParts}
-use Rattle.bisect.specs.declared.settler.State.{State}
-use Rattle.settler.specs.Answers.{plan_of}
-use Rattle.settler.specs.Standing.{AreStates}
+use Rattle.answer_certificates.specs.script_claims.declared.claim.Claim.{Claim}
+use Rattle.answer_certificates.specs.script_grammar.Cases.{cases_of}
+use Rattle.answer_certificates.specs.script_grammar.Spells.{View}
+use Rattle.box_trace.specs.rule_universe.Assumed.{assuming}
+use Rattle.box_trace.specs.rule_universe.Worlds.{World}
+use Rattle.answer_certificates.specs.box_tree.Regions.{PlanParts}
+use Rattle.answer_certificates.specs.bisect.declared.settler.State.{State}
+use Rattle.answer_certificates.specs.settler.Answers.{plan_of}
+use Rattle.answer_certificates.specs.settler.Standing.{AreStates}
 use Rattle.cert_bytes.specs.declared.item.Item.{Item}
 use Rattle.cert_bytes.specs.declared.item.Item.TheVariants as item
 use Rattle.cert_bytes.specs.declared.style.Seen.{Seen}
-use Rattle.cert_checker.specs.declared.subject.Subject.{Subject}
-use Rattle.box_traces.specs.Roots.{Root}
+use Rattle.box_trace.specs.cert_checker.declared.subject.Subject.{Subject}
+use Rattle.box_trace.specs.box_traces.Roots.{Root}
 use Rattle.answer_certificates.specs.Boxes.{boxes_of}
 use Rattle.answer_certificates.specs.Roots.{AreRootsOf}
 use Rattle.answer_certificates.specs.Scripts.{in_case}

@@ -4,7 +4,7 @@ use Rattle.fx_model.specs.declared.Node.{Node}
 use Rattle.facts.specs.declared.hint.HintMark.{HintMark}
 use Rattle.cert_bytes.specs.declared.item.Item.{Item}
 use Rattle.cert_bytes.specs.declared.item.Item.TheVariants as item
-use Rattle.box_traces.specs.Roots.{cases_items}
+use Rattle.box_trace.specs.box_traces.Roots.{cases_items}
 
 -- the nodes and the marks, each behind their count, and how many cases there are, where there are
 -- several

@@ -8,17 +8,17 @@ use Rattle.facts.specs.declared.fact.Fact.TheVariants as fact
 use Rattle.facts.specs.declared.fact.Slot.TheVariants as slot
 use Rattle.goals.specs.declared.line.Line.TheVariants as line
 use Rattle.derivation.specs.Exists.{table_at}
-use Rattle.saturate.specs.Universes.{setting_of}
+use Rattle.box_trace.specs.saturate.Universes.{setting_of}
 use Rattle.cert_bytes.specs.declared.item.Item.TheVariants as item
 use Rattle.cert_bytes.specs.declared.item.StepRow.{StepRow}
 use Rattle.box_trace.specs.Short.{bytes_a_box}
 use Rattle.cert_writer.specs.Bytes.{certificate_of}
-use Rattle.cert_checker.specs.Contexts.{Context}
-use Rattle.cert_checker.specs.Steps.{step_fact}
-use Rattle.box_traces.specs.Trees.{Tree, Trees, leaf, cut, last, next, IsProved, lines_of_tree, steps_in}
-use Rattle.box_traces.specs.Roots.{Root}
-use Rattle.box_traces.specs.Walks.{behind_steps, Frame}
-use Rattle.box_traces.specs.Moves.{AreSteps}
+use Rattle.box_trace.specs.cert_checker.Contexts.{Context}
+use Rattle.box_trace.specs.cert_checker.Steps.{step_fact}
+use Rattle.box_trace.specs.box_traces.Trees.{Tree, Trees, leaf, cut, last, next, IsProved, lines_of_tree, steps_in}
+use Rattle.box_trace.specs.box_traces.Roots.{Root}
+use Rattle.box_trace.specs.box_traces.Walks.{behind_steps, Frame}
+use Rattle.box_trace.specs.box_traces.Moves.{AreSteps}
 use Rattle.cert_writer.specs.Standing.{Aim, IsAim, IsWhole, IsBegun, Place, IsAt, Ended, HasEnded, AreBoxSteps, AreShort, AreCited, most_for, steps_left, lines_left, at_root, inside, closed, beside, around, next_aim, next_root, root_with}
 
 -- This is so of each aim.

@@ -9,8 +9,8 @@ use Rattle.goals.specs.declared.line.Line.{Line}
 use Rattle.goals.specs.Settles.{Settles}
 use Rattle.derivation.specs.Derivations.{At}
 use Rattle.derivation.specs.Known.{Piece}
-use Rattle.rule_universe.specs.Worlds.{World}
-use Rattle.saturate.specs.Universes.{setting_of}
+use Rattle.box_trace.specs.rule_universe.Worlds.{World}
+use Rattle.box_trace.specs.saturate.Universes.{setting_of}
 use Rattle.cert_bytes.specs.declared.item.Item.{Item}
 use Rattle.cert_bytes.specs.declared.item.Item.TheVariants as item
 use Rattle.cert_bytes.specs.declared.item.StepRow.{StepRow}
@@ -18,21 +18,21 @@ use Rattle.cert_bytes.specs.declared.order.Due.TheVariants.{Sections}
 use Rattle.cert_bytes.specs.Certificates.{AreDue, AreCertificate}
 use Rattle.cert_bytes.specs.Fronts.{IsFront}
 use Rattle.cert_bytes.specs.Sizes.{most_bytes_in}
-use Rattle.rule_universe.specs.Sizes.{IsSmall}
+use Rattle.box_trace.specs.rule_universe.Sizes.{IsSmall}
 use Rattle.box_trace.specs.Short.{bytes_a_box}
 use Rattle.cert_writer.specs.Bytes.{certificate_of, seen_in}
-use Rattle.cert_checker.specs.declared.open.Citable.{Citable}
-use Rattle.cert_checker.specs.declared.subject.Subject.{Subject}
-use Rattle.cert_checker.specs.Contexts.{Context, first}
-use Rattle.cert_checker.specs.Steps.{step_fact}
-use Rattle.cert_checker.specs.After.{after}
-use Rattle.cert_checker.specs.Accepted.{LeadsTo, Accepts}
-use Rattle.box_traces.specs.Writing.{IsWritable}
-use Rattle.box_traces.specs.Trees.{Tree, Trees, lines_of_tree, steps_in}
-use Rattle.box_traces.specs.Trees as trees
-use Rattle.box_traces.specs.Roots.{Root, AreRoots, steps_in_roots, lines_of_roots}
-use Rattle.box_traces.specs.Walks.{behind_steps, IsBehind, IsEndOf, Frame, LiesIn, left_in, lines_behind, steps_behind}
-use Rattle.box_traces.specs.Moves.{AreSteps, IsEntered, frame_of, turned}
+use Rattle.box_trace.specs.cert_checker.declared.open.Citable.{Citable}
+use Rattle.box_trace.specs.cert_checker.declared.subject.Subject.{Subject}
+use Rattle.box_trace.specs.cert_checker.Contexts.{Context, first}
+use Rattle.box_trace.specs.cert_checker.Steps.{step_fact}
+use Rattle.box_trace.specs.cert_checker.After.{after}
+use Rattle.box_trace.specs.cert_checker.Accepted.{LeadsTo, Accepts}
+use Rattle.box_trace.specs.box_traces.Writing.{IsWritable}
+use Rattle.box_trace.specs.box_traces.Trees.{Tree, Trees, lines_of_tree, steps_in}
+use Rattle.box_trace.specs.box_traces.Trees as trees
+use Rattle.box_trace.specs.box_traces.Roots.{Root, AreRoots, steps_in_roots, lines_of_roots}
+use Rattle.box_trace.specs.box_traces.Walks.{behind_steps, IsBehind, IsEndOf, Frame, LiesIn, left_in, lines_behind, steps_behind}
+use Rattle.box_trace.specs.box_traces.Moves.{AreSteps, IsEntered, frame_of, turned}
 use Rattle.cert_writer.specs.Heads.{head_items}
 
 -- ---- what is written

@@ -2,15 +2,15 @@
 use Rattle.std.specs.Prelude.{◌≡◌, ◌≤◌, ◌+◌, ℕ, List, [], ◌∷◌, ◌++◌, length, Some, None, Result, IsErrOf}
 use Rattle.fx_edge.specs.Outside.{Rose}
 use Rattle.derivation.specs.Laws.{TablesAreOne, BoxesComeToOneState}
-use Rattle.rule_universe.specs.Worlds.{World}
-use Rattle.box_tree.specs.declared.cut.Cut.{Cut}
-use Rattle.box_tree.specs.Plans.{piece_at, pieces_at, with_last}
-use Rattle.box_tree.specs.Regions.{PlanParts}
+use Rattle.box_trace.specs.rule_universe.Worlds.{World}
+use Rattle.answer_certificates.specs.box_tree.declared.cut.Cut.{Cut}
+use Rattle.answer_certificates.specs.box_tree.Plans.{piece_at, pieces_at, with_last}
+use Rattle.answer_certificates.specs.box_tree.Regions.{PlanParts}
 use Rattle.cert_bytes.specs.declared.item.Item.{Item}
 use Rattle.cert_bytes.specs.declared.item.Item.TheVariants as item
 use Rattle.box_trace.specs.declared.known.Known.{Known}
 use Rattle.box_trace.specs.Tables.{known_at}
-use Rattle.box_traces.specs.Moves.{WalksMove}
+use Rattle.box_trace.specs.box_traces.Moves.{WalksMove}
 use Rattle.answer_certificates.specs.Laws.{PiecesAreOfCuts}
 use Rattle.cert_writer.specs.declared.walk.WriteStop.{WriteStop}
 use Rattle.cert_writer.specs.declared.walk.WriteStop.TheVariants as write_stop

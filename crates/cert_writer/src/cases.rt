@@ -1,8 +1,8 @@
 //! The sections of a script's cases, one after the other.
 ghost use Rattle.std.specs.Prelude.{◌≡◌, ◌≢◌, ◌<◌, ◌≤◌, ◌+◌, ℕ, List, length, IfOk, OnOk, OnErr};
-ghost use Rattle.script_claims.specs.declared.claim.Claim.{Claim};
-ghost use Rattle.script_grammar.specs.Cases.{cases_of};
-ghost use Rattle.universe.specs.Universes.{IsUniverse};
+ghost use Rattle.answer_certificates.specs.script_claims.declared.claim.Claim.{Claim};
+ghost use Rattle.answer_certificates.specs.script_grammar.Cases.{cases_of};
+ghost use Rattle.answer_certificates.specs.universe.Universes.{IsUniverse};
 ghost use Rattle.std.specs.Io.KnownBytes.{Appends};
 ghost use Rattle.cert_bytes.specs.declared.item.Item.TheVariants as item;
 ghost use Rattle.cert_bytes.specs.Styles.{none_seen};
@@ -13,14 +13,11 @@ ghost use Rattle.cert_writer.specs.Cases.{bare, Stands, OfStanding, GoesOn, IsCo
 
 use crate::laws::writing_goes_on;
 use crate::walk::{WriteStop, write_box};
-use answer_certificates::script_has_room;
-use box_tree::Plan;
+use answer_certificates::{Plan, Script, assume, script_has_room};
+use box_trace::Universe;
 use cert_bytes::{Item, Seen, write_item2};
 use fx_edge::{Folder, Path};
-use rule_universe::Universe;
-use script_grammar::Script;
 use std::alloc::Global;
-use universe::assume;
 use whole_texts::append_all;
 
 // Writes the root section of the case with this number, where this was seen before it. It answers

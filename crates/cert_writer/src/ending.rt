@@ -1,21 +1,20 @@
 //! How a box's own items end.
 ghost use Rattle.std.specs.Prelude.{◌≡◌, ◌↔◌, ◌∷◌, [], IsTrue, IfOk};
-ghost use Rattle.rule_universe.specs.Worlds.{HasSlot};
+ghost use Rattle.box_trace.specs.rule_universe.Worlds.{HasSlot};
 ghost use Rattle.box_trace.specs.Tables.{known_at, HasRows};
-ghost use Rattle.box_traces.specs.Trees.{AllSettled};
+ghost use Rattle.box_trace.specs.box_traces.Trees.{AllSettled};
 ghost use Rattle.answer_certificates.specs.Scripts.{HasSlots};
 ghost use Rattle.cert_writer.specs.Boxes.{IsSettled, CutsAt, IsEnd, IsClosed};
 
 use crate::spell::refs_of;
-use box_trace::Known;
-use box_tree::Cut;
+use answer_certificates::Cut;
+use box_trace::{Known, Universe};
 use cert_bytes::Item;
 use dyadic::{Dyadic, Points};
 use facts::Slot;
 use fx_edge::Items;
 use fx_model::ExprId;
 use goals::{Goal, settles};
-use rule_universe::Universe;
 use std::alloc::{AllocError, Global};
 
 // Whether the goal is settled by what is known.

@@ -4,7 +4,7 @@ ghost use Rattle.cert_bytes.specs.declared.item.Item.TheVariants as item;
 ghost use Rattle.cert_bytes.specs.Certificates.{HasSpelling};
 ghost use Rattle.cert_bytes.specs.Styles.{none_seen};
 ghost use Rattle.cert_writer.specs.Bytes.{spelling_of, certificate_of};
-ghost use Rattle.box_traces.specs.Roots.{cases_items};
+ghost use Rattle.box_trace.specs.box_traces.Roots.{cases_items};
 ghost use Rattle.cert_writer.specs.Heads.{head_items};
 
 use cert_bytes::{Item, Seen, write_item2};

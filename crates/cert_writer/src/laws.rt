@@ -2,12 +2,10 @@
 ghost use Rattle.cert_writer.specs.Laws.{WritingGoesOn};
 ghost use Rattle.cert_writer.specs.Walks.{WalkGoesOn};
 
-use answer_certificates::pieces_are_of_cuts;
-use box_traces::{certificates_exist, walks_move};
-use box_tree::Plan;
+use answer_certificates::{Plan, pieces_are_of_cuts};
+use box_trace::{certificates_exist, rules_are_lawful, walks_move};
 use cert_bytes::spellings_are_short;
 use derivation::{best_tables_exist, boxes_come_to_one_state};
-use saturate::rules_are_lawful;
 
 /// Nothing is done. The clause tells a caller how a certificate goes on from box to box, that it is whole behind the last, and that
 /// before it is a front of an accepted one with all its lines.

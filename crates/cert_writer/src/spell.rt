@@ -5,15 +5,14 @@ ghost use Rattle.cert_bytes.specs.declared.item.Item.TheVariants as item;
 ghost use Rattle.cert_bytes.specs.Certificates.{HasSpelling};
 ghost use Rattle.cert_writer.specs.Bytes.{seen_behind, spelled_behind};
 ghost use Rattle.box_trace.specs.Tables.{known_at};
-ghost use Rattle.box_traces.specs.Traces.{HaveFields};
-ghost use Rattle.box_traces.specs.Trees.{AllSettled};
+ghost use Rattle.box_trace.specs.box_traces.Traces.{HaveFields};
+ghost use Rattle.box_trace.specs.box_traces.Trees.{AllSettled};
 ghost use Rattle.cert_writer.specs.Boxes.{HasShortList, HasRanges, refs_in};
 ghost use Rattle.cert_writer.specs.Standing.{own_items};
 
-use box_trace::Known;
+use box_trace::{Known, Universe};
 use cert_bytes::{Item, Seen, StepRow, write_item2};
 use goals::Goal;
-use rule_universe::Universe;
 use std::alloc::{AllocError, Global};
 
 // Nothing is done. The clause tells a caller that the step's rule and argument have room in their fields.

@@ -9,11 +9,10 @@ ghost use Rattle.cert_writer.specs.declared.walk.WriteStop.TheVariants as WriteS
 use crate::ending::{cut_of, end_of};
 use crate::laws::{walk_goes_on, writing_goes_on};
 use crate::spell::spell_box;
-use box_trace::{Known, Traced, boxes_are_short, trace};
-use box_tree::{Cut, Plan};
+use answer_certificates::{Cut, Plan};
+use box_trace::{Known, Traced, Universe, boxes_are_short, trace};
 use cert_bytes::{CutPoints, Item, Seen};
 use fx_edge::{Failed, Folder, Path};
-use rule_universe::Universe;
 use std::alloc::{AllocError, Global};
 use whole_texts::append_all;
 

@@ -1,8 +1,8 @@
 //! A script's certificate, written to a file.
 ghost use Rattle.std.specs.Prelude.{◌≡◌, ◌≢◌, ◌≤◌, ℕ, List, OnOk, OnErr};
-ghost use Rattle.script_claims.specs.declared.claim.Claim.{Claim};
-ghost use Rattle.universe.specs.Universes.{IsUniverse};
-ghost use Rattle.script_checker.specs.Subjects.{IsSubjectOf};
+ghost use Rattle.answer_certificates.specs.script_claims.declared.claim.Claim.{Claim};
+ghost use Rattle.answer_certificates.specs.universe.Universes.{IsUniverse};
+ghost use Rattle.answer_certificates.specs.script_checker.Subjects.{IsSubjectOf};
 ghost use Rattle.cert_writer.specs.Walks.{HasWriteCause};
 ghost use Rattle.cert_writer.specs.Written.{IsProvedWith, OfProved, HoldsCertificate, HoldsFront};
 
@@ -11,12 +11,10 @@ use crate::head::spell_head;
 use crate::laws::writing_goes_on;
 use crate::walk::WriteStop;
 use answer_certificates::{
-    script_has_room, scripts_have_roots, subjects_are_written, universes_are_small,
+    Script, script_has_room, scripts_have_roots, subjects_are_written, universes_are_small,
 };
-use cert_checker::Subject;
+use box_trace::{Subject, Universe};
 use fx_edge::Folder;
-use rule_universe::Universe;
-use script_grammar::Script;
 use std::alloc::Global;
 use whole_texts::append_all;
 

@@ -1,7 +1,7 @@
 -- How a run of `check` ends.
 use Rattle.std.specs.Prelude.{⊤}
 use Rattle.std.proofs.Common.{◌≡◌, ◌≢◌, Option, Some, None, refl, sym, subst, inl, inr}
-use Rattle.script_grammar.specs.Spells.{View, Spells}
+use Rattle.script_checker.specs.script_grammar.Spells.{View, Spells}
 use Rattle.whole_texts.specs.Texts.{IsText}
 use Rattle.whole_texts.specs.declared.read.ReadStop.{ReadStop}
 use Rattle.whole_texts.specs.declared.read.ReadStop.TheVariants as stop

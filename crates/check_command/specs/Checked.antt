@@ -3,20 +3,20 @@ use Rattle.std.specs.Prelude.{◌≡◌, ◌≤◌, ◌⊎◌, List, length, Opt
 use Rattle.fx_model.specs.Expression.{Assignment}
 use Rattle.facts.specs.declared.hint.HintMark.{HintMark}
 use Rattle.goals.specs.declared.line.Line.{Line}
-use Rattle.script_grammar.specs.Spells.{View, Spells}
-use Rattle.script_meets.specs.Meets.{Meets}
-use Rattle.rewrite_hints.specs.Marks.{AreMarks}
+use Rattle.script_checker.specs.script_grammar.Spells.{View, Spells}
+use Rattle.script_checker.specs.script_meets.Meets.{Meets}
+use Rattle.script_checker.specs.rewrite_hints.Marks.{AreMarks}
 use Rattle.cert_bytes.specs.declared.fault.CertFault.{CertFault}
 use Rattle.cert_bytes.specs.declared.style.Style.TheVariants.{First}
 use Rattle.cert_bytes.specs.Reading.{cursor}
 use Rattle.cert_bytes.specs.ReadOut.{AreBytes}
-use Rattle.cert_checker.specs.declared.fault.CheckFault.{CheckFault}
-use Rattle.cert_checker.specs.Contexts.{Context}
-use Rattle.cert_checker.specs.Outcomes.{Outcome, accepted, unread, refused}
+use Rattle.script_checker.specs.cert_checker.declared.fault.CheckFault.{CheckFault}
+use Rattle.script_checker.specs.cert_checker.Contexts.{Context}
+use Rattle.script_checker.specs.cert_checker.Outcomes.{Outcome, accepted, unread, refused}
 use Rattle.script_checker.specs.Checking.{ComesFor, AreAcceptedFor}
-use Rattle.settler.specs.Held.{AreHeld}
-use Rattle.report.specs.Proved.{answer_text}
-use Rattle.report.specs.Certificates.{cert_fault_line, check_fault_line}
+use Rattle.script_answers.specs.settler.Held.{AreHeld}
+use Rattle.script_answers.specs.report.Proved.{answer_text}
+use Rattle.script_answers.specs.report.Certificates.{cert_fault_line, check_fault_line}
 use Rattle.command_runs.specs.Runs.{Bytes}
 use Rattle.command_runs.specs.Fates.{WhereTold}
 use Rattle.command_runs.specs.declared.status.Status.{Status}

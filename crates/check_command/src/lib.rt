@@ -1,6 +1,12 @@
 //! The command `check`: checks a certificate of a script, and prints the lines that it shows.
 #![tactic(auto)]
 
+// What callers name of the crates below.
+pub use script_answers::{cert_fault_line, check_fault_line, new_too_long_line, refusal_line};
+pub use script_checker::{
+    ParseStop, Script, checks_are_one, parse, script_items, script_or_refusal,
+};
+
 mod check;
 mod command;
 mod laws;

@@ -11,8 +11,6 @@ mod numbers;
 mod options;
 mod prove;
 mod simple;
-#[cfg(test)]
-mod tests;
 mod trim;
 mod upgrade;
 mod usage_line;

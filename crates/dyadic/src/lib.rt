@@ -1,6 +1,9 @@
 //! Numbers m * 2^e with exact comparison and outward rounding.
 #![tactic(auto)]
 
+// What callers name of the crates below.
+pub use fx_model::{Direction, ExprId, Literal, Rounding};
+
 mod cut;
 mod floor;
 mod middle;
@@ -12,8 +15,6 @@ mod reciprocal;
 mod rounding;
 mod shift;
 mod sums;
-#[cfg(test)]
-mod tests;
 mod text;
 
 pub use middle::{halve_between, part_down};

@@ -10,7 +10,5 @@ mod operations;
 mod products;
 mod roundings;
 mod scaling;
-#[cfg(test)]
-mod tests;
 
 pub use exact::Exact;

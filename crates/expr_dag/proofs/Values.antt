@@ -1,12 +1,12 @@
 -- The values of nodes stay where more nodes follow.
 use Rattle.std.proofs.Common.{◌≡◌, ℕ, zero, suc, ◌<◌, List, ◌++◌, length, Option, refl, sym, ap, ◌∙◌, arith, length-append, slice_index_or}
 use Rattle.std.proofs.lemmas.List.{get_or_append_left}
-use Rattle.fx_model.specs.Fraction.{Fraction, ◌+ℚ◌, ◌-ℚ◌, ◌*ℚ◌, neg_ℚ, abs_ℚ}
-use Rattle.fx_model.specs.Rounded.{rounded}
-use Rattle.fx_model.specs.declared.ExprId.{ExprId}
-use Rattle.fx_model.specs.declared.Node.{Node}
-use Rattle.fx_model.specs.declared.Node.TheVariants.{Var, Lit, Neg, Add, Sub, Mul, Div, Abs, Round}
-use Rattle.fx_model.specs.Expression.{Assignment, ChildrenBelow, IsOrdered, node_value, value, value_step, lift₁, lift₂, quotient, same_children}
+use Rattle.literal.specs.fx_model.Fraction.{Fraction, ◌+ℚ◌, ◌-ℚ◌, ◌*ℚ◌, neg_ℚ, abs_ℚ}
+use Rattle.literal.specs.fx_model.Rounded.{rounded}
+use Rattle.literal.specs.fx_model.declared.ExprId.{ExprId}
+use Rattle.literal.specs.fx_model.declared.Node.{Node}
+use Rattle.literal.specs.fx_model.declared.Node.TheVariants.{Var, Lit, Neg, Add, Sub, Mul, Div, Abs, Round}
+use Rattle.literal.specs.fx_model.Expression.{Assignment, ChildrenBelow, IsOrdered, node_value, value, value_step, lift₁, lift₂, quotient, same_children}
 
 module _ (nodes more : List Node) (a : Assignment) (o : IsOrdered nodes) (p : IsOrdered (nodes ++ more)) where
   value_below : (k : ℕ) (x : ExprId) → x.0 < k → x.0 < length nodes → value (nodes ++ more) a x ≡ value nodes a x

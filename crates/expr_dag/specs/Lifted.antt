@@ -2,10 +2,10 @@
 use Rattle.std.specs.Prelude.{◌≡◌, ◌≢◌, Bool, true, false, List, Option, Some, None, if◌then◌else◌, refl}
 use Rattle.std.specs.Option.{IsSomeAnd}
 use Rattle.std.proofs.Common.{sym, subst}
-use Rattle.fx_model.specs.Fraction.{Fraction, ◌/ℚ◌, zero_ℚ, is_zero_ℚ, is_zero_out}
-use Rattle.fx_model.specs.Expression.{Assignment, IsOrdered, value, node_value, lift₁, lift₂, quotient}
-use Rattle.fx_model.specs.declared.ExprId.{ExprId}
-use Rattle.fx_model.specs.declared.Node.{Node}
+use Rattle.literal.specs.fx_model.Fraction.{Fraction, ◌/ℚ◌, zero_ℚ, is_zero_ℚ, is_zero_out}
+use Rattle.literal.specs.fx_model.Expression.{Assignment, IsOrdered, value, node_value, lift₁, lift₂, quotient}
+use Rattle.literal.specs.fx_model.declared.ExprId.{ExprId}
+use Rattle.literal.specs.fx_model.declared.Node.{Node}
 use Rattle.expr_dag.specs.Shapes.{is_at, is_at_out, node_at-value}
 
 pub lifted₁ : (f : Fraction → Fraction) (u : Option Fraction) (P Q : Fraction → Type 0) → ((x : Fraction) → P x → Q (f x)) → IsSomeAnd u P → IsSomeAnd (lift₁ f u) Q

@@ -1,12 +1,13 @@
 //! The one list of shared expression nodes, in which each is made of earlier ones.
 #![tactic(auto)]
 
+// What callers name of the crates below.
+pub use literal::read_bytes;
+
 mod dag;
 mod key;
 mod laws;
-#[cfg(test)]
-mod tests;
 
 pub use dag::{Dag, DagFault};
-pub use fx_model::{Direction, ExprId, Literal, Node, Rounding};
 pub use laws::values_stay;
+pub use literal::{Direction, ExprId, Literal, Node, Rounding};

@@ -7,6 +7,3 @@ mod token;
 
 pub use board::Board;
 pub use token::Token;
-
-#[cfg(test)]
-mod tests;

@@ -1,7 +1,7 @@
 -- Conclusions of rules: how they are written, when one improves another, and where they stand.
 use Rattle.std.specs.Prelude.{◌≡◌, ◌⊎◌, ◌≤ℤ◌, Bool, true, false, Option, Some, None, if◌then◌else◌, refl}
 use Rattle.std.proofs.Common.{ap, subst, inl}
-use Rattle.fx_model.specs.declared.ExprId.{ExprId}
+use Rattle.interval.specs.fx_model.declared.ExprId.{ExprId}
 use Rattle.interval.specs.declared.interval.Interval.{Interval}
 use Rattle.facts.specs.declared.place.Place.{Place}
 use Rattle.facts.specs.declared.size.Size.{Size}

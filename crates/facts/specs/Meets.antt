@@ -5,9 +5,9 @@ use Rattle.std.proofs.lemmas.Int.{ints}
 use Rattle.std.proofs.Math.Dec.{T_prop}
 use Rattle.std.proofs.lemmas.Bool.{and_parts}
 use mathlib.Core.HLevel.{is_prop→PathP}
-use Rattle.fx_model.specs.Fraction.{le_antisymm}
-use Rattle.fx_model.specs.Grid.{Bound, Below, At, Above}
-use Rattle.fx_model.specs.Enclosure.{BoundLe}
+use Rattle.interval.specs.fx_model.Fraction.{le_antisymm}
+use Rattle.interval.specs.fx_model.Grid.{Bound, Below, At, Above}
+use Rattle.interval.specs.fx_model.Enclosure.{BoundLe}
 use Rattle.interval.specs.declared.interval.Interval.{Interval}
 use Rattle.interval.specs.Intervals.{range_of, same_range}
 use Rattle.interval.specs.Meets.{common_of}
@@ -21,7 +21,7 @@ use Rattle.facts.specs.Parts.{common_size, common_error, greater_place, size_fro
 use Rattle.facts.specs.Order.{slot_of, IsWithin, IsWithinError, IsStronger, is_same, bounded, sized, meet_of, AreUnlike}
 use Rattle.facts.specs.CommonParts.{at_option, some-inj, if-some, expr_same}
 use Rattle.facts.specs.Laws.{IsStronger-refl, IsStronger-slot, IsStronger-meet, IsMeet, meet_exists}
-use Rattle.dyadic.specs.Extremes.{BoundLe-antisymm}
+use Rattle.interval.specs.dyadic.Extremes.{BoundLe-antisymm}
 
 -- ---- one fact only is as strong as another both ways
 intervals_same : (i j : Interval) → IsWithin i j → IsWithin j i → i ≡ j

@@ -1,9 +1,9 @@
 -- The ranges that kinds of facts keep.
 use Rattle.std.specs.Prelude.{◌≡◌, ⊤, Bool, true, false, not, refl}
 use Rattle.std.proofs.lemmas.Bool.{not-true}
-use Rattle.fx_model.specs.Fraction.{Fraction, ◌<ℚ◌, le_ℚ, zero_ℚ, one_ℚ, neg_ℚ, Le-prop, Lt-prop, lt_le_trans}
-use Rattle.fx_model.specs.Grid.{Bound, Below, At, Above}
-use Rattle.fx_model.specs.Enclosure.{Range, BoundLe}
+use Rattle.interval.specs.fx_model.Fraction.{Fraction, ◌<ℚ◌, le_ℚ, zero_ℚ, one_ℚ, neg_ℚ, Le-prop, Lt-prop, lt_le_trans}
+use Rattle.interval.specs.fx_model.Grid.{Bound, Below, At, Above}
+use Rattle.interval.specs.fx_model.Enclosure.{Range, BoundLe}
 use mathlib.Core.HLevel.{⊥_prop, Unit-prop}
 
 pub BoundLe-prop : (b c : Bound) → IsProp (BoundLe b c)

@@ -7,8 +7,7 @@ use crate::fact::Fact;
 use crate::place::Place;
 use crate::relative::RelativeError;
 use crate::size::Size;
-use fx_model::ExprId;
-use interval::Interval;
+use interval::{ExprId, Interval};
 
 impl Fact {
     /// A bound of the expression, where there is an interval.

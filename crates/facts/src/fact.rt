@@ -1,8 +1,7 @@
 use crate::place::Place;
 use crate::relative::RelativeError;
 use crate::size::Size;
-use fx_model::ExprId;
-use interval::Interval;
+use interval::{ExprId, Interval};
 
 /// What is known of one expression, or of two.
 #[derive(Clone, Copy, PartialEq, Eq, Debug)]

@@ -1,6 +1,5 @@
-use dyadic::End;
 use fx_edge::Items;
-use fx_model::ExprId;
+use interval::{End, ExprId};
 
 /// A constraint of a hint on an expression. A bound is a number rounded so that what meets it meets the written one.
 #[derive(Clone, Copy, PartialEq, Eq, Debug)]

@@ -1,6 +1,10 @@
 //! Facts on expressions: what they say of an assignment, their order and their meet.
 #![tactic(auto)]
 
+// What callers name of the crates below.
+pub use fx_edge::{Items, Path};
+pub use interval::{Dyadic, End, ExprId, Interval, Points, enclose, greater, opposite};
+
 mod conclusion;
 mod fact;
 mod hint;
@@ -10,8 +14,6 @@ mod order;
 mod place;
 mod relative;
 mod size;
-#[cfg(test)]
-mod tests;
 
 pub use fact::{Fact, Slot};
 pub use hint::{HintMark, HintRow, Need};

@@ -7,8 +7,7 @@ use crate::fact::{Fact, Slot};
 use crate::place::Place;
 use crate::relative::RelativeError;
 use crate::size::Size;
-use fx_model::ExprId;
-use interval::Interval;
+use interval::{ExprId, Interval};
 
 /// The slot that a fact stands on.
 pub fn slot(f: &Fact) -> Slot

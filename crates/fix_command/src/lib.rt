@@ -4,8 +4,6 @@
 
 mod fix;
 mod lines;
-#[cfg(test)]
-mod tests;
 mod turned;
 
 pub use fix::run_fix;

@@ -9,8 +9,6 @@ mod part;
 mod print;
 mod program;
 mod reader;
-#[cfg(test)]
-mod tests;
 pub mod token;
 pub mod turn;
 mod word;

@@ -21,8 +21,3 @@ pub use ledger::Ledger;
 pub use outside::{Failed, Folder, Sink};
 pub use path::Path;
 pub use sink::{MemSink, SureSink};
-
-#[cfg(test)]
-mod path_tests;
-#[cfg(test)]
-mod tests;

@@ -122,8 +122,8 @@ fn lists_of_scripts(rt: HostRuntime) -> Result<(), Fail> {
     Ok(())
 }
 
-// Each call of the folder and each put fails in turn, until a run meets no fault: a read fault names
-// a file, and what was put is a front of the lines.
+// Each call of the folder and each put fails in turn, until a run meets no fault: a read fault
+// names a file, and what was put is a front of the lines.
 fn calls_fail(
     rt: &(impl Abort + Threads + Wait + Sync),
     alloc: Global,

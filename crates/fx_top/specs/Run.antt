@@ -2,7 +2,7 @@
 use Rattle.std.specs.Prelude.{◌≡◌, List, Option, Some, None}
 use Rattle.at_command.specs.Command.{IsAtRun}
 use Rattle.batch_command.specs.Command.{IsBatchRun}
-use Rattle.check_command.specs.Command.{IsCheckRun}
+use Rattle.trim_command.specs.check_command.Command.{IsCheckRun}
 use Rattle.command_line.specs.Usage.{usage_line}
 use Rattle.command_runs.specs.Fates.{Fate, IsRunOf, MayWrite}
 use Rattle.command_runs.specs.Fates.Left.{Kept}

@@ -7,7 +7,6 @@ ghost use Rattle.fx_top.specs.Run.{IsRun};
 use crate::wanted::{Wanted, command_of};
 use at_command::run_at;
 use batch_command::run_batch;
-use check_command::run_check;
 use command_line::{WordsError, usage};
 use command_runs::{Status, print};
 use fix_command::run_fix;
@@ -17,7 +16,7 @@ use prove_command::run_prove;
 use std::alloc::Global;
 use std::sync::Wait;
 use std::thread::Threads;
-use trim_command::run_trim;
+use trim_command::{run_check, run_trim};
 use upgrade_command::run_upgrade;
 
 // Runs a command.

@@ -1,8 +1,8 @@
 -- The words of a script are read as the spans of its tree.
 use Rattle.std.specs.Prelude.{◌≡◌, ℕ, suc, ◌+◌, List, [], ◌∷◌, ◌++◌, length, refl}
 use Rattle.std.proofs.Common.{ap, sym, ◌∙◌, append_assoc, append-nil, length-append, arith}
-use Rattle.script_words.specs.declared.class.Sign.TheVariants as s
-use Rattle.script_words.specs.Words.{sign}
+use Rattle.script_shape.specs.script_words.declared.class.Sign.TheVariants as s
+use Rattle.script_shape.specs.script_words.Words.{sign}
 use Rattle.script_shape.specs.declared.due.Due.TheVariants as d
 use Rattle.script_shape.specs.Tree.{Expr, expr_words, Prop, lies_in, relative_in, at_most, at_least, multiple, Stated, affirmed, denied, Formula, single, and, or, implies, formula_words, Script, formula, define}
 use Rattle.script_shape.specs.Roles.{Leaf, at, bound_leaves, expr_leaves, range_leaves, prop_leaves, stated_leaves, formula_leaves, hints_leaves, definition_leaves, script_leaves, LeavesSpell}

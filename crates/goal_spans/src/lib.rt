@@ -1,11 +1,14 @@
 //! Which words of a script are the expression part of each goal.
 #![tactic(auto)]
 
+// What callers name of the crates below.
+pub use script_shape::due::Due;
+pub use script_shape::shape::{leaves_are_of_trees, shapes_exist};
+pub use script_shape::{Sign, Token, Word, WordList, lexed_all, lexed_once, tokens_are_few};
+
 mod laws;
 mod reader;
 mod span;
-#[cfg(test)]
-mod tests;
 
 pub use laws::spans_are_read;
 pub use reader::goal_spans;

@@ -2,14 +2,14 @@
 use Rattle.std.specs.Prelude.{◌≡◌, List, Option, Some, None}
 use Rattle.std.specs.Option.{IsSomeAnd}
 use Rattle.std.proofs.Common.{subst, inl, inr, ⊎_elim}
-use Rattle.fx_model.specs.Fraction.{Fraction}
-use Rattle.fx_model.specs.Enclosure.{Lies}
-use Rattle.fx_model.specs.Expression.{Assignment, value}
-use Rattle.fx_model.specs.declared.Node.{Node}
-use Rattle.fx_model.specs.declared.ExprId.{ExprId}
-use Rattle.interval.specs.declared.interval.Interval.{Interval}
-use Rattle.interval.specs.Intervals.{range_of}
-use Rattle.interval.specs.Meets.{hull_of, lies-hull_left, lies-hull_right}
+use Rattle.facts.specs.fx_model.Fraction.{Fraction}
+use Rattle.facts.specs.fx_model.Enclosure.{Lies}
+use Rattle.facts.specs.fx_model.Expression.{Assignment, value}
+use Rattle.facts.specs.fx_model.declared.Node.{Node}
+use Rattle.facts.specs.fx_model.declared.ExprId.{ExprId}
+use Rattle.facts.specs.interval.declared.interval.Interval.{Interval}
+use Rattle.facts.specs.interval.Intervals.{range_of}
+use Rattle.facts.specs.interval.Meets.{hull_of, lies-hull_left, lies-hull_right}
 use Rattle.facts.specs.declared.fact.Fact.{Fact}
 use Rattle.facts.specs.declared.fact.Fact.TheVariants as fact
 use Rattle.facts.specs.declared.fact.Slot.{Slot}

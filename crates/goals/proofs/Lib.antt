@@ -1,2 +1,2 @@
 pub mod Gather
-pub mod Stronger
+pub mod StrongerSettle

@@ -1,11 +1,9 @@
 ghost use Rattle.std.specs.Prelude.{◌↔◌, IsTrue};
-ghost use Rattle.fx_model.specs.Enclosure.{IsFinite};
-ghost use Rattle.interval.specs.Intervals.{range_of};
+ghost use Rattle.facts.specs.fx_model.Enclosure.{IsFinite};
+ghost use Rattle.facts.specs.interval.Intervals.{range_of};
 ghost use Rattle.goals.specs.Settles.{IsWanted, Answers, Settles};
 
-use dyadic::End;
-use facts::{Fact, Slot, slot};
-use interval::Interval;
+use facts::{End, Fact, Interval, Slot, slot};
 
 /// What is wanted of an interval.
 #[derive(Clone, Copy, PartialEq, Eq, Debug)]

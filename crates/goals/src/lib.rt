@@ -1,11 +1,15 @@
 //! What a goal wants, which facts settle it, and the line that is printed of it.
 #![tactic(auto)]
 
+// What callers name of the crates below.
+pub use facts::{
+    Dyadic, End, ExprId, Fact, HintMark, HintRow, Instance, Interval, Place, Points, RelativeError,
+    Size, Slot, meet, slot, stronger,
+};
+
 mod goal;
 mod laws;
 mod line;
-#[cfg(test)]
-mod tests;
 
 pub use goal::{Goal, Want, answers, settles};
 pub use laws::{lines_hold, settling_facts};

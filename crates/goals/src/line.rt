@@ -1,8 +1,7 @@
 ghost use Rattle.std.specs.Prelude.{◌≡◌};
 ghost use Rattle.goals.specs.Joined.{with_interval, with_zeros, joined};
 
-use facts::Fact;
-use interval::Interval;
+use facts::{Fact, Interval};
 
 /// What is printed of a goal.
 #[derive(Clone, Copy, PartialEq, Eq, Debug)]

@@ -1,9 +1,9 @@
 -- The corners at which a product is least.
 use Rattle.std.specs.Prelude.{◌≡◌, ◌⊎◌}
 use Rattle.std.proofs.Common.{refl, sym, subst, ap, ◌∙◌, ⊎_elim, inl, inr}
-use Rattle.fx_model.specs.Fraction.{Fraction, ◌*ℚ◌, ◌≤ℚ◌, ◌<ℚ◌, zero_ℚ, neg_ℚ, le_trans, le_refl, le_or_lt, lt_le, mul-le, neg-mul}
-use Rattle.fx_model.specs.Grid.{Bound, At, IsDown, neg_bound}
-use Rattle.fx_model.specs.Enclosure.{Range, Lies, Products, IsInfimum, IsSupremum, IsOrdered, BoundLe, infimum_at, member_of, mirror, lies_mirror, lies_mirrored, enclosure_ordered}
+use Rattle.dyadic.specs.fx_model.Fraction.{Fraction, ◌*ℚ◌, ◌≤ℚ◌, ◌<ℚ◌, zero_ℚ, neg_ℚ, le_trans, le_refl, le_or_lt, lt_le, mul-le, neg-mul}
+use Rattle.dyadic.specs.fx_model.Grid.{Bound, At, IsDown, neg_bound}
+use Rattle.dyadic.specs.fx_model.Enclosure.{Range, Lies, Products, IsInfimum, IsSupremum, IsOrdered, BoundLe, infimum_at, member_of, mirror, lies_mirror, lies_mirrored, enclosure_ordered}
 use Rattle.grid_words.specs.Signs.{times_up, times_down, factor_down}
 use Rattle.interval.proofs.Inequalities.{down-le}
 use Rattle.interval.specs.Enclosures.{supremum_neg}

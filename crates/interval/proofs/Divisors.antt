@@ -1,9 +1,9 @@
 -- The least quotient, and what changes with the signs of both parts.
 use Rattle.std.specs.Prelude.{◌≡◌}
 use Rattle.std.proofs.Common.{refl, sym, subst, ap, ◌∙◌}
-use Rattle.fx_model.specs.Fraction.{Fraction, ◌*ℚ◌, ◌/ℚ◌, ◌≤ℚ◌, ◌<ℚ◌, zero_ℚ, neg_ℚ, inverse_ℚ, mul-le, neg-mul, neg-neg, le_trans, le_refl, lt_le_trans, lt_by}
-use Rattle.fx_model.specs.Grid.{Bound, IsDown, neg_bound}
-use Rattle.fx_model.specs.Enclosure.{Range, Lies, Quotients, IsInfimum, IsSupremum, IsEnclosure, IsOrdered, infimum_at, member_of, mirror, lies_mirror, lies_mirrored, enclosure_same, enclosure_ordered}
+use Rattle.dyadic.specs.fx_model.Fraction.{Fraction, ◌*ℚ◌, ◌/ℚ◌, ◌≤ℚ◌, ◌<ℚ◌, zero_ℚ, neg_ℚ, inverse_ℚ, mul-le, neg-mul, neg-neg, le_trans, le_refl, lt_le_trans, lt_by}
+use Rattle.dyadic.specs.fx_model.Grid.{Bound, IsDown, neg_bound}
+use Rattle.dyadic.specs.fx_model.Enclosure.{Range, Lies, Quotients, IsInfimum, IsSupremum, IsEnclosure, IsOrdered, infimum_at, member_of, mirror, lies_mirror, lies_mirrored, enclosure_same, enclosure_ordered}
 use Rattle.grid_words.specs.Signs.{times_up, factor_down, neg_zero, mul-neg, neg_up, inverse_up, inverse_le, inverse-neg}
 use Rattle.interval.specs.Enclosures.{supremum_neg}
 use Rattle.interval.proofs.Corners.{closed}

@@ -8,9 +8,9 @@ use Rattle.std.proofs.lemmas.Int.{ints}
 use Rattle.std.proofs.lemmas.Bool.{cases_lt}
 use Rattle.std.proofs.lemmas.Nat.{div-add-mod', mod_below, pow_pos}
 use lib.IntN.{neg_ℤ}
-use Rattle.fx_model.specs.Fraction.{Fraction, ◌≤ℚ◌, ◌<ℚ◌, neg_ℚ, le_refl, le_lt_trans, neg-le}
-use Rattle.fx_model.specs.Powers.{scaled, IsMultiple, scaled-le, scaled-lt, scaled-lt_out, scaled-shift}
-use Rattle.fx_model.specs.Grid.{Bound, Below, At, Above, IsOnGrid, neg_bound, scaled-neg, neg_over, neg_under, multiple-neg}
+use Rattle.dyadic.specs.fx_model.Fraction.{Fraction, ◌≤ℚ◌, ◌<ℚ◌, neg_ℚ, le_refl, le_lt_trans, neg-le}
+use Rattle.dyadic.specs.fx_model.Powers.{scaled, IsMultiple, scaled-le, scaled-lt, scaled-lt_out, scaled-shift}
+use Rattle.dyadic.specs.fx_model.Grid.{Bound, Below, At, Above, IsOnGrid, neg_bound, scaled-neg, neg_over, neg_under, multiple-neg}
 use Rattle.interval.specs.Multiples.{IsMultipleDown, IsMultipleUp, IsEndDown, IsEndUp}
 
 -- ---- a shift to the right

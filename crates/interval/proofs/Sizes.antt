@@ -1,9 +1,9 @@
 -- Absolute values and squares.
 use Rattle.std.specs.Prelude.{◌≡◌, ◌⊎◌, Bool, false, IsTrue}
 use Rattle.std.proofs.Common.{refl, sym, subst, ap, ◌∙◌, ⊎_elim}
-use Rattle.fx_model.specs.Fraction.{Fraction, ◌+ℚ◌, ◌*ℚ◌, ◌-ℚ◌, ◌≤ℚ◌, ◌<ℚ◌, zero_ℚ, one_ℚ, neg_ℚ, abs_ℚ, abs-from, abs-below, le_trans, le_refl, le_antisymm, le_or_lt, lt_le, lt_not, neg-neg, neg-mul, mul-le, minus_one, plus_one, zero-add, one-mul, add-le-add, lt_le_trans}
-use Rattle.fx_model.specs.Grid.{Bound, Below, At, Above, neg_bound, neg_bound-neg}
-use Rattle.fx_model.specs.Enclosure.{Range, IsFrom, IsUpTo, Lies, Negations, Sizes, Squares, IsSquare, IsInfimum, IsSupremum, IsEnclosure, IsOrdered, BoundLe, infimum_at, supremum_at, member_of, ordered_by, deep, far, low_lies, high_lies, from_neg, up_to_neg, enclosure_same, enclosure_ordered, from-le, up_to-le}
+use Rattle.dyadic.specs.fx_model.Fraction.{Fraction, ◌+ℚ◌, ◌*ℚ◌, ◌-ℚ◌, ◌≤ℚ◌, ◌<ℚ◌, zero_ℚ, one_ℚ, neg_ℚ, abs_ℚ, abs-from, abs-below, le_trans, le_refl, le_antisymm, le_or_lt, lt_le, lt_not, neg-neg, neg-mul, mul-le, minus_one, plus_one, zero-add, one-mul, add-le-add, lt_le_trans}
+use Rattle.dyadic.specs.fx_model.Grid.{Bound, Below, At, Above, neg_bound, neg_bound-neg}
+use Rattle.dyadic.specs.fx_model.Enclosure.{Range, IsFrom, IsUpTo, Lies, Negations, Sizes, Squares, IsSquare, IsInfimum, IsSupremum, IsEnclosure, IsOrdered, BoundLe, infimum_at, supremum_at, member_of, ordered_by, deep, far, low_lies, high_lies, from_neg, up_to_neg, enclosure_same, enclosure_ordered, from-le, up_to-le}
 use Rattle.interval.specs.Exact.{IsExact}
 use Rattle.interval.specs.Squares.{LowSquare, HighSquare}
 use Rattle.grid_words.specs.Signs.{neg_zero, neg_up, neg_down, mul-neg, times_up, zero_one, abs_down}

@@ -1,6 +1,6 @@
 -- Each operation has one result.
-use Rattle.fx_model.specs.Fraction.{Fraction}
-use Rattle.fx_model.specs.Enclosure.{Range, IsEnclosure, IsProduct, IsQuotient, enclosure_unique, product_unique}
+use Rattle.dyadic.specs.fx_model.Fraction.{Fraction}
+use Rattle.dyadic.specs.fx_model.Enclosure.{Range, IsEnclosure, IsProduct, IsQuotient, enclosure_unique, product_unique}
 use Rattle.interval.specs.Unique.{IsOnly}
 use Rattle.interval.specs.Results.{quotient_unique}
 

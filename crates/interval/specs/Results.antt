@@ -1,9 +1,9 @@
 -- The results of operations as intervals: functions, each with the law that it is the best interval.
 use Rattle.std.specs.Prelude.{◌≡◌, ◌⊎◌, Bool, true, false, not, ◌&&◌, Option, Some, None, refl}
 use Rattle.std.proofs.Common.{sym, ap, ◌∙◌, subst, inl, inr, ⊎_elim}
-use Rattle.fx_model.specs.Fraction.{Fraction, zero_ℚ, ◌≤ℚ◌, le_refl, le_antisymm}
-use Rattle.fx_model.specs.Grid.{Bound, Below, At, Above}
-use Rattle.fx_model.specs.Enclosure.{Range, IsOrdered, IsFrom, IsUpTo, Lies, BoundLe, IsEnclosure, IsInfimum, IsSupremum, Sums, Differences, Negations, Sizes, Products, Quotients, IsFinite, whole_line, IsNegation, IsSize, IsSum, IsDifference, IsProduct, IsQuotient, enclosure_unique, product_unique, finite_or, enclosure_ordered}
+use Rattle.dyadic.specs.fx_model.Fraction.{Fraction, zero_ℚ, ◌≤ℚ◌, le_refl, le_antisymm}
+use Rattle.dyadic.specs.fx_model.Grid.{Bound, Below, At, Above}
+use Rattle.dyadic.specs.fx_model.Enclosure.{Range, IsOrdered, IsFrom, IsUpTo, Lies, BoundLe, IsEnclosure, IsInfimum, IsSupremum, Sums, Differences, Negations, Sizes, Products, Quotients, IsFinite, whole_line, IsNegation, IsSize, IsSum, IsDifference, IsProduct, IsQuotient, enclosure_unique, product_unique, finite_or, enclosure_ordered}
 use Rattle.grid_words.specs.Sums.{sum_range, sum_range_is, sum_range_ordered, difference_range, difference_range_is, difference_range_ordered, negation_range, negation_range_is, negation_range_ordered}
 use Rattle.grid_words.specs.Sizes.{size_range, size_range_is, size_range_ordered}
 use Rattle.grid_words.specs.Outward.{outward, outward_exact}
@@ -19,7 +19,7 @@ use Rattle.interval.specs.declared.interval.Interval.{Interval}
 use Rattle.interval.specs.Intervals.{range_of, same_range}
 use Rattle.interval.specs.Literals.{Alone}
 use Rattle.interval.specs.Decided.{made, made-some, made-none, made_out}
-use Rattle.fx_model.specs.Enclosure.Unique.{both_or}
+use Rattle.dyadic.specs.fx_model.Enclosure.Unique.{both_or}
 
 -- the ends of a range are in order, and of the grid where they are finite
 pub record IsGridRange (r : Range) : Type 0 where

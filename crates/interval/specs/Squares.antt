@@ -1,7 +1,7 @@
 -- The ends of a square, from the ends of the absolute values.
 use Rattle.std.specs.Prelude.{◌≡◌}
-use Rattle.fx_model.specs.Fraction.{◌*ℚ◌}
-use Rattle.fx_model.specs.Grid.{Bound, Below, At, Above, IsDown, IsUp}
+use Rattle.dyadic.specs.fx_model.Fraction.{◌*ℚ◌}
+use Rattle.dyadic.specs.fx_model.Grid.{Bound, Below, At, Above, IsDown, IsUp}
 
 abbrev pub LowSquare : Bound → Bound → Type 0
 LowSquare Below b = b ≡ Below

@@ -5,12 +5,12 @@ use Rattle.std.specs.Int.RustNames.{unsigned_abs}
 use Rattle.std.proofs.lemmas.Int.{ints}
 use Rattle.std.proofs.Math.Nat.{pow-le-pow_right}
 use lib.IntN.{neg_ℤ}
-use Rattle.fx_model.specs.Fraction.{Fraction, ◌*ℚ◌, ◌≤ℚ◌, zero_ℚ, one_ℚ, neg_ℚ, inverse_ℚ, le_refl, mul_comm, mul_assoc, one-mul, mul-inverse}
-use Rattle.fx_model.specs.Powers.{whole, two_to, scaled, whole-mul, one-whole}
-use Rattle.fx_model.specs.Grid.{Bound, IsDown, IsUp, signed, scaled-neg}
-use Rattle.fx_model.specs.Enclosure.{IsEnclosure, IsOrdered, infimum_at, supremum_at, enclosure_ordered}
-use Rattle.fx_model.specs.Expression.{literal_value, ten_to}
-use Rattle.fx_model.specs.declared.Literal.{Literal}
+use Rattle.dyadic.specs.fx_model.Fraction.{Fraction, ◌*ℚ◌, ◌≤ℚ◌, zero_ℚ, one_ℚ, neg_ℚ, inverse_ℚ, le_refl, mul_comm, mul_assoc, one-mul, mul-inverse}
+use Rattle.dyadic.specs.fx_model.Powers.{whole, two_to, scaled, whole-mul, one-whole}
+use Rattle.dyadic.specs.fx_model.Grid.{Bound, IsDown, IsUp, signed, scaled-neg}
+use Rattle.dyadic.specs.fx_model.Enclosure.{IsEnclosure, IsOrdered, infimum_at, supremum_at, enclosure_ordered}
+use Rattle.dyadic.specs.fx_model.Expression.{literal_value, ten_to}
+use Rattle.dyadic.specs.fx_model.declared.Literal.{Literal}
 use Rattle.literal.specs.Normal.{IsNormal}
 use Rattle.literal.specs.Limits.{bounded}
 use Rattle.interval.specs.Literals.{Alone}

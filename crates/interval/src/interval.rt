@@ -17,14 +17,14 @@ pub struct Interval {
 }
 
 impl Interval {
-    ghost use Rattle.fx_model.specs.Enclosure.{Negations, Sizes, IsNegation, IsSize, IsSquare, IsSum, IsDifference, IsProduct, Quotients, IsQuotient, IsEnclosure, whole_line, Within, Lies};
+    ghost use Rattle.dyadic.specs.fx_model.Enclosure.{Negations, Sizes, IsNegation, IsSize, IsSquare, IsSum, IsDifference, IsProduct, Quotients, IsQuotient, IsEnclosure, whole_line, Within, Lies};
     ghost use Rattle.interval.specs.Intervals.{range_of};
     ghost use Rattle.interval.specs.Spans.{IsSpan, span_of};
     ghost use Rattle.interval.specs.Exact.{IsExact};
     ghost use Rattle.interval.specs.Results.{negation_of, size_of, sum_of, difference_of, product_of, quotient_of};
     ghost use Rattle.interval.specs.Meets.{interval_from, common_of, hull_of};
     ghost use Rattle.interval.specs.Pairs.{AreApart, IsCommon, IsHull};
-    ghost use Rattle.fx_model.specs.Fraction.{zero_ℚ, ◌<ℚ◌};
+    ghost use Rattle.dyadic.specs.fx_model.Fraction.{zero_ℚ, ◌<ℚ◌};
     ghost use Rattle.dyadic.specs.Values.{value_of};
 
     /// The interval with these ends. None where the lower end is plus infinity, the upper is

@@ -1,6 +1,12 @@
 //! Outward intervals: the least interval with grid ends that holds every result.
 #![tactic(auto)]
 
+// What callers name of the crates below.
+pub use dyadic::{
+    Direction, Dyadic, End, ExprId, Literal, Points, Rounding, greater, halve_between, part_down,
+};
+pub use literal::{LiteralFault, fix_of, read_bytes};
+
 mod beside;
 mod ends;
 mod interval;
@@ -12,8 +18,6 @@ mod products;
 mod quotients;
 mod single;
 mod span;
-#[cfg(test)]
-mod tests;
 
 pub use ends::opposite;
 pub use interval::Interval;

@@ -12,6 +12,3 @@ mod workers;
 pub use job::Job;
 pub use task::JobTask;
 pub use workers::run_jobs;
-
-#[cfg(test)]
-mod tests;

@@ -12,10 +12,10 @@ use Rattle.command_runs.specs.declared.status.Status.TheVariants as status
 use Rattle.joined_runs.specs.Laws.{HasProved, HasEvaluated, HoldsAtPoint, PointsAreHeld}
 use Rattle.joined_runs.proofs.Again.{told_is}
 use Rattle.joined_runs.proofs.Programs.{answered}
-use Rattle.point_text.specs.Points.{SpellsPoint}
+use Rattle.at_command.specs.point_text.Points.{SpellsPoint}
 use Rattle.point_values.specs.Rows.{Row, assignment_of}
-use Rattle.script_answers.specs.Answers.{IsAnswered, options_of}
-use Rattle.script_grammar.specs.Spells.{View, Spells, SpellsOnce}
+use Rattle.check_command.specs.script_answers.Answers.{IsAnswered, options_of}
+use Rattle.program_truths.specs.script_grammar.Spells.{View, Spells, SpellsOnce}
 
 -- the script, the rows of the point, and the lines that were put
 evaluated : (b : AskedAt) (q : Run) (text point : Bytes) → HasEvaluated b q text point

@@ -14,13 +14,13 @@ use Rattle.fix_command.specs.Command.{IsFixRun}
 use Rattle.fixprog.specs.Execution.{AreInRange}
 use Rattle.fixprog.specs.First.{Spells}
 use Rattle.fixprog.specs.Grammar.{Program}
-use Rattle.point_eval.specs.Judged.{EndsIn}
-use Rattle.point_text.specs.Points.{SpellsPoint}
+use Rattle.at_command.specs.point_eval.Judged.{EndsIn}
+use Rattle.at_command.specs.point_text.Points.{SpellsPoint}
 use Rattle.point_values.specs.Rows.{Row, assignment_of}
 use Rattle.program_truths.specs.Outputs.{EndsWithin}
 use Rattle.prove_command.specs.Command.{IsProveRun}
-use Rattle.script_answers.specs.Answers.{IsAnswered, options_of}
-use Rattle.settler.specs.Held.{AreHeld}
+use Rattle.check_command.specs.script_answers.Answers.{IsAnswered, options_of}
+use Rattle.check_command.specs.settler.Held.{AreHeld}
 
 -- A run of `prove` was answered: of a script whose text the folder told, with a certificate in a
 -- told file, which holds these bytes now.

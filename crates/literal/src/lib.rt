@@ -1,13 +1,14 @@
 //! Literals of scripts: their spellings, normal forms, and the powers of two that divide them.
 #![tactic(auto)]
 
+// What callers name of the crates below.
+pub use fx_model::{Direction, ExprId, Node, Rounding};
+
 mod multiple;
 mod normal;
 mod number;
 mod reading;
 mod scan;
-#[cfg(test)]
-mod tests;
 
 pub use fx_model::Literal;
 pub use multiple::fix_of;

@@ -2,10 +2,10 @@
 use Rattle.std.proofs.Common.{◌≡◌, ℕ, ℤ, pos, ◌+ℤ◌, ◌*◌, ◌^◌, ◌<◌, nat_lt, Bool, IsTrue, ◌↔◌, sym, ap, ◌∙◌, subst, arith}
 use Rattle.std.proofs.lemmas.Int.{ints}
 use Rattle.std.proofs.lemmas.Bool.{ltb-true, lt-ltb}
-use Rattle.fx_model.specs.Fraction.{Fraction, ◌*ℚ◌, ◌≤ℚ◌, ◌<ℚ◌, zero_ℚ, lt_by, lt_not, lt_le, mul-le_cancel, mul-lt, mul-lt_cancel, mul_comm, mul_assoc, zero-mul}
-use Rattle.literal.specs.Tens.{whole_positive}
-use Rattle.fx_model.specs.Powers.{whole, two_to, scaled, whole-mul, scaled-lt, scaled-lt_out, scaled-le, scaled-shift, scaled-zero}
-use Rattle.fx_model.specs.Cut.Digits.{scaled_times}
+use Rattle.interval.specs.fx_model.Fraction.{Fraction, ◌*ℚ◌, ◌≤ℚ◌, ◌<ℚ◌, zero_ℚ, lt_by, lt_not, lt_le, mul-le_cancel, mul-lt, mul-lt_cancel, mul_comm, mul_assoc, zero-mul}
+use Rattle.interval.specs.literal.Tens.{whole_positive}
+use Rattle.interval.specs.fx_model.Powers.{whole, two_to, scaled, whole-mul, scaled-lt, scaled-lt_out, scaled-le, scaled-shift, scaled-zero}
+use Rattle.interval.specs.fx_model.Cut.Digits.{scaled_times}
 
 -- the value is n * 2^t / d
 pub record IsRatio (v : Fraction) (n d : ℕ) (t : ℤ) : Type 0 where

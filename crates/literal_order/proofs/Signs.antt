@@ -1,8 +1,8 @@
 -- The order of numbers with their signs, by that of their sizes.
 use Rattle.std.proofs.Common.{◌≡◌, Bool, true, false, ◌&&◌, ◌||◌, IsTrue, ◌↔◌, refl, subst, ⊎_elim}
-use Rattle.fx_model.specs.Fraction.{Fraction, ◌≤ℚ◌, ◌<ℚ◌, zero_ℚ, neg_ℚ, lt_by, lt_not, le_or_lt, le_trans, le_lt_trans, lt_le_trans, neg-le, neg-lt}
-use Rattle.fx_model.specs.Grid.{signed}
-use Rattle.grid_words.specs.Signs.{neg_zero, neg_up, neg_down}
+use Rattle.interval.specs.fx_model.Fraction.{Fraction, ◌≤ℚ◌, ◌<ℚ◌, zero_ℚ, neg_ℚ, lt_by, lt_not, le_or_lt, le_trans, le_lt_trans, lt_le_trans, neg-le, neg-lt}
+use Rattle.interval.specs.fx_model.Grid.{signed}
+use Rattle.interval.specs.grid_words.Signs.{neg_zero, neg_up, neg_down}
 
 neg-lt_out : (x y : Fraction) → neg_ℚ y <ℚ neg_ℚ x → x <ℚ y
 neg-lt_out x y l = lt_by x y (λ h. lt_not (neg_ℚ y) (neg_ℚ x) l (neg-le y x h))

@@ -3,8 +3,6 @@
 
 mod options;
 mod script;
-#[cfg(test)]
-mod tests;
 
 pub use options::{Options, made_options};
 pub use script::{made_script, polynomials_are_nested};

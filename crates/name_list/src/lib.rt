@@ -9,6 +9,3 @@ mod names;
 pub use fault::{ListFault, ListKind, ListStop};
 pub use laws::{fronts_decide, list_faults_are_one};
 pub use names::read_list;
-
-#[cfg(test)]
-mod tests;

@@ -1,11 +1,11 @@
 -- A script that the judge lets pass has few cuts, of few pieces each.
 use Rattle.std.proofs.Common.{◌≡◌, ℕ, ◌+◌, ◌≤◌, ◌<◌, nat_lt, List, [], ◌∷◌, ◌++◌, refl, ap, subst, arith, le_refl}
 use Rattle.std.proofs.lemmas.Bool.{lt-ltb}
-use Rattle.script_words.specs.declared.class.Sign.TheVariants as s
-use Rattle.script_words.specs.Words.{sign}
-use Rattle.script_shape.specs.declared.due.Due.TheVariants as d
-use Rattle.script_shape.specs.Tree.{Bound, unsigned, positive, negative, Points, last_point, more_points, Cut, in_four, pieces, at_points, Hint, rewrite, like, split, halving, Hints, no_hint, hint}
-use Rattle.script_shape.specs.Roles.{Leaf, at, bound_leaves, name_leaves, points_leaves, cut_leaves, hint_leaves, hints_leaves}
+use Rattle.script_judge.specs.script_words.declared.class.Sign.TheVariants as s
+use Rattle.script_judge.specs.script_words.Words.{sign}
+use Rattle.script_judge.specs.script_shape.declared.due.Due.TheVariants as d
+use Rattle.script_judge.specs.script_shape.Tree.{Bound, unsigned, positive, negative, Points, last_point, more_points, Cut, in_four, pieces, at_points, Hint, rewrite, like, split, halving, Hints, no_hint, hint}
+use Rattle.script_judge.specs.script_shape.Roles.{Leaf, at, bound_leaves, name_leaves, points_leaves, cut_leaves, hint_leaves, hints_leaves}
 use Rattle.script_judge.specs.Counts.{one_if}
 use Rattle.script_judge.specs.Judge.{Seen, seen_after}
 use Rattle.node_counts.proofs.Passing.{Passes, passes_both}

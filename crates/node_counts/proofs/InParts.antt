@@ -4,9 +4,9 @@ use Rattle.std.specs.List.{flat_map, AllByRecursion}
 use Rattle.std.proofs.lemmas.Grind.{flat_map-append}
 use Rattle.std.proofs.lemmas.List.{length-append}
 use Rattle.std.proofs.Math.Nat.{one-le-mul}
-use Rattle.script_cases.specs.Cases.{cases, case_count, all_items}
-use Rattle.script_cases.specs.Counted.{cases_are_counted}
-use Rattle.script_cases.specs.Parts.{Parts, with_item, part_of, behind_or, behind_arrow}
+use Rattle.script_judge.specs.script_cases.Cases.{cases, case_count, all_items}
+use Rattle.script_judge.specs.script_cases.Counted.{cases_are_counted}
+use Rattle.script_judge.specs.script_cases.Parts.{Parts, with_item, part_of, behind_or, behind_arrow}
 
 pub record AllInParts {X : Type 0} (P : X → Type 0) (p : Parts X) : Type 0 where
   pub before : AllByRecursion P (all_items p.before)

@@ -5,12 +5,12 @@ use Rattle.std.specs.Option.{is_some}
 use Rattle.std.specs.Str.{bytes_eq}
 use Rattle.std.proofs.lemmas.Bool.{ltb-false, or_right, or_parts}
 use Rattle.std.proofs.lemmas.Slice.Eq.{bytes_eq-Decides}
-use Rattle.script_words.specs.declared.class.Sign.{Sign}
-use Rattle.script_words.specs.declared.class.Sign.TheVariants as s
-use Rattle.script_words.specs.Words.{Word, name, rounding, literal, sign}
-use Rattle.script_shape.specs.declared.due.Due.{Due}
-use Rattle.script_shape.specs.declared.due.Due.TheVariants as d
-use Rattle.script_shape.specs.Roles.{Leaf}
+use Rattle.script_judge.specs.script_words.declared.class.Sign.{Sign}
+use Rattle.script_judge.specs.script_words.declared.class.Sign.TheVariants as s
+use Rattle.script_judge.specs.script_words.Words.{Word, name, rounding, literal, sign}
+use Rattle.script_judge.specs.script_shape.declared.due.Due.{Due}
+use Rattle.script_judge.specs.script_shape.declared.due.Due.TheVariants as d
+use Rattle.script_judge.specs.script_shape.Roles.{Leaf}
 use Rattle.script_judge.specs.declared.refusal.RefusalKind.{RefusalKind}
 use Rattle.script_judge.specs.declared.counts.Counts.{Counts}
 use Rattle.script_judge.specs.Names.{Name, is_among, is_some_among, is_used, defines, with_some, ended, operand_name, split_name, plain_text}
@@ -19,10 +19,10 @@ use Rattle.script_judge.specs.Subject.{Subject, nothing, node_of, other, Alias, 
 use Rattle.script_judge.specs.Splits.{Ends, SplitRange, ends_between, with_range, ranges_after, parts_after, range_of, case_ranges, is_rangeless, is_bad_point}
 use Rattle.script_judge.specs.Splits as splits
 use Rattle.script_judge.specs.FewCases.{still_few}
-use Rattle.script_cases.specs.Cases.{cases}
-use Rattle.script_cases.specs.Counted.{all_of_cases}
-use Rattle.script_cases.specs.Met.{SomeOf}
-use Rattle.script_cases.specs.Parts.{Parts, begun_cases}
+use Rattle.script_judge.specs.script_cases.Cases.{cases}
+use Rattle.script_judge.specs.script_cases.Counted.{all_of_cases}
+use Rattle.script_judge.specs.script_cases.Met.{SomeOf}
+use Rattle.script_judge.specs.script_cases.Parts.{Parts, begun_cases}
 use Rattle.node_counts.proofs.InParts.{AllInParts, all_parts_as, item_in_parts, or_in_parts, arrow_in_parts, AreFilled, filled_more, some_case}
 use Rattle.script_judge.specs.Numbers.{Verdict, has_no_pieces, is_past_lsb, is_past_pieces}
 use Rattle.script_judge.specs.Judge.{Seen, seen_after, has_arrow, is_on_wrong_side, form_kind, form_refusal, limit_kind, is_past_cases, limit_refusal, or_else, refusal_at, fails, both_none}

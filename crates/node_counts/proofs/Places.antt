@@ -1,11 +1,11 @@
 -- Where the words of propositions and hints stand, by the judge.
 use Rattle.std.proofs.Common.{◌≡◌, List, [], ◌∷◌, ◌++◌, refl, ap, ◌∙◌, subst}
-use Rattle.script_words.specs.Words.{Word}
-use Rattle.script_shape.specs.declared.due.Due.{Due}
-use Rattle.script_shape.specs.declared.due.Due.TheVariants as d
-use Rattle.script_shape.specs.Tree.{Operator, fixed, int, Expr, term, sum, difference, Term, factor, product, quotient, Factor, negation, atom, Atom, number, variable, parenthesized, absolute, called, rounded, fused, Prop, lies_in, relative_in, at_most, at_least, multiple, Halving, halved_by, with_goal, Hint, rewrite, like, split, halving}
-use Rattle.script_shape.specs.Roles.{Leaf, operator_leaves, expr_leaves, term_leaves, factor_leaves, atom_leaves, prop_leaves, halving_leaves, hint_leaves}
-use Rattle.script_shape.specs.Inner.{EachRole}
+use Rattle.script_judge.specs.script_words.Words.{Word}
+use Rattle.script_judge.specs.script_shape.declared.due.Due.{Due}
+use Rattle.script_judge.specs.script_shape.declared.due.Due.TheVariants as d
+use Rattle.script_judge.specs.script_shape.Tree.{Operator, fixed, int, Expr, term, sum, difference, Term, factor, product, quotient, Factor, negation, atom, Atom, number, variable, parenthesized, absolute, called, rounded, fused, Prop, lies_in, relative_in, at_most, at_least, multiple, Halving, halved_by, with_goal, Hint, rewrite, like, split, halving}
+use Rattle.script_judge.specs.script_shape.Roles.{Leaf, operator_leaves, expr_leaves, term_leaves, factor_leaves, atom_leaves, prop_leaves, halving_leaves, hint_leaves}
+use Rattle.script_judge.specs.script_shape.Inner.{EachRole}
 use Rattle.script_judge.specs.declared.counts.Place.{Place}
 use Rattle.script_judge.specs.declared.counts.Place.TheVariants as place
 use Rattle.script_judge.specs.Counts.{place_after}

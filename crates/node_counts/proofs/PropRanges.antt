@@ -1,24 +1,24 @@
 -- The ranges that the judge finds in a formula are given by its claims.
 use Rattle.std.proofs.Common.{◌≡◌, ◌⊎◌, inl, inr, suc, List, [], ◌∷◌, ◌++◌, length, Option, Some, None, Bool, true, false, refl, sym, ap, ◌∙◌, subst}
 use Rattle.std.specs.List.{flat_map, AllByRecursion}
-use Rattle.fx_model.specs.declared.ExprId.{ExprId}
-use Rattle.script_words.specs.declared.class.Spelled.TheVariants as spelled
-use Rattle.script_words.specs.declared.class.Sign.TheVariants as s
-use Rattle.script_words.specs.Words.{Word, sign}
-use Rattle.script_shape.specs.declared.due.Due.{Due}
-use Rattle.script_shape.specs.declared.due.Due.TheVariants as d
-use Rattle.script_shape.specs.Tree.{Whole, natural, opposite, Expr, Prop, lies_in, relative_in, at_most, at_least, multiple, Stated, affirmed, denied, Formula, single, and, or, implies}
-use Rattle.script_shape.specs.Roles.{Leaf, at, whole_leaves, special_leaves, expr_leaves, prop_leaves, stated_leaves, formula_leaves}
-use Rattle.script_shape.specs.Inner.{EachRole, IsInner, each_of_both, each_as, bound_roles, digits_roles, special_roles, expr_inner}
+use Rattle.script_judge.specs.fx_model.declared.ExprId.{ExprId}
+use Rattle.script_judge.specs.script_words.declared.class.Spelled.TheVariants as spelled
+use Rattle.script_judge.specs.script_words.declared.class.Sign.TheVariants as s
+use Rattle.script_judge.specs.script_words.Words.{Word, sign}
+use Rattle.script_judge.specs.script_shape.declared.due.Due.{Due}
+use Rattle.script_judge.specs.script_shape.declared.due.Due.TheVariants as d
+use Rattle.script_judge.specs.script_shape.Tree.{Whole, natural, opposite, Expr, Prop, lies_in, relative_in, at_most, at_least, multiple, Stated, affirmed, denied, Formula, single, and, or, implies}
+use Rattle.script_judge.specs.script_shape.Roles.{Leaf, at, whole_leaves, special_leaves, expr_leaves, prop_leaves, stated_leaves, formula_leaves}
+use Rattle.script_judge.specs.script_shape.Inner.{EachRole, IsInner, each_of_both, each_as, bound_roles, digits_roles, special_roles, expr_inner}
 use Rattle.script_judge.specs.Names.{Name}
-use Rattle.script_cases.specs.Cases.{with_first, cases}
-use Rattle.script_cases.specs.Parts.{Parts, nothing as nothing_read, with_item, part_of, behind_or, behind_arrow}
+use Rattle.script_judge.specs.script_cases.Cases.{with_first, cases}
+use Rattle.script_judge.specs.script_cases.Parts.{Parts, nothing as nothing_read, with_item, part_of, behind_or, behind_arrow}
 use Rattle.script_judge.specs.Sides.{has_arrow}
 use Rattle.script_judge.specs.Subject.{Subject, nothing, node_of, other}
 use Rattle.script_judge.specs.Splits.{Ends, SplitRange, ranges_after}
 use Rattle.script_judge.specs.Judge.{Seen, seen_after}
-use Rattle.script_nodes.specs.Known.{Known}
-use Rattle.script_nodes.specs.Values.{expr_value}
+use Rattle.script_hints.specs.script_nodes.Known.{Known}
+use Rattle.script_hints.specs.script_nodes.Values.{expr_value}
 use Rattle.script_claims.specs.declared.claim.Claim.{Claim}
 use Rattle.script_claims.specs.Claims.{ranged, prop_claim, denial, stated, Claims, then_goal, then_claimed, then_or, then_arrow, no_claims, formula_claims}
 use Rattle.node_counts.specs.Ranges.{GivesRange, HasRange}
@@ -28,7 +28,7 @@ use Rattle.node_counts.proofs.BoundRanges.{RangesAreRead}
 use Rattle.node_counts.proofs.Told.{Reads, reads_pass, reads_both}
 use Rattle.node_counts.proofs.Plain.{IsCalm, IsNoRange, word_ranges, word_calm, words_still, IsPlain, words_plain, no_alias, inner_no_range}
 use Rattle.node_counts.proofs.Subjects.{bare, subject_by, expr_said, Says, expr_says, Tied, tied_later, IsBegun, begun_by, second_other}
-use Rattle.facts.specs.CommonParts.{all_as, all_last}
+use Rattle.script_judge.specs.facts.CommonParts.{all_as, all_last}
 
 -- ---- propositions
 

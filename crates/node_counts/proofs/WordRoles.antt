@@ -1,11 +1,11 @@
 -- The roles of the words of propositions and hints. What else holds of all such roles follows by `each_as`.
 use Rattle.std.proofs.Common.{◌++◌, List}
-use Rattle.script_words.specs.declared.class.Spelled.TheVariants as spelled
-use Rattle.script_shape.specs.declared.due.Due.{Due}
-use Rattle.script_shape.specs.declared.due.Due.TheVariants as d
-use Rattle.script_shape.specs.Tree.{Whole, natural, opposite, Expr, Range, asked, between, Prop, lies_in, relative_in, at_most, at_least, multiple, Need, nonzero, below, not_above, above, not_below, NeedList, last_need, more_needs, Needs, always, provided, Points, last_point, more_points, Cut, in_four, pieces, at_points, Names, last_name, more_names, Halving, halved_by, with_goal, Hint, rewrite, like, split, halving}
-use Rattle.script_shape.specs.Roles.{Leaf, special_leaves, whole_leaves, bound_leaves, expr_leaves, range_leaves, prop_leaves, name_leaves, need_leaves, need_list_leaves, needs_leaves, points_leaves, cut_leaves, names_leaves, halving_leaves, hint_leaves}
-use Rattle.script_shape.specs.Inner.{EachRole, IsInner, each_of_both, each_as, name_roles, special_roles, digits_roles, bound_roles, expr_inner}
+use Rattle.script_judge.specs.script_words.declared.class.Spelled.TheVariants as spelled
+use Rattle.script_judge.specs.script_shape.declared.due.Due.{Due}
+use Rattle.script_judge.specs.script_shape.declared.due.Due.TheVariants as d
+use Rattle.script_judge.specs.script_shape.Tree.{Whole, natural, opposite, Expr, Range, asked, between, Prop, lies_in, relative_in, at_most, at_least, multiple, Need, nonzero, below, not_above, above, not_below, NeedList, last_need, more_needs, Needs, always, provided, Points, last_point, more_points, Cut, in_four, pieces, at_points, Names, last_name, more_names, Halving, halved_by, with_goal, Hint, rewrite, like, split, halving}
+use Rattle.script_judge.specs.script_shape.Roles.{Leaf, special_leaves, whole_leaves, bound_leaves, expr_leaves, range_leaves, prop_leaves, name_leaves, need_leaves, need_list_leaves, needs_leaves, points_leaves, cut_leaves, names_leaves, halving_leaves, hint_leaves}
+use Rattle.script_judge.specs.script_shape.Inner.{EachRole, IsInner, each_of_both, each_as, name_roles, special_roles, digits_roles, bound_roles, expr_inner}
 
 -- ---- propositions
 

@@ -3,7 +3,7 @@ use Rattle.std.specs.Prelude.{◌≡◌, ◌<◌, ◌≤◌, ℕ, List, [], ◌�
 use Rattle.std.proofs.Common.{inl, inr, arith, sym, ◌∙◌, subst}
 use Rattle.std.proofs.lemmas.Option.{slice_get-get_or}
 use Rattle.std.proofs.lemmas.Bool.{cases_lt}
-use Rattle.fx_model.specs.declared.Node.{Node}
+use Rattle.expr_dag.specs.fx_model.declared.Node.{Node}
 use Rattle.pair_closure.specs.Reached.{Has, IsListOf, IsEachOnce}
 use Rattle.pair_closure.specs.Closure.{Pair, IsRounding, BeginsPairs, LeadsToPair, IsPair, AreManyPairs}
 use Rattle.pair_closure.specs.Grown.{IsGrown}

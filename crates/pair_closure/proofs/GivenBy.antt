@@ -3,7 +3,7 @@ use Rattle.std.specs.Prelude.{◌≡◌, ◌⊎◌, ◌<◌, ◌≤◌, ◌+◌,
 use Rattle.std.proofs.Common.{inl, inr, arith, ap, sym, ◌∙◌, subst}
 use Rattle.std.proofs.lemmas.Option.{slice_get_within, slice_get-get_or}
 use Rattle.std.proofs.lemmas.Bool.{cases_lt}
-use Rattle.fx_model.specs.declared.Node.{Node}
+use Rattle.expr_dag.specs.fx_model.declared.Node.{Node}
 use Rattle.pair_closure.specs.Grown.{IsGrown, IsOverfull}
 use Rattle.pair_closure.specs.Differences.{IsGivenBy}
 use Rattle.pair_closure.specs.Members.{some-inj}

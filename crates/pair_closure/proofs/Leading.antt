@@ -1,10 +1,10 @@
 -- What a difference leads to, read off the nodes of its sides and the rows of the pairs.
 use Rattle.std.specs.Prelude.{◌≡◌, ◌≢◌, ◌⊎◌, ◌↔◌, ◌<◌, ◌≤◌, ℕ, List, length}
 use Rattle.std.proofs.Common.{inl, inr, arith, ap, sym, subst}
-use Rattle.fx_model.specs.declared.ExprId.{ExprId}
-use Rattle.fx_model.specs.declared.Node.{Node}
-use Rattle.fx_model.specs.declared.Node.TheVariants.{Var, Lit, Neg, Add, Sub, Mul, Div, Abs, Round}
-use Rattle.fx_model.specs.Expression.{ChildrenBelow, IsOrdered}
+use Rattle.expr_dag.specs.fx_model.declared.ExprId.{ExprId}
+use Rattle.expr_dag.specs.fx_model.declared.Node.{Node}
+use Rattle.expr_dag.specs.fx_model.declared.Node.TheVariants.{Var, Lit, Neg, Add, Sub, Mul, Div, Abs, Round}
+use Rattle.expr_dag.specs.fx_model.Expression.{ChildrenBelow, IsOrdered}
 use Rattle.expr_dag.specs.Nodes.{IsAt, one_node}
 use Rattle.pair_closure.specs.Reached.{Has}
 use Rattle.pair_closure.specs.Reached.IsReached.{begin, lead}

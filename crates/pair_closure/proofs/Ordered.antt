@@ -6,7 +6,7 @@ use Rattle.std.proofs.lemmas.List.Sorted.{Contains-permutation, IsPermutation-sy
 use Rattle.std.proofs.lemmas.Option.{slice_get_within, get_or_from_slice_get}
 use Rattle.std.proofs.lemmas.Bool.{cases_lt}
 use Rattle.std.specs.List.{Contains}
-use Rattle.fx_model.specs.declared.ExprId.{ExprId}
+use Rattle.expr_dag.specs.fx_model.declared.ExprId.{ExprId}
 use Rattle.pair_closure.specs.Reached.{Has, IsEachOnce, has_contains}
 use Rattle.pair_closure.specs.Members.{has_from_contains}
 use Rattle.pair_closure.specs.Closure.{Pair, AreBelow, rank, AreRising}

@@ -10,8 +10,8 @@ use Rattle.std.proofs.lemmas.Map.Keys.{apart_from_distinct}
 use Rattle.std.proofs.lemmas.List.Folds.{list_any_at}
 use Rattle.indexmap.specs.IndexSet.{insert_key}
 use Rattle.indexmap.proofs.CallerLemmas.{Contains-list_any}
-use Rattle.fx_model.specs.declared.ExprId.{ExprId}
-use Rattle.fx_model.specs.contracts.ExprIdPartialEq.TheImpl as id_eq
+use Rattle.expr_dag.specs.fx_model.declared.ExprId.{ExprId}
+use Rattle.expr_dag.specs.fx_model.contracts.ExprIdPartialEq.TheImpl as id_eq
 use Rattle.pair_closure.specs.Closure.{Pair}
 use Rattle.pair_closure.specs.Among.{same_pair, is_among, IsPlaceOf}
 use Rattle.pair_closure.specs.Look.{exact, itself, among_in}

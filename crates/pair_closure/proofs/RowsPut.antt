@@ -5,7 +5,7 @@ use Rattle.std.proofs.Common.{inl, inr, arith, ap, sym, ◌∙◌, subst, length
 use Rattle.std.proofs.lemmas.Option.{slice_get_within, slice_get-get_or, get_or_from_slice_get, slice_get-map}
 use Rattle.std.proofs.lemmas.List.{length-map, append-nil}
 use Rattle.std.proofs.lemmas.Bool.{cases_lt}
-use Rattle.fx_model.specs.declared.ExprId.{ExprId}
+use Rattle.expr_dag.specs.fx_model.declared.ExprId.{ExprId}
 use Rattle.pair_closure.specs.Reached.{Has}
 use Rattle.pair_closure.specs.Members.{some-inj, none_at, no_member, has_first, has_cases, has_either}
 use Rattle.pair_closure.specs.Ids.{self_same, not_same}

@@ -1,6 +1,9 @@
 //! Which pairs of expressions are compared, and which expressions that takes.
 #![tactic(auto)]
 
+// What callers name of the crates below.
+pub use expr_dag::Dag;
+
 mod closure;
 mod differences;
 mod follow;
@@ -11,7 +14,7 @@ mod pair;
 mod pairs;
 
 pub use closure::{Closure, ClosureFault, closure_of};
-pub use fx_model::{ExprId, Node};
+pub use expr_dag::{ExprId, Node};
 pub use index::PairIndex;
 pub use laws::closures_are_one;
 pub use pairs::PairSet;

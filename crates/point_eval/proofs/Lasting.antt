@@ -5,14 +5,14 @@ use Rattle.std.proofs.Common.{sym, ap, ◌∙◌, subst, append_assoc, Vec, Glob
 use Rattle.fx_model.specs.Expression.{Assignment, value}
 use Rattle.fx_model.specs.declared.Node.{Node}
 use Rattle.facts.specs.declared.hint.HintMark.{HintMark}
-use Rattle.script_claims.specs.declared.claim.Claim.{Claim}
-use Rattle.script_claims.specs.declared.claim.Claim.TheVariants as claim
-use Rattle.script_hints.specs.declared.hint.Constraint.{Constraint}
-use Rattle.script_hints.specs.declared.hint.Constraint.TheVariants as constraint
-use Rattle.script_hints.specs.declared.hint.Hint.{Hint}
-use Rattle.script_grammar.specs.Spells.{View}
-use Rattle.script_grammar.specs.Names.{ClaimIsOf, ConstraintIsOf, HintIsOf, NamesNodes}
-use Rattle.script_grammar.specs.Ranges.{HasFewCases}
+use Rattle.script_meets.specs.script_claims.declared.claim.Claim.{Claim}
+use Rattle.script_meets.specs.script_claims.declared.claim.Claim.TheVariants as claim
+use Rattle.rewrite_hints.specs.script_hints.declared.hint.Constraint.{Constraint}
+use Rattle.rewrite_hints.specs.script_hints.declared.hint.Constraint.TheVariants as constraint
+use Rattle.rewrite_hints.specs.script_hints.declared.hint.Hint.{Hint}
+use Rattle.script_meets.specs.script_grammar.Spells.{View}
+use Rattle.script_meets.specs.script_grammar.Names.{ClaimIsOf, ConstraintIsOf, HintIsOf, NamesNodes}
+use Rattle.script_meets.specs.script_grammar.Ranges.{HasFewCases}
 use Rattle.script_cases.specs.Cases.{cases}
 use Rattle.script_cases.specs.Counted.{all_of_cases}
 use Rattle.point_values.specs.Among.{IsAmong, AreAmong}

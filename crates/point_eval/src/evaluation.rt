@@ -3,7 +3,7 @@
 ghost use Rattle.std.specs.Prelude.{◌≡◌, All, Err, IfOk, codes, map};
 ghost use Rattle.std.specs.List.{AllByRecursion};
 ghost use Rattle.script_cases.specs.Cases.{cases};
-ghost use Rattle.script_claims.specs.Facts.{HasNormalBounds};
+ghost use Rattle.script_meets.specs.script_claims.Facts.{HasNormalBounds};
 ghost use Rattle.rewrite_hints.specs.Marks.{AreMarks};
 ghost use Rattle.script_meets.specs.Meets.{Meets};
 ghost use Rattle.point_values.specs.Rows.{assignment_of};
@@ -15,8 +15,7 @@ use crate::laws::meeting_is_told;
 use crate::point::Point;
 use facts::HintMark;
 use point_values::{EvalStop, Place};
-use script_claims::Claim;
-use script_grammar::Script;
+use script_meets::{Claim, Script};
 use std::alloc::{AllocError, Global};
 
 // The cases of the script's hypotheses, each with the claims that it takes.

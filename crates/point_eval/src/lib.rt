@@ -1,6 +1,9 @@
 //! Exact evaluation of a script at one point: what its claims and its hints are there.
 #![tactic(auto)]
 
+// What callers name of the crates below.
+pub use script_meets::{ParseStop, Script, parse, script_or_refusal};
+
 mod evaluation;
 mod laws;
 mod point;

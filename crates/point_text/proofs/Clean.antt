@@ -6,7 +6,7 @@ use Rattle.fx_model.specs.declared.Literal.{Literal}
 use Rattle.literal.specs.Normal.{IsReading}
 use Rattle.script_nodes.specs.Known.{Name}
 use Rattle.script_nodes.specs.Literals.{ReadsLiterals}
-use Rattle.point_values.specs.Rows.{Row}
+use Rattle.point_eval.specs.point_values.Rows.{Row}
 use Rattle.point_text.specs.Points.{Part, name, literal, slash, Entry, entries_parts, IsRowOf, IsDivisorOf}
 use Rattle.point_text.proofs.Places.{push_cases}
 use Rattle.point_text.proofs.Parts.{Has, HasTwo, HasDivisor, name_of_entry, literal_of_entry, divisor_of_entry, AreOnce, no_name_twice}

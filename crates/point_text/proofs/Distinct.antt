@@ -12,10 +12,10 @@ use Rattle.script_shape.specs.Tree.{Expr, term, sum, difference, Term, factor, p
 use Rattle.script_nodes.specs.Known.{Name, Known, Placed, nothing_known, put, variables_with, variable_put, name_put, named, entry_of}
 use Rattle.script_nodes.specs.Values.{then_rounded, expr_value, term_value, factor_value, atom_value}
 use Rattle.script_nodes.specs.Definitions.{name_text, rounding_by, definition_value}
-use Rattle.script_claims.specs.Claims.{prop_claim, stated_claim, formula_claims}
-use Rattle.script_hints.specs.Hints.{NeedsSoFar, with_need, with_need_list, needs_value, HintsSoFar, no_hints, with_names, with_halving, with_hint, with_hints}
-use Rattle.script_grammar.specs.Meaning.{meaning_from}
-use Rattle.script_grammar.specs.Spells.{View, Spells}
+use Rattle.point_eval.specs.script_claims.Claims.{prop_claim, stated_claim, formula_claims}
+use Rattle.point_eval.specs.script_hints.Hints.{NeedsSoFar, with_need, with_need_list, needs_value, HintsSoFar, no_hints, with_names, with_halving, with_hint, with_hints}
+use Rattle.point_eval.specs.script_grammar.Meaning.{meaning_from}
+use Rattle.point_eval.specs.script_grammar.Spells.{View, Spells}
 use Rattle.point_text.proofs.Places.{push_cases, AreDistinct}
 
 abbrev Distinct : Known → Type 0

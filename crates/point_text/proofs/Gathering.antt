@@ -13,7 +13,7 @@ use Rattle.script_words.specs.declared.lex.TokenKind.TheVariants as kind
 use Rattle.script_words.specs.Lex.{Lexes}
 use Rattle.script_words.specs.Named.{token_text}
 use Rattle.script_nodes.specs.Known.{Name}
-use Rattle.point_values.specs.Rows.{Row}
+use Rattle.point_eval.specs.point_values.Rows.{Row}
 use Rattle.point_text.specs.Points.{parts_of, Entry, entry_parts, entries_parts, IsRowOf, IsShortText, SpellsPoint}
 use Rattle.point_text.specs.Taken.{IsFirst, IsNameTaken, IsRowTaken, IsTaken, IsLiteralTaken, IsSignTaken, IsDivisorTaken}
 use Rattle.point_text.proofs.Standing.{parts_append}

@@ -7,7 +7,7 @@ use Rattle.script_words.specs.declared.lex.Token.{Token}
 use Rattle.script_words.specs.Lex.{Lexes}
 use Rattle.script_nodes.specs.Known.{Name}
 use Rattle.script_nodes.specs.Literals.{ReadsLiterals}
-use Rattle.point_values.specs.Rows.{Row}
+use Rattle.point_eval.specs.point_values.Rows.{Row}
 use Rattle.point_text.specs.declared.fault.PointFault.{PointFault}
 use Rattle.point_text.specs.Points.{name, parts_of, IsShortText, SpellsPoint}
 use Rattle.point_text.specs.PointFaults.{IsPointFault, end_of}

@@ -9,7 +9,7 @@ use Rattle.fx_model.specs.declared.Literal.{Literal}
 use Rattle.script_words.specs.Lex.{LexesOnce}
 use Rattle.script_nodes.specs.Known.{Name}
 use Rattle.script_nodes.specs.Literals.{ReadsLiterals}
-use Rattle.point_values.specs.Rows.{Row}
+use Rattle.point_eval.specs.point_values.Rows.{Row}
 use Rattle.point_text.specs.declared.fault.PointKind.{PointKind}
 use Rattle.point_text.specs.declared.fault.PointFault.{PointFault}
 use Rattle.point_text.specs.Points.{Part, name, literal, plus, minus, slash, parts_of, Mark, unmarked, with_plus, with_minus, Entry, entry_parts, entries_parts, Begins, IsDivisorOf, IsRowOf, SpellsPoint}

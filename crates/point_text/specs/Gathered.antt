@@ -2,7 +2,7 @@
 use Rattle.std.specs.Prelude.{◌≡◌, ◌≢◌, ℕ, List, [], ◌++◌, length, slice_get, Option, Some, None}
 use Rattle.script_words.specs.declared.lex.Token.{Token}
 use Rattle.script_nodes.specs.Known.{Name}
-use Rattle.point_values.specs.Rows.{Row}
+use Rattle.point_eval.specs.point_values.Rows.{Row}
 use Rattle.point_text.specs.Points.{parts_of, Entry, entries_parts, IsRowOf}
 use Rattle.point_text.specs.Taken.{IsFirst, IsNameTaken, StartsAt, HasKind, IsUnexpected, IsPlaceRefused, IsRowRefused}
 use Rattle.point_text.specs.declared.fault.PointFault.{PointFault}

@@ -16,8 +16,8 @@ use Rattle.fx_model.specs.declared.Node.{Node}
 use Rattle.literal_order.specs.declared.written.Written.{Written}
 use Rattle.literal_order.specs.Values.{written_value}
 use Rattle.rounding.specs.Rounded.{units-times, units-scaled}
-use Rattle.script_bounds.specs.Bounds.{written_range}
-use Rattle.script_bounds.specs.Sides.{IsUnderWritten, IsOverWritten}
+use Rattle.script_hints.specs.script_bounds.Bounds.{written_range}
+use Rattle.script_hints.specs.script_bounds.Sides.{IsUnderWritten, IsOverWritten}
 use Rattle.script_claims.specs.Meets.{IsTrueAt, IsRelatedWithin}
 use Rattle.script_claims.specs.declared.claim.Claim.{Claim}
 use Rattle.script_claims.specs.declared.claim.Claim.TheVariants as claim

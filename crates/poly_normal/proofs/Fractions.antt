@@ -1,8 +1,8 @@
 -- Laws of fractions that products and quotients of polynomials use.
 use Rattle.std.specs.Prelude.{◌≡◌, ℕ, ◌+◌}
 use Rattle.std.proofs.Common.{arith, sym, ap, ◌∙◌, zero, suc}
-use Rattle.fx_model.specs.Fraction.{Fraction, ◌+ℚ◌, ◌-ℚ◌, ◌*ℚ◌, ◌/ℚ◌, inverse_ℚ, neg_ℚ, zero_ℚ, one_ℚ, add_comm, add_assoc, zero-add, add-neg, mul_comm, mul_assoc, one-mul, zero-mul, mul-add, neg-mul, mul-inverse, div-mul}
-pub use Rattle.fx_model.specs.Fraction.{add-zero, mul-one, mul-zero, add-mul, mul-neg, left_swap, middle_products}
+use Rattle.expr_dag.specs.fx_model.Fraction.{Fraction, ◌+ℚ◌, ◌-ℚ◌, ◌*ℚ◌, ◌/ℚ◌, inverse_ℚ, neg_ℚ, zero_ℚ, one_ℚ, add_comm, add_assoc, zero-add, add-neg, mul_comm, mul_assoc, one-mul, zero-mul, mul-add, neg-mul, mul-inverse, div-mul}
+pub use Rattle.expr_dag.specs.fx_model.Fraction.{add-zero, mul-one, mul-zero, add-mul, mul-neg, left_swap, middle_products}
 
 -- x + (y + z) = y + (x + z)
 pub add_swap : (x y z : Fraction) → x +ℚ (y +ℚ z) ≡ y +ℚ (x +ℚ z)

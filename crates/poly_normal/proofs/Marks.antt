@@ -3,10 +3,10 @@ use Rattle.std.specs.Prelude.{◌≡◌, ◌⊎◌, ◌↔◌, ℕ, ◌-◌, ◌
 use Rattle.std.proofs.Common.{arith, sym, ap, ◌∙◌, zero, suc, subst, inl, inr}
 use Rattle.std.proofs.lemmas.List.{get_or_default}
 use Rattle.std.proofs.Math.Nat.{eq-or-lt_of_le}
-use Rattle.fx_model.specs.Expression.{IsOrdered, ChildrenBelow}
-use Rattle.fx_model.specs.declared.ExprId.{ExprId}
-use Rattle.fx_model.specs.declared.Node.{Node}
-use Rattle.fx_model.specs.declared.Node.TheVariants.{Var, Lit, Neg, Add, Sub, Mul, Div, Abs, Round}
+use Rattle.expr_dag.specs.fx_model.Expression.{IsOrdered, ChildrenBelow}
+use Rattle.expr_dag.specs.fx_model.declared.ExprId.{ExprId}
+use Rattle.expr_dag.specs.fx_model.declared.Node.{Node}
+use Rattle.expr_dag.specs.fx_model.declared.Node.TheVariants.{Var, Lit, Neg, Add, Sub, Mul, Div, Abs, Round}
 use Rattle.poly_normal.specs.Mark.{IsOperand, IsPart}
 use Rattle.poly_normal.specs.Mark.IsPart.{itself, operand}
 use Rattle.poly_normal.specs.Parts.{marked, AreParts, IsMarking}

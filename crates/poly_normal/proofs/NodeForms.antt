@@ -1,9 +1,9 @@
 -- The form of a node over rows stands for its form, so limits are passed by both or by neither.
 use Rattle.std.specs.Prelude.{◌≡◌, ◌⊎◌, ◌↔◌, ◌&&◌, ℕ, pos, ◌+◌, ◌≤◌, ◌<◌, ◌^◌, Bool, true, false, Option, Some, None, List, [], ◌∷◌, ◌++◌, take, length, slice_index_or, refl}
 use Rattle.std.proofs.Common.{arith, sym, ap, ◌∙◌, zero, suc, subst, inl, inr}
-use Rattle.fx_model.specs.declared.ExprId.{ExprId}
-use Rattle.fx_model.specs.declared.Node.{Node}
-use Rattle.fx_model.specs.declared.Node.TheVariants.{Var, Lit, Neg, Add, Sub, Mul, Div, Abs, Round}
+use Rattle.expr_dag.specs.fx_model.declared.ExprId.{ExprId}
+use Rattle.expr_dag.specs.fx_model.declared.Node.{Node}
+use Rattle.expr_dag.specs.fx_model.declared.Node.TheVariants.{Var, Lit, Neg, Add, Sub, Mul, Div, Abs, Round}
 use Rattle.poly_normal.specs.Polynomial.{Polynomial, IsEqual, term_count}
 use Rattle.poly_normal.specs.Rows.{AllRows}
 use Rattle.poly_normal.specs.Form.{Side, Form, product, negation, node_form}

@@ -6,14 +6,14 @@ use Rattle.std.proofs.lemmas.Int.{ints}
 use Rattle.std.proofs.lemmas.Nat.{div-add-mod'}
 use Rattle.std.proofs.Math.Nat.{mul-pos, pow-suc, pow-zero}
 use borrow.Author.Differences.{up, down}
-use Rattle.fx_model.specs.Fraction.{Fraction, ◌+ℚ◌, ◌-ℚ◌, ◌*ℚ◌, ◌/ℚ◌, inverse_ℚ, neg_ℚ, zero_ℚ, one_ℚ, abs_ℚ, is_zero_ℚ, is_zero_not, ◌≤ℚ◌, le_refl, mul_comm, mul_assoc, one-mul, neg-mul, mul-inverse}
-use Rattle.fx_model.specs.Powers.{whole, two_to, whole-mul, whole-le_out, zero-whole, one-whole, two_to-add, two_to-pos}
-use Rattle.fx_model.specs.Expression.{Assignment, ten_to, literal_value, lift₁, lift₂, quotient, node_value, value, value_step, ChildrenBelow, IsOrdered}
-use Rattle.fx_model.specs.Rounded.{rounded}
-use Rattle.fx_model.specs.declared.Literal.{Literal}
-use Rattle.fx_model.specs.declared.ExprId.{ExprId}
-use Rattle.fx_model.specs.declared.Node.{Node}
-use Rattle.fx_model.specs.declared.Node.TheVariants.{Var, Lit, Neg, Add, Sub, Mul, Div, Abs, Round}
+use Rattle.expr_dag.specs.fx_model.Fraction.{Fraction, ◌+ℚ◌, ◌-ℚ◌, ◌*ℚ◌, ◌/ℚ◌, inverse_ℚ, neg_ℚ, zero_ℚ, one_ℚ, abs_ℚ, is_zero_ℚ, is_zero_not, ◌≤ℚ◌, le_refl, mul_comm, mul_assoc, one-mul, neg-mul, mul-inverse}
+use Rattle.expr_dag.specs.fx_model.Powers.{whole, two_to, whole-mul, whole-le_out, zero-whole, one-whole, two_to-add, two_to-pos}
+use Rattle.expr_dag.specs.fx_model.Expression.{Assignment, ten_to, literal_value, lift₁, lift₂, quotient, node_value, value, value_step, ChildrenBelow, IsOrdered}
+use Rattle.expr_dag.specs.fx_model.Rounded.{rounded}
+use Rattle.expr_dag.specs.fx_model.declared.Literal.{Literal}
+use Rattle.expr_dag.specs.fx_model.declared.ExprId.{ExprId}
+use Rattle.expr_dag.specs.fx_model.declared.Node.{Node}
+use Rattle.expr_dag.specs.fx_model.declared.Node.TheVariants.{Var, Lit, Neg, Add, Sub, Mul, Div, Abs, Round}
 use Rattle.poly_normal.specs.Polynomial as polynomial
 use Rattle.poly_normal.specs.Form.{Form, atom_form, literal_form, literal_top, literal_bottom, literal_divisor, common_divisor_to, negation_form, sum_form, difference_form, product_form, quotient_form, node_form, form}
 use Rattle.poly_normal.specs.Mark.{AreEqual, HaveEqualValues}
@@ -21,7 +21,7 @@ use Rattle.poly_normal.proofs.Fractions.{add-zero, mul-one, mul-neg, middle_prod
 use Rattle.poly_normal.proofs.Values.{polynomial_value, value-atom, value-constant, value-append, value-negation, value-product}
 use Rattle.poly_normal.proofs.Likes.{value-equal}
 use Rattle.poly_normal.proofs.Steps.{form_step}
-use Rattle.literal.specs.Tens.{pow_positive}
+use Rattle.expr_dag.specs.literal.Tens.{pow_positive}
 
 -- r is the quotient of the values of the two polynomials
 pub record IsQuotient (v : ℕ → Fraction) (r : Fraction) (f : Form) : Type 0 where

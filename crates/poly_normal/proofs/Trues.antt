@@ -2,8 +2,8 @@
 use Rattle.std.specs.Prelude.{◌≡◌, ◌&&◌, ℕ, ◌+◌, ◌<◌, ◌≤◌, Bool, true, false, if◌then◌else◌, List, [], ◌∷◌, take, length, slice_index_or, refl}
 use Rattle.std.proofs.Common.{arith, sym, ap, ◌∙◌, zero, suc, subst}
 use Rattle.std.proofs.lemmas.Bool.{and_from}
-use Rattle.fx_model.specs.declared.Node.{Node}
-use Rattle.fx_model.specs.declared.Node.TheVariants.{Var}
+use Rattle.expr_dag.specs.fx_model.declared.Node.{Node}
+use Rattle.expr_dag.specs.fx_model.declared.Node.TheVariants.{Var}
 use Rattle.poly_normal.specs.Parts.{is_atom_node}
 use Rattle.poly_normal.specs.Places.{places, trues, count_of}
 

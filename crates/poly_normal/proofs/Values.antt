@@ -3,8 +3,8 @@ use Rattle.std.specs.Prelude.{◌≡◌, ℕ, ℤ, pos, neg_ℤ, ◌+ℤ◌, ◌
 use Rattle.std.proofs.Common.{arith, sym, ap, ◌∙◌, zero, suc}
 use Rattle.std.proofs.lemmas.Bool.{eqb-true, eq-eqb}
 use Rattle.std.proofs.lemmas.Int.{ints}
-use Rattle.fx_model.specs.Fraction.{Fraction, ◌+ℚ◌, ◌*ℚ◌, neg_ℚ, zero_ℚ, one_ℚ, add_comm, add_assoc, zero-add, mul_assoc, one-mul, zero-mul, mul-add, neg-mul, neg-add}
-use Rattle.fx_model.specs.Powers.{whole, whole-add, whole-mul, whole-neg, zero-whole, one-whole}
+use Rattle.expr_dag.specs.fx_model.Fraction.{Fraction, ◌+ℚ◌, ◌*ℚ◌, neg_ℚ, zero_ℚ, one_ℚ, add_comm, add_assoc, zero-add, mul_assoc, one-mul, zero-mul, mul-add, neg-mul, neg-add}
+use Rattle.expr_dag.specs.fx_model.Powers.{whole, whole-add, whole-mul, whole-neg, zero-whole, one-whole}
 use Rattle.poly_normal.specs.Polynomial.{Monomial, atom_monomial, monomial_product, same_monomial, Term, Polynomial, coefficient_of, IsEqual, negation, term_product, product, atom, constant}
 use Rattle.poly_normal.proofs.Fractions.{add-zero, mul-one, mul-zero, add-mul, middle_products, add_swap, same_from_difference, power, power-add}
 

@@ -1,6 +1,9 @@
 //! Normal forms of expressions: whether two of them are equal as rational functions.
 #![tactic(auto)]
 
+// What callers name of the crates below.
+pub use expr_dag::Dag;
+
 mod answer;
 mod arithmetic;
 mod forms;
@@ -12,11 +15,9 @@ mod sameness;
 mod shared;
 mod sides;
 mod terms;
-#[cfg(test)]
-mod tests;
 
 pub use answer::same as same_of_nodes;
-pub use fx_model::{ExprId, Literal, Node};
+pub use expr_dag::{ExprId, Literal, Node};
 pub use law::equal_forms_have_equal_values;
 pub use sameness::Sameness;
 pub use shared::same;

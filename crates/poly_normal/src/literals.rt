@@ -3,7 +3,7 @@ ghost use Rattle.std.specs.Int.{IsGcd};
 ghost use Rattle.poly_normal.specs.Form.{common_divisor_to};
 ghost use Rattle.poly_normal.specs.Ratio.{IsBelowLimit, IsPlain, IsRatio, reduced_bottom, reduced_top};
 
-use fx_model::Literal;
+use expr_dag::Literal;
 
 const LIMIT: u128 = 1 << 127;
 

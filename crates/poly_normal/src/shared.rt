@@ -1,7 +1,7 @@
 //! The comparison over a list of shared nodes.
 ghost use Rattle.std.specs.Prelude.{◌≡◌, ◌<◌, IfOk, length};
 ghost use Rattle.poly_normal.specs.Mark.{Answers, HaveEqualValues};
-ghost use Rattle.fx_model.specs.Expression.{IsOrdered};
+ghost use Rattle.expr_dag.specs.fx_model.Expression.{IsOrdered};
 ghost use Rattle.poly_normal.specs.Ratio.{ArePlain};
 
 use crate::answer;

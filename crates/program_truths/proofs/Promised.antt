@@ -18,8 +18,8 @@ use Rattle.script_claims.specs.Meets.{IsTrueAt}
 use Rattle.script_hints.specs.Hints.{no_hints}
 use Rattle.goal_spans.specs.declared.span.Span.{Span}
 use Rattle.goal_spans.specs.Spans.{goal_spans}
-use Rattle.script_grammar.specs.Meaning.{meaning_of, meaning_from, body_meaning}
-use Rattle.script_grammar.specs.Spells.{View, view_of, Spells as SpellsScript, SpellsOnce}
+use Rattle.script_meets.specs.script_grammar.Meaning.{meaning_of, meaning_from, body_meaning}
+use Rattle.script_meets.specs.script_grammar.Spells.{View, view_of, Spells as SpellsScript, SpellsOnce}
 use Rattle.fixprog.specs.Grammar.{Input, Step, Program, outputs, step, output}
 use Rattle.fixprog.specs.Faults.{program_faults}
 use Rattle.fixprog.specs.Formats.{format_of, word_value}

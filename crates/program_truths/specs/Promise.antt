@@ -8,7 +8,7 @@ use Rattle.fx_model.specs.declared.ExprId.{ExprId}
 use Rattle.script_claims.specs.declared.claim.Claim.{Claim}
 use Rattle.script_claims.specs.declared.claim.Claim.TheVariants.{Bounded, Asked, Relative, RelativeAsked, Multiple, Above, Below}
 use Rattle.script_claims.specs.Meets.{IsTrueAt}
-use Rattle.script_grammar.specs.Spells.{View, Spells as SpellsScript}
+use Rattle.script_meets.specs.script_grammar.Spells.{View, Spells as SpellsScript}
 use Rattle.script_hints.specs.Hints.{no_hints}
 use Rattle.script_meets.specs.Meets.{Meets}
 use Rattle.fixprog.specs.Words.{Name}

@@ -1,7 +1,7 @@
 -- How a text is answered, at `Answered` and at each other status.
 use Rattle.std.specs.Prelude.{◌≡◌, ◌≢◌, ◌⊎◌, Option, Some, None}
 use Rattle.std.proofs.Common.{inl, inr, refl, sym, subst}
-use Rattle.settler.specs.Answers.{Options}
+use Rattle.script_answers.specs.settler.Answers.{Options}
 use Rattle.command_runs.specs.Runs.{Bytes}
 use Rattle.command_runs.specs.Fates.{Left, MayWrite}
 use Rattle.command_runs.specs.Fates.Left.{Kept}

@@ -2,8 +2,8 @@
 use Rattle.std.specs.Prelude.{◌≡◌, ⊤, List, Option, Some, None, Result, Ok, Err, OnOk, OnErr}
 use Rattle.std.proofs.Common.{inl, inr, refl, sym, subst, ◌∙◌}
 use Rattle.goals.specs.declared.line.Line.{Line}
-use Rattle.script_grammar.specs.Spells.{View, Spells, SpellsOnce}
-use Rattle.settler.specs.Answers.{Options, IsProved}
+use Rattle.script_answers.specs.script_grammar.Spells.{View, Spells, SpellsOnce}
+use Rattle.script_answers.specs.settler.Answers.{Options, IsProved}
 use Rattle.cert_writer.specs.Written.{OfProved, HoldsCertificate, HoldsFront}
 use Rattle.command_runs.specs.Runs.{Bytes, Told}
 use Rattle.command_runs.specs.Fates.{Left, Leaves, Makes, begun}

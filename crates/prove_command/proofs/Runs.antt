@@ -1,7 +1,7 @@
 -- A run of `prove`, by what its parts did.
 use Rattle.std.specs.Prelude.{◌≡◌, ◌≢◌, ℕ, Option, Some, None, Result, Ok, Err}
 use Rattle.std.proofs.Common.{inl, inr, refl, subst, ◌∙◌}
-use Rattle.settler.specs.Answers.{Options}
+use Rattle.script_answers.specs.settler.Answers.{Options}
 use Rattle.cert_writer.specs.Walks.{HasWriteCause}
 use Rattle.cert_writer.specs.declared.walk.WriteStop.{WriteStop}
 use Rattle.cert_writer.specs.declared.walk.WriteStop.TheVariants as write_stop

@@ -1,8 +1,8 @@
 -- What `prove` comes to: its lines, and the certificate that it writes.
 use Rattle.std.specs.Prelude.{◌≡◌, ◌≤◌, ◌⊎◌, ◌^◌, List, length, Option, Some, None}
 use Rattle.goals.specs.declared.line.Line.{Line}
-use Rattle.script_grammar.specs.Spells.{View}
-use Rattle.settler.specs.Answers.{Options}
+use Rattle.script_answers.specs.script_grammar.Spells.{View}
+use Rattle.script_answers.specs.settler.Answers.{Options}
 use Rattle.cert_writer.specs.Written.{AreWrittenFor}
 use Rattle.command_line.specs.Reading.{Asked}
 use Rattle.command_runs.specs.Runs.{Bytes, Run, IsSilent, WriteFailed}

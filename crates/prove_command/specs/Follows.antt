@@ -2,7 +2,7 @@
 use Rattle.std.specs.Prelude.{◌≡◌, ◌≢◌, ◌≤◌, ◌⊎◌, ◌^◌, List, [], length, Option, Some, None}
 use Rattle.std.proofs.Common.{inl, inr, refl, sym, subst, ◌∙◌, append-nil}
 use Rattle.goals.specs.declared.line.Line.{Line}
-use Rattle.script_grammar.specs.Spells.{View}
+use Rattle.script_answers.specs.script_grammar.Spells.{View}
 use Rattle.cert_writer.specs.Written.{HoldsCertificate, HoldsFront}
 use Rattle.command_line.specs.Reading.{Asked}
 use Rattle.whole_texts.specs.Pieces.{IsFront}

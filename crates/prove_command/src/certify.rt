@@ -1,24 +1,23 @@
 // What comes of a text: its lines, and the certificate that is written once they are made.
 ghost use Rattle.std.specs.Prelude.{◌≡◌, ◌≢◌, [], ℕ, List, Some, IfOk, OnOk, OnErr};
 ghost use Rattle.goals.specs.declared.line.Line.{Line};
-ghost use Rattle.universe.specs.Universes.{IsUniverse, IsTooLarge};
-ghost use Rattle.settler.specs.Answers.{IsProved};
+ghost use Rattle.script_answers.specs.universe.Universes.{IsUniverse, IsTooLarge};
+ghost use Rattle.script_answers.specs.settler.Answers.{IsProved};
 ghost use Rattle.cert_writer.specs.Walks.{HasWriteCause};
 ghost use Rattle.cert_writer.specs.Written.{HoldsCertificate, HoldsFront};
 ghost use Rattle.script_answers.specs.Answers.{AreAllowed, ProvePrints, options_from};
 ghost use Rattle.prove_command.specs.Certified.{IsCertified, name_of};
 
-use cert_writer::{WriteStop, write_cert};
+use cert_writer::{WriteStop, subject_of, write_cert};
 use command_runs::Status;
 use fx_edge::{Folder, Gate};
-use report::refusals::refusal_line;
-use script_answers::{Options, lines_for, prove_script};
-use script_checker::subject_of;
-use script_grammar::{ParseStop, Script, parse, script_or_refusal};
+use script_answers::{
+    Options, ParseStop, Script, Universe, UniverseFault, build, lines_for, parse, prove_script,
+    refusal_line, script_or_refusal,
+};
 use std::alloc::{AllocError, Global};
 use std::sync::Wait;
 use std::thread::Threads;
-use universe::{Universe, UniverseFault, build};
 
 // What came of a text: the status and all lines, and whether the writing of its certificate came to
 // its end.
@@ -52,7 +51,8 @@ fn write_proved<F: Folder>(
 ) -> Result<(), WriteStop>
     requires allowed { AreAllowed options }
     requires proved { (shown : List Line) × IsProved script.now (options_from options) shown }
-    ensures ok { OnOk result ((shown : List Line) → IsProved script.now (options_from options) shown
+    ensures ok { OnOk result ((shown : List Line)
+        → IsProved script.now (options_from options) shown
         → HoldsCertificate script.now shown
         (F.told folder.old name.now) (F.told folder.new name.now)) }
     ensures err { OnErr result ((shown : List Line)

@@ -1,12 +1,15 @@
 //! The printed lines, exactly, as bytes.
 #![tactic(auto)]
 
+// What callers name of the crates below.
+pub use box_tree::Plan;
+pub use cert_checker::Line;
+pub use script_grammar::{ParseStop, Refusal, Script, firsts_are_unique, parse, script_or_refusal};
+
 pub mod certificates;
 mod joined;
 pub mod parts;
 pub mod proved;
 pub mod refusals;
 pub mod runs;
-#[cfg(test)]
-mod tests;
 pub mod unproved;

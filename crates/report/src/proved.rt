@@ -6,10 +6,8 @@ ghost use Rattle.report.specs.Proved as spec;
 
 use crate::joined::put_joined;
 use crate::parts::part;
-use facts::HintMark;
-use goal_spans::Span;
-use goals::Line;
-use interval::Interval;
+use cert_checker::{HintMark, Interval, Line};
+use script_grammar::Span;
 use script_words::lex::Token;
 use std::alloc::{AllocError, Global};
 

@@ -5,7 +5,7 @@ ghost use Rattle.report.specs.Unproved as spec;
 
 use crate::proved::put_interval;
 use box_tree::Plan;
-use expr_dag::Node;
+use cert_checker::Node;
 use fx_edge::Path;
 use fx_model::ExprId;
 use script_grammar::Script;

@@ -10,18 +10,18 @@ use Rattle.fx_model.specs.Expression.{Assignment, ChildrenBelow, IsOrdered, node
 use Rattle.fx_model.specs.declared.ExprId.{ExprId}
 use Rattle.fx_model.specs.declared.Node.{Node}
 use Rattle.fx_model.specs.declared.Node.TheVariants.{Var, Lit, Neg, Add, Sub, Mul, Div, Abs, Round}
-use Rattle.expr_dag.specs.Nodes.{IsAt}
-use Rattle.expr_dag.specs.Shapes.{node_at-value}
-use Rattle.facts.specs.declared.hint.HintRow.{HintRow}
-use Rattle.facts.specs.Rows.{IsMet, row_by_values}
+use Rattle.poly_normal.specs.expr_dag.Nodes.{IsAt}
+use Rattle.poly_normal.specs.expr_dag.Shapes.{node_at-value}
+use Rattle.script_hints.specs.facts.declared.hint.HintRow.{HintRow}
+use Rattle.script_hints.specs.facts.Rows.{IsMet, row_by_values}
 use Rattle.script_hints.specs.declared.hint.Hint.{Hint}
 use Rattle.script_hints.specs.Needs.{need_of}
 use Rattle.script_hints.specs.Meets.{MetSidesAreEqual}
 use Rattle.rewrite_hints.specs.Divisors.{Occurs, IsDivisor, IsMadeOf}
 use Rattle.rewrite_hints.specs.Divisors.Occurs.{itself, inside}
 use Rattle.rewrite_hints.specs.Rows.{IsRowOf, RowsAreTrue, EqualSidesAreMet}
-use Rattle.facts.specs.Known.{some_out}
-use Rattle.facts.specs.CommonParts.{all_at}
+use Rattle.script_hints.specs.facts.Known.{some_out}
+use Rattle.script_hints.specs.facts.CommonParts.{all_at}
 
 abbrev HasValue : Option Fraction → Type 0
 HasValue o = (r : Fraction) × (o ≡ Some r)

@@ -2,8 +2,8 @@
 use Rattle.std.specs.Prelude.{◌≡◌, ◌<◌, List, map, length}
 use Rattle.fx_model.specs.Expression.{Assignment, IsOrdered}
 use Rattle.fx_model.specs.declared.Node.{Node}
-use Rattle.facts.specs.declared.hint.HintRow.{HintRow}
-use Rattle.facts.specs.Rows.{RowIsTrue}
+use Rattle.script_hints.specs.facts.declared.hint.HintRow.{HintRow}
+use Rattle.script_hints.specs.facts.Rows.{RowIsTrue}
 use Rattle.script_hints.specs.declared.hint.Hint.{Hint}
 use Rattle.script_hints.specs.Needs.{need_of}
 use Rattle.script_hints.specs.Meets.{MeetsHint}

@@ -1,13 +1,12 @@
 // Rewriting hints.
 ghost use Rattle.std.specs.Prelude.{◌≡◌, ◌&&◌};
-ghost use Rattle.dyadic.specs.Ends.{bound_of};
+ghost use Rattle.facts.specs.dyadic.Ends.{bound_of};
 ghost use Rattle.expr_dag.specs.Shapes.{is_known};
 ghost use Rattle.facts.specs.Conclusions.{only_if};
 ghost use Rattle.rewrite_rules.specs.Rewriting.{is_under, shows, show_needs, show_row, rewritten, rewriting_rule};
 
-use dyadic::End;
 use expr_dag::{Dag, ExprId};
-use facts::{Fact, HintRow, Need, Slot};
+use facts::{End, Fact, HintRow, Need, Slot};
 
 /// For a hint `a -> b`, from a BND, ABS, FIX or NZR fact on b, NZR of each divisor of the row, and a fact for each of its
 /// constraints: the same fact on a. Nothing from more than 65535 premises.

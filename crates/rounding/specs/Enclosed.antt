@@ -4,11 +4,11 @@ use Rattle.std.specs.Int.RustNames.{int_lt}
 use Rattle.std.proofs.Common.{arith, sym, ap, ◌∙◌, subst}
 use Rattle.std.proofs.lemmas.Int.{ints}
 use Rattle.std.proofs.lemmas.Bool.{not-true, not-false}
-use Rattle.fx_model.specs.Fraction.{Fraction, ◌-ℚ◌, ◌≤ℚ◌, neg_ℚ, zero_ℚ, lt_le, le_refl, le_trans, neg_down}
-use Rattle.fx_model.specs.Powers.{two_to, two_to-positive}
-use Rattle.fx_model.specs.Grid.{At, IsUp, IsDown-neg}
-use Rattle.fx_model.specs.Enclosure.{Range, Lies, IsEnclosure}
-use Rattle.fx_model.specs.declared.Direction.{Direction}
+use Rattle.interval.specs.fx_model.Fraction.{Fraction, ◌-ℚ◌, ◌≤ℚ◌, neg_ℚ, zero_ℚ, lt_le, le_refl, le_trans, neg_down}
+use Rattle.interval.specs.fx_model.Powers.{two_to, two_to-positive}
+use Rattle.interval.specs.fx_model.Grid.{At, IsUp, IsDown-neg}
+use Rattle.interval.specs.fx_model.Enclosure.{Range, Lies, IsEnclosure}
+use Rattle.interval.specs.fx_model.declared.Direction.{Direction}
 use Rattle.rounding.specs.declared.sign.Sign.{Sign}
 use Rattle.rounding.specs.declared.bounds.Span.{Span}
 use Rattle.rounding.specs.declared.bounds.Span.TheVariants.{Nowhere, Leftward, Rightward, Sideward, Near}

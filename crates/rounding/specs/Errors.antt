@@ -2,12 +2,12 @@
 -- (Gappa User's Guide, "Theorems about rounding operators").
 use Rattle.std.specs.Prelude.{◌≡◌, ℤ, negsuc, ◌+ℤ◌, Option, Some, None, ⊤, if◌then◌else◌, Bool, false, not}
 use Rattle.std.specs.Int.RustNames.{int_lt}
-use Rattle.fx_model.specs.Fraction.{Fraction, ◌-ℚ◌, ◌≤ℚ◌, neg_ℚ, zero_ℚ}
-use Rattle.fx_model.specs.Powers.{two_to, IsMultiple}
-use Rattle.fx_model.specs.Grid.{At}
-use Rattle.fx_model.specs.Enclosure.{Range, Lies}
-use Rattle.fx_model.specs.declared.Direction.{Direction}
-use Rattle.fx_model.specs.declared.Direction.TheVariants.{Zr, Aw, Dn, Up, Od, Ne, No, Nz, Na, Nd, Nu}
+use Rattle.interval.specs.fx_model.Fraction.{Fraction, ◌-ℚ◌, ◌≤ℚ◌, neg_ℚ, zero_ℚ}
+use Rattle.interval.specs.fx_model.Powers.{two_to, IsMultiple}
+use Rattle.interval.specs.fx_model.Grid.{At}
+use Rattle.interval.specs.fx_model.Enclosure.{Range, Lies}
+use Rattle.interval.specs.fx_model.declared.Direction.{Direction}
+use Rattle.interval.specs.fx_model.declared.Direction.TheVariants.{Zr, Aw, Dn, Up, Od, Ne, No, Nz, Na, Nd, Nu}
 use Rattle.rounding.specs.declared.sign.Sign.{Sign}
 use Rattle.rounding.specs.declared.sign.Sign.TheVariants.{Unknown, NotNegative, NotPositive, Zero}
 

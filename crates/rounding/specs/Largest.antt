@@ -5,10 +5,10 @@ use Rattle.std.proofs.lemmas.Int.{ints, by_lt_z}
 use Rattle.std.proofs.lemmas.Nat.{pow_pos, pow-add}
 use Rattle.std.proofs.Math.Nat.{pow-le-pow_right}
 use lib.IntN.{neg_ℤ}
-use Rattle.fx_model.specs.Fraction.{Fraction, ◌+ℚ◌, ◌-ℚ◌, ◌<ℚ◌, neg_ℚ, zero_ℚ, neg_zero}
-use Rattle.fx_model.specs.Powers.{two_to, scaled, scaled-lt, scaled-shift, scaled-zero, two_to-positive}
-use Rattle.fx_model.specs.Grid.{At, IsOnGrid, IsUp}
-use Rattle.fx_model.specs.Cut.{gap_le, on_grid, up_is}
+use Rattle.interval.specs.fx_model.Fraction.{Fraction, ◌+ℚ◌, ◌-ℚ◌, ◌<ℚ◌, neg_ℚ, zero_ℚ, neg_zero}
+use Rattle.interval.specs.fx_model.Powers.{two_to, scaled, scaled-lt, scaled-shift, scaled-zero, two_to-positive}
+use Rattle.interval.specs.fx_model.Grid.{At, IsOnGrid, IsUp}
+use Rattle.interval.specs.fx_model.Cut.{gap_le, on_grid, up_is}
 use Rattle.rounding.specs.Sums.{add-zero, add-lt, neg-lt}
 use Rattle.rounding.specs.Places.{one_scaled, scaled-sub}
 use Rattle.rounding.specs.Errors.{half_of}

@@ -1,11 +1,11 @@
 -- The possible errors by cases are those that are possible by direction, by sign and by place.
 use Rattle.std.specs.Prelude.{◌≡◌, ◌↔◌, ℤ, refl, Option, Some, None, Bool, true, false, if◌then◌else◌}
 use Rattle.std.specs.Int.RustNames.{int_lt}
-use Rattle.fx_model.specs.Fraction.{Fraction, ◌-ℚ◌, ◌≤ℚ◌, neg_ℚ, zero_ℚ, le_trans, lt_le, neg-le, neg_down}
-use Rattle.fx_model.specs.Powers.{two_to, two_to-positive}
-use Rattle.fx_model.specs.Enclosure.{Lies}
-use Rattle.fx_model.specs.declared.Direction.{Direction}
-use Rattle.fx_model.specs.declared.Direction.TheVariants.{Zr, Aw, Dn, Up, Od, Ne, No, Nz, Na, Nd, Nu}
+use Rattle.interval.specs.fx_model.Fraction.{Fraction, ◌-ℚ◌, ◌≤ℚ◌, neg_ℚ, zero_ℚ, le_trans, lt_le, neg-le, neg_down}
+use Rattle.interval.specs.fx_model.Powers.{two_to, two_to-positive}
+use Rattle.interval.specs.fx_model.Enclosure.{Lies}
+use Rattle.interval.specs.fx_model.declared.Direction.{Direction}
+use Rattle.interval.specs.fx_model.declared.Direction.TheVariants.{Zr, Aw, Dn, Up, Od, Ne, No, Nz, Na, Nd, Nu}
 use Rattle.rounding.specs.declared.sign.Sign.{Sign}
 use Rattle.rounding.specs.declared.sign.Sign.TheVariants.{Unknown, NotNegative, NotPositive, Zero}
 use Rattle.rounding.specs.Sums.{sub-le, sub-from}

@@ -1,8 +1,8 @@
 -- The best interval of the fractions between two others, and of a set that has the same members as another.
 use Rattle.std.specs.Prelude.{◌↔◌}
-use Rattle.fx_model.specs.Fraction.{Fraction, ◌≤ℚ◌, le_refl}
-use Rattle.fx_model.specs.Grid.{Bound, Below, At, Above, IsOnGrid, IsDown, IsUp}
-use Rattle.fx_model.specs.Enclosure.{Range, Lies, IsInfimum, IsSupremum, IsEnclosure, infimum_at, supremum_at}
+use Rattle.interval.specs.fx_model.Fraction.{Fraction, ◌≤ℚ◌, le_refl}
+use Rattle.interval.specs.fx_model.Grid.{Bound, Below, At, Above, IsOnGrid, IsDown, IsUp}
+use Rattle.interval.specs.fx_model.Enclosure.{Range, Lies, IsInfimum, IsSupremum, IsEnclosure, infimum_at, supremum_at}
 
 -- From a to b.
 abbrev pub closed : Fraction → Fraction → Range

@@ -8,10 +8,10 @@ use Rattle.std.proofs.lemmas.Nat.{div-add-mod', mod_below, pow_pos}
 use Rattle.std.proofs.lemmas.Bool.{cases_lt}
 use Rattle.std.proofs.Math.Nat.{mul-le-mul_left, pow-le-pow_right}
 use lib.IntN.{neg_ℤ}
-use Rattle.fx_model.specs.Fraction.{Fraction, ◌+ℚ◌, ◌*ℚ◌, neg_ℚ, ◌≤ℚ◌, ◌<ℚ◌, le_or_lt, lt_not, le_trans, lt_le_trans, le_lt_trans, lt_le, add_assoc, add_comm, neg-add, neg-neg, middle_sums}
-use Rattle.fx_model.specs.Powers.{whole, whole-add, whole-le, scaled, scaled-le, scaled-lt, scaled-shift, two_to, floor_low, floor_high, floor_unique}
-use Rattle.fx_model.specs.Grid.{scaled-neg}
-use Rattle.fx_model.specs.Rounded.{floor, ceiling, half, near_low, near_high}
+use Rattle.interval.specs.fx_model.Fraction.{Fraction, ◌+ℚ◌, ◌*ℚ◌, neg_ℚ, ◌≤ℚ◌, ◌<ℚ◌, le_or_lt, lt_not, le_trans, lt_le_trans, le_lt_trans, lt_le, add_assoc, add_comm, neg-add, neg-neg, middle_sums}
+use Rattle.interval.specs.fx_model.Powers.{whole, whole-add, whole-le, scaled, scaled-le, scaled-lt, scaled-shift, two_to, floor_low, floor_high, floor_unique}
+use Rattle.interval.specs.fx_model.Grid.{scaled-neg}
+use Rattle.interval.specs.fx_model.Rounded.{floor, ceiling, half, near_low, near_high}
 use Rattle.rounding.specs.Sums.{plus-le, plus-lt, add-lt, add-mul}
 use Rattle.rounding.specs.Nearest.{halves}
 use Rattle.rounding.specs.Rounded.{two_to-zero, mul-whole_one}

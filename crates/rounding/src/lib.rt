@@ -1,14 +1,15 @@
 //! Roundings of grid numbers to the multiples of a power of two, and how far they move a number.
 #![tactic(auto)]
 
+// What callers name of the crates below.
+pub use interval::{Dyadic, End, Interval, fix_of};
+
 mod bounds;
 mod laws;
 mod neighbours;
 mod number;
 mod round;
 mod sign;
-#[cfg(test)]
-mod tests;
 
 pub use bounds::error_interval;
 pub use laws::{errors, floors, roundings};

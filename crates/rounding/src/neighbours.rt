@@ -2,12 +2,12 @@
 ghost use Rattle.std.specs.Prelude.{◌≡◌, ◌<◌, ◌≤◌, pos, if◌then◌else◌};
 ghost use Rattle.std.specs.Int.RustNames.{unsigned_abs};
 ghost use lib.IntN.{neg_ℤ};
-ghost use Rattle.fx_model.specs.Powers.{scaled};
-ghost use Rattle.fx_model.specs.Rounded as table;
-ghost use Rattle.fx_model.specs.Rounded.{floor, near_high};
+ghost use Rattle.interval.specs.fx_model.Powers.{scaled};
+ghost use Rattle.interval.specs.fx_model.Rounded as table;
+ghost use Rattle.interval.specs.fx_model.Rounded.{floor, near_high};
 ghost use Rattle.rounding.specs.Chosen.{AreNeighbours, chosen};
 
-use fx_model::Direction;
+use interval::Direction;
 
 // The whole numbers next to a number: below and above it, and the nearest, which differ at a tie.
 #[derive(Clone, Copy)]

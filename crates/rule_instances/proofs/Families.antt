@@ -3,7 +3,7 @@ use Rattle.std.specs.Prelude.{◌≡◌, ◌⊎◌, ◌||◌, ◌==◌, ℕ, Boo
 use Rattle.std.proofs.Common.{inl, inr, ap}
 use Rattle.fx_model.specs.declared.ExprId.{ExprId}
 use Rattle.fx_model.specs.declared.Node.{Node}
-use Rattle.expr_dag.specs.Nodes.{IsAt}
+use Rattle.pair_closure.specs.expr_dag.Nodes.{IsAt}
 use Rattle.facts.specs.declared.fact.Slot.{Slot}
 use Rattle.facts.specs.declared.fact.Slot.TheVariants.{Bnd, Abs, Rel, Fix, Nzr, Void}
 use Rattle.facts.specs.declared.hint.HintRow.{HintRow}

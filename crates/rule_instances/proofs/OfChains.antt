@@ -5,7 +5,7 @@ use Rattle.std.proofs.lemmas.Bool.{and_parts, not-true}
 use Rattle.fx_model.specs.declared.ExprId.{ExprId}
 use Rattle.fx_model.specs.declared.Node.{Node}
 use Rattle.fx_model.specs.declared.Node.TheVariants.{Sub}
-use Rattle.expr_dag.specs.Nodes.{IsAt, place_of, one_node}
+use Rattle.pair_closure.specs.expr_dag.Nodes.{IsAt, place_of, one_node}
 use Rattle.facts.specs.declared.fact.Slot.TheVariants as slot
 use Rattle.pair_closure.specs.Reached.{Has, IsEachOnce}
 use Rattle.pair_closure.specs.Closure.{Pair, AreApart, is_same}

@@ -7,7 +7,7 @@ use Rattle.fx_model.specs.declared.Direction.TheVariants.{Zr, Aw}
 use Rattle.fx_model.specs.declared.Rounding.{Rounding}
 use Rattle.fx_model.specs.declared.Node.{Node}
 use Rattle.fx_model.specs.declared.Node.TheVariants.{Neg, Add, Sub, Mul, Round}
-use Rattle.expr_dag.specs.Nodes.{IsAt, place_of, one_node}
+use Rattle.pair_closure.specs.expr_dag.Nodes.{IsAt, place_of, one_node}
 use Rattle.facts.specs.declared.fact.Slot.TheVariants as slot
 use Rattle.pair_closure.specs.Reached.{Has, IsListOf, IsEachOnce}
 use Rattle.pair_closure.specs.Closure.{is_same}

@@ -5,7 +5,7 @@ use Rattle.std.proofs.Common.{inl, inr, sym, subst, eq-eqb}
 use Rattle.fx_model.specs.declared.ExprId.{ExprId}
 use Rattle.fx_model.specs.declared.Node.{Node}
 use Rattle.fx_model.specs.declared.Node.TheVariants.{Var, Lit, Neg, Add, Sub, Mul, Div, Abs, Round}
-use Rattle.expr_dag.specs.Nodes.{IsAt, one_node}
+use Rattle.pair_closure.specs.expr_dag.Nodes.{IsAt, one_node}
 use Rattle.facts.specs.declared.fact.Slot.TheVariants as slot
 use Rattle.pair_closure.specs.Reached.{Has, IsListOf, IsEachOnce}
 use Rattle.pair_closure.specs.Closure.{is_same}

@@ -1,6 +1,9 @@
 //! Which rules can be used on which facts: the instances of the rules over given expressions and pairs.
 #![tactic(auto)]
 
+// What callers name of the crates below.
+pub use pair_closure::{Closure, ClosureFault, PairIndex, closure_of, closures_are_one};
+
 mod all;
 mod differences;
 mod hints;

@@ -2,13 +2,20 @@
 //! the instances that take it.
 #![tactic(auto)]
 
+// What callers name of the crates below.
+pub use derivation::{
+    Dag, Fact, HintMark, HintRow, Interval, Node, Place, RelativeError, Size, Slot, answers,
+    best_tables_exist, boxes_come_to_one_state, known_facts_hold, meet, settling_facts, slot,
+    stronger,
+};
+pub use rule_instances::{Closure, ClosureFault, closure_of, closures_are_one, instances_of};
+
 mod flat_rows;
 mod placed;
 mod places;
 mod universe;
 mod users;
 
-pub use facts::Instance;
-pub use goals::Goal;
+pub use derivation::{Goal, Instance};
 pub use placed::Placed;
 pub use universe::Universe;

@@ -1,14 +1,13 @@
 //! Which instances take a slot.
 
 ghost use Rattle.std.specs.Prelude.{◌≡◌, ◌↔◌, ◌⊎◌, ◌<◌, ◌≤◌, ◌-◌, ℕ, List, [], IsTrue, length, map, IfOk, OnOk, slice_get, Some};
-ghost use Rattle.pair_closure.specs.Reached.{Has};
+ghost use Rattle.rule_instances.specs.pair_closure.Reached.{Has};
 ghost use Rattle.rule_universe.specs.Places.{IsPlace, place_count};
 ghost use Rattle.rule_universe.specs.Rows.{InRow, AreUpTo, RowsUpTo, IsAdded, IsPlaceOfOne, AreRows};
 
 use crate::places::{place_count, place_of};
-use expr_dag::Dag;
-use facts::{Instance, Slot};
-use pair_closure::PairIndex;
+use derivation::{Dag, Instance, Slot};
+use rule_instances::PairIndex;
 use std::alloc::{AllocError, Global};
 
 // Whether a number is the last of a row.

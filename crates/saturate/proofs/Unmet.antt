@@ -3,10 +3,10 @@ use Rattle.std.specs.Prelude.{◌≡◌, ◌<◌, ◌≤◌, ◌+◌, ℕ, zero,
 use Rattle.std.proofs.Common.{sym, ◌∙◌, ap, arith, drop, get_or, add-one}
 use Rattle.std.proofs.Math.Seq.{drop-cons}
 use Rattle.std.proofs.lemmas.List.{drop_all}
-use Rattle.facts.specs.declared.fact.Fact.{Fact}
-use Rattle.facts.specs.declared.fact.Slot.{Slot}
-use Rattle.goals.specs.declared.goal.Goal.{Goal}
-use Rattle.derivation.specs.Decided.{is_met, one_later, first_unmet}
+use Rattle.rule_universe.specs.facts.declared.fact.Fact.{Fact}
+use Rattle.rule_universe.specs.facts.declared.fact.Slot.{Slot}
+use Rattle.rule_universe.specs.goals.declared.goal.Goal.{Goal}
+use Rattle.rule_universe.specs.derivation.Decided.{is_met, one_later, first_unmet}
 
 -- so many places later
 abbrev pub later_by : ℕ → Option ℕ → Option ℕ

@@ -6,11 +6,11 @@ use Rattle.std.proofs.lemmas.List.{drop_all, take_all, append-nil}
 use Rattle.std.proofs.Math.Seq.{take-suc}
 use Rattle.std.proofs.lemmas.List.Elements.{Contains-push, Contains-push_cases, Contains-append_left}
 use Rattle.std.proofs.lemmas.Option.{slice_get_read, slice_get_cases}
-use Rattle.facts.specs.declared.fact.Slot.{Slot}
-use Rattle.derivation.specs.Derivations.{At}
-use Rattle.derivation.specs.Rounds.{IsSame}
-use Rattle.derivation.specs.Changes.{IsListed}
-use Rattle.facts.specs.declared.instance.Instance.{Instance}
+use Rattle.rule_universe.specs.facts.declared.fact.Slot.{Slot}
+use Rattle.rule_universe.specs.derivation.Derivations.{At}
+use Rattle.rule_universe.specs.derivation.Rounds.{IsSame}
+use Rattle.rule_universe.specs.derivation.Changes.{IsListed}
+use Rattle.rule_universe.specs.facts.declared.instance.Instance.{Instance}
 
 -- ---- lists by number
 pub item_at : {X : Type 0} (items all : List X) (k : ℕ) (x : X) → items ≡ all → k < length items → x ≡ get_or items k x → slice_get all k ≡ Some x

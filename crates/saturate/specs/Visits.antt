@@ -1,13 +1,13 @@
 -- What one instance does to a table. Only private functions cite these.
 use Rattle.std.specs.Prelude.{◌≡◌, ◌⊎◌, List, Some, None, length, Contains}
-use Rattle.facts.specs.declared.fact.Fact.{Fact}
-use Rattle.facts.specs.declared.fact.Slot.{Slot}
-use Rattle.facts.specs.declared.fact.Slot.TheVariants as slot
-use Rattle.derivation.specs.Lists.{RuleList}
-use Rattle.facts.specs.declared.instance.Instance.{Instance}
-use Rattle.derivation.specs.Derivations.{At}
-use Rattle.derivation.specs.Rounds.{conclusion, Improves}
-use Rattle.derivation.specs.Counts.{IsRisen}
+use Rattle.rule_universe.specs.facts.declared.fact.Fact.{Fact}
+use Rattle.rule_universe.specs.facts.declared.fact.Slot.{Slot}
+use Rattle.rule_universe.specs.facts.declared.fact.Slot.TheVariants as slot
+use Rattle.rule_universe.specs.derivation.Lists.{RuleList}
+use Rattle.rule_universe.specs.facts.declared.instance.Instance.{Instance}
+use Rattle.rule_universe.specs.derivation.Derivations.{At}
+use Rattle.rule_universe.specs.derivation.Rounds.{conclusion, Improves}
+use Rattle.rule_universe.specs.derivation.Counts.{IsRisen}
 use Rattle.saturate.specs.declared.kept.Table.{Table}
 use Rattle.saturate.specs.Tables.{fact_at}
 use Rattle.rule_universe.specs.declared.placed.Placed.{Placed}

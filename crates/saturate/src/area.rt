@@ -3,8 +3,7 @@ ghost use Rattle.std.specs.Prelude.{◌≡◌, OnOk, true, replicate};
 ghost use Rattle.saturate.specs.Tables.{IsCopy};
 
 use crate::kept::Table;
-use facts::Fact;
-use rule_universe::Placed;
+use rule_universe::{Fact, Placed};
 use std::alloc::{AllocError, Global};
 
 /// Memory for the rounds of a box, which a thread hands from box to box; so a box asks for its own table alone. What it holds

@@ -1,6 +1,6 @@
 //! The table of a box.
 ghost use Rattle.std.specs.Prelude.{◌≡◌, ◌<◌, IfOk, List, ◌∷◌, length};
-ghost use Rattle.derivation.specs.Known.{Piece, IsTableAt};
+ghost use Rattle.rule_universe.specs.derivation.Known.{Piece, IsTableAt};
 ghost use Rattle.saturate.specs.Tables.{fact_at};
 ghost use Rattle.saturate.specs.Universes.{setting_by, HasAllPlaces};
 ghost use Rattle.saturate.specs.Boxes.{IsSomeBox, IsOfUniverse, IsTableBelow, IsCostBelow};
@@ -16,11 +16,8 @@ use crate::root::settle_root;
 use crate::rounds::rounds;
 use crate::settled::Settled;
 use crate::steps::Steps;
-use derivation::boxes_come_to_one_state;
-use facts::Fact;
 use fx_model::ExprId;
-use interval::Interval;
-use rule_universe::Universe;
+use rule_universe::{Fact, Interval, Universe, boxes_come_to_one_state};
 use std::alloc::{AllocError, Global};
 use std::marker::Brand;
 use std::sync::ledger::{Blank, Ledger};

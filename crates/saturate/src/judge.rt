@@ -1,13 +1,13 @@
 //! What a box with a best table comes to.
 ghost use Rattle.std.specs.Prelude.{◌≡◌, ◌≤◌, length};
-ghost use Rattle.derivation.specs.Decided.{is_met, first_unmet, state_in};
+ghost use Rattle.rule_universe.specs.derivation.Decided.{is_met, first_unmet, state_in};
 ghost use Rattle.saturate.specs.Tables.{fact_at};
 ghost use Rattle.saturate.specs.Universes.{setting_of};
 ghost use Rattle.saturate.specs.Boxes.{table_of, state_of};
 
 use crate::kept::Table;
 use crate::settled::Settled;
-use goals::{Goal, answers};
+use rule_universe::{Goal, answers};
 
 // Whether the table's fact on the goal's slot is what is wanted.
 fn is_met(table: &Table, goal: Goal) -> bool

@@ -1,11 +1,11 @@
 //! One round: each instance that is due is applied once to the table of the round before.
 ghost use Rattle.std.specs.Prelude.{◌≡◌, Some, None, IfOk, length, slice_get, Contains, count_by, ◌<◌, ◌≤◌, ◌+◌};
-ghost use Rattle.facts.specs.declared.fact.Slot.{Slot};
-ghost use Rattle.facts.specs.declared.fact.Slot.TheVariants as slot;
-ghost use Rattle.facts.specs.declared.instance.Instance.{Instance as Applied};
-ghost use Rattle.derivation.specs.Rounds.{conclusion, IsAhead, AllSeen, IsSame};
-ghost use Rattle.derivation.specs.Changes.{IsQuiet, IsListed};
-ghost use Rattle.derivation.specs.Counts.{AreRisen};
+ghost use Rattle.rule_universe.specs.facts.declared.fact.Slot.{Slot};
+ghost use Rattle.rule_universe.specs.facts.declared.fact.Slot.TheVariants as slot;
+ghost use Rattle.rule_universe.specs.facts.declared.instance.Instance.{Instance as Applied};
+ghost use Rattle.rule_universe.specs.derivation.Rounds.{conclusion, IsAhead, AllSeen, IsSame};
+ghost use Rattle.rule_universe.specs.derivation.Changes.{IsQuiet, IsListed};
+ghost use Rattle.rule_universe.specs.derivation.Counts.{AreRisen};
 ghost use Rattle.rule_universe.specs.declared.placed.Placed.{Placed as Placement};
 ghost use Rattle.rule_universe.specs.Places.{IsPlace};
 ghost use Rattle.rule_universe.specs.Placed.{slots_of};
@@ -16,9 +16,7 @@ ghost use Rattle.saturate.specs.Visits.{IsVisit, GainsKnown, RiseOrStay, AreKnow
 use crate::conclusions::Concludes;
 use crate::improve::improve;
 use crate::kept::Table;
-use expr_dag::Dag;
-use facts::{Fact, HintRow, Instance};
-use rule_universe::{Placed, Universe};
+use rule_universe::{Dag, Fact, HintRow, Instance, Placed, Universe};
 use std::alloc::AllocError;
 
 // What the instance concludes from the table. Its premises are given with their places; the list of facts is scratch.

@@ -2,11 +2,11 @@
 use Rattle.std.specs.Prelude.{◌≡◌, ℕ, List, length}
 use Rattle.std.proofs.Common.{◌∙◌, ap}
 use Rattle.std.proofs.lemmas.List.FromFn.{length-map-range_with_len}
-use Rattle.goals.specs.declared.line.Line.{Line}
-use Rattle.script_grammar.specs.Spells.{View, Spells, GoalsHaveSpans}
-use Rattle.bisect.specs.declared.outcome.Leaf.{Leaf}
-use Rattle.case_trees.specs.declared.outcome.CaseOutcome.TheVariants as outcome
-use Rattle.bisect.specs.Gathered.{line_of, lines_of}
+use Rattle.report.specs.goals.declared.line.Line.{Line}
+use Rattle.report.specs.script_grammar.Spells.{View, Spells, GoalsHaveSpans}
+use Rattle.settler.specs.bisect.declared.outcome.Leaf.{Leaf}
+use Rattle.settler.specs.case_trees.declared.outcome.CaseOutcome.TheVariants as outcome
+use Rattle.settler.specs.bisect.Gathered.{line_of, lines_of}
 use Rattle.settler.specs.Answers.{Options, ComesTo, IsProved}
 use Rattle.settler.specs.Tight.{ProvedLinesAreTight}
 use Rattle.settler.specs.Held.{ProvedHolds}

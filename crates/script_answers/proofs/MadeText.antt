@@ -1,8 +1,8 @@
 -- What is answered to the made script, from what is found of it.
 use Rattle.std.proofs.Common.{◌≡◌, ◌≢◌, ℕ, List, refl, subst}
-use Rattle.goals.specs.declared.line.Line.{Line}
-use Rattle.script_judge.specs.declared.refusal.Refusal.{Refusal}
-use Rattle.script_grammar.specs.Spells.{View, IsRefused}
+use Rattle.report.specs.goals.declared.line.Line.{Line}
+use Rattle.report.specs.script_judge.declared.refusal.Refusal.{Refusal}
+use Rattle.report.specs.script_grammar.Spells.{View, IsRefused}
 use Rattle.command_runs.specs.Runs.{Bytes}
 use Rattle.command_runs.specs.declared.status.Status.{Status}
 use Rattle.command_runs.specs.declared.status.Status.TheVariants.{Answered}

@@ -1,17 +1,17 @@
 -- One answer is defined for a text.
 use Rattle.std.specs.Prelude.{◌⊎◌, slice_get}
 use Rattle.std.proofs.Common.{◌≡◌, ◌≢◌, inl, inr, ℕ, List, length, Some, refl, sym, ap, ◌∙◌, subst}
-use Rattle.goals.specs.declared.line.Line.{Line}
-use Rattle.script_judge.specs.First.{FirstsAreUnique}
-use Rattle.script_grammar.specs.Spells.{View, Spells, SpellsOnce, NeverBoth}
-use Rattle.rewrite_hints.specs.Marks.{AreMarks}
-use Rattle.script_claims.specs.declared.claim.Claim.{Claim}
-use Rattle.script_grammar.specs.Cases.{cases_of}
-use Rattle.universe.specs.OneMark.{MarksAreOne}
-use Rattle.bisect.specs.declared.outcome.Leaf.{Leaf}
-use Rattle.case_trees.specs.declared.outcome.OpenLeaf.{OpenLeaf}
-use Rattle.case_trees.specs.declared.outcome.CaseOutcome.TheVariants as outcome
-use Rattle.bisect.specs.Gathered.{lines_of}
+use Rattle.report.specs.goals.declared.line.Line.{Line}
+use Rattle.report.specs.script_judge.First.{FirstsAreUnique}
+use Rattle.report.specs.script_grammar.Spells.{View, Spells, SpellsOnce, NeverBoth}
+use Rattle.settler.specs.rewrite_hints.Marks.{AreMarks}
+use Rattle.report.specs.script_claims.declared.claim.Claim.{Claim}
+use Rattle.report.specs.script_grammar.Cases.{cases_of}
+use Rattle.settler.specs.universe.OneMark.{MarksAreOne}
+use Rattle.settler.specs.bisect.declared.outcome.Leaf.{Leaf}
+use Rattle.settler.specs.case_trees.declared.outcome.OpenLeaf.{OpenLeaf}
+use Rattle.settler.specs.case_trees.declared.outcome.CaseOutcome.TheVariants as outcome
+use Rattle.settler.specs.bisect.Gathered.{lines_of}
 use Rattle.settler.specs.Answers.{Options, Answer, expr_limit, box_limit, unproved, proved, ComesTo, IsScriptAnswer, AnswersAreOne, OutcomesAreOne, HasTooManyExpressions, HasTooManyBoxes, plan_of}
 use Rattle.report.specs.Lines.{refusal_line, expressions_text, boxes_text}
 use Rattle.report.specs.Proved.{answer_text, made_text}

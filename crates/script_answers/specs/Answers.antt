@@ -1,16 +1,16 @@
 -- What is answered to a text: a status and lines.
 use Rattle.std.specs.Prelude.{◌≡◌, ◌≢◌, ◌≤◌, ◌⊎◌, ℕ, List, [], ◌∷◌, length, Some, slice_get}
 use Rattle.fx_model.specs.Expression.{Assignment}
-use Rattle.facts.specs.declared.hint.HintMark.{HintMark}
-use Rattle.goals.specs.declared.line.Line.{Line}
-use Rattle.goals.specs.declared.line.Line.TheVariants as line
-use Rattle.script_judge.specs.declared.refusal.Refusal.{Refusal}
-use Rattle.script_claims.specs.declared.claim.Claim.{Claim}
-use Rattle.script_grammar.specs.Spells.{View, Spells, IsRefused}
-use Rattle.script_meets.specs.Meets.{Meets}
-use Rattle.rewrite_hints.specs.Marks.{AreMarks}
-use Rattle.script_grammar.specs.Cases.{cases_of}
-use Rattle.case_trees.specs.declared.outcome.OpenLeaf.{OpenLeaf}
+use Rattle.report.specs.facts.declared.hint.HintMark.{HintMark}
+use Rattle.report.specs.goals.declared.line.Line.{Line}
+use Rattle.report.specs.goals.declared.line.Line.TheVariants as line
+use Rattle.report.specs.script_judge.declared.refusal.Refusal.{Refusal}
+use Rattle.report.specs.script_claims.declared.claim.Claim.{Claim}
+use Rattle.report.specs.script_grammar.Spells.{View, Spells, IsRefused}
+use Rattle.settler.specs.script_meets.Meets.{Meets}
+use Rattle.settler.specs.rewrite_hints.Marks.{AreMarks}
+use Rattle.report.specs.script_grammar.Cases.{cases_of}
+use Rattle.settler.specs.case_trees.declared.outcome.OpenLeaf.{OpenLeaf}
 use Rattle.settler.specs.Answers.{Options, HasTooManyExpressions, HasTooManyBoxes, IsUnproved, IsProvedIn, plan_of}
 use Rattle.settler.specs.Tight.{AreTight}
 use Rattle.settler.specs.Held.{AreHeld}

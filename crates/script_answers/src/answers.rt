@@ -8,11 +8,11 @@ use command_runs::Status;
 use fx_edge::Gate;
 use report::proved::answer_text;
 use report::refusals::refusal_line;
-use script_grammar::{ParseStop, Script, parse};
+use report::{ParseStop, Script, parse};
+use settler::classify;
 use std::alloc::{AllocError, Global};
 use std::sync::Wait;
 use std::thread::Threads;
-use universe::classify;
 
 /// The status and the lines for what was found of the script. `Err` only where memory runs out.
 pub fn lines_for(

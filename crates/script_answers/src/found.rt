@@ -1,28 +1,26 @@
 // What is found of a script.
 ghost use Rattle.std.specs.Prelude.{◌≡◌, ◌<◌, ◌≤◌, [], List, Some, IfOk, length, slice_get};
-ghost use Rattle.script_claims.specs.declared.claim.Claim.{Claim};
-ghost use Rattle.script_grammar.specs.Cases.{cases_of};
-ghost use Rattle.universe.specs.Universes.{IsUniverse, IsTooLarge};
+ghost use Rattle.report.specs.script_claims.declared.claim.Claim.{Claim};
+ghost use Rattle.report.specs.script_grammar.Cases.{cases_of};
+ghost use Rattle.settler.specs.universe.Universes.{IsUniverse, IsTooLarge};
 ghost use Rattle.settler.specs.Answers.{ComesTo, plan_of};
 ghost use Rattle.settler.specs.Held.{ProvedHolds};
 ghost use Rattle.report.specs.Unproved as spec;
 ghost use Rattle.script_answers.specs.Answers.{AreAllowed, IsFound, options_from};
 
 use crate::options::Options;
-use bisect::lines_of;
-use box_tree::Plan;
-use case_trees::{CaseOutcome, OpenLeaf};
 use command_runs::Status;
 use fx_edge::{Gate, Items};
-use goals::Line;
 use report::runs::{boxes_text, expressions_text};
 use report::unproved::unproved_text;
-use script_grammar::{Script, script_or_refusal};
-use settler::{answer, answer_alone, open_leaves_are_first, proved_lines_are_tight};
+use report::{Line, Plan, Script, script_or_refusal};
+use settler::{
+    CaseOutcome, OpenLeaf, Universe, UniverseFault, answer, answer_alone, build, lines_of,
+    open_leaves_are_first, proved_lines_are_tight,
+};
 use std::alloc::{AllocError, Global};
 use std::sync::Wait;
 use std::thread::Threads;
-use universe::{Universe, UniverseFault, build};
 
 /// What is found of a script.
 #[derive(Drop)]

@@ -1,10 +1,8 @@
 // One answer is defined for a text.
 ghost use Rattle.script_answers.specs.Laws.{MadeAnswersAreOne, TextAnswersAreOne};
 
-use script_grammar::script_or_refusal;
-use script_judge::first::firsts_are_unique;
-use settler::answers_are_one;
-use universe::marks_are_one;
+use report::{firsts_are_unique, script_or_refusal};
+use settler::{answers_are_one, marks_are_one};
 
 /// The law that a text has one status and one text of lines, under given options. Nothing is done.
 pub fn text_answers_are_one()

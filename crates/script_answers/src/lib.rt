@@ -1,6 +1,14 @@
 //! What is answered to a script's text under options: a status and lines.
 #![tactic(auto)]
 
+// What callers name of the crates below.
+pub use report::certificates::{cert_fault_line, check_fault_line, new_too_long_line};
+pub use report::proved::answer_text;
+pub use report::refusals::refusal_line;
+pub use report::runs::expressions_text;
+pub use report::{ParseStop, Script, parse, script_or_refusal};
+pub use settler::{Universe, UniverseFault, build, classify, marks_are_one};
+
 mod answers;
 mod found;
 mod laws;

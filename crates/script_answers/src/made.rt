@@ -1,19 +1,17 @@
 // The status and the lines for the made script.
 ghost use Rattle.std.specs.Prelude.{◌≡◌, IfOk};
 ghost use Rattle.made_script.specs.Script.{script_text};
-ghost use Rattle.script_grammar.specs.Spells.{IsRefused};
+ghost use Rattle.report.specs.script_grammar.Spells.{IsRefused};
 ghost use Rattle.script_answers.specs.Answers.{IsFound, MadePrints, first_line, made_options};
 
 use crate::found::{Found, prove_script};
 use crate::options::made_options;
 use command_runs::Status;
 use fx_edge::Gate;
-use goals::Line;
 use made_script::made_script;
 use report::proved::made_text;
 use report::refusals::refusal_line;
-use script_grammar::{ParseStop, Script, parse};
-use script_judge::refusal::Refusal;
+use report::{Line, ParseStop, Refusal, Script, parse};
 use std::alloc::{AllocError, Global};
 use std::sync::Wait;
 use std::thread::Threads;

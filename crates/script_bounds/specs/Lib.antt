@@ -1,3 +1,5 @@
+-- What callers name of the crates below.
+pub use Rattle.facts.specs as facts
 pub mod Bounds
 pub mod Needs
 pub mod Sides

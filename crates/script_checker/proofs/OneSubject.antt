@@ -5,16 +5,16 @@ use Rattle.std.proofs.lemmas.List.{length-map}
 use Rattle.std.proofs.lemmas.Option.{slice_get_within}
 use Rattle.fx_model.specs.declared.ExprId.{ExprId}
 use Rattle.fx_model.specs.declared.Node.{Node}
-use Rattle.facts.specs.declared.hint.HintMark.{HintMark}
-use Rattle.facts.specs.declared.hint.HintMark.TheVariants.{Checked, Assumed}
-use Rattle.facts.specs.declared.hint.HintRow.{HintRow}
-use Rattle.script_hints.specs.declared.hint.Hint.{Hint}
-use Rattle.script_grammar.specs.Spells.{View}
-use Rattle.node_counts.specs.Few.{HasFewHints}
+use Rattle.rewrite_hints.specs.facts.declared.hint.HintMark.{HintMark}
+use Rattle.rewrite_hints.specs.facts.declared.hint.HintMark.TheVariants.{Checked, Assumed}
+use Rattle.rewrite_hints.specs.facts.declared.hint.HintRow.{HintRow}
+use Rattle.rewrite_hints.specs.script_hints.declared.hint.Hint.{Hint}
+use Rattle.script_meets.specs.script_grammar.Spells.{View}
+use Rattle.script_meets.specs.node_counts.Few.{HasFewHints}
 use Rattle.pair_closure.specs.Rising.{one_list}
 use Rattle.rewrite_hints.specs.Rows.{IsRowOf}
 use Rattle.rewrite_hints.specs.Marks.{IsMarkOf, IsEachOf, AreMarks}
-use Rattle.cert_bytes.specs.Reading.{Cursor}
+use Rattle.cert_checker.specs.cert_bytes.Reading.{Cursor}
 use Rattle.cert_checker.specs.declared.fault.CheckStop.{CheckStop}
 use Rattle.cert_checker.specs.declared.fault.CheckStop.TheVariants.{Cert, Check, Failed, OutOfMemory}
 use Rattle.cert_checker.specs.declared.lines.Lines.{Lines}
@@ -23,7 +23,7 @@ use Rattle.cert_checker.specs.Outcomes.{Outcome, ComesOf, ComesOnce}
 use Rattle.cert_checker.specs.Checking.{Checks, IsAnswer}
 use Rattle.script_checker.specs.Subjects.{goal_of, IsSubjectOf}
 use Rattle.script_checker.specs.Checking.{ComesFor, ChecksFor, ChecksAreOne}
-use Rattle.facts.specs.CommonParts.{stands}
+use Rattle.rewrite_hints.specs.facts.CommonParts.{stands}
 
 -- one of a list for each of another is one list, where each is one
 each_is_one : {A B : Type 0} (R : A → B → Type 0) → ((x : A) (y z : B) → R x y → R x z → y ≡ z) → (xs : List A) (ys zs : List B) → IsEachOf R xs ys → IsEachOf R xs zs → ys ≡ zs

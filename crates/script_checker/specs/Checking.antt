@@ -1,17 +1,17 @@
 -- What checking a script's certificate answers, and what its lines promise.
 use Rattle.std.specs.Prelude.{◌≡◌, ⊤, ℕ, List, Some, Result, Ok, Err, slice_get}
 use Rattle.fx_model.specs.Expression.{Assignment, IsOrdered}
-use Rattle.goals.specs.declared.line.Line.{Line}
-use Rattle.goals.specs.Holds.{LineHolds}
-use Rattle.script_claims.specs.declared.claim.Claim.{Claim}
-use Rattle.script_claims.specs.Facts.{slot_of}
-use Rattle.script_claims.specs.Meets.{IsTrueAt}
-use Rattle.script_grammar.specs.Spells.{View}
-use Rattle.script_grammar.specs.Names.{NamesNodes}
-use Rattle.script_grammar.specs.Ranges.{HasFewCases}
+use Rattle.cert_checker.specs.goals.declared.line.Line.{Line}
+use Rattle.cert_checker.specs.goals.Holds.{LineHolds}
+use Rattle.script_meets.specs.script_claims.declared.claim.Claim.{Claim}
+use Rattle.script_meets.specs.script_claims.Facts.{slot_of}
+use Rattle.script_meets.specs.script_claims.Meets.{IsTrueAt}
+use Rattle.script_meets.specs.script_grammar.Spells.{View}
+use Rattle.script_meets.specs.script_grammar.Names.{NamesNodes}
+use Rattle.script_meets.specs.script_grammar.Ranges.{HasFewCases}
 use Rattle.script_meets.specs.Meets.{Meets}
-use Rattle.cert_bytes.specs.declared.item.Item.{Item}
-use Rattle.cert_bytes.specs.Reading.{Cursor}
+use Rattle.cert_checker.specs.cert_bytes.declared.item.Item.{Item}
+use Rattle.cert_checker.specs.cert_bytes.Reading.{Cursor}
 use Rattle.cert_checker.specs.declared.fault.CheckStop.{CheckStop}
 use Rattle.cert_checker.specs.declared.fault.CheckStop.TheVariants as check_stop
 use Rattle.cert_checker.specs.declared.keep.Accepted.{Accepted}

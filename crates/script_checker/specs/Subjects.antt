@@ -1,11 +1,11 @@
 -- What a script asks of its certificates.
 use Rattle.std.specs.Prelude.{◌≡◌, List, [], ◌∷◌, Option, Some, None, map, length}
-use Rattle.facts.specs.declared.fact.Fact.{Fact}
-use Rattle.goals.specs.declared.goal.Goal.{Goal}
-use Rattle.script_claims.specs.declared.claim.Claim.{Claim}
-use Rattle.script_claims.specs.Facts.{hypothesis_fact, want_of, slot_of}
-use Rattle.script_grammar.specs.Spells.{View}
-use Rattle.script_grammar.specs.Cases.{cases_of}
+use Rattle.rewrite_hints.specs.facts.declared.fact.Fact.{Fact}
+use Rattle.cert_checker.specs.goals.declared.goal.Goal.{Goal}
+use Rattle.script_meets.specs.script_claims.declared.claim.Claim.{Claim}
+use Rattle.script_meets.specs.script_claims.Facts.{hypothesis_fact, want_of, slot_of}
+use Rattle.script_meets.specs.script_grammar.Spells.{View}
+use Rattle.script_meets.specs.script_grammar.Cases.{cases_of}
 use Rattle.rewrite_hints.specs.Marks.{AreRows, AreMarks}
 use Rattle.cert_checker.specs.declared.subject.Subject.{Subject}
 

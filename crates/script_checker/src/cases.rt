@@ -1,12 +1,12 @@
 //! The cases of a script.
 ghost use Rattle.std.specs.Prelude.{◌≡◌, ◌<◌, Some, length, map, slice_get, IfOk};
-ghost use Rattle.script_grammar.specs.Cases.{cases_of};
+ghost use Rattle.script_meets.specs.script_grammar.Cases.{cases_of};
 ghost use Rattle.script_checker.specs.Subjects as spec;
 
 use crate::claims::facts_of;
-use facts::Fact;
 use fx_edge::Items;
-use script_grammar::Script;
+use rewrite_hints::Fact;
+use script_meets::Script;
 use std::alloc::{AllocError, Global};
 
 // What the hypotheses of the case with this number, from 0, say.

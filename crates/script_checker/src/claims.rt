@@ -2,12 +2,12 @@
 
 ghost use Rattle.std.specs.Prelude.{◌≡◌, map, IfOk};
 ghost use Rattle.std.specs.List.{AllByRecursion};
-ghost use Rattle.script_claims.specs.Facts.{HasNormalBounds};
+ghost use Rattle.script_meets.specs.script_claims.Facts.{HasNormalBounds};
 ghost use Rattle.script_checker.specs.Subjects as spec;
 
-use facts::Fact;
-use goals::Goal;
-use script_claims::Claim;
+use cert_checker::Goal;
+use rewrite_hints::Fact;
+use script_meets::Claim;
 use std::alloc::{AllocError, Global};
 
 // What the claims want as goals, in their order.

@@ -2,20 +2,19 @@
 ghost use Rattle.std.specs.Prelude.{◌≡◌, ◌≤◌, ℕ, List, Some, IfOk, IsErrOf};
 ghost use Rattle.std.specs.List.{AllByRecursion};
 ghost use Rattle.fx_edge.specs.Outside.{Rose};
-ghost use Rattle.cert_bytes.specs.Certificates.{HasSpelling};
-ghost use Rattle.cert_bytes.specs.Pieces.{AgreesTold, cursor_of};
-ghost use Rattle.cert_bytes.specs.ReadOut.{AreBytes, AreRead};
-ghost use Rattle.cert_bytes.specs.declared.order.Due.TheVariants.{Head};
+ghost use Rattle.cert_checker.specs.cert_bytes.Certificates.{HasSpelling};
+ghost use Rattle.cert_checker.specs.cert_bytes.Pieces.{AgreesTold, cursor_of};
+ghost use Rattle.cert_checker.specs.cert_bytes.ReadOut.{AreBytes, AreRead};
+ghost use Rattle.cert_checker.specs.cert_bytes.declared.order.Due.TheVariants.{Head};
 ghost use Rattle.cert_checker.specs.declared.fault.CheckStop.TheVariants as CheckStop;
 ghost use Rattle.cert_checker.specs.Checking.{IsFresh};
 ghost use Rattle.cert_checker.specs.Keeping.{lines_of};
 ghost use Rattle.script_checker.specs.Checking.{AreAcceptedItemsFor, AreLedFor, ChecksFor};
 
 use crate::subject::subject_of;
-use cert_bytes::Reader;
-use cert_checker::{Accepted, CheckStop, accepted_items};
+use cert_checker::{Accepted, CheckStop, Reader, accepted_items};
 use fx_edge::Folder;
-use script_grammar::Script;
+use script_meets::Script;
 use std::alloc::Global;
 
 /// Checks the certificate under the reader's name for the script, as `check_script` does, and keeps

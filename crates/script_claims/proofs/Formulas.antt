@@ -1,15 +1,15 @@
 -- The words of a formula are read as its claims.
 use Rattle.std.specs.Prelude.{◌≡◌, ℤ, pos, List, [], ◌∷◌, ◌++◌, Some, None, Bool, true, false, refl}
 use Rattle.std.proofs.Common.{ap, sym, ◌∙◌, append_assoc, append-nil}
-use Rattle.fx_model.specs.declared.ExprId.{ExprId}
-use Rattle.script_words.specs.declared.class.Sign.TheVariants as s
-use Rattle.script_words.specs.declared.class.Spelled.TheVariants as spelled
-use Rattle.script_words.specs.Words.{Word, name, rounding, literal, sign}
-use Rattle.script_shape.specs.declared.due.Due.{Due}
-use Rattle.script_shape.specs.declared.due.Due.TheVariants as d
-use Rattle.script_shape.specs.Tree.{Special, free, defined, zero_alone, digits, Whole, natural, opposite, Bound, unsigned, positive, negative, Expr, Range, asked, between, Prop, lies_in, relative_in, at_most, at_least, multiple, Stated, affirmed, denied, Formula, single, and, or, implies}
-use Rattle.script_shape.specs.Roles.{Leaf, at, special_leaves, whole_leaves, bound_leaves, expr_leaves, range_leaves, prop_leaves, stated_leaves, formula_leaves}
-use Rattle.script_shape.specs.Inner.{EachRole, IsInner, expr_inner}
+use Rattle.goals.specs.fx_model.declared.ExprId.{ExprId}
+use Rattle.script_nodes.specs.script_words.declared.class.Sign.TheVariants as s
+use Rattle.script_nodes.specs.script_words.declared.class.Spelled.TheVariants as spelled
+use Rattle.script_nodes.specs.script_words.Words.{Word, name, rounding, literal, sign}
+use Rattle.script_nodes.specs.script_shape.declared.due.Due.{Due}
+use Rattle.script_nodes.specs.script_shape.declared.due.Due.TheVariants as d
+use Rattle.script_nodes.specs.script_shape.Tree.{Special, free, defined, zero_alone, digits, Whole, natural, opposite, Bound, unsigned, positive, negative, Expr, Range, asked, between, Prop, lies_in, relative_in, at_most, at_least, multiple, Stated, affirmed, denied, Formula, single, and, or, implies}
+use Rattle.script_nodes.specs.script_shape.Roles.{Leaf, at, special_leaves, whole_leaves, bound_leaves, expr_leaves, range_leaves, prop_leaves, stated_leaves, formula_leaves}
+use Rattle.script_nodes.specs.script_shape.Inner.{EachRole, IsInner, expr_inner}
 use Rattle.script_nodes.specs.Known.{Known, Placed}
 use Rattle.script_nodes.specs.Values.{expr_value}
 use Rattle.script_nodes.specs.Waits.{Reading, waiting, expr_done, parted as comma_parted, read, read_all}

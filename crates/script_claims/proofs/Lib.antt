@@ -1,5 +1,5 @@
 pub mod Hypotheses
-pub mod Goals
+pub mod ReadGoals
 pub mod Formulas
 pub mod NormalParts
 pub mod Grows

@@ -1,8 +1,8 @@
 -- What a formula claims, by recursion on its tree.
 use Rattle.std.specs.Prelude.{◌≡◌, ℕ, ℤ, pos, neg_ℤ, List, [], ◌∷◌, ◌++◌, Some, None, Bool, true, false, nat_lt, if◌then◌else◌}
 use Rattle.std.specs.Str.Parse.{digits_value}
-use Rattle.fx_model.specs.declared.ExprId.{ExprId}
-use Rattle.script_shape.specs.Tree.{Whole, natural, opposite, Range, asked, between, Prop, lies_in, relative_in, at_most, at_least, multiple, Stated, affirmed, denied, Formula, single, and, or, implies}
+use Rattle.goals.specs.fx_model.declared.ExprId.{ExprId}
+use Rattle.script_nodes.specs.script_shape.Tree.{Whole, natural, opposite, Range, asked, between, Prop, lies_in, relative_in, at_most, at_least, multiple, Stated, affirmed, denied, Formula, single, and, or, implies}
 use Rattle.script_cases.specs.Cases.{all_items}
 use Rattle.script_cases.specs.Parts.{Parts, nothing, with_item, behind_or, behind_arrow as parts_behind_arrow}
 use Rattle.script_nodes.specs.Written.{bound_written}

@@ -2,10 +2,7 @@ ghost use Rattle.std.specs.Prelude.{◌≡◌};
 ghost use Rattle.script_claims.specs.Claims.{denial};
 ghost use Rattle.script_claims.specs.Facts.{HasNormalBounds, hypothesis_fact, want_of, slot_of, relative_fact};
 
-use facts::{Fact, Place, RelativeError, Slot};
-use fx_model::ExprId;
-use goals::Want;
-use interval::Interval;
+use goals::{ExprId, Fact, Interval, Place, RelativeError, Slot, Want};
 use script_bounds::{Written, inward, outward};
 
 /// What a proposition says of the nodes of its expressions.

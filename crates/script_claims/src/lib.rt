@@ -1,6 +1,9 @@
 //! What the propositions of a formula claim, with their bounds as they are written.
 #![tactic(auto)]
 
+// What callers name of the crates below.
+pub use goals::{Line, lines_hold};
+
 mod claim;
 mod laws;
 mod numbers;
@@ -8,8 +11,6 @@ mod part;
 mod proposition;
 mod reader;
 mod sides;
-#[cfg(test)]
-mod tests;
 
 pub use claim::Claim;
 pub use goals::Want;

@@ -1,14 +1,13 @@
 //! How far a proposition was read.
 
 ghost use Rattle.std.specs.Prelude.{◌≡◌};
-ghost use Rattle.script_words.specs.Named.{word_of};
+ghost use Rattle.script_nodes.specs.script_words.Named.{word_of};
 ghost use Rattle.script_claims.specs.Parts as spec;
 
 use crate::claim::Claim;
-use fx_model::ExprId;
+use goals::ExprId;
 use script_bounds::Written;
-use script_words::class::Sign;
-use script_words::words::Word;
+use script_nodes::{Sign, Word};
 
 /// What of a proposition stands before the word in hand.
 #[derive(Clone, Copy, PartialEq, Eq, Debug)]

@@ -1,7 +1,7 @@
 //! A proposition that is being read.
 
 ghost use Rattle.std.specs.Prelude.{◌≡◌, true};
-ghost use Rattle.script_words.specs.Named.{word_of};
+ghost use Rattle.script_nodes.specs.script_words.Named.{word_of};
 ghost use Rattle.script_nodes.specs.Literals as spec_literals;
 ghost use Rattle.script_claims.specs.Parts as spec;
 ghost use Rattle.script_claims.specs.Parts.{IsNormalPart};
@@ -10,9 +10,7 @@ use crate::numbers::exponent_size;
 use crate::part::Part;
 use script_bounds::Written;
 use script_nodes::digits::literal_of;
-use script_shape::due::Due;
-use script_words::class::Sign;
-use script_words::words::Word;
+use script_nodes::{Due, Sign, Word};
 
 /// A proposition as far as it was read.
 #[derive(Clone, Copy, PartialEq, Eq, Debug)]

@@ -1,7 +1,7 @@
 //! The claims of a formula, read word by word.
 
 ghost use Rattle.std.specs.Prelude.{◌≡◌, ◌<◌, All, length, None, Err, OnOk, IfErr};
-ghost use Rattle.script_words.specs.Named.{word_of};
+ghost use Rattle.script_nodes.specs.script_words.Named.{word_of};
 ghost use Rattle.script_claims.specs.Facts.{HasNormalBounds};
 ghost use Rattle.script_claims.specs.Claims.{stated, no_sides, with_goal, behind_or_sign, behind_arrow};
 ghost use Rattle.script_claims.specs.Parts as spec_parts;
@@ -11,11 +11,8 @@ use crate::claim::Claim;
 use crate::part::Part;
 use crate::proposition::{NOTHING_READ, Proposition};
 use crate::sides::Sides;
-use expr_dag::{DagFault, ExprId};
 use script_nodes::reader::Reader;
-use script_shape::due::Due;
-use script_words::class::Sign;
-use script_words::words::Word;
+use script_nodes::{DagFault, Due, ExprId, Sign, Word};
 use std::alloc::Global;
 use std::marker::Model;
 

@@ -2,19 +2,19 @@
 use Rattle.std.specs.Prelude.{ℕ, ◌≤◌, List, Some, None}
 use Rattle.std.specs.List.{AllByRecursion}
 use Rattle.std.proofs.Common.{arith}
-use Rattle.fx_model.specs.declared.ExprId.{ExprId}
-use Rattle.script_shape.specs.Tree.{Range, asked, between, Prop, lies_in, relative_in, at_most, at_least, multiple, Stated, affirmed, denied, Formula, single, and, or, implies}
-use Rattle.script_nodes.specs.Known.{Known, Placed}
-use Rattle.script_nodes.specs.Values.{expr_value}
-use Rattle.script_nodes.specs.Growth.{node_count}
-use Rattle.script_claims.specs.declared.claim.Claim.{Claim}
-use Rattle.script_claims.specs.declared.claim.Claim.TheVariants.{Bounded, Asked, Relative, RelativeAsked, Above, Below, Multiple}
-use Rattle.script_claims.specs.Claims.{Claims, exponent_of, ranged, relative, of_value, prop_claim, denial, stated_claim, then_claimed, then_or, then_arrow, no_claims, formula_claims}
-use Rattle.script_nodes.specs.Written.{bound_written}
+use Rattle.node_counts.specs.fx_model.declared.ExprId.{ExprId}
+use Rattle.goal_spans.specs.script_shape.Tree.{Range, asked, between, Prop, lies_in, relative_in, at_most, at_least, multiple, Stated, affirmed, denied, Formula, single, and, or, implies}
+use Rattle.node_counts.specs.script_nodes.Known.{Known, Placed}
+use Rattle.node_counts.specs.script_nodes.Values.{expr_value}
+use Rattle.node_counts.specs.script_nodes.Growth.{node_count}
+use Rattle.node_counts.specs.script_claims.declared.claim.Claim.{Claim}
+use Rattle.node_counts.specs.script_claims.declared.claim.Claim.TheVariants.{Bounded, Asked, Relative, RelativeAsked, Above, Below, Multiple}
+use Rattle.node_counts.specs.script_claims.Claims.{Claims, exponent_of, ranged, relative, of_value, prop_claim, denial, stated_claim, then_claimed, then_or, then_arrow, no_claims, formula_claims}
+use Rattle.node_counts.specs.script_nodes.Written.{bound_written}
 use Rattle.script_grammar.specs.Names.{IsNode, ClaimIsOf}
 use Rattle.script_grammar.proofs.Lists.{all_both}
 use Rattle.script_grammar.proofs.ExpressionNames.{Fits, Grows, grows_both, Sits, expr_sits}
-use Rattle.facts.specs.CommonParts.{all_as}
+use Rattle.node_counts.specs.facts.CommonParts.{all_as}
 
 claim_more : (n m : ℕ) → n ≤ m → (c : Claim) → ClaimIsOf n c → ClaimIsOf m c
 claim_more n m h (Bounded x lower upper) f = omega arith

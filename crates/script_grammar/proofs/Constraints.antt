@@ -2,25 +2,25 @@
 use Rattle.std.specs.Prelude.{◌≡◌, ◌≤◌, ◌+◌, ◌*◌, ◌^◌, ℕ, suc, List, [], ◌∷◌, ◌++◌, length, Option, Some, None, option_to_list, refl}
 use Rattle.std.proofs.Common.{arith, sym, ap, ◌∙◌, subst}
 use Rattle.std.proofs.lemmas.List.{length-append}
-use Rattle.fx_model.specs.declared.ExprId.{ExprId}
-use Rattle.script_words.specs.declared.class.Sign.TheVariants as s
-use Rattle.script_words.specs.declared.class.Spelled.TheVariants as spelled
-use Rattle.script_words.specs.declared.lex.Token.{Token}
-use Rattle.script_words.specs.Lex.{TokensAreFew}
-use Rattle.script_words.specs.Named.{Naming, nothing, naming_after, defined_by, token_word, words_from, words_of}
-use Rattle.script_words.specs.declared.class.Number.TheVariants as digits_kind
-use Rattle.script_words.specs.Words.{Word, literal, sign}
-use Rattle.script_shape.specs.Tree.{AnyName, name_words, Special, Whole, natural, opposite, whole_words, digits_words, Bound, unsigned, positive, negative, bound_words, Operator, fixed, int, special_words, operator_words, Expr, term, sum, difference, expr_words, Term, factor, product, quotient, term_words, Factor, negation, atom, factor_words, Atom, number, variable, parenthesized, absolute, called, rounded, fused, atom_words, Need, nonzero, below, not_above, above, not_below, need_words, NeedList, last_need, more_needs, need_list_words, Needs, always, provided, needs_words, Cut, cut_words, Names, last_name, more_names, Halving, halved_by, with_goal, halving_words, Hint, rewrite, like, split, halving, hint_words, Hints, no_hint, hint, hints_words, formula_words, Script, formula, define, definition_words, script_words}
-use Rattle.script_judge.specs.declared.refusal.Refusal.{Refusal}
-use Rattle.script_judge.specs.Reading.{IsReadable}
-use Rattle.script_judge.specs.First.{IsFirstRefusal, unread, read}
-use Rattle.script_nodes.specs.Known.{Known, Placed, named, nothing_known}
-use Rattle.script_nodes.specs.Values.{expr_value}
-use Rattle.script_nodes.specs.Definitions.{name_text, definition_value}
-use Rattle.script_claims.specs.Claims.{formula_claims}
-use Rattle.script_hints.specs.declared.hint.Hint.{Hint as Row}
-use Rattle.script_hints.specs.declared.hint.HintList.{HintList}
-use Rattle.script_hints.specs.Hints.{NeedsSoFar, with_need, with_need_list, needs_value, HintsSoFar, with_halved, with_names, with_halving, with_hint, with_hints, no_hints}
+use Rattle.node_counts.specs.fx_model.declared.ExprId.{ExprId}
+use Rattle.goal_spans.specs.script_words.declared.class.Sign.TheVariants as s
+use Rattle.goal_spans.specs.script_words.declared.class.Spelled.TheVariants as spelled
+use Rattle.goal_spans.specs.script_words.declared.lex.Token.{Token}
+use Rattle.goal_spans.specs.script_words.Lex.{TokensAreFew}
+use Rattle.goal_spans.specs.script_words.Named.{Naming, nothing, naming_after, defined_by, token_word, words_from, words_of}
+use Rattle.goal_spans.specs.script_words.declared.class.Number.TheVariants as digits_kind
+use Rattle.goal_spans.specs.script_words.Words.{Word, literal, sign}
+use Rattle.goal_spans.specs.script_shape.Tree.{AnyName, name_words, Special, Whole, natural, opposite, whole_words, digits_words, Bound, unsigned, positive, negative, bound_words, Operator, fixed, int, special_words, operator_words, Expr, term, sum, difference, expr_words, Term, factor, product, quotient, term_words, Factor, negation, atom, factor_words, Atom, number, variable, parenthesized, absolute, called, rounded, fused, atom_words, Need, nonzero, below, not_above, above, not_below, need_words, NeedList, last_need, more_needs, need_list_words, Needs, always, provided, needs_words, Cut, cut_words, Names, last_name, more_names, Halving, halved_by, with_goal, halving_words, Hint, rewrite, like, split, halving, hint_words, Hints, no_hint, hint, hints_words, formula_words, Script, formula, define, definition_words, script_words}
+use Rattle.node_counts.specs.script_judge.declared.refusal.Refusal.{Refusal}
+use Rattle.node_counts.specs.script_judge.Reading.{IsReadable}
+use Rattle.node_counts.specs.script_judge.First.{IsFirstRefusal, unread, read}
+use Rattle.node_counts.specs.script_nodes.Known.{Known, Placed, named, nothing_known}
+use Rattle.node_counts.specs.script_nodes.Values.{expr_value}
+use Rattle.node_counts.specs.script_nodes.Definitions.{name_text, definition_value}
+use Rattle.node_counts.specs.script_claims.Claims.{formula_claims}
+use Rattle.node_counts.specs.script_hints.declared.hint.Hint.{Hint as Row}
+use Rattle.node_counts.specs.script_hints.declared.hint.HintList.{HintList}
+use Rattle.node_counts.specs.script_hints.Hints.{NeedsSoFar, with_need, with_need_list, needs_value, HintsSoFar, with_halved, with_names, with_halving, with_hint, with_hints, no_hints}
 use Rattle.script_grammar.specs.Meaning.{meaning_from}
 use Rattle.script_grammar.specs.Spells.{View, Spells}
 use Rattle.script_grammar.specs.Few.{constraints_in, SpelledHaveFewConstraints}

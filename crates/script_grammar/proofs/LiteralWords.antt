@@ -9,21 +9,21 @@ use Rattle.std.specs.Str.Parse.{AllDigits, IsNumeral}
 use Rattle.std.proofs.lemmas.Bool.{ltb-true, leb-true, le-ltb, lt-ltb}
 use Rattle.std.proofs.lemmas.Str.{digit_value_digit}
 use Rattle.std.proofs.Math.Seq.{take-add}
-use Rattle.literal.specs.declared.scan.Form.{Form}
-use Rattle.literal.specs.declared.scan.Form.TheVariants.{Decimal, Binary, Hexadecimal}
-use Rattle.literal.specs.declared.scan.Mark.TheVariants.{Unmarked, Plus, Minus}
-use Rattle.literal.specs.Spelling.{Exponent, exponent_bytes, letter, point_bytes, scale_bytes, IsLiteral}
-use Rattle.script_words.specs.declared.class.Sign.{Sign}
-use Rattle.script_words.specs.declared.lex.Run.{Run}
-use Rattle.script_words.specs.declared.lex.Run.TheVariants as run
-use Rattle.script_words.specs.declared.lex.Token.{Token}
-use Rattle.script_words.specs.declared.lex.TokenKind.{TokenKind}
-use Rattle.script_words.specs.declared.lex.TokenKind.TheVariants as kind
-use Rattle.script_words.specs.Literals.{is_in, run_len, part_len, signed_len, exponent_len, scaled_len, is_hex, literal_len}
-use Rattle.script_words.specs.Signs.{sign_at, reserved_word}
-use Rattle.script_words.specs.Lex.{blank_len, word_kind, sign_token, front, Lexes, ends, bad, token}
-use Rattle.script_words.specs.Words.{Word, name, rounding, literal}
-use Rattle.script_words.specs.Named.{Naming, naming_after, defined_by, spelled_of, kind_word, token_word, words_from}
+use Rattle.node_counts.specs.literal.declared.scan.Form.{Form}
+use Rattle.node_counts.specs.literal.declared.scan.Form.TheVariants.{Decimal, Binary, Hexadecimal}
+use Rattle.node_counts.specs.literal.declared.scan.Mark.TheVariants.{Unmarked, Plus, Minus}
+use Rattle.node_counts.specs.literal.Spelling.{Exponent, exponent_bytes, letter, point_bytes, scale_bytes, IsLiteral}
+use Rattle.goal_spans.specs.script_words.declared.class.Sign.{Sign}
+use Rattle.goal_spans.specs.script_words.declared.lex.Run.{Run}
+use Rattle.goal_spans.specs.script_words.declared.lex.Run.TheVariants as run
+use Rattle.goal_spans.specs.script_words.declared.lex.Token.{Token}
+use Rattle.goal_spans.specs.script_words.declared.lex.TokenKind.{TokenKind}
+use Rattle.goal_spans.specs.script_words.declared.lex.TokenKind.TheVariants as kind
+use Rattle.goal_spans.specs.script_words.Literals.{is_in, run_len, part_len, signed_len, exponent_len, scaled_len, is_hex, literal_len}
+use Rattle.goal_spans.specs.script_words.Signs.{sign_at, reserved_word}
+use Rattle.goal_spans.specs.script_words.Lex.{blank_len, word_kind, sign_token, front, Lexes, ends, bad, token}
+use Rattle.goal_spans.specs.script_words.Words.{Word, name, rounding, literal}
+use Rattle.goal_spans.specs.script_words.Named.{Naming, naming_after, defined_by, spelled_of, kind_word, token_word, words_from}
 
 -- ---- digits
 

@@ -1,15 +1,15 @@
 -- Nodes never go while the words of a script are read.
 use Rattle.std.proofs.Common.{◌≡◌, ℕ, ◌<◌, ◌≤◌, List, [], ◌∷◌, length, get_or, Bool, true, false, if◌then◌else◌, Result, Ok, Err, sym, ap, ◌∙◌, arith, le_refl, le_trans}
 use Rattle.std.specs.Result.{IsErrAnd}
-use Rattle.expr_dag.specs.declared.dag.DagFault.{DagFault}
-use Rattle.expr_dag.specs.declared.dag.DagFault.TheVariants.{Full}
-use Rattle.script_words.specs.Words.{Word}
-use Rattle.script_shape.specs.declared.due.Due.{Due}
-use Rattle.script_shape.specs.Roles.{Leaf, leaves_of}
-use Rattle.script_nodes.specs.Defining.{opens_formula}
-use Rattle.script_nodes.specs.Growth.{DefiningGrows}
-use Rattle.script_claims.specs.Reads.{State, read_claim, ClaimsGrow}
-use Rattle.script_hints.specs.ReadingLaw.{HintsGrow}
+use Rattle.node_counts.specs.expr_dag.declared.dag.DagFault.{DagFault}
+use Rattle.node_counts.specs.expr_dag.declared.dag.DagFault.TheVariants.{Full}
+use Rattle.goal_spans.specs.script_words.Words.{Word}
+use Rattle.goal_spans.specs.script_shape.declared.due.Due.{Due}
+use Rattle.goal_spans.specs.script_shape.Roles.{Leaf, leaves_of}
+use Rattle.node_counts.specs.script_nodes.Defining.{opens_formula}
+use Rattle.node_counts.specs.script_nodes.Growth.{DefiningGrows}
+use Rattle.node_counts.specs.script_claims.Reads.{State, read_claim, ClaimsGrow}
+use Rattle.node_counts.specs.script_hints.ReadingLaw.{HintsGrow}
 use Rattle.script_grammar.specs.Steps.{Step, defining, claiming, hinting, closes_formula, hints_begun, read_word, read_words, nodes_at}
 
 abbrev pub count : Step → ℕ

@@ -1,12 +1,17 @@
 //! Whole scripts: exactly what a text spells, or its one refusal.
 #![tactic(auto)]
 
+// What callers name of the crates below.
+pub use goal_spans::Span;
+pub use node_counts::{
+    Claim, LimitKind, Refusal, RefusalKind, firsts_are_unique, goals_are_enough, hypotheses_hold,
+    rounded_needs_are_enough,
+};
+
 mod laws;
 mod reading;
 mod script;
 mod stage;
-#[cfg(test)]
-mod tests;
 
 pub use laws::{
     script_or_refusal, scripts_are_read, spelled_are_read, spelled_are_short,

@@ -1,15 +1,15 @@
 -- The words of hints are read as their trees.
 use Rattle.std.proofs.Common.{◌≡◌, List, [], ◌∷◌, ◌++◌, None, false, refl, ap, ◌∙◌, append_assoc}
-use Rattle.fx_model.specs.declared.ExprId.{ExprId}
-use Rattle.dyadic.specs.declared.number.Dyadic.{Dyadic}
+use Rattle.script_nodes.specs.fx_model.declared.ExprId.{ExprId}
+use Rattle.script_nodes.specs.dyadic.declared.number.Dyadic.{Dyadic}
 use Rattle.script_hints.specs.declared.hint.Constraint.{Constraint}
-use Rattle.script_words.specs.declared.class.Number.TheVariants as digits_kind
-use Rattle.script_words.specs.declared.class.Sign.{Sign}
-use Rattle.script_words.specs.declared.class.Sign.TheVariants as s
-use Rattle.script_words.specs.Words.{sign, literal}
-use Rattle.script_shape.specs.declared.due.Due.TheVariants as d
-use Rattle.script_shape.specs.Tree.{plain, operator, zero_alone, digits, Bound, unsigned, positive, negative, Expr, Need, nonzero, below, not_above, above, not_below, NeedList, last_need, more_needs, Needs, always, provided, Points, last_point, more_points, Cut, in_four, pieces, at_points, Names, last_name, more_names, Halving, halved_by, with_goal, Hint, rewrite, like, split, halving, no_hint, hint}
-use Rattle.script_shape.specs.Roles.{Leaf, at, bound_leaves, expr_leaves, need_leaves, need_list_leaves, needs_leaves, points_leaves, cut_leaves, names_leaves, halving_leaves, hint_leaves, hints_leaves}
+use Rattle.script_nodes.specs.script_words.declared.class.Number.TheVariants as digits_kind
+use Rattle.script_nodes.specs.script_words.declared.class.Sign.{Sign}
+use Rattle.script_nodes.specs.script_words.declared.class.Sign.TheVariants as s
+use Rattle.script_nodes.specs.script_words.Words.{sign, literal}
+use Rattle.script_nodes.specs.script_shape.declared.due.Due.TheVariants as d
+use Rattle.script_nodes.specs.script_shape.Tree.{plain, operator, zero_alone, digits, Bound, unsigned, positive, negative, Expr, Need, nonzero, below, not_above, above, not_below, NeedList, last_need, more_needs, Needs, always, provided, Points, last_point, more_points, Cut, in_four, pieces, at_points, Names, last_name, more_names, Halving, halved_by, with_goal, Hint, rewrite, like, split, halving, no_hint, hint}
+use Rattle.script_nodes.specs.script_shape.Roles.{Leaf, at, bound_leaves, expr_leaves, need_leaves, need_list_leaves, needs_leaves, points_leaves, cut_leaves, names_leaves, halving_leaves, hint_leaves, hints_leaves}
 use Rattle.script_nodes.specs.Known.{Known, named}
 use Rattle.script_nodes.specs.Written.{bound_written}
 use Rattle.script_nodes.specs.Values.{expr_value}

@@ -3,11 +3,8 @@
 ghost use Rattle.std.specs.Prelude.{◌≡◌};
 ghost use Rattle.script_hints.specs.Needs.{HasNormalBound, need_of};
 
-use dyadic::Dyadic;
-use facts::Need;
-use fx_edge::Items;
-use fx_model::ExprId;
-use script_bounds::{Written, above, below};
+use script_bounds::{Items, Need, Written, above, below};
+use script_nodes::{Dyadic, ExprId};
 
 /// A constraint of a rewriting, with its bound as it is written.
 #[derive(Clone, Copy, PartialEq, Eq, Debug)]

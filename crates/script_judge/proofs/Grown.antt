@@ -4,7 +4,7 @@ use Rattle.std.specs.Str.{bytes_eq}
 use Rattle.std.specs.BTreeSet.{BTreeSet, contains, Updates}
 use Rattle.std.specs.Borrow.{Bor}
 use Rattle.std.proofs.lemmas.Map.Text.{is_eq-slice_cmp}
-use Rattle.script_words.specs.Named.{text_cmp, HasNames}
+use Rattle.script_shape.specs.script_words.Named.{text_cmp, HasNames}
 use Rattle.script_judge.specs.Names.{Name}
 
 -- a name that is there, or was before

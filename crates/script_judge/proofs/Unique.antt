@@ -3,11 +3,11 @@ use Rattle.std.proofs.Common.{◌≡◌, ℕ, ◌+◌, Bool, true, false, List, 
 use Rattle.std.specs.Str.{IsUtf8, IsValidUpTo}
 use Rattle.std.proofs.lemmas.Str.{utf8_valid_len-IsValidUpTo}
 use Rattle.std.proofs.Math.Seq.{take-length}
-use Rattle.fx_model.specs.Fraction.{Fraction}
-use Rattle.script_words.specs.Lex.{LexesOnce}
-use Rattle.script_words.specs.Words.{Word}
+use Rattle.bound_order.specs.fx_model.Fraction.{Fraction}
+use Rattle.script_shape.specs.script_words.Lex.{LexesOnce}
+use Rattle.script_shape.specs.script_words.Words.{Word}
 use Rattle.script_shape.specs.declared.due.Due.{Due}
-use Rattle.script_words.specs.Named.{words_of}
+use Rattle.script_shape.specs.script_words.Named.{words_of}
 use Rattle.script_shape.specs.Shape.{start}
 use Rattle.script_shape.specs.Roles.{Leaf}
 use Rattle.script_shape.specs.ShapeLaw.{IsShapeOf, ShapeIsUnique, RolesAreUnique, roles_from}

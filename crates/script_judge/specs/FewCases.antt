@@ -1,9 +1,9 @@
 -- The cases that have begun stay few where no token passes the limit.
 use Rattle.std.proofs.Common.{◌≡◌, ℕ, suc, ◌*◌, ◌≤◌, Bool, true, false, nat_lt, length, Option, Some, None, refl, arith}
 use Rattle.std.proofs.lemmas.Bool.{ltb-false}
-use Rattle.fx_model.specs.Fraction.{Fraction}
-use Rattle.script_words.specs.Words.{Word, name, rounding, literal, sign}
-use Rattle.script_words.specs.declared.class.Sign.TheVariants as s
+use Rattle.bound_order.specs.fx_model.Fraction.{Fraction}
+use Rattle.script_shape.specs.script_words.Words.{Word, name, rounding, literal, sign}
+use Rattle.script_shape.specs.script_words.declared.class.Sign.TheVariants as s
 use Rattle.script_shape.specs.declared.due.Due.{Due}
 use Rattle.script_shape.specs.declared.due.Due.TheVariants as d
 use Rattle.script_cases.specs.Cases.{case_count}

@@ -1,7 +1,7 @@
 -- The refusals that are judged on the words before the reading ends, token by token.
 use Rattle.std.specs.Prelude.{◌≡◌, ℕ, ◌+◌, ◌&&◌, ◌||◌, not, nat_lt, List, [], ◌∷◌, length, Option, Some, None, Bool, true, false, if◌then◌else◌, refl}
-use Rattle.script_words.specs.declared.class.Sign.TheVariants as s
-use Rattle.script_words.specs.Words.{Word, sign}
+use Rattle.script_shape.specs.script_words.declared.class.Sign.TheVariants as s
+use Rattle.script_shape.specs.script_words.Words.{Word, sign}
 use Rattle.script_shape.specs.declared.due.Due.{Due}
 use Rattle.script_shape.specs.declared.due.Due.TheVariants as d
 use Rattle.script_shape.specs.Roles.{Leaf}

@@ -1,9 +1,9 @@
 -- What the digits of a token tell.
 use Rattle.std.specs.Prelude.{◌≡◌, ℕ, ◌==◌, nat_lt, List, Option, Some, Bool, true, false, IsTrue, ◌↔◌}
 use Rattle.std.specs.Str.Parse.{digits_value}
-use Rattle.fx_model.specs.Fraction.{Fraction}
-use Rattle.literal.specs.Normal.{IsPastLimits}
-use Rattle.script_words.specs.Words.{Word, literal}
+use Rattle.bound_order.specs.fx_model.Fraction.{Fraction}
+use Rattle.bound_order.specs.literal.Normal.{IsPastLimits}
+use Rattle.script_shape.specs.script_words.Words.{Word, literal}
 use Rattle.script_shape.specs.declared.due.Due.{Due}
 use Rattle.script_shape.specs.declared.due.Due.TheVariants as d
 use Rattle.script_shape.specs.Roles.{Leaf}

@@ -2,9 +2,9 @@
 use Rattle.std.specs.Prelude.{◌&&◌, not, List, [], ◌∷◌, map, Option, Some, None, Bool, true, false, if◌then◌else◌}
 use Rattle.std.specs.List.{list_any}
 use Rattle.std.specs.Str.{bytes_eq}
-use Rattle.fx_model.specs.Fraction.{Fraction}
-use Rattle.script_words.specs.declared.class.Sign.TheVariants as s
-use Rattle.script_words.specs.Words.{Word, sign}
+use Rattle.bound_order.specs.fx_model.Fraction.{Fraction}
+use Rattle.script_shape.specs.script_words.declared.class.Sign.TheVariants as s
+use Rattle.script_shape.specs.script_words.Words.{Word, sign}
 use Rattle.script_shape.specs.declared.due.Due.{Due}
 use Rattle.script_shape.specs.declared.due.Due.TheVariants as d
 use Rattle.script_cases.specs.Cases.{cases}

@@ -7,12 +7,12 @@ ghost use Rattle.script_cases.specs.Parts.{begun_cases};
 ghost use Rattle.script_judge.specs.Names.{split_name};
 ghost use Rattle.script_judge.specs.Splits.{ranges_at};
 ghost use Rattle.script_judge.specs.SplitViews.{ends_seen, splits_seen};
-ghost use Rattle.script_words.specs.Named.{word_of};
-ghost use Rattle.script_words.specs.Kept.{words_in};
+ghost use Rattle.script_shape.specs.script_words.Named.{word_of};
+ghost use Rattle.script_shape.specs.script_words.Kept.{words_in};
 ghost use Rattle.script_shape.specs.Roles.{leaves_of};
 ghost use Rattle.script_judge.specs.Judge as spec;
 ghost use Rattle.script_judge.specs.Judge.{Judged};
-ghost use Rattle.literal_order.specs.Values.{IsWritten};
+ghost use Rattle.bound_order.specs.literal_order.Values.{IsWritten};
 ghost use Rattle.script_judge.specs.Limits.{IsWithinLimits};
 ghost use Rattle.script_judge.specs.BoundViews.{verdict_of};
 ghost use Rattle.script_judge.specs.Views.{IsSeen};
@@ -28,8 +28,7 @@ use crate::refusal::RefusalKind;
 use crate::sides::{arrow_count, is_arrow, is_on_wrong_side, without};
 use crate::splits::{Ends, Splits, Told, ends_between, is_rangeless};
 use script_shape::due::Due;
-use script_words::list::WordList;
-use script_words::words::Word;
+use script_shape::{Word, WordList};
 use std::alloc::{AllocError, Global};
 
 /// What stood before a token.

@@ -1,6 +1,9 @@
 //! Why a text is no script: the first refusal.
 #![tactic(auto)]
 
+// What callers name of the crates below.
+pub use script_shape::shape::{leaves_are_of_trees, roles_are_unique};
+
 pub mod bounds;
 pub mod counts;
 pub mod fault;
@@ -16,5 +19,3 @@ pub mod sets;
 pub mod sides;
 pub mod splits;
 pub mod subject;
-#[cfg(test)]
-mod tests;

@@ -1,12 +1,11 @@
 //! What is open around a token.
 
 ghost use Rattle.std.specs.Prelude.{◌≡◌, reverse, OnOk};
-ghost use Rattle.script_words.specs.Named.{word_of};
+ghost use Rattle.script_shape.specs.script_words.Named.{word_of};
 ghost use Rattle.script_judge.specs.Nesting as spec;
 
 use script_shape::due::Due;
-use script_words::class::Sign;
-use script_words::words::Word;
+use script_shape::{Sign, Word};
 use std::alloc::AllocError;
 
 /// What is open.

@@ -3,10 +3,10 @@
 ghost use Rattle.std.specs.Prelude.{◌≡◌, ◌≤◌, ◌&&◌, not, nat_lt, map, Some, IfOk, OnOk};
 ghost use Rattle.std.specs.List.{list_any};
 ghost use Rattle.std.specs.Option.{option_copied, option_map};
-ghost use Rattle.dyadic.specs.Values.{value_of as grid_value};
+ghost use Rattle.bound_order.specs.dyadic.Values.{value_of as grid_value};
 ghost use Rattle.bound_order.specs.Tests.{is_less};
-ghost use Rattle.script_words.specs.Named.{word_of};
-ghost use Rattle.literal_order.specs.Values.{written_value, IsWritten};
+ghost use Rattle.script_shape.specs.script_words.Named.{word_of};
+ghost use Rattle.bound_order.specs.literal_order.Values.{written_value, IsWritten};
 ghost use Rattle.script_judge.specs.SplitViews.{subject_seen, ends_seen, range_seen, splits_seen};
 ghost use Rattle.script_cases.specs.Cases.{case_count};
 ghost use Rattle.script_cases.specs.Parts.{begun_cases};
@@ -18,13 +18,10 @@ ghost use Rattle.script_judge.specs.Splits as spec;
 use crate::names::split_name;
 use crate::sides::is_or;
 use crate::subject::{Alias, Subject, add_alias, subject_after};
-use bound_order::{down, up};
-use dyadic::Dyadic;
-use literal_order::Written;
+use bound_order::{Dyadic, Written, down, up};
 use script_cases::Parts;
 use script_shape::due::Due;
-use script_words::class::Sign;
-use script_words::words::Word;
+use script_shape::{Sign, Word};
 use std::alloc::{AllocError, Global};
 
 /// The ends of a split range.

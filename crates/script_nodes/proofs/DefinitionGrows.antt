@@ -1,11 +1,11 @@
 -- Nodes never go while words are read.
 use Rattle.std.proofs.Common.{◌≡◌, ℕ, ◌<◌, ◌≤◌, List, [], ◌∷◌, length, Option, Some, None, IfSome, Bool, true, false, if◌then◌else◌, get_or, ◌∙◌, ap, arith, le_refl, le_trans}
-use Rattle.fx_model.specs.declared.Rounding.{Rounding}
-use Rattle.fx_model.specs.declared.ExprId.{ExprId}
-use Rattle.fx_model.specs.declared.Node.TheVariants.{Lit, Add, Sub}
-use Rattle.script_words.specs.declared.class.Sign.{Sign}
-use Rattle.script_words.specs.declared.class.Sign.TheVariants as s
-use Rattle.script_words.specs.Words.{Word, name, rounding, literal, sign}
+use Rattle.expr_dag.specs.fx_model.declared.Rounding.{Rounding}
+use Rattle.expr_dag.specs.fx_model.declared.ExprId.{ExprId}
+use Rattle.expr_dag.specs.fx_model.declared.Node.TheVariants.{Lit, Add, Sub}
+use Rattle.script_shape.specs.script_words.declared.class.Sign.{Sign}
+use Rattle.script_shape.specs.script_words.declared.class.Sign.TheVariants as s
+use Rattle.script_shape.specs.script_words.Words.{Word, name, rounding, literal, sign}
 use Rattle.script_shape.specs.declared.due.Due.{Due}
 use Rattle.script_shape.specs.declared.due.Due.TheVariants as d
 use Rattle.script_shape.specs.Roles.{Leaf, leaves_of}

@@ -1,8 +1,8 @@
 -- What every reading keeps, when a name joins.
 use Rattle.std.proofs.Common.{◌≡◌, ◌<◌, List, [], ◌∷◌, length, Option, Some, IfSome, Bool, true, false, if◌then◌else◌, sym, ap, subst, ◌∙◌, Result, Ok, Err, OnOk, OnErr}
 use Rattle.std.specs.Str.{bytes_eq}
-use Rattle.fx_model.specs.declared.Rounding.{Rounding}
-use Rattle.fx_model.specs.declared.ExprId.{ExprId}
+use Rattle.expr_dag.specs.fx_model.declared.Rounding.{Rounding}
+use Rattle.expr_dag.specs.fx_model.declared.ExprId.{ExprId}
 use Rattle.script_nodes.specs.Known.{Name, entry_of, with_entry, or_none, operator_named}
 use Rattle.script_nodes.specs.Waits.{Reading}
 use Rattle.script_nodes.specs.Sound.{ValuesFit, OperatorsFit, IsInRange, IsSound}

@@ -1,8 +1,8 @@
 -- Which of all texts are read as literals.
 use Rattle.std.proofs.Common.{◌≡◌, ◌⊎◌, ℕ, List, Bool, true, false, inl, inr, refl, ap, sym, subst, ◌∙◌, if◌then◌else◌, true≢false}
 use Rattle.std.specs.Bool.{Decides}
-use Rattle.literal.specs.Spelling.{Spelling, Spells, IsLiteral, written, IsWithin}
-use Rattle.literal.specs.Normal.{nought, IsReading, IsPastLimits}
+use Rattle.expr_dag.specs.literal.Spelling.{Spelling, Spells, IsLiteral, written, IsWithin}
+use Rattle.expr_dag.specs.literal.Normal.{nought, IsReading, IsPastLimits}
 use Rattle.script_nodes.specs.Literals.{parts_of, normal_of, is_read_as, literal_of, LiteralsAreTold, LiteralsAreTested, SpelledOnce}
 use Rattle.script_nodes.proofs.LiteralReads.{parts_are}
 use Rattle.script_nodes.proofs.NormalOnce.{normal_form}

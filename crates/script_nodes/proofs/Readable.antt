@@ -7,10 +7,10 @@ use Rattle.std.specs.Str.Parse.{AllDigits, IsNumeral}
 use Rattle.std.proofs.lemmas.Bool.Decides.{Decides-ltb}
 use Rattle.std.proofs.lemmas.Slice.Eq.{bytes_eq-Decides}
 use Rattle.std.proofs.lemmas.Int.{ints}
-use Rattle.fx_model.specs.declared.Literal.{Literal}
-use Rattle.literal.specs.declared.scan.Form.{Form}
-use Rattle.literal.specs.declared.scan.Form.TheVariants.{Decimal, Binary, Hexadecimal}
-use Rattle.literal.specs.Spelling.{Exponent, Spelling, base, is_hexadecimal, spelling_bytes, written, IsFraction, IsExponent, Spells, IsBetween, IsWithinAs, IsWithin}
+use Rattle.expr_dag.specs.fx_model.declared.Literal.{Literal}
+use Rattle.expr_dag.specs.literal.declared.scan.Form.{Form}
+use Rattle.expr_dag.specs.literal.declared.scan.Form.TheVariants.{Decimal, Binary, Hexadecimal}
+use Rattle.expr_dag.specs.literal.Spelling.{Exponent, Spelling, base, is_hexadecimal, spelling_bytes, written, IsFraction, IsExponent, Spells, IsBetween, IsWithinAs, IsWithin}
 use Rattle.script_nodes.specs.Literals.{all_digits, is_numeral, is_fraction, is_exponent, is_between, is_within, is_read_as}
 
 both : {P Q : Type 0} (a b : Bool) → Decides a P → Decides b Q → Decides (a && b) (P × Q)

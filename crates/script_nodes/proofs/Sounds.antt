@@ -1,8 +1,8 @@
 -- What every reading keeps, when a node joins.
 use Rattle.std.proofs.Common.{◌≡◌, ◌⊎◌, ℕ, zero, suc, ◌<◌, ◌≤◌, List, [], ◌∷◌, ◌++◌, length, slice_get, Some, Result, Ok, Err, IfOk, OnErr, sym, ap, subst, ◌∙◌, arith, inl, inr, ⊎_elim, length-append, le_trans}
-use Rattle.fx_model.specs.declared.ExprId.{ExprId}
-use Rattle.fx_model.specs.declared.Node.{Node}
-use Rattle.fx_model.specs.declared.Node.TheVariants.{Var}
+use Rattle.expr_dag.specs.fx_model.declared.ExprId.{ExprId}
+use Rattle.expr_dag.specs.fx_model.declared.Node.{Node}
+use Rattle.expr_dag.specs.fx_model.declared.Node.TheVariants.{Var}
 use Rattle.expr_dag.specs.declared.dag.DagFault.{DagFault}
 use Rattle.expr_dag.specs.Nodes.{IsAt, IsPlaced, with_node}
 use Rattle.script_nodes.specs.declared.waits.Waits.{Waits}

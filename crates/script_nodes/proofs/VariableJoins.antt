@@ -2,9 +2,9 @@
 use Rattle.std.proofs.Common.{◌≡◌, ◌⊎◌, ℕ, suc, ◌+◌, ◌<◌, ◌≤◌, List, [], ◌∷◌, ◌++◌, length, slice_get, Option, Some, None, Bool, true, false, not, cond, ◌||◌, if◌then◌else◌, refl, sym, ap, subst, ◌∙◌, arith, inl, inr, ⊎_elim, length-append}
 use Rattle.std.specs.List.{list_any, position_or_len}
 use Rattle.std.specs.Str.{bytes_eq}
-use Rattle.fx_model.specs.declared.ExprId.{ExprId}
-use Rattle.fx_model.specs.declared.Node.{Node}
-use Rattle.fx_model.specs.declared.Node.TheVariants.{Var}
+use Rattle.expr_dag.specs.fx_model.declared.ExprId.{ExprId}
+use Rattle.expr_dag.specs.fx_model.declared.Node.{Node}
+use Rattle.expr_dag.specs.fx_model.declared.Node.TheVariants.{Var}
 use Rattle.expr_dag.specs.Nodes.{IsAt, IsFull, IsPlaced, IsFound, IsLast, place_of, placed, with_node}
 use Rattle.script_nodes.specs.Known.{Name, Known, Placed, put, variable_put, variables_with}
 use Rattle.script_nodes.specs.Waits.{Reading}

@@ -1,6 +1,6 @@
 -- What definitions add to what is known, by recursion on their trees.
 use Rattle.std.specs.Prelude.{Option, Some, None}
-use Rattle.fx_model.specs.declared.Rounding.{Rounding}
+use Rattle.expr_dag.specs.fx_model.declared.Rounding.{Rounding}
 use Rattle.script_shape.specs.Tree.{AnyName, plain, operator, How, exactly, rounded_by, rounded_apart, rounded_joined, Definition, names_operator, names_value, Script, formula, define}
 use Rattle.script_nodes.specs.Operators.{rounding_of}
 use Rattle.script_nodes.specs.Known.{Name, Known, Placed, with_entry, operator_named}

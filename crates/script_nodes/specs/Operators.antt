@@ -2,9 +2,9 @@
 use Rattle.std.specs.Prelude.{ℕ, ℤ, pos, neg_ℤ, codes, List, if◌then◌else◌, nat_lt}
 use Rattle.std.specs.Str.{bytes_eq}
 use Rattle.std.specs.Str.Parse.{digits_value}
-use Rattle.fx_model.specs.declared.Direction.{Direction}
-use Rattle.fx_model.specs.declared.Direction.TheVariants.{Zr, Aw, Dn, Up, Od, Ne, No, Nz, Na, Nd, Nu}
-use Rattle.fx_model.specs.declared.Rounding.{Rounding}
+use Rattle.expr_dag.specs.fx_model.declared.Direction.{Direction}
+use Rattle.expr_dag.specs.fx_model.declared.Direction.TheVariants.{Zr, Aw, Dn, Up, Od, Ne, No, Nz, Na, Nd, Nu}
+use Rattle.expr_dag.specs.fx_model.declared.Rounding.{Rounding}
 use Rattle.script_shape.specs.Tree.{Special, free, defined, Digits, zero_alone, digits, Whole, natural, opposite, Operator, fixed, int}
 
 -- the direction of a word: `zr aw dn up od ne no nz na nd`, else `nu`

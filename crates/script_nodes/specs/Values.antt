@@ -1,9 +1,9 @@
 -- The nodes of an expression, by recursion on its tree: operands from the left, then the operation, then its rounding.
 use Rattle.std.specs.Prelude.{Option, Some, None}
-use Rattle.fx_model.specs.declared.Rounding.{Rounding}
-use Rattle.fx_model.specs.declared.ExprId.{ExprId}
-use Rattle.fx_model.specs.declared.Node.{Node}
-use Rattle.fx_model.specs.declared.Node.TheVariants.{Lit, Neg, Add, Sub, Mul, Div, Abs, Round}
+use Rattle.expr_dag.specs.fx_model.declared.Rounding.{Rounding}
+use Rattle.expr_dag.specs.fx_model.declared.ExprId.{ExprId}
+use Rattle.expr_dag.specs.fx_model.declared.Node.{Node}
+use Rattle.expr_dag.specs.fx_model.declared.Node.TheVariants.{Lit, Neg, Add, Sub, Mul, Div, Abs, Round}
 use Rattle.script_shape.specs.Tree.{Expr, term, sum, difference, Term, factor, product, quotient, Factor, negation, atom, Atom, number, variable, parenthesized, absolute, called, rounded, fused}
 use Rattle.script_nodes.specs.Literals.{literal_of}
 use Rattle.script_nodes.specs.Operators.{rounding_of}

@@ -6,7 +6,7 @@ ghost use Rattle.std.specs.List.{position_or_len};
 ghost use Rattle.std.specs.Str.{bytes_eq};
 ghost use Rattle.script_nodes.specs.Known as spec;
 
-use fx_model::{ExprId, Rounding};
+use expr_dag::{ExprId, Rounding};
 use indexmap::{IndexMap, IndexSet};
 use std::alloc::{AllocError, Global};
 use std::marker::Model;
@@ -82,7 +82,7 @@ pub struct Values<'a> {
 impl<'a> Model for Values<'a> {
     ghost use Rattle.std.specs.Prelude.{List, map};
     ghost use Rattle.script_nodes.specs.Known.{Name};
-    ghost use Rattle.fx_model.specs.declared.ExprId.{ExprId};
+    ghost use Rattle.expr_dag.specs.fx_model.declared.ExprId.{ExprId};
 
     ghost Value = { List (Name × ExprId) };
 
@@ -125,7 +125,7 @@ pub struct Operators<'a> {
 impl<'a> Model for Operators<'a> {
     ghost use Rattle.std.specs.Prelude.{List, map};
     ghost use Rattle.script_nodes.specs.Known.{Name};
-    ghost use Rattle.fx_model.specs.declared.Rounding.{Rounding};
+    ghost use Rattle.expr_dag.specs.fx_model.declared.Rounding.{Rounding};
 
     ghost Value = { List (Name × Rounding) };
 

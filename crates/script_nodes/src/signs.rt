@@ -1,7 +1,7 @@
 //! What signs and operators' words make of what waits.
 
 ghost use Rattle.std.specs.Prelude.{◌≡◌, ◌<◌, pos, negsuc, length, Err, IfOk, IfErr, OnOk};
-ghost use Rattle.literal.specs.Spelling.{IsBetween};
+ghost use Rattle.expr_dag.specs.literal.Spelling.{IsBetween};
 ghost use Rattle.script_nodes.specs.Values as spec_values;
 ghost use Rattle.script_nodes.specs.OperatorWords as spec_operators;
 ghost use Rattle.script_nodes.specs.Waits as spec;

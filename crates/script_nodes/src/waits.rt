@@ -1,6 +1,6 @@
 //! What waits for an operand.
 
-use fx_model::{ExprId, Rounding};
+use expr_dag::{ExprId, Rounding};
 
 /// What the words so far have left open.
 #[derive(Clone, Copy, Debug, PartialEq, Eq)]

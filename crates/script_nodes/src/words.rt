@@ -1,7 +1,7 @@
 //! Words of expressions, by their roles.
 
 ghost use Rattle.std.specs.Prelude.{◌≡◌, ◌<◌, length, Err, IfOk, IfErr, OnOk};
-ghost use Rattle.script_words.specs.Named.{word_of};
+ghost use Rattle.script_shape.specs.script_words.Named.{word_of};
 ghost use Rattle.script_nodes.specs.Known as spec_known;
 ghost use Rattle.script_nodes.specs.OperatorWords as spec_operators;
 ghost use Rattle.script_nodes.specs.Waits as spec;
@@ -12,8 +12,7 @@ use crate::reader::{NO_ROUNDING, Reader};
 use crate::waits::Waits;
 use expr_dag::{DagFault, ExprId, Node, Rounding};
 use script_shape::due::Due;
-use script_words::class::Sign;
-use script_words::words::Word;
+use script_shape::{Sign, Word};
 
 impl<'a> Reader<'a> {
     /// A sign that an operand begins with.

@@ -1,6 +1,13 @@
 //! What is true of the assignments that meet a script, over its nodes and over those of its universe.
 #![tactic(auto)]
 
+// What callers name of the crates below.
+pub use script_meets::Script;
+pub use universe::{
+    Universe, UniverseFault, assume, build, classify, hypotheses_have_slots, marks_are_one,
+    universes_are_one,
+};
+
 mod laws;
 
 pub use laws::{

@@ -6,6 +6,4 @@ pub mod digits;
 pub mod laws;
 pub mod lex;
 pub mod list;
-#[cfg(test)]
-mod tests;
 pub mod words;

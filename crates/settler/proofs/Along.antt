@@ -2,11 +2,11 @@
 use Rattle.std.specs.Prelude.{◌≡◌, ℕ, List, [], ◌∷◌, ◌++◌, Option, Some, Result, Ok, Err, IfOk}
 use Rattle.std.specs.Borrow.{Bor}
 use Rattle.std.proofs.Common.{sym, ◌∙◌, ap, subst}
-use Rattle.box_tree.specs.Regions.{PlanParts}
-use Rattle.box_tree.specs.Plans.{piece_at, pieces_at, with_last}
-use Rattle.derivation.specs.Known.{Piece, IsTableAt}
-use Rattle.derivation.specs.Settled.{IsState}
-use Rattle.rule_universe.specs.Worlds.{World}
+use Rattle.case_trees.specs.box_tree.Regions.{PlanParts}
+use Rattle.case_trees.specs.box_tree.Plans.{piece_at, pieces_at, with_last}
+use Rattle.saturate.specs.derivation.Known.{Piece, IsTableAt}
+use Rattle.saturate.specs.derivation.Settled.{IsState}
+use Rattle.saturate.specs.rule_universe.Worlds.{World}
 use Rattle.saturate.specs.declared.kept.Table.{Table}
 use Rattle.saturate.specs.Tables.{fact_at}
 use Rattle.saturate.specs.Universes.{setting_of}

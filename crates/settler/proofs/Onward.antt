@@ -2,22 +2,22 @@
 use Rattle.std.specs.Prelude.{◌≡◌, ◌≢◌, ◌<◌, ◌≤◌, ◌+◌, ◌-◌, ℕ, zero, suc, List, [], ◌∷◌, length, map, drop, Some, slice_get, refl}
 use Rattle.std.specs.List.{AllByRecursion}
 use Rattle.std.proofs.Common.{arith, sym, ◌∙◌, ap, subst}
-use Rattle.facts.specs.declared.fact.Fact.{Fact}
-use Rattle.script_claims.specs.declared.claim.Claim.{Claim}
-use Rattle.script_claims.specs.Facts.{HasNormalBounds}
-use Rattle.script_grammar.specs.Spells.{View}
-use Rattle.rule_universe.specs.Worlds.{World}
-use Rattle.rule_universe.specs.Assumed.{assuming}
-use Rattle.universe.specs.Cases.{AreHypotheses}
-use Rattle.universe.specs.Universes.{IsUniverse, facts_of}
-use Rattle.box_tree.specs.declared.cut.Cut.{Cut}
-use Rattle.box_tree.specs.Pieces.{piece_count}
-use Rattle.box_tree.specs.Plans.{cut_at}
-use Rattle.bisect.specs.declared.settler.State.{State}
-use Rattle.bisect.specs.declared.outcome.Outcome.{Outcome}
-use Rattle.bisect.specs.declared.outcome.Outcome.TheVariants as outcome
-use Rattle.bisect.specs.Trees.{Tree, tree_of}
-use Rattle.bisect.specs.Answers.{IsAnswer}
+use Rattle.saturate.specs.facts.declared.fact.Fact.{Fact}
+use Rattle.case_trees.specs.script_claims.declared.claim.Claim.{Claim}
+use Rattle.case_trees.specs.script_claims.Facts.{HasNormalBounds}
+use Rattle.script_truths.specs.script_grammar.Spells.{View}
+use Rattle.saturate.specs.rule_universe.Worlds.{World}
+use Rattle.saturate.specs.rule_universe.Assumed.{assuming}
+use Rattle.script_truths.specs.universe.Cases.{AreHypotheses}
+use Rattle.script_truths.specs.universe.Universes.{IsUniverse, facts_of}
+use Rattle.case_trees.specs.box_tree.declared.cut.Cut.{Cut}
+use Rattle.case_trees.specs.box_tree.Pieces.{piece_count}
+use Rattle.case_trees.specs.box_tree.Plans.{cut_at}
+use Rattle.case_trees.specs.bisect.declared.settler.State.{State}
+use Rattle.case_trees.specs.bisect.declared.outcome.Outcome.{Outcome}
+use Rattle.case_trees.specs.bisect.declared.outcome.Outcome.TheVariants as outcome
+use Rattle.case_trees.specs.bisect.Trees.{Tree, tree_of}
+use Rattle.case_trees.specs.bisect.Answers.{IsAnswer}
 use Rattle.case_trees.specs.declared.outcome.CaseOutcome.{CaseOutcome}
 use Rattle.case_trees.specs.declared.outcome.CaseOutcome.TheVariants as cases
 use Rattle.case_trees.specs.Gathered.{Seen, HasBoxes, EndsAs, IsWithin, boxes_left, with_outcome, end_of}

@@ -1,17 +1,17 @@
 -- Cases with their plans. Only private functions cite these.
 use Rattle.std.specs.Prelude.{◌≡◌, ◌≤◌, ⊤, ℕ, List, [], ◌∷◌, length, map}
 use Rattle.std.specs.List.{AllByRecursion}
-use Rattle.script_claims.specs.declared.claim.Claim.{Claim}
-use Rattle.script_claims.specs.Facts.{HasNormalBounds}
-use Rattle.script_grammar.specs.Spells.{View}
-use Rattle.rule_universe.specs.Worlds.{World}
-use Rattle.rule_universe.specs.Assumed.{assuming}
-use Rattle.universe.specs.Cases.{AreHypotheses}
-use Rattle.universe.specs.Universes.{facts_of}
-use Rattle.box_tree.specs.Pieces.{piece_count}
-use Rattle.box_tree.specs.Plans.{cut_at}
-use Rattle.box_tree.specs.Regions.{PlanParts}
-use Rattle.bisect.specs.Trees.{Tree, tree_of}
+use Rattle.case_trees.specs.script_claims.declared.claim.Claim.{Claim}
+use Rattle.case_trees.specs.script_claims.Facts.{HasNormalBounds}
+use Rattle.script_truths.specs.script_grammar.Spells.{View}
+use Rattle.saturate.specs.rule_universe.Worlds.{World}
+use Rattle.saturate.specs.rule_universe.Assumed.{assuming}
+use Rattle.script_truths.specs.universe.Cases.{AreHypotheses}
+use Rattle.script_truths.specs.universe.Universes.{facts_of}
+use Rattle.case_trees.specs.box_tree.Pieces.{piece_count}
+use Rattle.case_trees.specs.box_tree.Plans.{cut_at}
+use Rattle.case_trees.specs.box_tree.Regions.{PlanParts}
+use Rattle.case_trees.specs.bisect.Trees.{Tree, tree_of}
 use Rattle.settler.specs.declared.cases.Case.{Case}
 use Rattle.script_truths.specs.Truths.{HasUniverse}
 use Rattle.settler.specs.Answers.{Options, plan_of}

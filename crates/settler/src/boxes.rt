@@ -1,10 +1,10 @@
 //! The settler of boxes.
 ghost use Rattle.std.specs.Prelude.{◌≡◌, ◌<◌, ◌++◌, ℕ, List, [], length, IfOk, OnOk, Some, MatchOption};
-ghost use Rattle.box_tree.specs.Paths.{IsChild, IsPathOf};
-ghost use Rattle.box_tree.specs.Pieces.{piece_count};
-ghost use Rattle.box_tree.specs.Plans.{cut_at, piece_at, pieces_at};
-ghost use Rattle.derivation.specs.Known.{IsTableAt};
-ghost use Rattle.derivation.specs.Settled.{IsState};
+ghost use Rattle.case_trees.specs.box_tree.Paths.{IsChild, IsPathOf};
+ghost use Rattle.case_trees.specs.box_tree.Pieces.{piece_count};
+ghost use Rattle.case_trees.specs.box_tree.Plans.{cut_at, piece_at, pieces_at};
+ghost use Rattle.saturate.specs.derivation.Known.{IsTableAt};
+ghost use Rattle.saturate.specs.derivation.Settled.{IsState};
 ghost use Rattle.saturate.specs.Tables.{fact_at};
 ghost use Rattle.saturate.specs.Universes.{setting_of, HasAllPlaces};
 ghost use Rattle.saturate.specs.Boxes.{IsBox, IsOfUniverse, table_of, state_of};
@@ -13,15 +13,13 @@ ghost use Rattle.settler.specs.Frames.{Fits};
 
 use crate::entry::Entry;
 use crate::frame::Frame;
-use bisect::{Settler, State, Verdict};
-use box_tree::Plan;
-use derivation::{best_tables_exist, boxes_come_to_one_state};
-use facts::Fact;
+use case_trees::{Plan, Settler, State, Verdict};
 use fx_edge::{Items, Path};
 use fx_model::ExprId;
-use goals::{Goal, settling_facts};
-use interval::Interval;
-use saturate::{Settled, Table, Universe, rules_are_lawful, settle};
+use saturate::{
+    Fact, Goal, Interval, Settled, Table, Universe, best_tables_exist, boxes_come_to_one_state,
+    rules_are_lawful, settle, settling_facts,
+};
 use std::alloc::{AllocError, Global};
 use std::marker::{Model, PhantomData};
 

@@ -1,15 +1,12 @@
 //! The cases of a script, each with its plan.
 ghost use Rattle.std.specs.Prelude.{◌≤◌, IfOk};
-ghost use Rattle.script_grammar.specs.Cases.{cases_of};
+ghost use Rattle.script_truths.specs.script_grammar.Cases.{cases_of};
 ghost use Rattle.settler.specs.Cases.{AreCases, IsLawful};
 
-use bisect::leaves_cover;
-use box_tree::Plan;
-use derivation::known_facts_hold;
+use case_trees::{Claim, Plan, leaves_cover};
 use fx_edge::Items;
-use saturate::rules_are_sound_for;
-use script_claims::Claim;
-use script_grammar::Script;
+use saturate::{known_facts_hold, rules_are_sound_for};
+use script_truths::Script;
 use std::alloc::{AllocError, Global};
 
 /// What is assumed in a case, and how its boxes are cut.

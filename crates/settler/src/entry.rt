@@ -1,12 +1,12 @@
-ghost use Rattle.derivation.specs.Known.{IsTableAt};
+ghost use Rattle.saturate.specs.derivation.Known.{IsTableAt};
 ghost use Rattle.saturate.specs.Tables.{fact_at};
 ghost use Rattle.saturate.specs.Universes.{setting_of, HasAllPlaces};
-ghost use Rattle.box_tree.specs.Plans.{cut_at, pieces_at};
+ghost use Rattle.case_trees.specs.box_tree.Plans.{cut_at, pieces_at};
 ghost use Rattle.settler.specs.Decided.{state_at};
 ghost use Rattle.std.specs.Prelude.{◌≡◌};
 
 use crate::frame::Frame;
-use bisect::Posted;
+use case_trees::Posted;
 use fx_edge::Path;
 use saturate::Table;
 use std::marker::{Model, PhantomData};
@@ -21,10 +21,10 @@ pub struct Entry<F: Frame> {
 
 impl<F: Frame> Model for Entry<F> {
     ghost use Rattle.std.specs.Prelude.{List, ℕ};
-    ghost use Rattle.derivation.specs.Known.{IsTableAt};
+    ghost use Rattle.saturate.specs.derivation.Known.{IsTableAt};
     ghost use Rattle.saturate.specs.Tables.{fact_at};
     ghost use Rattle.saturate.specs.Universes.{setting_of, HasAllPlaces};
-    ghost use Rattle.box_tree.specs.Plans.{pieces_at};
+    ghost use Rattle.case_trees.specs.box_tree.Plans.{pieces_at};
 
     ghost Value = { List ℕ };
 

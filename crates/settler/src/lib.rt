@@ -1,6 +1,16 @@
 //! The engine on a script's boxes: each is settled by rounds over the script's universe, and so the script has one answer.
 #![tactic(auto)]
 
+// What callers name of the crates below.
+pub use case_trees::{
+    CaseOutcome, Cut, OpenLeaf, Plan, boxes_are_listed, few_cuts_end, lines_of, one_answer,
+};
+pub use saturate::rules_are_lawful;
+pub use script_truths::{
+    Universe, UniverseFault, assume, build, classify, hypotheses_have_slots, marks_are_one,
+    universes_are_one, universes_extend,
+};
+
 mod boxes;
 mod cases;
 mod entry;

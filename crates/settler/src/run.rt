@@ -1,12 +1,12 @@
 //! The answer of a script: a tree of boxes for each of its cases.
 ghost use Rattle.std.specs.Prelude.{◌≡◌, ◌≤◌, ◌+◌, ℕ, List, [], IfOk, length};
-ghost use Rattle.box_tree.specs.Plans.{cut_at};
-ghost use Rattle.rule_universe.specs.Worlds.{World};
-ghost use Rattle.script_claims.specs.declared.claim.Claim.{Claim};
-ghost use Rattle.script_grammar.specs.Cases.{cases_of};
-ghost use Rattle.universe.specs.Universes.{IsTooLarge, IsUniverse};
-ghost use Rattle.bisect.specs.Trees.{tree_of};
-ghost use Rattle.bisect.specs.Answers.{IsAnswer};
+ghost use Rattle.case_trees.specs.box_tree.Plans.{cut_at};
+ghost use Rattle.saturate.specs.rule_universe.Worlds.{World};
+ghost use Rattle.case_trees.specs.script_claims.declared.claim.Claim.{Claim};
+ghost use Rattle.script_truths.specs.script_grammar.Cases.{cases_of};
+ghost use Rattle.script_truths.specs.universe.Universes.{IsTooLarge, IsUniverse};
+ghost use Rattle.case_trees.specs.bisect.Trees.{tree_of};
+ghost use Rattle.case_trees.specs.bisect.Answers.{IsAnswer};
 ghost use Rattle.case_trees.specs.Answers.{IsAnswerOfAll};
 ghost use Rattle.settler.specs.Answers.{ComesTo, options};
 ghost use Rattle.settler.specs.Calls.{AnswersTrees, CanAnswer};
@@ -19,20 +19,17 @@ use crate::boxes::Boxes;
 use crate::cases::{Case, planned_cases};
 use crate::frame::Frame;
 use crate::laws::{cases_hold, plans_fit, proved_answers_hold};
-use bisect::{Outcome, run_alone};
-use box_tree::Plan;
 use box_workers::run;
-use case_trees::{CaseOutcome, Gathered, trees_are_gathered};
-use derivation::{best_tables_exist, boxes_come_to_one_state};
+use case_trees::{CaseOutcome, Gathered, Outcome, Plan, run_alone, trees_are_gathered};
 use fx_edge::Gate;
-use goals::settling_facts;
-use saturate::{Universe, rules_are_lawful};
-use script_grammar::Script;
+use saturate::{
+    Universe, best_tables_exist, boxes_come_to_one_state, rules_are_lawful, settling_facts,
+};
+use script_truths::{Script, assume};
 use std::alloc::{AllocError, Global};
 use std::marker::Brand;
 use std::sync::Wait;
 use std::thread::Threads;
-use universe::assume;
 
 // The answer of a frame's tree by workers.
 fn answer_in<F: Frame + Send + Sync, G: Gate, R: Threads + Wait + Sync>(
@@ -51,7 +48,8 @@ fn answer_in<F: Frame + Send + Sync, G: Gate, R: Threads + Wait + Sync>(
     requires fits { Fits F.universe F.plan }
     requires workers { (1 ≤ workers) × (workers ≤ 16) }
     requires boxes { (1 ≤ boxes) × (boxes ≤ 8192) }
-    ensures { IfOk result (IsAnswer (tree_of (cut_at F.plan) (state_at F.universe F.plan F.rounds)) boxes) }
+    ensures { IfOk result (IsAnswer
+        (tree_of (cut_at F.plan) (state_at F.universe F.plan F.rounds)) boxes) }
 {
     let settler: Boxes<'_, F> = Boxes::new(universe, plan, rounds);
     run(rt, alloc, &settler, gate, plan, workers, boxes)
@@ -76,8 +74,8 @@ fn answer_in_alone<F: Frame + Send + Sync>(
     run_alone(alloc, &settler, plan, boxes)
 }
 
-// What the tree of the plan's boxes comes to by workers, each box settled by so many rounds over the
-// universe.
+// What the tree of the plan's boxes comes to by workers, each box settled by so many rounds over
+// the universe.
 fn answer_tree<G: Gate, R: Threads + Wait + Sync>(
     rt: &R,
     alloc: Global,
@@ -132,8 +130,8 @@ fn answered<A: Fn(&Universe, &Plan, u32) -> Result<Outcome, AllocError>>(
 }
 
 // What the trees of the cases come to together, one after the other, each with the boxes that are
-// left. An open case doesn't end it: the boxes of later ones count, too. Each tree is answered by the
-// call.
+// left. An open case doesn't end it: the boxes of later ones count, too. Each tree is answered by
+// the call.
 fn answer_cases<A: Fn(&Universe, &Plan, u32) -> Result<Outcome, AllocError>>(
     alloc: Global,
     answer_tree: &A,

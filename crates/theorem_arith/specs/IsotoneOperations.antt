@@ -1,20 +1,20 @@
 -- The rules on absolute values of operations: from stronger premises they give a fact as strong, or stronger.
 use Rattle.std.specs.Prelude.{◌≡◌, ◌≢◌, ◌||◌, [], ◌∷◌, Option, Some, None, refl}
 use Rattle.std.proofs.Common.{sym, ap, subst, ◌∙◌}
-use Rattle.fx_model.specs.Fraction.{Fraction, ◌+ℚ◌, ◌-ℚ◌, ◌*ℚ◌, ◌/ℚ◌, ◌≤ℚ◌, zero_ℚ, neg_ℚ, abs_ℚ, abs-from, le_refl, le_trans, add-le-add, zero-add, add_comm}
-use Rattle.fx_model.specs.Enclosure.{Lies, IsFrom, IsUpTo, BoundLe, Sums, Differences, in_enclosure, product_holds, ordered_by, higher_from}
-use Rattle.fx_model.specs.declared.Node.TheVariants as node
-use Rattle.grid_words.specs.Signs.{neg_down}
-use Rattle.grid_words.specs.AbsoluteValues.{abs-not_negative, abs-mul, abs-div, product_up}
-use Rattle.grid_words.specs.Products.{quotient_holds}
-use Rattle.dyadic.specs.Ends.{bound_of}
-use Rattle.dyadic.specs.Extremes.{BoundLe-refl, greater_end}
-use Rattle.interval.specs.declared.interval.Interval.{Interval}
-use Rattle.interval.specs.Ends.{AreEnds}
-use Rattle.interval.specs.Intervals.{range_of}
-use Rattle.interval.specs.Meets.{interval_from, interval_from_out, from_greater}
-use Rattle.interval.specs.Results.{sum_of, sum_of-is, difference_of, difference_of-is, product_of, product_of-is, quotient_of, quotient_of-is, half_line}
-use Rattle.interval.specs.Monotone.{greater_end-rises, interval_from-within, sum_of-within, difference_of-within, product_of-within, quotient_of-within}
+use Rattle.expr_dag.specs.fx_model.Fraction.{Fraction, ◌+ℚ◌, ◌-ℚ◌, ◌*ℚ◌, ◌/ℚ◌, ◌≤ℚ◌, zero_ℚ, neg_ℚ, abs_ℚ, abs-from, le_refl, le_trans, add-le-add, zero-add, add_comm}
+use Rattle.expr_dag.specs.fx_model.Enclosure.{Lies, IsFrom, IsUpTo, BoundLe, Sums, Differences, in_enclosure, product_holds, ordered_by, higher_from}
+use Rattle.expr_dag.specs.fx_model.declared.Node.TheVariants as node
+use Rattle.facts.specs.grid_words.Signs.{neg_down}
+use Rattle.facts.specs.grid_words.AbsoluteValues.{abs-not_negative, abs-mul, abs-div, product_up}
+use Rattle.facts.specs.grid_words.Products.{quotient_holds}
+use Rattle.facts.specs.dyadic.Ends.{bound_of}
+use Rattle.facts.specs.dyadic.Extremes.{BoundLe-refl, greater_end}
+use Rattle.facts.specs.interval.declared.interval.Interval.{Interval}
+use Rattle.facts.specs.interval.Ends.{AreEnds}
+use Rattle.facts.specs.interval.Intervals.{range_of}
+use Rattle.facts.specs.interval.Meets.{interval_from, interval_from_out, from_greater}
+use Rattle.facts.specs.interval.Results.{sum_of, sum_of-is, difference_of, difference_of-is, product_of, product_of-is, quotient_of, quotient_of-is, half_line}
+use Rattle.facts.specs.interval.Monotone.{greater_end-rises, interval_from-within, sum_of-within, difference_of-within, product_of-within, quotient_of-within}
 use Rattle.expr_dag.specs.Shapes.{is_at}
 use Rattle.facts.specs.declared.size.Size.{Size}
 use Rattle.facts.specs.declared.fact.Fact.TheVariants as fact

@@ -3,22 +3,22 @@ use Rattle.std.specs.Prelude.{◌≡◌, ◌≢◌, ◌⊎◌, ◌||◌, List, [
 use Rattle.std.specs.Option.{IsSomeAnd}
 use Rattle.std.proofs.Common.{sym, ap, subst, ◌∙◌, ⊎_elim}
 use Rattle.std.proofs.lemmas.Bool.{or_cases}
-use Rattle.fx_model.specs.Fraction.{Fraction, ◌+ℚ◌, ◌-ℚ◌, ◌*ℚ◌, ◌≤ℚ◌, neg_ℚ, abs_ℚ, zero_ℚ, abs-from, le_refl}
-use Rattle.fx_model.specs.Enclosure.{IsFrom, IsUpTo, Lies, Sums, Differences, in_enclosure, product_holds, ordered_by, higher_from, lower_up_to}
-use Rattle.fx_model.specs.Expression.{Assignment, value, lift₂}
-use Rattle.fx_model.specs.declared.ExprId.{ExprId}
-use Rattle.fx_model.specs.declared.Node.{Node}
-use Rattle.fx_model.specs.declared.Node.TheVariants as node
-use Rattle.grid_words.specs.AbsoluteValues.{abs-not_negative, abs-neg, abs-mul, abs-div, abs-square, abs-add, abs-sub, abs-add_least, abs-sub_least, abs-add_other, abs-sub_other}
-use Rattle.grid_words.specs.Products.{quotient_holds}
-use Rattle.dyadic.specs.declared.number.End.{End}
-use Rattle.dyadic.specs.Ends.{bound_of}
-use Rattle.dyadic.specs.Order.{le_bound}
-use Rattle.dyadic.specs.Extremes.{greater_end, chosen}
-use Rattle.interval.specs.declared.interval.Interval.{Interval}
-use Rattle.interval.specs.Intervals.{range_of}
-use Rattle.interval.specs.Meets.{interval_from, interval_from-some, from_greater}
-use Rattle.interval.specs.Results.{sum_of, sum_of-is, difference_of, difference_of-is, product_of, product_of-is, quotient_of, quotient_of-is, half_line}
+use Rattle.expr_dag.specs.fx_model.Fraction.{Fraction, ◌+ℚ◌, ◌-ℚ◌, ◌*ℚ◌, ◌≤ℚ◌, neg_ℚ, abs_ℚ, zero_ℚ, abs-from, le_refl}
+use Rattle.expr_dag.specs.fx_model.Enclosure.{IsFrom, IsUpTo, Lies, Sums, Differences, in_enclosure, product_holds, ordered_by, higher_from, lower_up_to}
+use Rattle.expr_dag.specs.fx_model.Expression.{Assignment, value, lift₂}
+use Rattle.expr_dag.specs.fx_model.declared.ExprId.{ExprId}
+use Rattle.expr_dag.specs.fx_model.declared.Node.{Node}
+use Rattle.expr_dag.specs.fx_model.declared.Node.TheVariants as node
+use Rattle.facts.specs.grid_words.AbsoluteValues.{abs-not_negative, abs-neg, abs-mul, abs-div, abs-square, abs-add, abs-sub, abs-add_least, abs-sub_least, abs-add_other, abs-sub_other}
+use Rattle.facts.specs.grid_words.Products.{quotient_holds}
+use Rattle.facts.specs.dyadic.declared.number.End.{End}
+use Rattle.facts.specs.dyadic.Ends.{bound_of}
+use Rattle.facts.specs.dyadic.Order.{le_bound}
+use Rattle.facts.specs.dyadic.Extremes.{greater_end, chosen}
+use Rattle.facts.specs.interval.declared.interval.Interval.{Interval}
+use Rattle.facts.specs.interval.Intervals.{range_of}
+use Rattle.facts.specs.interval.Meets.{interval_from, interval_from-some, from_greater}
+use Rattle.facts.specs.interval.Results.{sum_of, sum_of-is, difference_of, difference_of-is, product_of, product_of-is, quotient_of, quotient_of-is, half_line}
 use Rattle.expr_dag.specs.Shapes.{is_at, is_at_out, node_at-value}
 use Rattle.facts.specs.declared.size.Size.{Size}
 use Rattle.facts.specs.declared.fact.Fact.{Fact}

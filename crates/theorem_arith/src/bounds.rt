@@ -4,8 +4,7 @@ ghost use Rattle.theorem_arith.specs.Bounds.{literal_rule, literal_at, negation_
 ghost use Rattle.std.specs.Prelude.{slice_get};
 
 use expr_dag::{Dag, ExprId, Node};
-use facts::{Fact, Slot};
-use interval::{Interval, enclose};
+use facts::{Fact, Interval, Slot, enclose};
 
 /// For a literal c: BND(c, [down c, up c]).
 #[inline(always)]

@@ -1,12 +1,14 @@
 //! Rules on bounds and absolute values: numbers 1 to 19 of the list.
 #![tactic(auto)]
 
+// What callers name of the crates below.
+pub use expr_dag::{Dag, Direction, ExprId, Literal, Node, Rounding};
+pub use facts::{Fact, Place, RelativeError, Slot};
+
 mod bounds;
 mod laws;
 mod quotients;
 mod sizes;
-#[cfg(test)]
-mod tests;
 mod values;
 
 pub use bounds::{rule_1, rule_2, rule_3, rule_4, rule_5, rule_6, rule_7};

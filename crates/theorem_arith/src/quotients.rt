@@ -3,8 +3,7 @@ ghost use Rattle.std.specs.Prelude.{◌≡◌};
 ghost use Rattle.theorem_arith.specs.Bounds.{quotient_rule, quotient_by_nonzero_rule, quotient_by_itself_rule};
 
 use expr_dag::{Dag, Node};
-use facts::{Fact, Slot};
-use interval::Interval;
+use facts::{Fact, Interval, Slot};
 
 /// From BND(a, I), BND(b, J), where 0 isn't in J: BND(a / b, I / J) (Gappa: `div`).
 #[inline(always)]

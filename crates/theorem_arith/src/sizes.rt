@@ -2,10 +2,8 @@
 ghost use Rattle.std.specs.Prelude.{◌≡◌};
 ghost use Rattle.theorem_arith.specs.Sizes.{size_of_negation_rule, size_of_product_rule, size_within_part, size_of_quotient_rule, least_size, size_of_sum, size_of_sum_rule};
 
-use dyadic::{End, greater};
 use expr_dag::{Dag, Node};
-use facts::{Fact, Size, Slot};
-use interval::Interval;
+use facts::{End, Fact, Interval, Size, Slot, greater};
 
 /// From ABS(a, I): ABS(-a, I) (Gappa: `neg_a`).
 #[inline(always)]

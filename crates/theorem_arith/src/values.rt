@@ -1,13 +1,11 @@
 // From values to absolute values, and back.
 ghost use Rattle.std.specs.Prelude.{◌≡◌};
 ghost use Rattle.std.specs.Prelude.{slice_get};
-ghost use Rattle.dyadic.specs.Ends.{bound_of};
+ghost use Rattle.facts.specs.dyadic.Ends.{bound_of};
 ghost use Rattle.theorem_arith.specs.Sizes.{size_rule, around, value_rule, is_less, is_above, is_below, signed_fact, sign_rule, absolute_value_rule, abs_or_void, void_if_none, is_absolute_value, size_of_value_rule};
 
-use dyadic::End;
 use expr_dag::{Dag, ExprId, Node};
-use facts::{Fact, Size, Slot};
-use interval::{Interval, opposite};
+use facts::{End, Fact, Interval, Size, Slot, opposite};
 
 /// From BND(x, I): ABS(x, abs I) (Gappa: `abs_of_bnd`).
 #[inline(always)]

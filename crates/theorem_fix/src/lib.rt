@@ -5,13 +5,9 @@ mod laws;
 mod multiples;
 mod nonzero;
 mod places;
-#[cfg(test)]
-mod rounding_tests;
 mod roundings;
 mod shape;
 mod shrinking;
-#[cfg(test)]
-mod tests;
 
 pub use laws::{rules_are_isotone, rules_are_sound, rules_stay_on_target};
 pub use multiples::{rule_21, rule_22, rule_23, rule_24, rule_25, rule_26, rule_27};

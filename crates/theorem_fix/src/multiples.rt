@@ -1,16 +1,14 @@
 // Multiples of powers of two.
 ghost use Rattle.std.specs.Prelude.{◌≡◌, slice_get};
-ghost use Rattle.fx_model.specs.Expression.{literal_value};
-ghost use Rattle.literal.specs.Normal.{IsNormal};
+ghost use Rattle.rounding.specs.fx_model.Expression.{literal_value};
+ghost use Rattle.rounding.specs.literal.Normal.{IsNormal};
 ghost use Rattle.theorem_fix.specs.Greatest.{greatest_place};
 ghost use Rattle.theorem_fix.specs.Multiples.{literal_place, literal_multiple_rule, multiple_of_negation_rule, multiple_of_sum_rule, multiple_of_product_rule, last_place, rounded_multiple_rule, untouched, untouched_multiple_rule, number_place, point_place, number_multiple_rule};
 
 use crate::places::{keep, lesser, product_place};
 use crate::shape::rounding;
-use dyadic::{Dyadic, End};
-use expr_dag::{Dag, ExprId, Literal, Node, Rounding};
-use facts::{Fact, Place, Slot};
-use literal::fix_of;
+use rounding::{Dyadic, End, fix_of};
+use theorem_arith::{Dag, ExprId, Fact, Literal, Node, Place, Rounding, Slot};
 
 /// For a literal c: FIX(c, k), where k is the greatest of which it is a multiple.
 #[inline(always)]

@@ -1,16 +1,13 @@
 // Roundings and their errors.
 ghost use Rattle.std.specs.Prelude.{◌≡◌, ◌≤ℤ◌, pos, negsuc};
-ghost use Rattle.dyadic.specs.Ends.{bound_of};
-ghost use Rattle.interval.specs.Intervals.{range_of};
+ghost use Rattle.rounding.specs.dyadic.Ends.{bound_of};
+ghost use Rattle.rounding.specs.interval.Intervals.{range_of};
 ghost use Rattle.theorem_fix.specs.Shapes.{IsInLimits};
 ghost use Rattle.theorem_fix.specs.Roundings.{rounded_end, rounded_interval, rounded_bound_rule, errors_of, error_rule, sign_of, is_sided, signed_errors_of, signed_error_rule, multiple_error_rule};
 
 use crate::shape::{error_rounding, rounding};
-use dyadic::End;
-use expr_dag::{Dag, Direction, Rounding};
-use facts::{Fact, Slot};
-use interval::Interval;
-use rounding::{Sign, error_interval, round_grid};
+use rounding::{End, Interval, Sign, error_interval, round_grid};
+use theorem_arith::{Dag, Direction, Fact, Rounding, Slot};
 
 /// From BND(x, [p, q]): BND(R(x), [R(p), R(q)]); infinite ends stay.
 #[inline(always)]

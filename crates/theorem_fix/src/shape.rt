@@ -2,7 +2,7 @@
 ghost use Rattle.std.specs.Prelude.{◌≡◌};
 ghost use Rattle.theorem_fix.specs.Shapes.{IsInLimits, rounding_at, error_rounding_at};
 
-use expr_dag::{Dag, ExprId, Node, Rounding};
+use theorem_arith::{Dag, ExprId, Node, Rounding};
 
 // The rounding by which an expression is made of x.
 pub fn rounding(dag: &Dag, e: ExprId, x: ExprId) -> Option<Rounding>

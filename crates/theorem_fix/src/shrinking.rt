@@ -2,9 +2,8 @@
 ghost use Rattle.std.specs.Prelude.{◌≡◌};
 ghost use Rattle.theorem_fix.specs.Shrunk.{shrunk_of, shrinking_rule, void_without, no_multiple_rule};
 
-use expr_dag::Dag;
-use facts::{Fact, Place, Slot};
-use interval::Interval;
+use rounding::Interval;
+use theorem_arith::{Dag, Fact, Place, Slot};
 
 /// From BND(x, I), FIX(x, k): BND(x, I shrunk to its multiples of 2^k), where it has one.
 #[inline(always)]

@@ -1,13 +1,13 @@
 -- What a rule gives stands on its target, or is VOID.
 use Rattle.std.specs.Prelude.{◌≡◌, ◌⊎◌, ◌&&◌, Bool, true, false, [], ◌∷◌, Option, Some, None, if◌then◌else◌, slice_get, refl}
 use Rattle.std.proofs.Common.{inl, inr}
-use Rattle.fx_model.specs.Fraction.{zero_ℚ}
-use Rattle.fx_model.specs.declared.ExprId.{ExprId}
-use Rattle.fx_model.specs.declared.Node.TheVariants as node
-use Rattle.interval.specs.declared.interval.Interval.{Interval}
-use Rattle.interval.specs.Intervals.{range_of}
-use Rattle.interval.specs.Results.{sum_of, quotient_of, point_of, has_zero}
-use Rattle.interval.specs.Members.{has_one}
+use Rattle.expr_dag.specs.fx_model.Fraction.{zero_ℚ}
+use Rattle.expr_dag.specs.fx_model.declared.ExprId.{ExprId}
+use Rattle.expr_dag.specs.fx_model.declared.Node.TheVariants as node
+use Rattle.facts.specs.interval.declared.interval.Interval.{Interval}
+use Rattle.facts.specs.interval.Intervals.{range_of}
+use Rattle.facts.specs.interval.Results.{sum_of, quotient_of, point_of, has_zero}
+use Rattle.facts.specs.interval.Members.{has_one}
 use Rattle.expr_dag.specs.Shapes.{is_at, is_known, are_known}
 use Rattle.facts.specs.declared.relative.RelativeError.{RelativeError}
 use Rattle.facts.specs.declared.fact.Fact.{Fact}

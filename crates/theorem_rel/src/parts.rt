@@ -2,8 +2,7 @@
 ghost use Rattle.std.specs.Prelude.{◌≡◌};
 ghost use Rattle.facts.specs.Parts.{error_of_part};
 
-use facts::RelativeError;
-use interval::Interval;
+use facts::{Interval, RelativeError};
 
 // The interval, where there is one, as relative errors.
 #[inline(always)]

@@ -4,8 +4,7 @@ ghost use Rattle.theorem_rel.specs.Values.{relative_to_itself_rule, relative_dif
 
 use crate::parts::error_within;
 use expr_dag::{Dag, ExprId, Node};
-use facts::{Fact, RelativeError, Slot};
-use interval::Interval;
+use facts::{Fact, Interval, RelativeError, Slot};
 
 /// From BND(x): REL(x, x, [0, 0]) (Gappa: `rel_refl`).
 #[inline(always)]

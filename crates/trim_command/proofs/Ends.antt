@@ -2,7 +2,7 @@
 use Rattle.std.specs.Prelude.{◌⊎◌, ⊤}
 use Rattle.std.specs.Io.KnownBytes.{Keeps}
 use Rattle.std.proofs.Common.{◌≡◌, ◌≢◌, ◌∙◌, Option, Some, None, refl, sym, ap, subst, inl, inr}
-use Rattle.script_grammar.specs.Spells.{View, Spells}
+use Rattle.check_command.specs.script_grammar.Spells.{View, Spells}
 use Rattle.whole_texts.specs.Texts.{IsText}
 use Rattle.whole_texts.specs.declared.read.ReadStop.{ReadStop}
 use Rattle.whole_texts.specs.declared.read.ReadStop.TheVariants as stop
@@ -14,7 +14,7 @@ use Rattle.command_runs.specs.Fates.Left.{Kept, Whole}
 use Rattle.command_runs.specs.Runs.{Bytes, Told, Run, IsKept, IsSilent, ReadFailed, WriteFailed}
 use Rattle.command_runs.specs.declared.status.Status.{Status}
 use Rattle.command_runs.specs.declared.status.Status.TheVariants as status
-use Rattle.script_answers.specs.Texts.{IsLong, ReadsBehind, long_refused, no_script, told_script, told_text}
+use Rattle.check_command.specs.script_answers.Texts.{IsLong, ReadsBehind, long_refused, no_script, told_script, told_text}
 use Rattle.trim_command.specs.Command.{TrimFate, TrimTold, IsTrimRun}
 use Rattle.check_command.specs.Laws.{IsCertTold}
 use Rattle.trim_command.specs.Laws.{AcceptableAreTrimmed, TrimAnswersAreOne}

@@ -2,7 +2,7 @@
 use Rattle.std.specs.Prelude.{◌≡◌, List, [], Option, Some, None, Result, Ok, Err, IfOk}
 use Rattle.std.proofs.Common.{◌∙◌, ap, subst, refl}
 use Rattle.goals.specs.declared.line.Line.{Line}
-use Rattle.script_grammar.specs.Spells.{View}
+use Rattle.check_command.specs.script_grammar.Spells.{View}
 use Rattle.cert_bytes.specs.declared.item.Item.{Item}
 use Rattle.cert_bytes.specs.declared.order.Due.TheVariants.{Head}
 use Rattle.cert_bytes.specs.declared.style.Style.TheVariants.{First, Second}
@@ -11,14 +11,14 @@ use Rattle.cert_bytes.specs.ReadOut.{AreBytes, AreRead}
 use Rattle.cert_bytes.specs.Readers.{Progress}
 use Rattle.cert_bytes.specs.Reading.{Cursor, cursor}
 use Rattle.cert_bytes.specs.Styles.{none_seen}
-use Rattle.cert_checker.specs.declared.fault.CheckStop.{CheckStop}
-use Rattle.cert_checker.specs.declared.keep.Accepted.{Accepted}
-use Rattle.cert_checker.specs.declared.subject.Subject.{Subject}
-use Rattle.cert_checker.specs.Accepted.{Accepts}
-use Rattle.cert_checker.specs.Checking.{IsFresh}
-use Rattle.cert_checker.specs.Keeping.{lines_of}
-use Rattle.script_checker.specs.Subjects.{IsSubjectOf}
-use Rattle.script_checker.specs.Checking.{AreAcceptedFor, AreAcceptedItemsFor, AreLedFor, ChecksFor, ShowsFor}
+use Rattle.cert_trim.specs.cert_checker.declared.fault.CheckStop.{CheckStop}
+use Rattle.cert_trim.specs.cert_checker.declared.keep.Accepted.{Accepted}
+use Rattle.cert_trim.specs.cert_checker.declared.subject.Subject.{Subject}
+use Rattle.cert_trim.specs.cert_checker.Accepted.{Accepts}
+use Rattle.cert_trim.specs.cert_checker.Checking.{IsFresh}
+use Rattle.cert_trim.specs.cert_checker.Keeping.{lines_of}
+use Rattle.check_command.specs.script_checker.Subjects.{IsSubjectOf}
+use Rattle.check_command.specs.script_checker.Checking.{AreAcceptedFor, AreAcceptedItemsFor, AreLedFor, ChecksFor, ShowsFor}
 use Rattle.cert_trim.specs.Law.{AcceptsTrimmed, AllLeftAreUsed, AreLedBySome}
 use Rattle.cert_rewriting.specs.Spelled.{certificate_of}
 use Rattle.command_runs.specs.Runs.{Bytes, Told}

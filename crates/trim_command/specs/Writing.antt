@@ -2,7 +2,7 @@
 use Rattle.std.specs.Prelude.{◌≡◌, ◌≤◌, ◌<◌, ◌^◌, List, length, Option}
 use Rattle.whole_texts.specs.Pieces.{HoldsAll, HoldsFront}
 use Rattle.cert_bytes.specs.declared.item.Item.{Item}
-use Rattle.report.specs.Certificates.{new_too_long_line}
+use Rattle.check_command.specs.report.Certificates.{new_too_long_line}
 use Rattle.command_runs.specs.Runs.{Bytes}
 use Rattle.command_runs.specs.Fates.{Left, Leaves, begun}
 use Rattle.command_runs.specs.declared.status.Status.{Status}

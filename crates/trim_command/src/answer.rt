@@ -2,13 +2,13 @@
 ghost use Rattle.std.specs.Prelude.{◌≡◌, ◌≢◌, ◌≤◌, ◌⊎◌, ℕ, List, Some, IfOk, IsErrOf};
 ghost use Rattle.std.specs.List.{AllByRecursion};
 ghost use Rattle.fx_edge.specs.Outside.{Rose};
-ghost use Rattle.script_grammar.specs.Spells.{View, Spells};
+ghost use Rattle.check_command.specs.script_grammar.Spells.{View, Spells};
 ghost use Rattle.cert_bytes.specs.Certificates.{HasSpelling};
 ghost use Rattle.cert_bytes.specs.Reading.{cursor};
 ghost use Rattle.cert_bytes.specs.declared.style.Style.TheVariants.{First};
-ghost use Rattle.cert_checker.specs.Keeping.{lines_of};
-ghost use Rattle.cert_checker.specs.declared.fault.CheckStop.TheVariants as CheckStop;
-ghost use Rattle.script_checker.specs.Checking.{ChecksFor};
+ghost use Rattle.cert_trim.specs.cert_checker.Keeping.{lines_of};
+ghost use Rattle.cert_trim.specs.cert_checker.declared.fault.CheckStop.TheVariants as CheckStop;
+ghost use Rattle.check_command.specs.script_checker.Checking.{ChecksFor};
 ghost use Rattle.cert_trim.specs.Law.{AreLedBySome};
 ghost use Rattle.trim_command.specs.Trimmed.{AreTrimmable};
 ghost use Rattle.trim_command.specs.Writing.{Answers, BreaksOff};
@@ -17,15 +17,13 @@ ghost use Rattle.trim_command.specs.declared.stop.TrimStop.TheVariants as TrimSt
 use crate::stop::TrimStop;
 use crate::writing::write_trimmed;
 use cert_bytes::Reader;
-use cert_checker::{Accepted, CheckStop};
 use cert_rewriting::WriteStop;
-use cert_trim::trimmed_are_accepted;
+use cert_trim::{Accepted, CheckStop, trimmed_are_accepted};
+use check_command::{
+    ParseStop, Script, cert_fault_line, check_fault_line, parse, refusal_line, script_items,
+};
 use command_runs::Status;
 use fx_edge::Folder;
-use report::certificates::{cert_fault_line, check_fault_line};
-use report::refusals::refusal_line;
-use script_checker::script_items;
-use script_grammar::{ParseStop, Script, parse};
 use std::alloc::Global;
 
 // The items of the certificate of this name, where it is accepted for the script.

@@ -2,10 +2,8 @@
 ghost use Rattle.trim_command.specs.Laws.{AcceptableAreTrimmed, TrimAnswersAreOne};
 
 use cert_bytes::certificates_are_spelled_once;
-use cert_checker::bytes_are_accepted;
-use cert_trim::trimmed_are_accepted;
-use script_checker::checks_are_one;
-use script_grammar::script_or_refusal;
+use cert_trim::{bytes_are_accepted, trimmed_are_accepted};
+use check_command::{checks_are_one, script_or_refusal};
 
 /// Nothing is done. The clauses tell a caller that a text and a certificate have one status, where
 /// the certificate's bytes are told or the text is no script; and that told bytes which are

@@ -7,39 +7,39 @@ use Rattle.fx_model.specs.declared.ExprId.{ExprId}
 use Rattle.fx_model.specs.declared.Node.{Node}
 use Rattle.fx_model.specs.declared.Node.TheVariants as node
 use Rattle.fx_model.specs.Expression.{IsOrdered}
-use Rattle.interval.specs.declared.interval.Interval.{Interval}
-use Rattle.expr_dag.specs.Nodes.{IsAt}
-use Rattle.facts.specs.declared.fact.Fact.{Fact}
-use Rattle.facts.specs.declared.fact.Slot.TheVariants as slot
-use Rattle.facts.specs.declared.place.Place.{Place}
-use Rattle.facts.specs.declared.relative.RelativeError.{RelativeError}
-use Rattle.facts.specs.declared.hint.HintRow.{HintRow}
-use Rattle.facts.specs.Order.{slot_of}
-use Rattle.facts.specs.Parts.{error_of_part}
-use Rattle.facts.specs.Conclusions.{bnd_of, fix_of}
-use Rattle.facts.specs.Places.{place_from}
-use Rattle.script_bounds.specs.Bounds.{written_range, outward_of}
-use Rattle.script_claims.specs.declared.claim.Claim.{Claim}
-use Rattle.script_claims.specs.declared.claim.Claim.TheVariants.{Bounded, Asked, Relative, RelativeAsked, Multiple, Above, Below}
-use Rattle.script_claims.specs.Facts.{hypothesis_fact, rel_of}
-use Rattle.script_hints.specs.declared.hint.Hint.{Hint}
-use Rattle.pair_closure.specs.Reached.{Has}
+use Rattle.rule_universe.specs.interval.declared.interval.Interval.{Interval}
+use Rattle.rule_universe.specs.expr_dag.Nodes.{IsAt}
+use Rattle.rule_universe.specs.facts.declared.fact.Fact.{Fact}
+use Rattle.rule_universe.specs.facts.declared.fact.Slot.TheVariants as slot
+use Rattle.rule_universe.specs.facts.declared.place.Place.{Place}
+use Rattle.rule_universe.specs.facts.declared.relative.RelativeError.{RelativeError}
+use Rattle.rule_universe.specs.facts.declared.hint.HintRow.{HintRow}
+use Rattle.rule_universe.specs.facts.Order.{slot_of}
+use Rattle.rule_universe.specs.facts.Parts.{error_of_part}
+use Rattle.rule_universe.specs.facts.Conclusions.{bnd_of, fix_of}
+use Rattle.rule_universe.specs.facts.Places.{place_from}
+use Rattle.rewrite_hints.specs.script_bounds.Bounds.{written_range, outward_of}
+use Rattle.script_grammar.specs.script_claims.declared.claim.Claim.{Claim}
+use Rattle.script_grammar.specs.script_claims.declared.claim.Claim.TheVariants.{Bounded, Asked, Relative, RelativeAsked, Multiple, Above, Below}
+use Rattle.script_grammar.specs.script_claims.Facts.{hypothesis_fact, rel_of}
+use Rattle.rewrite_hints.specs.script_hints.declared.hint.Hint.{Hint}
+use Rattle.rule_universe.specs.pair_closure.Reached.{Has}
 use Rattle.fx_model.specs.Expression.{ChildrenBelow}
 use Rattle.std.proofs.Common.{inl, inr}
 use Rattle.std.proofs.lemmas.Option.{get_or_from_slice_get}
-use Rattle.pair_closure.specs.Closure.{Pair, AreKnown, IsKnownPair}
-use Rattle.pair_closure.specs.Members.{none_at, some-inj, no_member, has_cases, has_all, has_left, has_right, has_either}
+use Rattle.rule_universe.specs.pair_closure.Closure.{Pair, AreKnown, IsKnownPair}
+use Rattle.rule_universe.specs.pair_closure.Members.{none_at, some-inj, no_member, has_cases, has_all, has_left, has_right, has_either}
 use Rattle.rewrite_hints.specs.Marks.{AreRows, AreKnownSides}
 use Rattle.rule_universe.specs.Worlds.{IsSlot}
 use Rattle.rule_universe.specs.Licensed.{NeedIsKnown, RowIsKnown, kid}
-use Rattle.script_hints.specs.declared.hint.Constraint.{Constraint}
-use Rattle.script_hints.specs.declared.hint.Constraint.TheVariants as constraint
-use Rattle.script_hints.specs.Needs.{need_of}
+use Rattle.rewrite_hints.specs.script_hints.declared.hint.Constraint.{Constraint}
+use Rattle.rewrite_hints.specs.script_hints.declared.hint.Constraint.TheVariants as constraint
+use Rattle.rewrite_hints.specs.script_hints.Needs.{need_of}
 use Rattle.script_grammar.specs.Spells.{View}
 use Rattle.script_grammar.specs.Names.{IsNode, AreNodes, ClaimIsOf, ConstraintIsOf, HintIsOf, NamesNodes}
 use Rattle.universe.specs.Starts.{sides_of, whole_difference, claim_pairs, claims_pairs, hint_pairs, hints_pairs, starting_pairs}
 use Rattle.universe.specs.Universes.{with_fact, facts_of}
-use Rattle.facts.specs.CommonParts.{stands, all_from}
+use Rattle.rule_universe.specs.facts.CommonParts.{stands, all_from}
 
 -- ---- facts of hypotheses
 bnd_slot : (x : ExprId) (o : Option Interval) (f : Fact) → bnd_of x o ≡ Some f → slot_of f ≡ slot.Bnd x

@@ -4,21 +4,21 @@ use Rattle.std.proofs.Common.{arith, ap, sym, ◌∙◌, subst}
 use Rattle.std.proofs.lemmas.Option.{slice_get_within}
 use Rattle.fx_model.specs.declared.ExprId.{ExprId}
 use Rattle.fx_model.specs.declared.Node.{Node}
-use Rattle.facts.specs.declared.hint.HintMark.{HintMark}
-use Rattle.facts.specs.declared.hint.HintMark.TheVariants.{Checked, Assumed}
-use Rattle.facts.specs.declared.hint.HintRow.{HintRow}
-use Rattle.script_hints.specs.declared.hint.Hint.{Hint}
-use Rattle.pair_closure.specs.Closure.{ClosuresAreOne}
-use Rattle.pair_closure.specs.Rising.{one_list}
+use Rattle.rule_universe.specs.facts.declared.hint.HintMark.{HintMark}
+use Rattle.rule_universe.specs.facts.declared.hint.HintMark.TheVariants.{Checked, Assumed}
+use Rattle.rule_universe.specs.facts.declared.hint.HintRow.{HintRow}
+use Rattle.rewrite_hints.specs.script_hints.declared.hint.Hint.{Hint}
+use Rattle.rule_universe.specs.pair_closure.Closure.{ClosuresAreOne}
+use Rattle.rule_universe.specs.pair_closure.Rising.{one_list}
 use Rattle.rewrite_hints.specs.Divisors.{AreDivisors}
 use Rattle.rewrite_hints.specs.Rows.{IsRowOf}
 use Rattle.rewrite_hints.specs.Marks.{AreRows, IsMarkOf}
-use Rattle.rule_instances.specs.InOrder.{instance_list}
+use Rattle.rule_universe.specs.rule_instances.InOrder.{instance_list}
 use Rattle.rule_universe.specs.Worlds.{World}
 use Rattle.universe.specs.Starts.{starting_pairs}
 use Rattle.universe.specs.OneMark.{MarksAreOne}
 use Rattle.universe.specs.Universes.{UniversesAreOne}
-use Rattle.facts.specs.CommonParts.{stands}
+use Rattle.rule_universe.specs.facts.CommonParts.{stands}
 
 -- lists as long as each other, with the same at each place
 same_list : {A : Type 0} (xs ys : List A) → length xs ≡ length ys → ((k : ℕ) (x y : A) → slice_get xs k ≡ Some x → slice_get ys k ≡ Some y → x ≡ y) → xs ≡ ys

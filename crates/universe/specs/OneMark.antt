@@ -1,8 +1,8 @@
 -- The marks of hints are determined.
 use Rattle.std.specs.Prelude.{◌≡◌, List}
 use Rattle.fx_model.specs.declared.Node.{Node}
-use Rattle.facts.specs.declared.hint.HintMark.{HintMark}
-use Rattle.script_hints.specs.declared.hint.Hint.{Hint}
+use Rattle.rule_universe.specs.facts.declared.hint.HintMark.{HintMark}
+use Rattle.rewrite_hints.specs.script_hints.declared.hint.Hint.{Hint}
 use Rattle.rewrite_hints.specs.Marks.{AreMarks}
 
 -- Hints have one list of marks.

@@ -1,16 +1,16 @@
 -- The universe of a script.
 use Rattle.std.specs.Prelude.{◌≡◌, List, [], ◌∷◌, Option, Some, None, map, refl}
-use Rattle.facts.specs.declared.fact.Fact.{Fact}
-use Rattle.script_claims.specs.declared.claim.Claim.{Claim}
-use Rattle.script_claims.specs.Facts.{hypothesis_fact, want_of, slot_of}
+use Rattle.rule_universe.specs.facts.declared.fact.Fact.{Fact}
+use Rattle.script_grammar.specs.script_claims.declared.claim.Claim.{Claim}
+use Rattle.script_grammar.specs.script_claims.Facts.{hypothesis_fact, want_of, slot_of}
 use Rattle.script_grammar.specs.Spells.{View}
 use Rattle.script_grammar.specs.Names.{NamesNodes}
-use Rattle.pair_closure.specs.Reached.{Has, IsListOf}
-use Rattle.pair_closure.specs.Closure.{IsClosure, IsExpression, AreTooMany}
+use Rattle.rule_universe.specs.pair_closure.Reached.{Has, IsListOf}
+use Rattle.rule_universe.specs.pair_closure.Closure.{IsClosure, IsExpression, AreTooMany}
 use Rattle.rewrite_hints.specs.Marks.{AreRows}
-use Rattle.rule_instances.specs.Instances.{IsInstance}
-use Rattle.rule_instances.specs.InOrder.{instance_list}
-use Rattle.goals.specs.declared.goal.Goal.{Goal}
+use Rattle.rule_universe.specs.rule_instances.Instances.{IsInstance}
+use Rattle.rule_universe.specs.rule_instances.InOrder.{instance_list}
+use Rattle.rule_universe.specs.goals.declared.goal.Goal.{Goal}
 use Rattle.rule_universe.specs.Worlds.{World}
 use Rattle.rule_universe.specs.Assumed.{assuming, HaveSlots}
 use Rattle.universe.specs.Starts.{starting_pairs}

@@ -2,12 +2,11 @@
 
 ghost use Rattle.std.specs.Prelude.{◌≡◌, map, IfOk};
 ghost use Rattle.std.specs.List.{AllByRecursion};
-ghost use Rattle.script_claims.specs.Facts.{HasNormalBounds};
+ghost use Rattle.script_grammar.specs.script_claims.Facts.{HasNormalBounds};
 ghost use Rattle.universe.specs.Universes as spec;
 
-use facts::Fact;
-use goals::Goal;
-use script_claims::Claim;
+use rule_universe::{Fact, Goal};
+use script_grammar::Claim;
 use std::alloc::{AllocError, Global};
 
 // What the claims want as goals, in their order.

@@ -3,7 +3,7 @@
 ghost use Rattle.universe.specs.OneMark.{MarksAreOne};
 ghost use Rattle.universe.specs.Universes.{HypothesesHaveSlots, UniversesAreOne};
 
-use pair_closure::closures_are_one;
+use rule_universe::closures_are_one;
 
 /// Nothing is done. The clause tells a caller that a script has one universe in which these claims
 /// are assumed.

@@ -1,12 +1,13 @@
 //! The universe of a script: the expressions, pairs and rule instances that derivations may use.
 #![tactic(auto)]
 
+// What callers name of the crates below.
+pub use rewrite_hints::rows_are_true;
+
 mod claims;
 mod laws;
 mod marks;
 mod starts;
-#[cfg(test)]
-mod tests;
 mod world;
 
 pub use laws::{hypotheses_have_slots, marks_are_one, universes_are_one};

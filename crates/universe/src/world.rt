@@ -2,8 +2,8 @@
 
 ghost use Rattle.std.specs.Prelude.{◌≡◌, [], List, Err, IfOk, OnOk, OnErr};
 ghost use Rattle.std.specs.List.{AllByRecursion};
-ghost use Rattle.script_claims.specs.declared.claim.Claim.{Claim};
-ghost use Rattle.script_claims.specs.Facts.{HasNormalBounds};
+ghost use Rattle.script_grammar.specs.script_claims.declared.claim.Claim.{Claim};
+ghost use Rattle.script_grammar.specs.script_claims.Facts.{HasNormalBounds};
 ghost use Rattle.universe.specs.Cases.{AreHypotheses};
 ghost use Rattle.rule_universe.specs.Assumed.{assuming};
 ghost use Rattle.universe.specs.Universes.{IsUniverse, IsTooLarge, facts_of};
@@ -11,12 +11,9 @@ ghost use Rattle.universe.specs.declared.world.UniverseFault.TheVariants as Univ
 
 use crate::claims::{facts_of, goals_of};
 use crate::starts::starting_pairs;
-use pair_closure::{Closure, ClosureFault, closure_of};
 use rewrite_hints::rows_of;
-use rule_instances::instances_of;
-use rule_universe::Universe;
-use script_claims::Claim;
-use script_grammar::Script;
+use rule_universe::{Closure, ClosureFault, Universe, closure_of, instances_of};
+use script_grammar::{Claim, Script};
 use std::alloc::{AllocError, Global};
 
 /// Why there is no universe.

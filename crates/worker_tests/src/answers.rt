@@ -56,7 +56,7 @@ fn answer<R: Threads + Wait + Sync + Abort>(
     alloc: Global,
     refused: u64,
 ) -> Result<(bool, u64), AllocError> {
-    let plan = halves(rt, alloc)?;
+    let plan = halves(rt, alloc, 16)?;
     answer_in::<Brand, R>(rt, alloc, &plan, refused)
 }
 

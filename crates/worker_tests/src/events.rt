@@ -1,13 +1,12 @@
 //! The tree as events that two workers make on a plan.
 use crate::boxes::{LEAVES, number_of, path_of};
 use crate::tree::halves;
-use accounts::{Core, Event};
-use box_tree::Plan;
+use accounts::{Core, Cuts, Event};
 use fx_edge::Path;
 use std::test::Fail;
 
-// The boxes in the order in which two workers take them, who take turns.
-const BOXES: [u8; 15] = [
+/// The boxes in the order in which two workers take them, who take turns.
+pub const BOXES: [u8; 15] = [
     0b1, 0b10, 0b11, 0b100, 0b110, 0b101, 0b111, 0b1010, 0b1100, 0b1011, 0b1101, 0b10110, 0b11000,
     0b10111, 0b11001,
 ];
@@ -18,7 +17,7 @@ const SETTLED: [u64; 8] = [
 ];
 
 // The worker publishes the box in its hand, and pushes its halves.
-fn split(core: &mut Core<'_, Plan>, worker: u8, number: u8) -> Result<(), Fail> {
+fn split<C: Cuts>(core: &mut Core<'_, C>, worker: u8, number: u8) -> Result<(), Fail> {
     let path = path_of(number);
     core.step(Event::Publish { worker, path })?;
     for half in 0..2u8 {
@@ -28,9 +27,9 @@ fn split(core: &mut Core<'_, Plan>, worker: u8, number: u8) -> Result<(), Fail> 
     Ok(())
 }
 
-// The worker takes the box from its lane, and settles or splits it. The second worker begins with
-// a box of the first one's lane.
-fn turn(core: &mut Core<'_, Plan>, k: u8, number: u8) -> Result<(), Fail> {
+/// The worker takes the box from its lane, and settles or splits it. The second worker begins with
+/// a box of the first one's lane.
+pub fn turn<C: Cuts>(core: &mut Core<'_, C>, k: u8, number: u8) -> Result<(), Fail> {
     let worker = k % 2;
     let taken = if k == 1 {
         Event::Steal { worker, lane: 0 }
@@ -60,7 +59,7 @@ fn are_settled(paths: &[Path]) -> bool {
 
 #[test]
 fn two_workers_settle_the_leaves_of_a_plan(rt: HostRuntime) -> Result<(), Fail> {
-    let plan = halves(&rt, rt.alloc())?;
+    let plan = halves(&rt, rt.alloc(), 16)?;
     let mut core = Core::start(rt.alloc(), &plan, 2)?;
     for k in 0..15u8 {
         turn(&mut core, k, BOXES[usize::from(k)])?;

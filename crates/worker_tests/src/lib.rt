@@ -1,4 +1,4 @@
-//! The tree of 15 boxes by workers, by one call of `work`, and as events.
+//! Plans, trees, workers and universes: what no clause can tell of a run.
 #![tactic(auto)]
 
 #[cfg(test)]
@@ -7,6 +7,18 @@ mod answers;
 mod boxes;
 #[cfg(test)]
 mod events;
+#[cfg(test)]
+mod of_accounts;
+#[cfg(test)]
+mod of_bisect;
+#[cfg(test)]
+mod of_box_tree;
+#[cfg(test)]
+mod of_box_workers;
+#[cfg(test)]
+mod of_case_trees;
+#[cfg(test)]
+mod of_universe;
 #[cfg(test)]
 mod records;
 #[cfg(test)]

@@ -93,7 +93,7 @@ fn work_in<W: World, R: Wait>(
 fn work_once<R: Wait + Abort>(rt: &R, alloc: Global, capacity: u32) -> Result<Did, AllocError>
     requires { (1 ≤ capacity) × (capacity ≤ 8192) }
 {
-    let plan = halves(rt, alloc)?;
+    let plan = halves(rt, alloc, 16)?;
     work_in::<Brand, R>(rt, alloc, &plan, capacity)
 }
 

@@ -1,5 +1,5 @@
 //! A tree of 15 boxes, which is open on two ways down.
-ghost use Rattle.std.specs.Prelude.{◌≡◌, ℕ, List, Some};
+ghost use Rattle.std.specs.Prelude.{◌≡◌, ◌≤◌, ℕ, List, Some};
 ghost use Rattle.bisect.specs.Examples.{is_front, two_ways_open};
 ghost use Rattle.bisect.specs.declared.settler.State.{State};
 ghost use Rattle.box_tree.specs.declared.cut.Cut.{Cut};
@@ -19,7 +19,8 @@ use std::marker::{Brand, PhantomData};
 use std::process::Abort;
 use std::sync::atomic::{AtomicU64, Ordering};
 
-const X: ExprId = ExprId(0);
+/// The variable whose range is cut.
+pub const X: ExprId = ExprId(0);
 
 /// No call is refused.
 pub const NONE: u64 = 1000;
@@ -65,8 +66,8 @@ pub fn two_ways<W: World>(refused: u64) -> TwoWays<W> {
     }
 }
 
-// The path is a front of the numbers.
-fn is_front(path: &[u8], numbers: &[u8]) -> bool
+/// The path is a front of the numbers.
+pub fn is_front(path: &[u8], numbers: &[u8]) -> bool
     ensures { result ≡ is_front path.now numbers.now }
 {
     match path {
@@ -105,7 +106,8 @@ impl<W: World> Settler for TwoWays<W> {
     }
 }
 
-fn written(rt: &impl Abort, text: &str) -> Written
+/// A number as it is written.
+pub fn written(rt: &impl Abort, text: &str) -> Written
     ensures { IsWritten (Some result) }
 {
     Written {
@@ -114,8 +116,10 @@ fn written(rt: &impl Abort, text: &str) -> Written
     }
 }
 
-/// The plan where x in [0,1] is halved 16 times at most.
-pub fn halves(rt: &impl Abort, alloc: Global) -> Result<Plan, AllocError> {
+/// The plan where x in [0,1] is halved so often at most.
+pub fn halves(rt: &impl Abort, alloc: Global, depth: u8) -> Result<Plan, AllocError>
+    requires { depth ≤ 32 }
+{
     let hints = HintList {
         rewrites: Items::from_vec(Vec::new(alloc)),
         likes: Items::from_vec(Vec::new(alloc)),
@@ -124,5 +128,5 @@ pub fn halves(rt: &impl Abort, alloc: Global) -> Result<Plan, AllocError> {
         order: Items::from_vec([X].to_vec(alloc)?),
     };
     let unit = Claim::Bounded(X, Some(written(rt, "0")), Some(written(rt, "1")));
-    Plan::new(alloc, &[unit], &hints, 16)
+    Plan::new(alloc, &[unit], &hints, depth)
 }

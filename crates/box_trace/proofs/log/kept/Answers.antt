@@ -1,7 +1,7 @@
 use Rattle.std.specs.Prelude.{◌≡◌, Option, Some, None, IfNone, IfSome, refl}
 use Rattle.std.proofs.Common.{sym, subst}
 use Rattle.facts.specs.declared.fact.Fact.{Fact}
-use Rattle.derivation.specs.Exists.{joined}
+use Rattle.saturate.specs.derivation.Exists.{joined}
 use Rattle.box_trace.specs.declared.known.Cited.{Cited}
 use Rattle.box_trace.specs.Tables.{fact_of, number_of, number_or}
 use Rattle.box_trace.proofs.log.kept.Goals as goal

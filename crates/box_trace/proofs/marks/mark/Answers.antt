@@ -4,9 +4,9 @@ use Rattle.std.proofs.lemmas.Option.{slice_get_within}
 use Rattle.std.proofs.lemmas.List.{take_all, map_more}
 use Rattle.std.proofs.lemmas.List.Elements.{Contains-get_or, Contains-push, Contains-push_cases, Contains-append_left}
 use Rattle.facts.specs.declared.fact.Slot.TheVariants as slot
-use Rattle.derivation.specs.Changes.{AreDue, AreUsers, IsUser}
-use Rattle.rule_universe.specs.declared.placed.Placed.{Placed}
-use Rattle.rule_universe.specs.Placed.{slots_of}
+use Rattle.saturate.specs.derivation.Changes.{AreDue, AreUsers, IsUser}
+use Rattle.saturate.specs.rule_universe.declared.placed.Placed.{Placed}
+use Rattle.saturate.specs.rule_universe.Placed.{slots_of}
 use Rattle.box_trace.proofs.marks.mark.Goals as goal
 
 -- what stands behind the last element

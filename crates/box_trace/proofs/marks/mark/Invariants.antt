@@ -1,6 +1,6 @@
 use Rattle.std.proofs.Common.{take}
-use Rattle.derivation.specs.Changes.{AreDue, AreUsers}
-use Rattle.rule_universe.specs.Placed.{slots_of}
+use Rattle.saturate.specs.derivation.Changes.{AreDue, AreUsers}
+use Rattle.saturate.specs.rule_universe.Placed.{slots_of}
 use Rattle.box_trace.proofs.marks.mark.Given as goal
 
 abbrev pub invariant-loop-p : goal.invariant-loop-p

@@ -5,13 +5,13 @@ use Rattle.std.proofs.lemmas.Bool.{eqb-true}
 use Rattle.std.specs.List.{Contains}
 use Rattle.facts.specs.declared.fact.Slot.TheVariants as slot
 use Rattle.facts.specs.declared.fact.Fact.TheVariants as fact
-use Rattle.derivation.specs.Rounds.{InTable, IsBestFrom, IsSame, IsAhead, AllSeen}
-use Rattle.derivation.specs.Derivations.{At, IsBest}
-use Rattle.derivation.specs.Best.{next_best}
-use Rattle.derivation.specs.Heights.{best_start, best_void, best_same}
-use Rattle.derivation.specs.Changes.{IsQuiet, IsListed, AreDue, quiet_after}
-use Rattle.rule_universe.specs.declared.placed.Placed.{Placed}
-use Rattle.rule_universe.specs.Placed.{slots_of}
+use Rattle.saturate.specs.derivation.Rounds.{InTable, IsBestFrom, IsSame, IsAhead, AllSeen}
+use Rattle.saturate.specs.derivation.Derivations.{At, IsBest}
+use Rattle.saturate.specs.derivation.Best.{next_best}
+use Rattle.saturate.specs.derivation.Heights.{best_start, best_void, best_same}
+use Rattle.saturate.specs.derivation.Changes.{IsQuiet, IsListed, AreDue, quiet_after}
+use Rattle.saturate.specs.rule_universe.declared.placed.Placed.{Placed}
+use Rattle.saturate.specs.rule_universe.Placed.{slots_of}
 use Rattle.saturate.specs.Universes.{setting_of}
 use Rattle.box_trace.specs.Tables.{known_at}
 use Rattle.box_trace.proofs.Rows.{same_known}

@@ -1,7 +1,7 @@
 use Rattle.std.proofs.Common.{◌≡◌, ◌*◌, length, None}
 use Rattle.facts.specs.declared.fact.Slot.TheVariants as slot
-use Rattle.derivation.specs.Rounds.{IsBestFrom}
-use Rattle.derivation.specs.Changes.{IsQuiet}
+use Rattle.saturate.specs.derivation.Rounds.{IsBestFrom}
+use Rattle.saturate.specs.derivation.Changes.{IsQuiet}
 use Rattle.saturate.specs.Universes.{setting_of}
 use Rattle.box_trace.specs.Tables.{known_at}
 use Rattle.box_trace.specs.Logs.{IsLonger}

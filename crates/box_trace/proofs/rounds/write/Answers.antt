@@ -7,7 +7,7 @@ use Rattle.box_trace.specs.Tables.{known_at}
 use Rattle.box_trace.specs.Scans.{held, ends_in}
 use Rattle.box_trace.proofs.Scanned.{IsWritten, written_none, written_all}
 use Rattle.box_trace.proofs.Came.{begin_ahead, written_ahead, written_listed, written_placed, written_few, written_adds, goes_on_both, most_bound, most_more, not_void, round_void}
-use Rattle.rule_universe.specs.Sizes.{beyond_four}
+use Rattle.saturate.specs.rule_universe.Sizes.{beyond_four}
 use Rattle.box_trace.proofs.Added.{adds_none, adds_slack}
 use Rattle.box_trace.proofs.Beyond.{beyond_below, beyond_most, beyond_next}
 use Rattle.box_trace.proofs.rounds.write.Goals as goal

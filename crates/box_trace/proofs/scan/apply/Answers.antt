@@ -3,10 +3,10 @@ use Rattle.std.proofs.Math.Seq.{drop-cons}
 use Rattle.std.proofs.lemmas.List.{drop_all}
 use Rattle.std.proofs.lemmas.List.Elements.{Contains-get_or}
 use Rattle.facts.specs.declared.fact.Slot.TheVariants as slot
-use Rattle.theorem_list.specs.Concludes.{concludes}
-use Rattle.derivation.specs.Rounds.{all_at, with_first}
-use Rattle.rule_universe.specs.declared.placed.Placed.{Placed}
-use Rattle.rule_universe.specs.Placed.{slots_of}
+use Rattle.saturate.specs.theorem_list.Concludes.{concludes}
+use Rattle.saturate.specs.derivation.Rounds.{all_at, with_first}
+use Rattle.saturate.specs.rule_universe.declared.placed.Placed.{Placed}
+use Rattle.saturate.specs.rule_universe.Placed.{slots_of}
 use Rattle.box_trace.specs.Tables.{known_at}
 use Rattle.saturate.specs.Gather.{after, after_none, after_first, gathered_none, gathered_all}
 use Rattle.box_trace.proofs.scan.apply.Goals as goal

@@ -1,6 +1,6 @@
 use Rattle.std.proofs.Common.{◌≡◌, drop}
-use Rattle.derivation.specs.Rounds.{all_at}
-use Rattle.rule_universe.specs.Placed.{slots_of}
+use Rattle.saturate.specs.derivation.Rounds.{all_at}
+use Rattle.saturate.specs.rule_universe.Placed.{slots_of}
 use Rattle.box_trace.specs.Tables.{known_at}
 use Rattle.saturate.specs.Gather.{after}
 use Rattle.box_trace.proofs.scan.apply.Given as goal

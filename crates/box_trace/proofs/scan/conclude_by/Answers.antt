@@ -1,5 +1,5 @@
 use Rattle.std.proofs.Common.{ap, ◌∙◌}
-use Rattle.theorem_list.specs.Concludes.{concludes}
+use Rattle.saturate.specs.theorem_list.Concludes.{concludes}
 use Rattle.box_trace.proofs.scan.conclude_by.Goals as goal
 
 pub returns : goal.returns

@@ -1,8 +1,8 @@
 use Rattle.std.proofs.Common.{ap, subst, ◌∙◌, [], ℕ, arith}
 use Rattle.facts.specs.declared.fact.Fact.{Fact}
 use Rattle.facts.specs.declared.fact.Fact.TheVariants as fact
-use Rattle.derivation.specs.Derivations.{At}
-use Rattle.derivation.specs.Rounds.{Improves}
+use Rattle.saturate.specs.derivation.Derivations.{At}
+use Rattle.saturate.specs.derivation.Rounds.{Improves}
 use Rattle.box_trace.specs.Tables.{known_at}
 use Rattle.box_trace.specs.Logs.{Comes}
 use Rattle.box_trace.specs.declared.known.Known.{Known}

@@ -4,15 +4,15 @@ use Rattle.interval.specs.declared.interval.Interval.{Interval}
 use Rattle.interval.specs.Results.{whole_interval}
 use Rattle.facts.specs.declared.fact.Fact.{Fact}
 use Rattle.facts.specs.declared.fact.Fact.TheVariants as fact
-use Rattle.derivation.specs.Known.{IsGiven}
-use Rattle.derivation.specs.Rounds.{IsBlank}
-use Rattle.derivation.specs.Begun.{FirstHypotheses, FirstLines, gather_blank, gather_less, gather_hypothesis, gather_line, lines_none, lines_skip}
+use Rattle.saturate.specs.derivation.Known.{IsGiven}
+use Rattle.saturate.specs.derivation.Rounds.{IsBlank}
+use Rattle.saturate.specs.derivation.Begun.{FirstHypotheses, FirstLines, gather_blank, gather_less, gather_hypothesis, gather_line, lines_none, lines_skip}
 use Rattle.saturate.specs.Universes.{setting_of}
 use Rattle.box_trace.specs.declared.known.Known.{Known}
 use Rattle.box_trace.specs.Tables.{known_at, step_at}
 use Rattle.box_trace.specs.Logs.{Comes}
 use Rattle.box_trace.specs.Rounds.{IsOfParent, variable_count, most_given, given_before}
-use Rattle.derivation.specs.Parts.{none_some}
+use Rattle.saturate.specs.derivation.Parts.{none_some}
 use Rattle.box_trace.proofs.Counted.{count_variable, count_other, count_all}
 use Rattle.box_trace.proofs.Added.{gives_none, gives_more, gives_slack, no_step}
 use Rattle.box_trace.proofs.Logged.{comes_improves}

@@ -1,5 +1,5 @@
 use Rattle.std.proofs.Common.{inl, inr}
-use Rattle.derivation.specs.Known.{IsTableAt}
+use Rattle.saturate.specs.derivation.Known.{IsTableAt}
 use Rattle.saturate.specs.Universes.{setting_of}
 use Rattle.box_trace.specs.Tables.{known_at}
 use Rattle.box_trace.proofs.Given.{child_box, root_box}

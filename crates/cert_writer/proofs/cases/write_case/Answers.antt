@@ -2,12 +2,12 @@ use Rattle.std.specs.Prelude.{◌+◌, drop}
 use Rattle.std.specs.List.{AllByRecursion}
 use Rattle.std.proofs.Common.{sym, ◌∙◌, ap, subst}
 use Rattle.std.proofs.lemmas.List.Elements.{recursion_from_All}
-use Rattle.script_claims.specs.Facts.{HasNormalBounds}
-use Rattle.script_grammar.specs.Cases.{cases_of}
-use Rattle.rule_universe.specs.Assumed.{assuming}
-use Rattle.universe.specs.Cases.{AreHypotheses, cases_have_hypotheses, case_has_hypotheses}
-use Rattle.universe.specs.Universes.{facts_of}
-use Rattle.box_tree.specs.Root.{plan_by}
+use Rattle.answer_certificates.specs.script_claims.Facts.{HasNormalBounds}
+use Rattle.answer_certificates.specs.script_grammar.Cases.{cases_of}
+use Rattle.box_trace.specs.rule_universe.Assumed.{assuming}
+use Rattle.answer_certificates.specs.universe.Cases.{AreHypotheses, cases_have_hypotheses, case_has_hypotheses}
+use Rattle.answer_certificates.specs.universe.Universes.{facts_of}
+use Rattle.answer_certificates.specs.box_tree.Root.{plan_by}
 use Rattle.cert_writer.specs.Files.{on_err}
 use Rattle.cert_writer.specs.Cases.{bare, task, target_of, StandsAt, OfStanding, GrewFront}
 use Rattle.cert_writer.proofs.NextCase.{drop_there, still, is_course, is_before, past_case, front_case}

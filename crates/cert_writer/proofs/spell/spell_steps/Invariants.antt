@@ -2,7 +2,7 @@ use Rattle.std.proofs.Common.{◌≡◌, ◌++◌, map}
 use Rattle.std.specs.List.{AllByRecursion}
 use Rattle.cert_bytes.specs.declared.item.Item.TheVariants as item
 use Rattle.cert_writer.specs.Bytes.{seen_behind, spelled_behind}
-use Rattle.box_traces.specs.Traces.{HaveFields}
+use Rattle.box_trace.specs.box_traces.Traces.{HaveFields}
 use Rattle.cert_writer.specs.Boxes.{HasShortList}
 use Rattle.cert_writer.proofs.spell.spell_steps.Given as goal
 

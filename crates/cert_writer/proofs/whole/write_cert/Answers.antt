@@ -2,8 +2,8 @@ use Rattle.std.specs.Prelude.{◌≡◌, length}
 use Rattle.std.specs.Io.KnownBytes.{Appends}
 use Rattle.std.proofs.Common.{◌∙◌, ap, subst, arith}
 use Rattle.std.proofs.lemmas.List.{length-map}
-use Rattle.script_grammar.specs.Cases.{cases_of}
-use Rattle.script_checker.specs.Subjects.{facts_of}
+use Rattle.answer_certificates.specs.script_grammar.Cases.{cases_of}
+use Rattle.answer_certificates.specs.script_checker.Subjects.{facts_of}
 use Rattle.cert_writer.specs.Files.{on_err}
 use Rattle.whole_texts.specs.Pieces.{AppendsFront}
 use Rattle.cert_writer.specs.Cases.{bare, task}

@@ -1,4 +1,4 @@
-use Rattle.goals.proofs.Stronger.{of_goal, settles_stronger}
+use Rattle.goals.proofs.StrongerSettle.{of_goal, settles_stronger}
 use Rattle.goals.proofs.laws.settling_facts.Goals as goal
 
 pub returns : goal.returns

@@ -1,7 +1,7 @@
 use Rattle.std.specs.Prelude.{◌≢◌}
 use Rattle.std.proofs.Common.{sym, subst}
-use Rattle.fx_model.specs.Fraction.{zero_ℚ, ◌/ℚ◌, lt_le_trans}
-use Rattle.fx_model.specs.Grid.{IsDown}
+use Rattle.dyadic.specs.fx_model.Fraction.{zero_ℚ, ◌/ℚ◌, lt_le_trans}
+use Rattle.dyadic.specs.fx_model.Grid.{IsDown}
 use Rattle.dyadic.specs.Ends.{bound_of}
 use Rattle.dyadic.specs.Values.{value_of}
 use Rattle.interval.proofs.Divisors.{quotient_up, quotient_down}

@@ -1,6 +1,6 @@
 use Rattle.std.proofs.Common.{arith, sym, ap, ◌∙◌, subst, ◌≡◌, ◌&&◌, ◌≤◌, false, true, slice_index_or, rules, Option}
 use Rattle.std.proofs.lemmas.Bool.{not-true, not-false}
-use Rattle.fx_model.specs.declared.Node.TheVariants.{Var}
+use Rattle.expr_dag.specs.fx_model.declared.Node.TheVariants.{Var}
 use Rattle.poly_normal.specs.Parts.{is_atom_node}
 use Rattle.poly_normal.specs.Places.{places}
 use Rattle.poly_normal.specs.Quotients.{IsFormOf, row_form, form_at}

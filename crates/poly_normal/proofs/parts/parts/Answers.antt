@@ -1,6 +1,6 @@
 use Rattle.std.proofs.Common.{arith, sym, ap, ◌∙◌, subst, length, false, true, refl, ◌≡◌, suc, ◌-◌, replicate, slice_index_or}
 use Rattle.std.proofs.lemmas.List.{get_or_read}
-use Rattle.fx_model.specs.declared.ExprId.{ExprId}
+use Rattle.expr_dag.specs.fx_model.declared.ExprId.{ExprId}
 use Rattle.poly_normal.specs.Parts.{marked}
 use Rattle.poly_normal.proofs.Marks.{IsMarkedFrom, start, unmarked, step_marked, step_unmarked, marked_parts}
 use Rattle.poly_normal.proofs.parts.parts.Goals as goal

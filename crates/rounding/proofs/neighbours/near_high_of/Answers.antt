@@ -4,8 +4,8 @@ use Rattle.std.specs.Int.Signed.{shr_z}
 use Rattle.std.specs.Int.RustNames.{unsigned_abs}
 use Rattle.std.proofs.lemmas.Int.{ints}
 use lib.IntN.{neg_ℤ}
-use Rattle.fx_model.specs.Powers.{scaled}
-use Rattle.fx_model.specs.Rounded.{floor}
+use Rattle.interval.specs.fx_model.Powers.{scaled}
+use Rattle.interval.specs.fx_model.Rounded.{floor}
 use Rattle.rounding.specs.Shifts.{shr_low, shr_high, near_by, scaled-twice}
 use Rattle.rounding.proofs.neighbours.near_high_of.Goals as goal
 

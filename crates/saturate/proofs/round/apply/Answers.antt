@@ -2,8 +2,8 @@ use Rattle.std.proofs.Common.{◌≡◌, ◌<◌, ◌+◌, ℕ, [], ◌∷◌, L
 use Rattle.std.proofs.Math.Seq.{drop-cons}
 use Rattle.std.proofs.lemmas.List.{drop_all}
 use Rattle.std.proofs.lemmas.List.Elements.{Contains-get_or}
-use Rattle.facts.specs.declared.fact.Slot.TheVariants as slot
-use Rattle.derivation.specs.Rounds.{all_at, with_first}
+use Rattle.rule_universe.specs.facts.declared.fact.Slot.TheVariants as slot
+use Rattle.rule_universe.specs.derivation.Rounds.{all_at, with_first}
 use Rattle.rule_universe.specs.declared.placed.Placed.{Placed}
 use Rattle.rule_universe.specs.Placed.{slots_of}
 use Rattle.saturate.specs.Tables.{fact_at}

@@ -2,11 +2,11 @@ use Rattle.std.proofs.Common.{arith, ◌≡◌, ℕ, Some, false, ◌+◌, ◌<�
 use Rattle.std.proofs.lemmas.Option.{slice_get_within, slice_get-get_or, slice_get_cases}
 use Rattle.std.specs.List.{Contains}
 use Rattle.std.proofs.lemmas.List.Sums.{count_by_more_yes, count_by_more_no}
-use Rattle.facts.specs.declared.fact.Slot.TheVariants as slot
-use Rattle.facts.specs.declared.fact.Fact.TheVariants as fact
-use Rattle.facts.specs.declared.instance.Instance.{Instance}
-use Rattle.derivation.specs.Rounds.{AllSeen}
-use Rattle.derivation.specs.Ahead.{ahead_begin, ahead_fewer, ahead_void}
+use Rattle.rule_universe.specs.facts.declared.fact.Slot.TheVariants as slot
+use Rattle.rule_universe.specs.facts.declared.fact.Fact.TheVariants as fact
+use Rattle.rule_universe.specs.facts.declared.instance.Instance.{Instance}
+use Rattle.rule_universe.specs.derivation.Rounds.{AllSeen}
+use Rattle.rule_universe.specs.derivation.Ahead.{ahead_begin, ahead_fewer, ahead_void}
 use Rattle.rule_universe.specs.declared.placed.Placed.{Placed}
 use Rattle.rule_universe.specs.Placed.{slots_of}
 use Rattle.saturate.specs.Tables.{fact_at}

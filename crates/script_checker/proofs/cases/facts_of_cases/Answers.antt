@@ -1,5 +1,5 @@
 use Rattle.std.proofs.Common.{◌≡◌, ◌+◌, ℕ, zero, suc, List, [], ◌∷◌, ◌++◌, Some, slice_get, map, take, sym, ap, ◌∙◌, arith}
-use Rattle.script_grammar.specs.Cases.{cases_of}
+use Rattle.script_meets.specs.script_grammar.Cases.{cases_of}
 use Rattle.script_checker.specs.Subjects as spec
 use Rattle.script_checker.proofs.cases.facts_of_cases.Goals as goal
 

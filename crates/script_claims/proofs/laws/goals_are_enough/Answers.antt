@@ -1,4 +1,4 @@
-use Rattle.script_claims.proofs.Goals.{goals_inside, goals_zero}
+use Rattle.script_claims.proofs.ReadGoals.{goals_inside, goals_zero}
 use Rattle.script_claims.proofs.laws.goals_are_enough.Goals as goal
 
 pub returns : goal.returns

@@ -1,6 +1,6 @@
 use Rattle.std.proofs.Common.{◌≡◌, ◌+◌, ◌-◌, ◌∷◌, drop, None, sym, ap, ◌∙◌, subst, arith}
-use Rattle.script_words.specs.Named.{word_of}
-use Rattle.script_words.specs.Kept.{words_in}
+use Rattle.script_shape.specs.script_words.Named.{word_of}
+use Rattle.script_shape.specs.script_words.Kept.{words_in}
 use Rattle.script_shape.specs.Roles.{at, leaves_of}
 use Rattle.script_judge.specs.Counts.{one_if}
 use Rattle.script_judge.specs.Judge.{Judged, none_refused, is_arrow}

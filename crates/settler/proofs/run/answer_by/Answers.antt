@@ -1,6 +1,6 @@
 use Rattle.std.proofs.Common.{arith, sym, subst, ap}
 use Rattle.std.specs.Prelude.{List, length}
-use Rattle.script_grammar.specs.Cases.{cases_of}
+use Rattle.script_truths.specs.script_grammar.Cases.{cases_of}
 use Rattle.saturate.specs.Answered.{ok_map}
 use Rattle.settler.specs.declared.cases.Case.{Case}
 use Rattle.settler.specs.Answers.{Options, options}

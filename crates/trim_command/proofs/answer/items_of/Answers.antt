@@ -1,8 +1,8 @@
 use Rattle.std.proofs.Common.{IfOk}
 use Rattle.cert_bytes.specs.declared.order.Due.TheVariants.{Head}
 use Rattle.cert_bytes.specs.ReadOut.{AreBytes, AreRead}
-use Rattle.cert_checker.specs.Keeping.{lines_of}
-use Rattle.script_checker.specs.Checking.{AreAcceptedItemsFor, ChecksFor}
+use Rattle.cert_trim.specs.cert_checker.Keeping.{lines_of}
+use Rattle.check_command.specs.script_checker.Checking.{AreAcceptedItemsFor, ChecksFor}
 use Rattle.trim_command.proofs.Trimmable.{from_first, trimmable}
 use Rattle.trim_command.proofs.answer.items_of.Goals as goal
 

@@ -1,5 +1,5 @@
 use Rattle.std.proofs.Common.{◌≡◌, length}
-use Rattle.rule_universe.specs.Places.{place_count}
+use Rattle.saturate.specs.rule_universe.Places.{place_count}
 use Rattle.box_trace.specs.Tables.{known_at}
 use Rattle.box_trace.specs.Scans.{IsScanned}
 use Rattle.box_trace.proofs.scan.Scan.gather.Given as goal

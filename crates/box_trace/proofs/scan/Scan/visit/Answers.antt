@@ -1,7 +1,7 @@
 use Rattle.std.proofs.Common.{sym, ◌∙◌}
-use Rattle.theorem_list.specs.Concludes.{concludes}
-use Rattle.derivation.specs.Rounds.{conclusion}
-use Rattle.derivation.specs.Parts.{none_some}
+use Rattle.saturate.specs.theorem_list.Concludes.{concludes}
+use Rattle.saturate.specs.derivation.Rounds.{conclusion}
+use Rattle.saturate.specs.derivation.Parts.{none_some}
 use Rattle.box_trace.specs.Tables.{known_at}
 use Rattle.box_trace.proofs.Scanned.{scanned_beaten}
 use Rattle.box_trace.proofs.scan.Scan.visit.Goals as goal

@@ -1,4 +1,4 @@
-use Rattle.fx_model.specs.Enclosure.{Negations}
+use Rattle.dyadic.specs.fx_model.Enclosure.{Negations}
 use Rattle.interval.specs.Results.{negation_only}
 use Rattle.interval.specs.Ends.{range_from}
 use Rattle.dyadic.specs.Made.{grid_bound}

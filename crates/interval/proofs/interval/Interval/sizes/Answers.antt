@@ -1,4 +1,4 @@
-use Rattle.fx_model.specs.Enclosure.{Sizes}
+use Rattle.dyadic.specs.fx_model.Enclosure.{Sizes}
 use Rattle.interval.specs.Ends.{range_from}
 use Rattle.dyadic.specs.Made.{grid_bound}
 use Rattle.interval.specs.Exact.{IsExact}

@@ -1,6 +1,6 @@
 use Rattle.std.proofs.Common.{◌≤◌, length, subst}
 use Rattle.std.specs.List.{AllByRecursion}
-use Rattle.script_cases.specs.Cases.{cases}
+use Rattle.node_counts.specs.script_cases.Cases.{cases}
 use Rattle.script_grammar.specs.Ranges.{HasFewCases}
 use Rattle.node_counts.specs.Few.{HasFewHints}
 use Rattle.node_counts.specs.Ranges.{HaveRanges}

@@ -1,5 +1,5 @@
 use Rattle.std.proofs.Common.{sym, subst}
-use Rattle.box_tree.specs.Plans.{pieces_at}
+use Rattle.case_trees.specs.box_tree.Plans.{pieces_at}
 use Rattle.saturate.specs.Boxes.{IsOfUniverse}
 use Rattle.settler.proofs.Along.{same_box, its_table, its_state}
 use Rattle.settler.proofs.boxes.Boxes.settled.Goals as goal

@@ -1,5 +1,0 @@
-use Rattle.std.proofs.Common.{None}
-use Rattle.box_deques.proofs.shared_tests.a_shared_lane_loses_nothing.Given as goal
-
-abbrev pub ghosts-shared : goal.ghosts-shared
-ghosts-shared g a = record { world = None; capacity = 100 }

@@ -1,5 +1,0 @@
-use Rattle.std.proofs.Common.{None}
-use Rattle.box_deques.proofs.shared_tests.each_take_has_its_worker_and_its_place.Given as goal
-
-abbrev pub ghosts-shared : goal.ghosts-shared
-ghosts-shared g a = record { world = None; capacity = 100 }

@@ -1,5 +1,0 @@
-use Rattle.std.proofs.Common.{Some}
-use Rattle.box_workers.proofs.tests.work_in.Given as goal
-
-abbrev pub ghosts-work_with : goal.ghosts-work_with
-ghosts-work_with g a = record { world = Some a.board.now; capacity = 4096 }

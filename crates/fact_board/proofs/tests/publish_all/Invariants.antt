@@ -1,5 +1,0 @@
-use Rattle.std.proofs.Common.{◌≡◌, All}
-use Rattle.fact_board.proofs.tests.publish_all.Given as goal
-
-abbrev pub invariant-loop-entry : goal.invariant-loop-entry
-invariant-loop-entry g l = All (λ t. t.board ≡ l.board) l.tokens.items

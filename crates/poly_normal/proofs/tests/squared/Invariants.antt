@@ -1,5 +1,0 @@
-use Rattle.std.proofs.Common.{◌<◌, ◌≤◌, length}
-use Rattle.poly_normal.proofs.tests.squared.Given as goal
-
-abbrev pub invariant-loop : goal.invariant-loop
-invariant-loop l = record { there : l.last.0 < length l.dag; longer : length l.initial.dag ≤ length l.dag }

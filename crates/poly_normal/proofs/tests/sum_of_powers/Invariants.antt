@@ -1,5 +1,0 @@
-use Rattle.std.proofs.Common.{◌<◌, ◌≤◌, length}
-use Rattle.poly_normal.proofs.tests.sum_of_powers.Given as goal
-
-abbrev pub invariant-loop-k : goal.invariant-loop-k
-invariant-loop-k l = record { there : l.last.0 < length l.dag; one : l.one.0 < length l.dag; base : l.x.0 < length l.dag; longer : length l.initial.dag ≤ length l.dag }
