@@ -3,4 +3,5 @@ pub mod Pushed
 pub mod Lengths
 pub mod Taken
 pub mod Steps
+pub mod Chosen
 pub mod Counts

@@ -4,5 +4,6 @@ pub mod Met
 pub mod Counted
 pub mod Gaps
 pub mod Marks
+pub mod Choice
 pub mod Mapped
 pub mod Examples

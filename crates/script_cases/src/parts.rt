@@ -1,11 +1,12 @@
 // Conjunctions and parts over one list of items.
 ghost use Rattle.std.specs.Prelude.{◌≡◌, ℕ, nat_lt, ◌<◌, ◌≤◌, ◌++◌, [], Some, length, slice_get, get_or, IfOk, OnOk, OnErr};
-ghost use Rattle.std.specs.List.{AllByRecursion};
+ghost use Rattle.std.specs.List.{AllByRecursion, flat_map};
 ghost use Rattle.script_cases.specs.Cases.{cases, case_count};
 ghost use Rattle.script_cases.specs.Gaps.{gaps, AreRising};
 ghost use Rattle.script_cases.specs.Marks.{pieces, start_at};
 ghost use Rattle.script_cases.specs.Parts as spec;
 
+use crate::conjunctions::{Conjunctions, conjunction};
 use std::alloc::{AllocError, Global};
 use std::marker::Model;
 
@@ -48,7 +49,7 @@ fn product(places: &[usize]) -> usize
 }
 
 // The place at which the piece with this number begins: the one before it, or 0.
-fn start_at(places: &[usize], number: usize) -> usize
+pub(crate) fn start_at(places: &[usize], number: usize) -> usize
     requires { number ≤ length places.now }
     ensures { result ≡ start_at 0 places.now number }
 {
@@ -67,11 +68,7 @@ fn add_conjunction<T: Copy>(
     ensures { OnOk result (case.new.items
         ≡ case.old.items ++ get_or (pieces 0 items.now ends.now) number []) }
 {
-    let from = start_at(ends, number);
-    let end = ends[number];
-    if from < end {
-        case.extend_from_slice(&items[from..end])?;
-    }
+    case.extend_from_slice(conjunction(items, ends, number))?;
     Ok(())
 }
 
@@ -147,6 +144,22 @@ impl<T: Copy> Parts<T> {
         let count = self.case_count();
         let ended = self.ended_count();
         ended >= 64 || count * (ended + 1) > 64
+    }
+
+    /// The conjunctions that the case with this number takes, of the parts that have ended.
+    pub fn conjunctions(&self, number: usize) -> Conjunctions<'_, T>
+        requires few { case_count self.now.before ≤ 64 }
+        requires number { number < case_count self.now.before }
+        ensures { slice_get (cases self.now.before) number ≡ Some (flat_map (λ c. c) result) }
+    {
+        let parts = self.parts.as_slice();
+        Conjunctions::new(
+            self.items.as_slice(),
+            self.ends.as_slice(),
+            parts,
+            product(parts),
+            number,
+        )
     }
 
     /// The items of the case with this number, of those of the parts that have ended.

@@ -1,8 +1,8 @@
 -- The cases that have begun stay few where no token passes the limit.
-use Rattle.std.proofs.Common.{◌≡◌, ℕ, suc, ◌*◌, ◌≤◌, Bool, true, false, nat_lt, length, Option, Some, None, refl, arith}
+use Rattle.std.proofs.Common.{◌≡◌, suc, ◌*◌, ◌≤◌, Bool, true, false, length, Option, Some, None, refl, arith}
 use Rattle.std.proofs.lemmas.Bool.{ltb-false}
 use Rattle.bound_order.specs.fx_model.Fraction.{Fraction}
-use Rattle.script_shape.specs.script_words.Words.{Word, name, rounding, literal, sign}
+use Rattle.script_shape.specs.script_words.Words.{Word, sign}
 use Rattle.script_shape.specs.script_words.declared.class.Sign.TheVariants as s
 use Rattle.script_shape.specs.declared.due.Due.{Due}
 use Rattle.script_shape.specs.declared.due.Due.TheVariants as d
@@ -11,7 +11,7 @@ use Rattle.script_cases.specs.Parts.{Parts, behind_or, behind_arrow, begun_cases
 use Rattle.script_cases.specs.Counted.{arrow_begins, few_before}
 use Rattle.script_judge.specs.Names.{Name}
 use Rattle.script_judge.specs.Subject.{Subject, nothing, node_of, other}
-use Rattle.script_judge.specs.Splits.{Ends, SplitRange, SplitsSeen, ranges_after, connected, parts_after, splits_after}
+use Rattle.script_judge.specs.Splits.{Ends, SplitRange, SplitsSeen, ranges_after, parts_after, splits_after}
 use Rattle.script_judge.specs.Judge.{is_past_cases}
 
 -- an item makes no cases

@@ -122,19 +122,19 @@ impl<'a> Seen<'a> {
         }
     }
 
-    /// Takes a token, with the ranges of the split variable that it is. After an `Err` it is not to
-    /// be used on.
+    /// Takes a token, with the ranges of the split variable that it is: `found` has others then.
+    /// After an `Err` it is not to be used on.
     fn take(
         &mut self,
         role: Due,
         word: Word<'a>,
         verdict: Verdict,
-        found: Vec<Option<Ends>>,
+        found: &mut Vec<Option<Ends>>,
     ) -> Result<(), AllocError>
         requires counts { IsWithinLimits self.old.counts }
         requires lower { IsWritten self.old.bounds.lower }
         requires number { IsWritten verdict.number }
-        requires found { map (option_map ends_seen) found.items
+        requires found { map (option_map ends_seen) found.old.items
             ≡ ranges_at (splits_seen self.old.splits).ranges (split_name role (word_of word)) }
         requires few { begun_cases (splits_seen self.old.splits).ranges ≤ 64 }
         ensures seen { OnOk result ((stands : spec.Seen) → IsSeen self.old stands
@@ -185,6 +185,7 @@ pub fn judge<'a>(
 {
     let mut seen = Seen::new(alloc);
     let mut arrows = arrow_count(words, roles);
+    let mut found = Vec::new(alloc);
     for number in 0..roles.len() {
         let role = role_at(roles, number);
         let word = words.at(number);
@@ -192,7 +193,7 @@ pub fn judge<'a>(
         let later_roles = roles_from(roles, number + 1);
         let later_arrows = without(arrows, is_arrow(role, word));
         let verdict = verdict_on(role, word, later_words, later_roles, later_arrows > 0);
-        let found = seen.splits.ranges_at(alloc, role, word)?;
+        seen.splits.ranges_at(&mut found, role, word)?;
         let form = form_refusal(
             &seen,
             (role, word),
@@ -205,7 +206,7 @@ pub fn judge<'a>(
         if let Some(kind) = form {
             return Ok(Some(Fault { kind, word: number }));
         }
-        seen.take(role, word, verdict, found)?;
+        seen.take(role, word, verdict, &mut found)?;
         if let Some(kind) = limit_refusal(&seen, role, word) {
             return Ok(Some(Fault { kind, word: number }));
         }

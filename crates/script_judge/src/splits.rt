@@ -1,7 +1,7 @@
 //! Split ranges of variables, and points that split them.
 
-ghost use Rattle.std.specs.Prelude.{◌≡◌, ◌≤◌, ◌&&◌, not, nat_lt, map, Some, IfOk, OnOk};
-ghost use Rattle.std.specs.List.{list_any};
+ghost use Rattle.std.specs.Prelude.{◌≡◌, ◌≤◌, ◌&&◌, not, nat_lt, [], map, Some, OnOk};
+ghost use Rattle.std.specs.List.{flat_map, list_any};
 ghost use Rattle.std.specs.Option.{option_copied, option_map};
 ghost use Rattle.bound_order.specs.dyadic.Values.{value_of as grid_value};
 ghost use Rattle.bound_order.specs.Tests.{is_less};
@@ -19,10 +19,11 @@ use crate::names::split_name;
 use crate::sides::is_or;
 use crate::subject::{Alias, Subject, add_alias, subject_after};
 use bound_order::{Dyadic, Written, down, up};
-use script_cases::Parts;
+use script_cases::{Conjunctions, Parts};
 use script_shape::due::Due;
 use script_shape::{Sign, Word};
 use std::alloc::{AllocError, Global};
+use std::mem::swap;
 
 /// The ends of a split range.
 #[derive(Clone, Copy)]
@@ -133,33 +134,47 @@ fn read_range<'a>(
     connect(ranges, role, word)
 }
 
-/// Keeps the ranges of a split variable, if there is a new one.
-fn keep_ranges(cut: &mut Vec<Option<Ends>>, found: Vec<Option<Ends>>, name: Option<&[u8]>)
+/// Keeps the ranges of a split variable, if there is a new one. In `found` are then the old ones.
+fn keep_ranges(cut: &mut Vec<Option<Ends>>, found: &mut Vec<Option<Ends>>, name: Option<&[u8]>)
     ensures { map (option_map ends_seen) cut.new.items
         ≡ spec.cut_after (map (option_map ends_seen) cut.old.items)
-        (map (option_map ends_seen) found.items) (option_copied name.entry) }
+        (map (option_map ends_seen) found.old.items) (option_copied name.entry) }
 {
     if name.is_some() {
-        *cut = found;
+        swap(cut, found);
     }
 }
 
-/// The range of a variable in each case.
-fn case_ranges(
-    alloc: Global,
+/// The range of a variable in a case, which takes these conjunctions.
+fn range_in(conjunctions: Conjunctions<'_, SplitRange<'_>>, name: &[u8]) -> Option<Ends>
+    ensures { option_map ends_seen result
+        ≡ spec.range_of (map range_seen (flat_map (λ c. c) conjunctions.entry)) name.now }
+{
+    let mut conjunctions = conjunctions;
+    while let Some(ranges) = conjunctions.next() {
+        let range = range_of(ranges, name);
+        if range.is_some() {
+            return range;
+        }
+    }
+    None
+}
+
+/// Adds the range of a variable in each case.
+fn add_case_ranges(
+    found: &mut Vec<Option<Ends>>,
     ranges: &Parts<SplitRange<'_>>,
     name: &[u8],
-) -> Result<Vec<Option<Ends>>, AllocError>
-    requires { case_count ranges.now.before ≤ 64 }
-    ensures { IfOk result (λ found. map (option_map ends_seen) found.items
+) -> Result<(), AllocError>
+    requires few { case_count ranges.now.before ≤ 64 }
+    requires empty { found.old.items ≡ [] }
+    ensures { OnOk result (map (option_map ends_seen) found.new.items
         ≡ spec.case_ranges (map_parts range_seen ranges.now) name.now) }
 {
-    let mut found = Vec::new(alloc);
     for number in 0..ranges.case_count() {
-        let case = ranges.case(alloc, number)?;
-        found.push(range_of(case.as_slice(), name))?;
+        found.push(range_in(ranges.conjunctions(number), name))?;
     }
-    Ok(found)
+    Ok(())
 }
 
 /// Whether a range is missing.
@@ -311,20 +326,22 @@ impl<'a> Splits<'a> {
         }
     }
 
-    /// The range of a split variable in each case, or nothing where the token is none.
+    /// Writes the range of a split variable in each case, or nothing where the token is none, in
+    /// place of what stands in `found`.
     pub fn ranges_at(
         &self,
-        alloc: Global,
+        found: &mut Vec<Option<Ends>>,
         role: Due,
         word: Word<'a>,
-    ) -> Result<Vec<Option<Ends>>, AllocError>
+    ) -> Result<(), AllocError>
         requires { begun_cases (splits_seen self.now).ranges ≤ 64 }
-        ensures { IfOk result (λ found. map (option_map ends_seen) found.items
+        ensures { OnOk result (map (option_map ends_seen) found.new.items
             ≡ spec.ranges_at (splits_seen self.now).ranges (names.split_name role (word_of word.entry))) }
     {
+        found.clear();
         match split_name(role, word) {
-            Some(name) => case_ranges(alloc, &self.ranges, name),
-            None => Ok(Vec::new(alloc)),
+            Some(name) => add_case_ranges(found, &self.ranges, name),
+            None => Ok(()),
         }
     }
 
@@ -355,17 +372,17 @@ impl<'a> Splits<'a> {
         in_points && is_no_split(self.cut.as_slice(), self.before, number)
     }
 
-    /// Takes a token, with the ranges of the split variable that it is. After an `Err` it is not to
-    /// be used on.
+    /// Takes a token, with the ranges of the split variable that it is: `found` has others then.
+    /// After an `Err` it is not to be used on.
     pub fn take(
         &mut self,
         told: Told<'a>,
-        found: Vec<Option<Ends>>,
+        found: &mut Vec<Option<Ends>>,
         role: Due,
         word: Word<'a>,
     ) -> Result<(), AllocError>
         requires number { IsWritten told.number }
-        requires found { map (option_map ends_seen) found.items
+        requires found { map (option_map ends_seen) found.old.items
             ≡ spec.ranges_at (splits_seen self.old).ranges (names.split_name role (word_of word)) }
         ensures { OnOk result (splits_seen self.new ≡ spec.splits_after (splits_seen self.old)
             (option_copied told.entry.ended) told.entry.defined told.entry.arrow_behind

@@ -1,4 +1,4 @@
-use Rattle.std.proofs.Common.{◌≡◌, nat_lt, not, ◌&&◌, ◌∙◌, sym, ap}
+use Rattle.std.proofs.Common.{◌≡◌, nat_lt, not, ◌&&◌, ◌∙◌, ap}
 use Rattle.std.specs.List.{list_any}
 use Rattle.script_shape.specs.script_words.Named.{word_of}
 use Rattle.script_shape.specs.script_words.Kept.{words_in}

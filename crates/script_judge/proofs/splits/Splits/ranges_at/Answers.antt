@@ -4,5 +4,5 @@ use Rattle.script_cases.specs.Mapped.{begun_mapped}
 use Rattle.script_judge.specs.SplitViews.{range_seen}
 use Rattle.script_judge.proofs.splits.Splits.ranges_at.Goals as goal
 
-pub case_ranges-requires : goal.case_ranges-requires
-case_ranges-requires c = omega (arith, c.requires, begun_mapped range_seen c.args.self.now.ranges, few_before c.args.self.now.ranges)
+pub add_case_ranges-requires-clause-few : goal.add_case_ranges-requires-clause-few
+add_case_ranges-requires-clause-few c = omega (arith, c.requires, begun_mapped range_seen c.args.self.now.ranges, few_before c.args.self.now.ranges)
