@@ -86,8 +86,10 @@ pub fn found_of(
     }
 }
 
-// What is found of a script with this universe, by so many workers.
-fn prove_cases<G: Gate, R: Threads + Wait + Sync>(
+/// What is found of a script over its universe, by so many workers. The universe stays the
+/// script's, with what was assumed last, also where memory runs out, which is the only error. It
+/// may wait.
+pub fn prove_over<G: Gate, R: Threads + Wait + Sync>(
     rt: &R,
     alloc: Global,
     script: &Script<'_>,
@@ -98,7 +100,8 @@ fn prove_cases<G: Gate, R: Threads + Wait + Sync>(
     requires universe { IsUniverse script.now [] universe.old }
     requires few { ¬ IsTooLarge script.now }
     requires allowed { AreAllowed options }
-    ensures { IfOk result (IsFound (options_from options) script.now) }
+    ensures found { IfOk result (IsFound (options_from options) script.now) }
+    ensures universe { (after : List Claim) × IsUniverse script.now after universe.new }
 {
     let outcome = answer(
         rt,
@@ -115,7 +118,7 @@ fn prove_cases<G: Gate, R: Threads + Wait + Sync>(
 }
 
 // The same by this thread alone.
-fn prove_cases_alone(
+fn prove_over_alone(
     alloc: Global,
     script: &Script<'_>,
     universe: &mut Universe,
@@ -151,7 +154,7 @@ pub fn prove_script<G: Gate, R: Threads + Wait + Sync>(
 {
     script.laws();
     match build(alloc, script) {
-        Ok(mut universe) => prove_cases(rt, alloc, script, &mut universe, options, gate),
+        Ok(mut universe) => prove_over(rt, alloc, script, &mut universe, options, gate),
         Err(UniverseFault::ExprLimit) => Ok(Found::Stopped(
             Status::Limit,
             expressions_text().to_vec(alloc)?,
@@ -171,7 +174,7 @@ pub fn prove_script_alone(
 {
     script.laws();
     match build(alloc, script) {
-        Ok(mut universe) => prove_cases_alone(alloc, script, &mut universe, options),
+        Ok(mut universe) => prove_over_alone(alloc, script, &mut universe, options),
         Err(UniverseFault::ExprLimit) => Ok(Found::Stopped(
             Status::Limit,
             expressions_text().to_vec(alloc)?,

@@ -16,7 +16,7 @@ mod made;
 mod options;
 
 pub use answers::{answer, answer_alone, lines_for};
-pub use found::{Found, found_of, prove_script, prove_script_alone};
+pub use found::{Found, found_of, prove_over, prove_script, prove_script_alone};
 pub use laws::{made_answers_are_one, text_answers_are_one};
 pub use made::made_answer;
 pub use options::{Options, made_options, options_of};

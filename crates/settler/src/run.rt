@@ -148,7 +148,8 @@ fn answer_cases<A: Fn(&Universe, &Plan, u32) -> Result<Outcome, AllocError>>(
         × ((claims : List (List Claim)) × AreCases script.now depth claims cases.now) }
     requires few { length cases.now ≤ 64 }
     requires boxes { boxes ≤ 8192 }
-    ensures { IfOk result (IsAnswerOfAll (trees_in universe.old rounds cases.now) boxes) }
+    ensures comes { IfOk result (IsAnswerOfAll (trees_in universe.old rounds cases.now) boxes) }
+    ensures universe { (after : List Claim) × IsUniverse script.now after universe.new }
 {
     trees_are_gathered();
     let mut gathered = Gathered::new(alloc, boxes);
@@ -186,6 +187,7 @@ fn answer_by<A: Fn(&Universe, &Plan, u32) -> Result<Outcome, AllocError>>(
     requires boxes { boxes ≤ 8192 }
     ensures comes { IfOk result (ComesTo script.now (options rounds depth boxes)) }
     ensures holds { IfOk result (λ _. ProvedHolds script.now (options rounds depth boxes)) }
+    ensures universe { (after : List Claim) × IsUniverse script.now after universe.new }
 {
     script.laws();
     universe.laws();
@@ -204,7 +206,8 @@ fn answer_by<A: Fn(&Universe, &Plan, u32) -> Result<Outcome, AllocError>>(
 /// may have so many boxes (1 to 8,192) together. Each box is settled by one of so many workers (1
 /// to 16), each of which calls the gate before and after it settles a box. Neither their number nor
 /// their schedule changes the answer. What is assumed in the universe before and behind the call is
-/// no part of it. It may wait. Want of memory is the only error.
+/// no part of it: it stays the script's, also after want of memory, which is the only error. It may
+/// wait.
 pub fn answer<G: Gate, R: Threads + Wait + Sync>(
     rt: &R,
     alloc: Global,
@@ -224,6 +227,7 @@ pub fn answer<G: Gate, R: Threads + Wait + Sync>(
     ensures comes { IfOk result (ComesTo script.now (options rounds depth boxes)) }
     // Where it is proved, its lines hold, and its goals are true.
     ensures holds { IfOk result (λ _. ProvedHolds script.now (options rounds depth boxes)) }
+    ensures universe { (after : List Claim) × IsUniverse script.now after universe.new }
 {
     answer_by(
         alloc,
@@ -259,6 +263,7 @@ pub fn answer_alone(
     ensures comes { IfOk result (ComesTo script.now (options rounds depth boxes)) }
     // Where it is proved, its lines hold, and its goals are true.
     ensures holds { IfOk result (λ _. ProvedHolds script.now (options rounds depth boxes)) }
+    ensures universe { (after : List Claim) × IsUniverse script.now after universe.new }
 {
     answer_by(
         alloc,

@@ -22,7 +22,7 @@ returns-clause-comes g c =
     let s = c.args.script.now in
     let u = c.args.universe.now in
     let are : AreCases s c.args.depth (cases_of s) c.deref.result.now = subst (λ (cs : List Case). AreCases s c.args.depth (cases_of s) cs) (sym c.deref.ensures.value) c.in_ok-cases.ensures in
-    ok_map c.answer_cases.result c.answer_cases.ensures
+    ok_map c.answer_cases.result c.answer_cases.ensures.comes
     (comes_to s (options c.args.rounds c.args.depth c.args.boxes) u c.requires.universe.0 c.requires.universe.1
     c.best_tables_exist.ensures.exist c.boxes_come_to_one_state.ensures c.settling_facts.ensures.stronger c.rules_are_lawful.ensures c.laws-2.ensures.universe.closed c.requires.small c.deref.result.now are)
 
@@ -31,6 +31,6 @@ returns-clause-holds g c =
     let s = c.args.script.now in
     let u = c.args.universe.now in
     let o : Options = options c.args.rounds c.args.depth c.args.boxes in
-    ok_map c.answer_cases.result c.answer_cases.ensures
+    ok_map c.answer_cases.result c.answer_cases.ensures.comes
     (λ found a. c.proved_answers_hold.ensures s o
     (each_holds s o u c.requires.universe.0 c.requires.universe.1 c.cases_hold.ensures c.laws.ensures.names c.laws.ensures.ordered c.laws-2.ensures.ordered c.in_ok-cases.cases.items c.in_ok-cases.ensures))

@@ -43,9 +43,14 @@ returns-then-left-eq0 g c =
     let planned : ArePlanned s (case ∷ drop (i + 1) cs) = subst (ArePlanned s) split (planned_drop s cs c.requires.cases i) in
     let left = c.left-left.ensures.left in
     let none = c.if-left-eq0.true in
-    c.trees_are_gathered.ensures.starts (trees_in u r cs) c.args.boxes cases.BoxLimit
-    (c.loop-case.invariant.ends cases.BoxLimit (subst (λ xs. EndsAs w (trees_in u r xs) cases.BoxLimit) (sym split)
-    (none_left c.trees_are_gathered.ensures.boxes s u r c.trees_are_gathered.ensures.none w case (drop (i + 1) cs) planned (omega (arith, left, none)))))
+    record {
+      comes = c.trees_are_gathered.ensures.starts (trees_in u r cs) c.args.boxes cases.BoxLimit
+          (c.loop-case.invariant.ends cases.BoxLimit
+          (subst (λ xs. EndsAs w (trees_in u r xs) cases.BoxLimit) (sym split)
+          (none_left c.trees_are_gathered.ensures.boxes s u r c.trees_are_gathered.ensures.none
+          w case (drop (i + 1) cs) planned (omega (arith, left, none)))));
+      universe = c.loop-case.invariant.universe;
+    }
 
 pub assume-requires-clause-universe : goal.assume-requires-clause-universe
 assume-requires-clause-universe g c = c.loop-case.invariant.universe
@@ -109,10 +114,15 @@ returns-then-not-branch g c =
     let split : drop i cs ≡ case ∷ drop (i + 1) cs = drop_at cs i case item in
     let planned : ArePlanned s (case ∷ drop (i + 1) cs) = subst (ArePlanned s) split (planned_drop s cs c.requires.cases i) in
     let universe : c.assume.new.universe ≡ assuming u (facts_of case.claims) = c.in_ok-assume.ensures.assumed ∙ ap (λ claims. assuming c.loop-case.universe (facts_of claims)) c.as_slice.ensures ∙ inv.same (facts_of case.claims) in
-    c.trees_are_gathered.ensures.starts (trees_in u r cs) c.args.boxes cases.BoxLimit
-    (inv.ends cases.BoxLimit (subst (λ xs. EndsAs w (trees_in u r xs) cases.BoxLimit) (sym split)
-    (too_many c.trees_are_gathered.ensures.boxes s u r c.trees_are_gathered.ensures.over w c.assume.new.universe case (drop (i + 1) cs) c.left-left.result c.in_ok-outcome.outcome
-    planned c.left-left.ensures.within universe c.left-left.ensures.left c.in_ok-outcome.ensures (c.in_ok-add.ensures.over c.if-not-branch.true))))
+    record {
+      comes = c.trees_are_gathered.ensures.starts (trees_in u r cs) c.args.boxes cases.BoxLimit
+          (inv.ends cases.BoxLimit (subst (λ xs. EndsAs w (trees_in u r xs) cases.BoxLimit) (sym split)
+          (too_many c.trees_are_gathered.ensures.boxes s u r c.trees_are_gathered.ensures.over
+          w c.assume.new.universe case (drop (i + 1) cs) c.left-left.result c.in_ok-outcome.outcome
+          planned c.left-left.ensures.within universe c.left-left.ensures.left
+          c.in_ok-outcome.ensures (c.in_ok-add.ensures.over c.if-not-branch.true))));
+      universe = (c.as_slice.result.now, c.in_ok-assume.ensures.universe);
+    }
 
 pub loop-case-preserved : goal.loop-case-preserved
 loop-case-preserved g c =
@@ -156,6 +166,10 @@ returns g c =
     let i = c.loop-case.case-index in
     let w = c.loop-case.gathered in
     let inv = c.loop-case.invariant in
-    c.trees_are_gathered.ensures.starts (trees_in u r cs) c.args.boxes c.finish.result
-    (inv.ends c.finish.result (subst (λ xs. EndsAs w (trees_in u r xs) c.finish.result) (sym (drop_all cs i (omega (arith, c.loop-case-test.false))))
-    (subst (EndsAs w []) (sym c.finish.ensures) (c.trees_are_gathered.ensures.end w inv.room))))
+    record {
+      comes = c.trees_are_gathered.ensures.starts (trees_in u r cs) c.args.boxes c.finish.result
+          (inv.ends c.finish.result (subst (λ xs. EndsAs w (trees_in u r xs) c.finish.result)
+          (sym (drop_all cs i (omega (arith, c.loop-case-test.false))))
+          (subst (EndsAs w []) (sym c.finish.ensures) (c.trees_are_gathered.ensures.end w inv.room))));
+      universe = inv.universe;
+    }
