@@ -2,7 +2,8 @@
 ghost use Rattle.std.specs.Prelude.{◌≡◌, ◌<◌, IfOk, List, ◌∷◌, length};
 ghost use Rattle.rule_universe.specs.derivation.Known.{Piece, IsTableAt};
 ghost use Rattle.saturate.specs.Tables.{fact_at};
-ghost use Rattle.saturate.specs.Universes.{setting_by, HasAllPlaces};
+ghost use Rattle.saturate.specs.Universes.{setting_by, setting_of, HasAllPlaces};
+ghost use Rattle.saturate.specs.Closed.{IsMarked, IsMarkedParent};
 ghost use Rattle.saturate.specs.Boxes.{IsSomeBox, IsOfUniverse, IsTableBelow, IsCostBelow};
 ghost use Rattle.saturate.specs.Boxes.{IsSomeBoxIn, IsItsTableIn, IsItsStateIn, IsItsCostIn};
 ghost use Rattle.saturate.specs.Boxes.{IsItsTable, IsItsState, table_of, state_of};
@@ -13,7 +14,7 @@ use crate::improve::improve;
 use crate::judge::judge;
 use crate::kept::Table;
 use crate::root::settle_root;
-use crate::rounds::rounds;
+use crate::rounds::{rounds, rounds_from};
 use crate::settled::Settled;
 use crate::steps::Steps;
 use fx_model::ExprId;
@@ -36,17 +37,24 @@ fn settle_child<C: Concludes>(
     requires places { HasAllPlaces uni.now parent.now }
     requires parent { (above : List Piece) ×
         IsTableAt (setting_by C.rules uni.now) height above (fact_at parent.now) }
+    requires marked { IsMarked (setting_by C.rules uni.now) parent.now }
     ensures table { IfOk result (λ t.
         IsTableBelow (setting_by C.rules uni.now) height (piece.0, piece.1) parent.now t) }
     ensures places { IfOk result (HasAllPlaces uni.now) }
+    ensures marked { IfOk result (IsMarked (setting_by C.rules uni.now)) }
     ensures cost { IsCostBelow (setting_by C.rules uni.now) height (piece.0, piece.1) parent.now
         (C.asked steps.old) (C.asked steps.new) }
 {
     uni.laws();
     C::rules_are_lawful();
     let mut start = parent.copy(alloc)?;
-    let _changed = improve(&mut start, Fact::Bnd(piece.0, piece.1), (piece.0).0);
-    rounds(uni, start, height, area, steps)
+    let place = (piece.0).0;
+    let changed = improve(&mut start, Fact::Bnd(piece.0, piece.1), place);
+    if parent.closed {
+        rounds_from(uni, start, changed, place, height, area, steps)
+    } else {
+        rounds(uni, start, height, area, steps)
+    }
 }
 
 // The best table of a box.
@@ -61,9 +69,11 @@ fn best_table<C: Concludes>(
 ) -> Result<Table, AllocError>
     requires given { IsSomeBoxIn (setting_by C.rules uni.now) height piece parent }
     requires places { IsOfUniverse uni.now piece parent }
+    requires marked { IsMarkedParent (setting_by C.rules uni.now) parent }
     ensures table { IfOk result
         (IsItsTableIn (setting_by C.rules uni.now) height piece parent.entry) }
     ensures places { IfOk result (HasAllPlaces uni.now) }
+    ensures marked { IfOk result (IsMarked (setting_by C.rules uni.now)) }
     ensures cost { IsItsCostIn (setting_by C.rules uni.now) height piece parent.entry
         (C.asked steps.old) (C.asked steps.new) }
 {
@@ -89,6 +99,8 @@ pub fn settle_counted<C: Concludes>(
 ) -> Result<Settled, AllocError>
     requires given { IsSomeBoxIn (setting_by C.rules uni.now) rounds piece parent }
     requires places { IsOfUniverse uni.now piece parent }
+    // Where the parent's table says that it is closed, it is: its own call ensured so.
+    requires marked { IsMarkedParent (setting_by C.rules uni.now) parent }
     // The table has the best facts that are known at the box.
     ensures table { IfOk result (λ settled.
         IsItsTableIn (setting_by C.rules uni.now) rounds piece parent.entry (table_of settled)) }
@@ -98,8 +110,10 @@ pub fn settle_counted<C: Concludes>(
         IsItsStateIn (setting_by C.rules uni.now) uni.now.goals rounds piece parent.entry
         (state_of settled)) }
     ensures places { IfOk result (λ settled. HasAllPlaces uni.now (table_of settled)) }
-    // Each instance is applied once, and from the second round on only where a premise's best fact
-    // changed in the round before. No more where memory runs out.
+    ensures marked { IfOk result (λ settled.
+        IsMarked (setting_by C.rules uni.now) (table_of settled)) }
+    // Each instance is applied at most once, and from the second round on only where a premise's
+    // best fact changed in the round before. No more where memory runs out.
     ensures cost { IsItsCostIn (setting_by C.rules uni.now) rounds piece parent.entry
         (C.asked steps.old) (C.asked steps.new) }
 {
@@ -124,9 +138,11 @@ fn settle_blank<L: Ledger>(
     requires some { 0 < blank.parts }
     requires given { IsSomeBox uni.now rounds piece parent }
     requires places { IsOfUniverse uni.now piece parent }
+    requires marked { IsMarkedParent (setting_of uni.now) parent }
     ensures table { IfOk result (λ settled. IsItsTable uni.now rounds piece parent.entry (table_of settled)) }
     ensures state { IfOk result (λ settled. IsItsState uni.now rounds piece parent.entry (state_of settled)) }
     ensures places { IfOk result (λ settled. HasAllPlaces uni.now (table_of settled)) }
+    ensures marked { IfOk result (λ settled. IsMarked (setting_of uni.now) (table_of settled)) }
 {
     let mut steps = Steps::<L>::new(blank);
     settle_counted(alloc, uni, piece, parent, rounds, area, &mut steps)
@@ -143,9 +159,11 @@ pub fn settle_in(
 ) -> Result<Settled, AllocError>
     requires given { IsSomeBox uni.now rounds piece parent }
     requires places { IsOfUniverse uni.now piece parent }
+    requires marked { IsMarkedParent (setting_of uni.now) parent }
     ensures table { IfOk result (λ settled. IsItsTable uni.now rounds piece parent.entry (table_of settled)) }
     ensures state { IfOk result (λ settled. IsItsState uni.now rounds piece parent.entry (state_of settled)) }
     ensures places { IfOk result (λ settled. HasAllPlaces uni.now (table_of settled)) }
+    ensures marked { IfOk result (λ settled. IsMarked (setting_of uni.now) (table_of settled)) }
 {
     settle_blank::<Brand>(alloc, uni, piece, parent, rounds, area, Blank::new(1))
 }
@@ -160,9 +178,11 @@ pub fn settle(
 ) -> Result<Settled, AllocError>
     requires given { IsSomeBox uni.now rounds piece parent }
     requires places { IsOfUniverse uni.now piece parent }
+    requires marked { IsMarkedParent (setting_of uni.now) parent }
     ensures table { IfOk result (λ settled. IsItsTable uni.now rounds piece parent.entry (table_of settled)) }
     ensures state { IfOk result (λ settled. IsItsState uni.now rounds piece parent.entry (state_of settled)) }
     ensures places { IfOk result (λ settled. HasAllPlaces uni.now (table_of settled)) }
+    ensures marked { IfOk result (λ settled. IsMarked (setting_of uni.now) (table_of settled)) }
 {
     settle_in(alloc, uni, piece, parent, rounds, &mut Area::new(alloc))
 }

@@ -1,5 +1,5 @@
 -- What a script comes to, from what the trees of its cases come to.
-use Rattle.std.specs.Prelude.{◌≡◌, ℕ, List, [], ◌∷◌, Some, slice_get}
+use Rattle.std.specs.Prelude.{List, [], ◌∷◌}
 use Rattle.std.proofs.Common.{subst}
 use Rattle.fx_model.specs.Expression.{IsOrdered}
 use Rattle.fx_model.specs.declared.Node.{Node}

@@ -1,14 +1,12 @@
 -- What settled leaves say is true of assignments.
-use Rattle.std.specs.Prelude.{◌≡◌, ℕ, List, Some, slice_get, refl}
+use Rattle.std.specs.Prelude.{◌≡◌, ℕ, List}
 use Rattle.std.proofs.Common.{sym, subst}
 use Rattle.fx_model.specs.Expression.{Assignment}
 use Rattle.saturate.specs.facts.declared.fact.Fact.{Fact}
 use Rattle.saturate.specs.facts.declared.fact.Fact.TheVariants as fact
 use Rattle.saturate.specs.facts.Holds.{Holds}
 use Rattle.saturate.specs.derivation.Known.{Known}
-use Rattle.script_truths.specs.script_grammar.Spells.{View}
-use Rattle.script_truths.specs.script_meets.Meets.{Meets}
-use Rattle.script_truths.specs.Truths.{AreTrue, HasUniverse, WhereMet, HypothesesHold, HintsAreTrue, LiesInWholeBox}
+use Rattle.script_truths.specs.Truths.{HasUniverse, WhereMet, HypothesesHold, HintsAreTrue, LiesInWholeBox}
 use Rattle.saturate.specs.rule_universe.Worlds.{World}
 use Rattle.script_truths.specs.universe.Universes.{UniversesAreOne}
 use Rattle.saturate.specs.Universes.{setting_of}
@@ -17,10 +15,9 @@ use Rattle.case_trees.specs.box_tree.Regions.{PlanParts}
 use Rattle.case_trees.specs.bisect.declared.settler.State.{State}
 use Rattle.case_trees.specs.bisect.declared.settler.State.TheVariants as state
 use Rattle.case_trees.specs.bisect.Trees.{Tree, IsLeaf}
-use Rattle.settler.specs.declared.cases.Case.{Case}
 use Rattle.settler.specs.Standing.{StandsAs}
-use Rattle.settler.specs.Answers.{Options, plan_of, tree_by, IsTreeOf}
-use Rattle.settler.specs.Cases.{IsCaseOf, LawfulCasesHold}
+use Rattle.settler.specs.Answers.{plan_of, tree_by}
+use Rattle.settler.specs.Cases.{LawfulCasesHold}
 use Rattle.settler.specs.Held.{MeetsUniverse, IsClosed, HasHeldLeaf, SettledLeavesHold}
 use Rattle.settler.proofs.Tight.{settled_fact}
 

@@ -1,5 +1,5 @@
 -- A script of one case comes to what its tree comes to.
-use Rattle.std.specs.Prelude.{◌≡◌, ℕ, List, [], ◌∷◌}
+use Rattle.std.specs.Prelude.{List, [], ◌∷◌}
 use Rattle.std.proofs.Common.{subst}
 use Rattle.case_trees.specs.script_claims.declared.claim.Claim.{Claim}
 use Rattle.script_truths.specs.script_grammar.Spells.{View}

@@ -1,26 +1,23 @@
 -- Cases are answered one after the other.
-use Rattle.std.specs.Prelude.{◌≡◌, ◌≢◌, ◌<◌, ◌≤◌, ◌+◌, ◌-◌, ℕ, zero, suc, List, [], ◌∷◌, length, map, drop, Some, slice_get, refl}
+use Rattle.std.specs.Prelude.{◌≡◌, ◌≢◌, ◌≤◌, ◌+◌, ℕ, zero, suc, List, [], ◌∷◌, length, drop, Some, slice_get, refl}
 use Rattle.std.specs.List.{AllByRecursion}
 use Rattle.std.proofs.Common.{arith, sym, ◌∙◌, ap, subst}
-use Rattle.saturate.specs.facts.declared.fact.Fact.{Fact}
 use Rattle.case_trees.specs.script_claims.declared.claim.Claim.{Claim}
-use Rattle.case_trees.specs.script_claims.Facts.{HasNormalBounds}
 use Rattle.script_truths.specs.script_grammar.Spells.{View}
 use Rattle.saturate.specs.rule_universe.Worlds.{World}
 use Rattle.saturate.specs.rule_universe.Assumed.{assuming}
-use Rattle.script_truths.specs.universe.Cases.{AreHypotheses}
-use Rattle.script_truths.specs.universe.Universes.{IsUniverse, facts_of}
+use Rattle.script_truths.specs.universe.Universes.{facts_of}
 use Rattle.case_trees.specs.box_tree.declared.cut.Cut.{Cut}
 use Rattle.case_trees.specs.box_tree.Pieces.{piece_count}
 use Rattle.case_trees.specs.box_tree.Plans.{cut_at}
 use Rattle.case_trees.specs.bisect.declared.settler.State.{State}
 use Rattle.case_trees.specs.bisect.declared.outcome.Outcome.{Outcome}
 use Rattle.case_trees.specs.bisect.declared.outcome.Outcome.TheVariants as outcome
-use Rattle.case_trees.specs.bisect.Trees.{Tree, tree_of}
+use Rattle.case_trees.specs.bisect.Trees.{tree_of}
 use Rattle.case_trees.specs.bisect.Answers.{IsAnswer}
 use Rattle.case_trees.specs.declared.outcome.CaseOutcome.{CaseOutcome}
 use Rattle.case_trees.specs.declared.outcome.CaseOutcome.TheVariants as cases
-use Rattle.case_trees.specs.Gathered.{Seen, HasBoxes, EndsAs, IsWithin, boxes_left, with_outcome, end_of}
+use Rattle.case_trees.specs.Gathered.{Seen, HasBoxes, EndsAs, IsWithin, boxes_left, with_outcome}
 use Rattle.case_trees.specs.Laws.{GoesOn, StopsOver, StopsAtNone}
 use Rattle.settler.specs.declared.cases.Case.{Case}
 use Rattle.settler.specs.Cases.{IsCaseOf, AreCases, tree_in, trees_in}

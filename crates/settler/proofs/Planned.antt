@@ -1,7 +1,6 @@
 -- Cases with their plans, one after the other.
-use Rattle.std.specs.Prelude.{◌≡◌, ◌+◌, ◌++◌, ◌≤◌, ℕ, zero, suc, List, [], ◌∷◌, length, map, Some, take, slice_get, refl}
-use Rattle.std.specs.List.{AllByRecursion}
-use Rattle.std.proofs.Common.{arith, ap, sym, ◌∙◌, subst}
+use Rattle.std.specs.Prelude.{◌≡◌, ◌+◌, ◌++◌, ℕ, zero, suc, List, [], ◌∷◌, length, Some, take, slice_get, refl}
+use Rattle.std.proofs.Common.{arith, ap, ◌∙◌}
 use Rattle.case_trees.specs.script_claims.declared.claim.Claim.{Claim}
 use Rattle.script_truths.specs.script_grammar.Spells.{View}
 use Rattle.settler.specs.declared.cases.Case.{Case}

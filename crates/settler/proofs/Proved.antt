@@ -1,15 +1,13 @@
 -- What is true where a script is proved.
 use Rattle.std.specs.Prelude.{◌≡◌, ℕ, zero, suc, List, [], ◌∷◌, length, Some, slice_get, refl}
-use Rattle.std.proofs.Common.{◌∙◌, ap, sym, subst}
+use Rattle.std.proofs.Common.{◌∙◌, ap, subst}
 use Rattle.std.proofs.lemmas.Option.{slice_get_within}
-use Rattle.fx_model.specs.Expression.{Assignment}
 use Rattle.saturate.specs.goals.declared.line.Line.{Line}
 use Rattle.saturate.specs.goals.Holds.{LineHolds}
 use Rattle.saturate.specs.goals.Stronger.{AreOfGoals}
 use Rattle.case_trees.specs.script_claims.declared.claim.Claim.{Claim}
 use Rattle.case_trees.specs.script_claims.Facts.{slot_of}
 use Rattle.script_truths.specs.script_grammar.Spells.{View}
-use Rattle.script_truths.specs.script_meets.Meets.{Meets}
 use Rattle.saturate.specs.rule_universe.Worlds.{World}
 use Rattle.script_truths.specs.script_grammar.Cases.{cases_of}
 use Rattle.script_truths.specs.universe.Universes.{goal_of}
@@ -18,8 +16,8 @@ use Rattle.case_trees.specs.bisect.Gathered.{line_of}
 use Rattle.case_trees.specs.Listed.{Listed, all_leaves}
 use Rattle.case_trees.specs.Laws.{NoneIsOpen, LinesHoldOfEach}
 use Rattle.script_truths.specs.Truths.{SomeCaseIsMet, OfUniverses, SettledGoalsAreTrue, GoalLinesHold}
-use Rattle.settler.specs.Answers.{Options, AreTrees, IsTreeOf, IsProved}
-use Rattle.settler.specs.Held.{CasesHold, IsClosed, AreHeld, ProvedHolds}
+use Rattle.settler.specs.Answers.{Options, AreTrees, IsTreeOf}
+use Rattle.settler.specs.Held.{CasesHold, IsClosed, ProvedHolds}
 use Rattle.settler.proofs.Tight.{goal_there, line_there}
 
 -- the tree of the case in a place

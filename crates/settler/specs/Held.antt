@@ -13,7 +13,7 @@ use Rattle.case_trees.specs.script_claims.Meets.{IsTrueAt}
 use Rattle.script_truths.specs.script_grammar.Spells.{View}
 use Rattle.script_truths.specs.script_meets.Meets.{Meets}
 use Rattle.script_truths.specs.Truths.{AreTrue, HasUniverse}
-use Rattle.settler.specs.Answers.{Options, plan_of, IsTreeOf, IsProved}
+use Rattle.settler.specs.Answers.{Options, IsTreeOf, IsProved}
 use Rattle.saturate.specs.theorem_list.Promises.{RowsAreTrue}
 use Rattle.saturate.specs.rule_universe.Worlds.{World}
 use Rattle.script_truths.specs.script_grammar.Cases.{cases_of}

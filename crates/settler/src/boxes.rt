@@ -7,6 +7,7 @@ ghost use Rattle.saturate.specs.derivation.Known.{IsTableAt};
 ghost use Rattle.saturate.specs.derivation.Settled.{IsState};
 ghost use Rattle.saturate.specs.Tables.{fact_at};
 ghost use Rattle.saturate.specs.Universes.{setting_of, HasAllPlaces};
+ghost use Rattle.saturate.specs.Closed.{IsMarked, IsMarkedParent};
 ghost use Rattle.saturate.specs.Boxes.{IsBox, IsOfUniverse, table_of, state_of};
 ghost use Rattle.settler.specs.Decided.{goal_facts, state_with, state_at};
 ghost use Rattle.settler.specs.Frames.{Fits};
@@ -128,6 +129,7 @@ impl<'a, F: Frame> Boxes<'a, F> {
         requires parent { MatchOption parent (path.now ≡ []) (λ e. IsChild e.now path.now) }
         ensures is { IsBox F.universe F.rounds result.0 result.1 (pieces_at F.plan path.now) }
         ensures of { IsOfUniverse F.universe result.0 result.1 }
+        ensures marked { IsMarkedParent (setting_of F.universe) result.1 }
     {
         self.plan.covers();
         match parent {
@@ -148,6 +150,7 @@ impl<'a, F: Frame> Boxes<'a, F> {
         ensures table { IfOk result (λ r. IsTableAt (setting_of F.universe) F.rounds (pieces_at F.plan path.now) (fact_at (table_of r))) }
         ensures state { IfOk result (λ r. IsState (setting_of F.universe) F.universe.goals F.rounds (pieces_at F.plan path.now) (state_of r)) }
         ensures places { IfOk result (λ r. HasAllPlaces F.universe (table_of r)) }
+        ensures marked { IfOk result (λ r. IsMarked (setting_of F.universe) (table_of r)) }
     {
         let (piece, table) = self.given(path, parent);
         settle(alloc, self.universe, piece, table, self.rounds)
@@ -163,6 +166,7 @@ impl<'a, F: Frame> Boxes<'a, F> {
         requires table { IsTableAt (setting_of F.universe) F.rounds (pieces_at F.plan path) (fact_at (table_of settled)) }
         requires state { IsState (setting_of F.universe) F.universe.goals F.rounds (pieces_at F.plan path) (state_of settled) }
         requires places { HasAllPlaces F.universe (table_of settled) }
+        requires marked { IsMarked (setting_of F.universe) (table_of settled) }
         ensures entry { IfOk result (λ v. v.entry ≡ path) }
         ensures state { IfOk result (λ v. v.state ≡ state_at F.universe F.plan F.rounds path) }
     {

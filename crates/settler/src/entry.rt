@@ -1,6 +1,7 @@
 ghost use Rattle.saturate.specs.derivation.Known.{IsTableAt};
 ghost use Rattle.saturate.specs.Tables.{fact_at};
 ghost use Rattle.saturate.specs.Universes.{setting_of, HasAllPlaces};
+ghost use Rattle.saturate.specs.Closed.{IsMarked};
 ghost use Rattle.case_trees.specs.box_tree.Plans.{cut_at, pieces_at};
 ghost use Rattle.settler.specs.Decided.{state_at};
 ghost use Rattle.std.specs.Prelude.{◌≡◌};
@@ -24,13 +25,16 @@ impl<F: Frame> Model for Entry<F> {
     ghost use Rattle.saturate.specs.derivation.Known.{IsTableAt};
     ghost use Rattle.saturate.specs.Tables.{fact_at};
     ghost use Rattle.saturate.specs.Universes.{setting_of, HasAllPlaces};
+    ghost use Rattle.saturate.specs.Closed.{IsMarked};
     ghost use Rattle.case_trees.specs.box_tree.Plans.{pieces_at};
 
     ghost Value = { List ℕ };
 
     ghost view = { λ e. e.path };
 
-    ghost invariant = { λ e. IsTableAt (setting_of F.universe) F.rounds (pieces_at F.plan e.path) (fact_at e.table) × HasAllPlaces F.universe e.table };
+    ghost invariant = { λ e.
+        IsTableAt (setting_of F.universe) F.rounds (pieces_at F.plan e.path) (fact_at e.table) ×
+        HasAllPlaces F.universe e.table × IsMarked (setting_of F.universe) e.table };
 }
 
 impl<F: Frame> Entry<F> {
@@ -38,6 +42,7 @@ impl<F: Frame> Entry<F> {
     pub(crate) fn new(path: Path, table: Table) -> Entry<F>
         requires right { IsTableAt (setting_of F.universe) F.rounds (pieces_at F.plan path) (fact_at table) }
         requires places { HasAllPlaces F.universe table }
+        requires marked { IsMarked (setting_of F.universe) table }
         ensures { result ≡ path }
     {
         Entry {
@@ -51,6 +56,7 @@ impl<F: Frame> Entry<F> {
     pub(crate) fn table(&self) -> &Table
         ensures right { IsTableAt (setting_of F.universe) F.rounds (pieces_at F.plan self.now) (fact_at result.now) }
         ensures places { HasAllPlaces F.universe result.now }
+        ensures marked { IsMarked (setting_of F.universe) result.now }
     {
         &self.table
     }

@@ -4,6 +4,7 @@ use Rattle.rule_universe.specs.derivation.Settled.{IsState}
 use Rattle.rule_universe.specs.derivation.Decided.{state_in}
 use Rattle.saturate.specs.Tables.{fact_at}
 use Rattle.saturate.specs.Universes.{setting_by}
+use Rattle.saturate.specs.Closed.{IsMarked}
 use Rattle.saturate.proofs.boxes.settle_counted.Goals as goal
 
 pub returns-clause-table : goal.returns-clause-table
@@ -17,3 +18,8 @@ returns-clause-state g c = λ pieces b.
     let at = fact_at c.in_ok-table.table in
     subst (IsState u c.args.uni.now.goals c.args.rounds pieces) (sym (c.judge.ensures.state ∙ ap (state_in at) c.goals.ensures))
     (c.boxes_come_to_one_state.ensures.decided u c.args.uni.now.goals c.args.rounds pieces at (c.in_ok-table.ensures.table pieces b))
+
+pub returns-clause-marked : goal.returns-clause-marked
+returns-clause-marked g c =
+    subst (IsMarked (setting_by g.C.Concludes.rules c.args.uni.now)) (sym c.judge.ensures.table)
+    c.in_ok-table.ensures.marked

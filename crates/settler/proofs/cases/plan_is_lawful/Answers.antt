@@ -1,4 +1,4 @@
-use Rattle.std.specs.Prelude.{ℕ, List, refl}
+use Rattle.std.specs.Prelude.{refl}
 use Rattle.fx_model.specs.Expression.{value}
 use Rattle.saturate.specs.facts.declared.fact.Fact.{Fact}
 use Rattle.saturate.specs.facts.Holds.{Holds}

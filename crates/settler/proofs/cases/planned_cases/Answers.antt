@@ -5,7 +5,6 @@ use Rattle.std.proofs.lemmas.List.{take_all}
 use Rattle.std.proofs.lemmas.List.Elements.{recursion_from_All}
 use Rattle.case_trees.specs.script_claims.declared.claim.Claim.{Claim}
 use Rattle.case_trees.specs.script_claims.Facts.{HasNormalBounds}
-use Rattle.script_truths.specs.script_grammar.Spells.{View}
 use Rattle.script_truths.specs.script_grammar.Cases.{cases_of}
 use Rattle.script_truths.specs.universe.Cases.{AreHypotheses, cases_have_hypotheses, case_has_hypotheses}
 use Rattle.case_trees.specs.box_tree.Root.{plan_by}

@@ -5,6 +5,7 @@ use Rattle.saturate.specs.derivation.Known.{IsTableAt}
 use Rattle.saturate.specs.rule_universe.Worlds.{World}
 use Rattle.saturate.specs.Tables.{fact_at}
 use Rattle.saturate.specs.Universes.{setting_of}
+use Rattle.saturate.specs.Closed.{IsMarked}
 use Rattle.saturate.specs.Boxes.{table_of, state_of}
 use Rattle.settler.specs.Decided.{goal_facts, state_with}
 use Rattle.settler.proofs.Stands.{stands_as_decided}
@@ -12,6 +13,10 @@ use Rattle.settler.proofs.boxes.Boxes.verdict.Goals as goal
 
 pub new-requires-clause-right : goal.new-requires-clause-right
 new-requires-clause-right g c = subst (λ t. IsTableAt (setting_of g.F.Frame.universe) g.F.Frame.rounds (pieces_at g.F.Frame.plan c.args.path) (fact_at t)) (sym c.into_table.ensures) c.requires.table
+
+pub new-requires-clause-marked : goal.new-requires-clause-marked
+new-requires-clause-marked g c =
+    subst (IsMarked (setting_of g.F.Frame.universe)) (sym c.into_table.ensures) c.requires.marked
 
 pub returns-clause-state : goal.returns-clause-state
 returns-clause-state g c =
