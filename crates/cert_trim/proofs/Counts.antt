@@ -5,7 +5,7 @@ use Rattle.std.proofs.Math.ListN.{take-append-drop}
 use Rattle.std.proofs.Math.Seq.{drop-cons}
 use Rattle.cert_bytes.specs.declared.item.Item.{Item}
 use Rattle.cert_bytes.specs.declared.item.Item.TheVariants as item
-use Rattle.cert_trim.specs.Trimmed.{number_behind, number_behind_all}
+use Rattle.cert_trim.specs.Trimmed.{number_behind, number_behind_all, step_count}
 use Rattle.cert_trim.specs.Used.{AllBelow, CiteEarlier, cited_by, used_from}
 use Rattle.cert_trim.specs.Flags.{used_with}
 
@@ -38,6 +38,52 @@ pub not_less_all : (items : List Item) (n : ℕ) → n ≤ number_behind_all n i
 not_less_all [] n = omega arith
 not_less_all (i ∷ items) n = let a = not_less n i in
     let b = not_less_all items (number_behind n i) in omega (arith, a, b)
+
+-- numbers from start on
+next_from : (start n : ℕ) (i : Item) → number_behind (start + n) i ≡ start + number_behind n i
+next_from start n (item.Step r) = omega arith
+next_from start n (item.Leaf refs) = refl
+next_from start n (item.Dead r) = refl
+next_from start n (item.Nodes k) = refl
+next_from start n (item.Node k) = refl
+next_from start n (item.Marks k) = refl
+next_from start n (item.Mark k) = refl
+next_from start n (item.Cases k) = refl
+next_from start n (item.Cut x ps) = refl
+next_from start n (item.End) = refl
+
+all_from : (start : ℕ) (items : List Item) (n : ℕ)
+    → number_behind_all (start + n) items ≡ start + number_behind_all n items
+all_from start [] n = refl
+all_from start (i ∷ items) n = ap (λ m. number_behind_all m items) (next_from start n i)
+    ∙ all_from start items (number_behind n i)
+
+pub behind_from : (start : ℕ) (items : List Item)
+    → number_behind_all start items ≡ start + step_count items
+behind_from start items =
+    let e : start ≡ start + 0 = omega arith in
+    ap (λ n. number_behind_all n items) e ∙ all_from start items 0
+
+next_most : (n : ℕ) (i : Item) → number_behind n i ≤ n + 1
+next_most n (item.Step r) = omega arith
+next_most n (item.Leaf refs) = omega arith
+next_most n (item.Dead r) = omega arith
+next_most n (item.Nodes k) = omega arith
+next_most n (item.Node k) = omega arith
+next_most n (item.Marks k) = omega arith
+next_most n (item.Mark k) = omega arith
+next_most n (item.Cases k) = omega arith
+next_most n (item.Cut x ps) = omega arith
+next_most n (item.End) = omega arith
+
+all_most : (items : List Item) (n : ℕ) → number_behind_all n items ≤ n + length items
+all_most [] n = omega arith
+all_most (i ∷ items) n = let a = next_most n i in
+    let b = all_most items (number_behind n i) in omega (arith, a, b)
+
+-- no more steps than items
+pub count_most : (items : List Item) → step_count items ≤ length items
+count_most items = let h = all_most items 0 in omega (arith, h)
 
 -- the number behind an item tells that before it
 pub behind_once : (i : Item) (a b : ℕ) → number_behind a i ≡ number_behind b i → a ≡ b
@@ -75,20 +121,22 @@ split_at items i x below is = sym (take-append-drop i items)
     ∙ ap (λ ys. take i items ++ ys) (drop_one items i x below is)
 
 -- an item cites steps before it alone
-pub cites_next : (items front later : List Item) (x : Item) (n : ℕ) → items ≡ front ++ x ∷ later
-    → CiteEarlier 0 items → number_behind_all 0 items ≤ n → AllBelow n (cited_by x)
-cites_next items front later x n e h most =
-    let b = cites_behind front later 0 x (subst (CiteEarlier 0) e h) in
-    let a = ap (number_behind_all 0) e ∙ behind_append front (x ∷ later) 0 in
-    let l = not_less (number_behind_all 0 front) x in
-    let m = not_less_all later (number_behind (number_behind_all 0 front) x) in
-    below_wider (number_behind_all 0 front) n (cited_by x) (omega (arith, a, l, m, most)) b
+pub cites_next : (start : ℕ) (items front later : List Item) (x : Item) (n : ℕ)
+    → items ≡ front ++ x ∷ later
+    → CiteEarlier start items → start + step_count items ≤ n → AllBelow n (cited_by x)
+cites_next start items front later x n e h most =
+    let b = cites_behind front later start x (subst (CiteEarlier start) e h) in
+    let s = behind_from start items in
+    let a = ap (number_behind_all start) e ∙ behind_append front (x ∷ later) start in
+    let l = not_less (number_behind_all start front) x in
+    let m = not_less_all later (number_behind (number_behind_all start front) x) in
+    below_wider (number_behind_all start front) n (cited_by x) (omega (arith, s, a, l, m, most)) b
 
-pub cites_at : (items : List Item) (i : ℕ) (x : Item) (n : ℕ)
+pub cites_at : (start : ℕ) (items : List Item) (i : ℕ) (x : Item) (n : ℕ)
     → i < length items → x ≡ slice_index_or items i x
-    → CiteEarlier 0 items → number_behind_all 0 items ≤ n → AllBelow n (cited_by x)
-cites_at items i x n below is h most =
-    cites_next items (take i items) (drop (i + 1) items) x n (split_at items i x below is) h most
+    → CiteEarlier start items → start + step_count items ≤ n → AllBelow n (cited_by x)
+cites_at start items i x n below is h most = cites_next start items (take i items)
+    (drop (i + 1) items) x n (split_at items i x below is) h most
 
 pub front_least : (items : List Item) (i : ℕ)
     → number_behind_all 0 (take i items) ≤ number_behind_all 0 items
@@ -125,8 +173,10 @@ module _ (items : List Item) (at behind : ℕ)
   counted_back before e = behind_once x before
       (number_behind_all 0 (take at items)) (sym e ∙ goes_back)
 
-  pub used_back : (before : ℕ) → behind ≡ number_behind before x → used_with before x
-      (used_from behind (drop (at + 1) items)) ≡ used_from before (drop at items)
-  used_back before e = ap (λ n. used_with before x (used_from n (drop (at + 1) items))) e
-      ∙ sym (used_step before x (drop (at + 1) items))
-      ∙ ap (used_from before) (sym (drop_one items at x below is))
+  pub used_back : (start before : ℕ) → behind ≡ number_behind before x
+      → used_with (start + before) x (used_from (start + behind) (drop (at + 1) items))
+      ≡ used_from (start + before) (drop at items)
+  used_back start before e = ap (λ n. used_with (start + before) x
+      (used_from n (drop (at + 1) items))) (ap (λ n. start + n) e ∙ sym (next_from start before x))
+      ∙ sym (used_step (start + before) x (drop (at + 1) items))
+      ∙ ap (used_from (start + before)) (sym (drop_one items at x below is))

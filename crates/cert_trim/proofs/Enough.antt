@@ -3,11 +3,11 @@
 use Rattle.std.proofs.Common.{◌≡◌, ◌≤◌, ◌<◌, ◌+◌, ◌==◌, ℕ, zero, suc, Bool, true, false, List, [], ◌∷◌, ◌++◌, take, Option, Some, None, refl, sym, ap, subst, ◌∙◌, arith, eqb-true}
 use Rattle.std.specs.Prelude.{◌||◌, if◌then◌else◌}
 use Rattle.std.specs.List.{AllByRecursion}
-use Rattle.facts.specs.declared.fact.Fact.{Fact}
-use Rattle.facts.specs.declared.fact.Fact.TheVariants as fact
+use Rattle.cert_checker.specs.facts.declared.fact.Fact.{Fact}
+use Rattle.cert_checker.specs.facts.declared.fact.Fact.TheVariants as fact
 use Rattle.cert_bytes.specs.declared.item.Item.{Item}
 use Rattle.cert_bytes.specs.declared.item.Item.TheVariants as item
-use Rattle.goals.specs.declared.goal.Goal.{Goal}
+use Rattle.cert_checker.specs.goals.declared.goal.Goal.{Goal}
 use Rattle.cert_checker.specs.declared.subject.Subject.{Subject}
 use Rattle.cert_checker.specs.declared.open.Citable.{Citable}
 use Rattle.cert_checker.specs.Contexts.{Context, first}
@@ -167,7 +167,7 @@ module _ (used : ℕ → Bool) where
   pub stays_behind : (refs later : List ℕ) → Stays (refs ++ later) → Stays later
   stays_behind refs later h m k = h m (among_right refs later m k)
 
-  enough : (items : List Item) (n : ℕ) → CiteEarlier n items
+  pub enough : (items : List Item) (n : ℕ) → CiteEarlier n items
       → Tells n (used_from n items) → Stays (used_from n items) → AreEnough used n items
   enough [] n e t h = tt
   enough (item.Step r ∷ items) n e t h =

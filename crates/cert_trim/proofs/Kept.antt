@@ -4,10 +4,10 @@ use Rattle.std.proofs.Common.{◌≡◌, ◌==◌, ℕ, Bool, true, false, List,
 use Rattle.std.specs.Prelude.{if◌then◌else◌}
 use Rattle.std.specs.Option.{option_map}
 use Rattle.std.proofs.lemmas.Bool.{cases_lt}
-use Rattle.facts.specs.declared.fact.Fact.{Fact}
+use Rattle.cert_checker.specs.facts.declared.fact.Fact.{Fact}
 use Rattle.cert_bytes.specs.declared.item.StepRow.{StepRow}
-use Rattle.goals.specs.declared.goal.Goal.{Goal}
-use Rattle.goals.specs.declared.line.Line.{Line}
+use Rattle.cert_checker.specs.goals.declared.goal.Goal.{Goal}
+use Rattle.cert_checker.specs.goals.declared.line.Line.{Line}
 use Rattle.cert_checker.specs.declared.open.Citable.{Citable}
 use Rattle.cert_checker.specs.Steps.{step_fact, step_facts, before, IsMetWith, Givens, IsConcluded}
 use Rattle.cert_checker.specs.Faults.{AreSettled}

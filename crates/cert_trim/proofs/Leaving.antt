@@ -88,21 +88,22 @@ module _ (used : ℕ → Bool) where
   left_more (item.End ∷ front) n i = ap (λ xs. item.End ∷ xs) (left_more front n i)
 
   -- an item that stays
-  pub stays_more : (yielded left : List Item) (number : ℕ) (i r : Item) → number
-      ≡ number_behind_all 0 yielded → left ≡ trimmed_by used 0 yielded → true ≡ stays used number i
-      → r ≡ renumbered (new_number used) i → left ++ r ∷ [] ≡ trimmed_by used 0 (yielded ++ i ∷ [])
-  stays_more yielded left number i r n l s e =
+  pub stays_more : (start : ℕ) (yielded left : List Item) (number : ℕ) (i r : Item) → number
+      ≡ number_behind_all start yielded → left ≡ trimmed_by used start yielded
+      → true ≡ stays used number i → r ≡ renumbered (new_number used) i
+      → left ++ r ∷ [] ≡ trimmed_by used start (yielded ++ i ∷ [])
+  stays_more start yielded left number i r n l s e =
       on_both (λ xs y. xs ++ y ∷ []) l e
-      ∙ ap (λ b. trimmed_by used 0 yielded ++ (if b then renumbered
+      ∙ ap (λ b. trimmed_by used start yielded ++ (if b then renumbered
       (new_number used) i ∷ [] else [])) (s ∙ ap (λ m. stays used m i) n)
-      ∙ sym (left_more yielded 0 i)
+      ∙ sym (left_more yielded start i)
 
   -- a step that goes
-  pub goes_more : (yielded left : List Item) (number : ℕ) (i : Item)
-      → number ≡ number_behind_all 0 yielded → left ≡ trimmed_by used 0 yielded
-      → false ≡ stays used number i → left ≡ trimmed_by used 0 (yielded ++ i ∷ [])
-  goes_more yielded left number i n l s =
-      l ∙ sym (append-nil (trimmed_by used 0 yielded))
-      ∙ ap (λ b. trimmed_by used 0 yielded ++ (if b then renumbered
+  pub goes_more : (start : ℕ) (yielded left : List Item) (number : ℕ) (i : Item)
+      → number ≡ number_behind_all start yielded → left ≡ trimmed_by used start yielded
+      → false ≡ stays used number i → left ≡ trimmed_by used start (yielded ++ i ∷ [])
+  goes_more start yielded left number i n l s =
+      l ∙ sym (append-nil (trimmed_by used start yielded))
+      ∙ ap (λ b. trimmed_by used start yielded ++ (if b then renumbered
       (new_number used) i ∷ [] else [])) (s ∙ ap (λ m. stays used m i) n)
-      ∙ sym (left_more yielded 0 i)
+      ∙ sym (left_more yielded start i)

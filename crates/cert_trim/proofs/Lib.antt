@@ -9,3 +9,6 @@ pub mod Ordered
 pub mod Counts
 pub mod Flagging
 pub mod Leaving
+pub mod Places
+pub mod Leaves
+pub mod Fewer

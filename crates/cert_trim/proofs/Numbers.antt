@@ -22,7 +22,7 @@ rises used a (suc b) h = ⊎_elim (λ l. at_most_next (used b) _ _ (rises used a
     (λ g. let e : a ≡ suc b = omega (arith, g, h) in
     subst (λ n. new_number used a ≤ new_number used n) e (omega arith)) (cases_lt a (suc b))
 
-next_suc : (used : ℕ → Bool) (a : ℕ)
+pub next_suc : (used : ℕ → Bool) (a : ℕ)
     → used a ≡ true → new_number used (suc a) ≡ suc (new_number used a)
 unfolding new_number
 next_suc used a u = rw u refl

@@ -1,5 +1,5 @@
 -- The items that are left are in order, and have spellings.
-use Rattle.std.proofs.Common.{◌≡◌, ◌≤◌, ◌+◌, ℕ, zero, suc, Bool, true, false, List, [], ◌∷◌, map, Option, Some, None, refl, subst, arith}
+use Rattle.std.proofs.Common.{◌≡◌, ◌≤◌, ◌+◌, ℕ, zero, suc, Bool, true, false, List, [], ◌∷◌, ◌++◌, map, Option, Some, None, refl, sym, subst, append-nil, arith}
 use Rattle.std.specs.Prelude.{IfSome, if◌then◌else◌}
 use Rattle.std.specs.Option.{option_map}
 use Rattle.std.specs.List.{AllByRecursion}
@@ -13,6 +13,7 @@ use Rattle.cert_bytes.specs.Due.{due_after}
 use Rattle.cert_bytes.specs.Certificates.{IsCounted, IsLong, HasRoomFor, HasSpelling, Fits, AreDue, AreCertificate}
 use Rattle.cert_checker.specs.Accepted.{AreInOrder}
 use Rattle.cert_trim.specs.Trimmed.{new_number, moved_row, if_used, trimmed_by}
+use Rattle.cert_trim.specs.Behind.{CertificatesStaySo}
 
 module _ (used : ℕ → Bool) where
   next_most : (b : Bool) (m n : ℕ) → m ≤ n → (if b then suc m else m) ≤ suc n
@@ -103,36 +104,40 @@ module _ (used : ℕ → Bool) where
   without_step (Sections zero) r items h = absurd h
   without_step Done r items h = absurd h
 
-  row_left : (b : Bool) (d : Due) (r : StepRow) (items : List Item)
-      → HasSpelling (item.Step r) × Fits (item.Step r) → AreDue (due_after d (item.Step r)) items
-      → AreDue (Some d) (if_used b (moved_row used r) items)
-  row_left true d r items h due = (
+  row_left : (b : Bool) (d : Due) (r : StepRow) (items rest : List Item)
+      → HasSpelling (item.Step r) × Fits (item.Step r)
+      → AreDue (due_after d (item.Step r)) (items ++ rest)
+      → AreDue (Some d) (if_used b (moved_row used r) items ++ rest)
+  row_left true d r items rest h due = (
     (still_counted r.premises h.0, row_fits r h.1),
-    subst (λ o. AreDue o items) (step_due d r (moved_row used r)) due,
+    subst (λ o. AreDue o (items ++ rest)) (step_due d r (moved_row used r)) due,
   )
-  row_left false d r items h due = without_step d r items due
+  row_left false d r items rest h due = without_step d r (items ++ rest) due
 
-  in_order : (items : List Item) (n : ℕ) (d : Option Due)
-      → AreDue d items → AreDue d (trimmed_by used n items)
-  in_order items n None h = absurd h
-  in_order [] n (Some d) h = h
-  in_order (item.Step r ∷ items) n (Some d) h =
-      row_left (used n) d r _ h.0 (in_order items (n + 1) _ h.1)
-  in_order (item.Leaf refs ∷ items) n (Some d) h = (
+  -- whatever stands behind
+  pub in_order : (items rest : List Item) (n : ℕ) (d : Option Due)
+      → AreDue d (items ++ rest) → AreDue d (trimmed_by used n items ++ rest)
+  in_order items rest n None h = absurd h
+  in_order [] rest n (Some d) h = h
+  in_order (item.Step r ∷ items) rest n (Some d) h =
+      row_left (used n) d r _ rest h.0 (in_order items rest (n + 1) _ h.1)
+  in_order (item.Leaf refs ∷ items) rest n (Some d) h = (
     (still_counted refs h.0.0, all_long refs h.0.1),
-    subst (λ o. AreDue o (trimmed_by used n items)) (leaf_due d refs _) (in_order items n _ h.1),
+    subst (λ o. AreDue o (trimmed_by used n items ++ rest)) (leaf_due d refs _)
+        (in_order items rest n _ h.1),
   )
-  in_order (item.Dead r ∷ items) n (Some d) h = (
+  in_order (item.Dead r ∷ items) rest n (Some d) h = (
     (tt, long r h.0.1),
-    subst (λ o. AreDue o (trimmed_by used n items)) (dead_due d r _) (in_order items n _ h.1),
+    subst (λ o. AreDue o (trimmed_by used n items ++ rest)) (dead_due d r _)
+        (in_order items rest n _ h.1),
   )
-  in_order (item.Nodes k ∷ items) n (Some d) h = (h.0, in_order items n _ h.1)
-  in_order (item.Node k ∷ items) n (Some d) h = (h.0, in_order items n _ h.1)
-  in_order (item.Marks k ∷ items) n (Some d) h = (h.0, in_order items n _ h.1)
-  in_order (item.Mark k ∷ items) n (Some d) h = (h.0, in_order items n _ h.1)
-  in_order (item.Cases k ∷ items) n (Some d) h = (h.0, in_order items n _ h.1)
-  in_order (item.Cut x ps ∷ items) n (Some d) h = (h.0, in_order items n _ h.1)
-  in_order (item.End ∷ items) n (Some d) h = (h.0, in_order items n _ h.1)
+  in_order (item.Nodes k ∷ items) rest n (Some d) h = (h.0, in_order items rest n _ h.1)
+  in_order (item.Node k ∷ items) rest n (Some d) h = (h.0, in_order items rest n _ h.1)
+  in_order (item.Marks k ∷ items) rest n (Some d) h = (h.0, in_order items rest n _ h.1)
+  in_order (item.Mark k ∷ items) rest n (Some d) h = (h.0, in_order items rest n _ h.1)
+  in_order (item.Cases k ∷ items) rest n (Some d) h = (h.0, in_order items rest n _ h.1)
+  in_order (item.Cut x ps ∷ items) rest n (Some d) h = (h.0, in_order items rest n _ h.1)
+  in_order (item.End ∷ items) rest n (Some d) h = (h.0, in_order items rest n _ h.1)
 
   -- ---- spellings alone
 
@@ -159,7 +164,23 @@ module _ (used : ℕ → Bool) where
 
 pub still_certificate : (used : ℕ → Bool) (items : List Item)
     → AreCertificate items → AreCertificate (trimmed_by used 0 items)
-still_certificate used items h = in_order used items 0 (Some Head) h
+still_certificate used items h =
+    subst AreCertificate (append-nil (trimmed_by used 0 items))
+    (in_order used items [] 0 (Some Head) (subst AreCertificate (sym (append-nil items)) h))
+
+-- items behind others
+due_front : (before items others : List Item) (d : Option Due)
+    → ((o : Option Due) → AreDue o items → AreDue o others)
+    → AreDue d (before ++ items) → AreDue d (before ++ others)
+due_front [] items others d h due = h d due
+due_front (i ∷ before) items others None h due = absurd due
+due_front (i ∷ before) items others (Some d) h due =
+    (due.0, due_front before items others (due_after d i) h due.1)
+
+pub certificates_stay_so : CertificatesStaySo
+certificates_stay_so used n before items later h =
+    due_front before (items ++ later) (trimmed_by used n items ++ later) (Some Head)
+    (λ o due. in_order used items later n o due) h
 
 pub certificate_in_order : (o : Option Due) (items : List Item)
     → AreDue o items → AreInOrder o items

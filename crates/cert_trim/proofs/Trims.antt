@@ -1,9 +1,9 @@
 -- Items with which nothing is wrong, without the steps that no other item cites.
-use Rattle.std.proofs.Common.{◌≡◌, ◌⊎◌, inl, inr, ◌<◌, ◌+◌, ℕ, Bool, true, false, List, [], ◌∷◌, ◌++◌, length, take, Some, refl, sym, ap, subst, ◌∙◌, append-nil}
+use Rattle.std.proofs.Common.{◌≡◌, inl, ◌<◌, ◌+◌, ℕ, Bool, true, false, List, [], ◌∷◌, ◌++◌, length, take, Some, refl, sym, ap, subst, ◌∙◌, append-nil}
 use Rattle.cert_bytes.specs.declared.item.StepRow.{StepRow}
 use Rattle.cert_bytes.specs.declared.item.Item.{Item}
 use Rattle.cert_bytes.specs.declared.item.Item.TheVariants as item
-use Rattle.goals.specs.declared.line.Line.{Line}
+use Rattle.cert_checker.specs.goals.declared.line.Line.{Line}
 use Rattle.cert_checker.specs.declared.subject.Subject.{Subject}
 use Rattle.cert_checker.specs.declared.open.Citable.{Citable}
 use Rattle.cert_checker.specs.declared.open.OpenCut.{OpenCut}
@@ -18,13 +18,13 @@ use Rattle.cert_trim.specs.Used.{cited, AreUsed, AreEnough}
 use Rattle.cert_trim.specs.Law.{TrimmedAreAccepted}
 use Rattle.cert_trim.proofs.Numbers.{on_both, next_of_used, next_of_unused}
 use Rattle.cert_trim.proofs.Kept.{kept, if_kept, renumbered, kept_append, found_again, concluded_again, settled_again, shown_again}
-use Rattle.cert_trim.proofs.CasesFirst.{HasNoCases, CasesFirst, Begins, cases_first, still_one, still_told, goes_first}
+use Rattle.cert_trim.proofs.CasesFirst.{CasesFirst, Begins, cases_first, still_one, still_told, goes_first}
 use Rattle.cert_trim.proofs.Cuts.{AreLike, like_depth, like_case, like_piece, like_grown, like_behind, like_cut}
 
 -- the context of the items without unused steps: what is told of the sections' begin may come
 -- later,
 -- and whether the last item is the end plays no part
-abbrev made : Context → List Citable → ℕ → List OpenCut → Bool → Bool → Context
+abbrev pub made : Context → List Citable → ℕ → List OpenCut → Bool → Bool → Context
 made c steps next copies begun flag = record {
   nodes = c.nodes;
   marked = c.marked;
@@ -38,7 +38,7 @@ made c steps next copies begun flag = record {
   ended = flag;
 }
 
-abbrev image : (ℕ → Bool) → Context → List OpenCut → Bool → Bool → Context
+abbrev pub image : (ℕ → Bool) → Context → List OpenCut → Bool → Bool → Context
 image used c copies begun flag =
     made c (kept used c.steps) (new_number used c.next) copies begun flag
 

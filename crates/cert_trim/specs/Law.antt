@@ -5,7 +5,7 @@ use Rattle.cert_bytes.specs.Certificates.{HasSpelling}
 use Rattle.cert_bytes.specs.declared.item.Item.{Item}
 use Rattle.cert_bytes.specs.declared.order.Due.TheVariants.{Head}
 use Rattle.cert_checker.specs.declared.subject.Subject.{Subject}
-use Rattle.goals.specs.declared.line.Line.{Line}
+use Rattle.cert_checker.specs.goals.declared.line.Line.{Line}
 use Rattle.cert_checker.specs.Contexts.{Context, first}
 use Rattle.cert_checker.specs.Accepted.{LeadsTo, Accepts, AreInOrder}
 use Rattle.cert_trim.specs.Trimmed.{trimmed_by}

@@ -6,11 +6,9 @@ ghost use Rattle.cert_trim.specs.Law.{AreLedBySome, AreAcceptedAlike};
 ghost use Rattle.cert_trim.specs.Trimmed.{step_count};
 ghost use Rattle.cert_trim.specs.Used.{trimmed, AreAllUsed};
 
+use crate::behind::left_behind;
 use crate::laws::trimmed_are_accepted;
-use crate::left::left_items;
-use crate::numbering::new_numbers;
 use crate::steps::count_steps;
-use crate::used::used_flags;
 use cert_bytes::Item;
 use std::alloc::{AllocError, Global};
 
@@ -41,12 +39,10 @@ pub fn trim(alloc: Global, items: Vec<Item>) -> Result<Trimmed, AllocError>
 {
     trimmed_are_accepted();
     let all = count_steps(items.as_slice());
-    let flags = used_flags(alloc, items.as_slice(), all)?;
-    let numbers = new_numbers(alloc, flags.as_slice())?;
-    let items = left_items(alloc, items, flags.as_slice(), numbers.new.as_slice())?;
+    let left = left_behind(alloc, items, 0, all)?;
     Ok(Trimmed {
-        items,
-        kept: numbers.kept,
+        items: left.items,
+        kept: left.next,
         all,
     })
 }

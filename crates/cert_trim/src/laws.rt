@@ -1,4 +1,5 @@
 //! What trimming promises, for callers to cite. Nothing here is done at run time.
+ghost use Rattle.cert_trim.specs.Behind.{LeavesAreTrimmed, CertificatesStaySo, AreFewer};
 ghost use Rattle.cert_trim.specs.Law.{TrimmedAreAccepted, AcceptsTrimmed, AllLeftAreUsed, LedCiteEarlier, SpelledStaySo};
 
 /// Nothing is done. The clauses tell a caller that items with which nothing is wrong have nothing
@@ -11,4 +12,13 @@ pub fn trimmed_are_accepted()
     ensures left { AllLeftAreUsed }
     ensures earlier { LedCiteEarlier }
     ensures spelled { SpelledStaySo }
+{}
+
+/// Nothing is done. The clauses tell a caller that a section that isn't cut has nothing wrong
+/// without its unused steps, and that all is the same behind it but the number of the next step;
+/// that a certificate stays one where steps go; and that what is left is no more than before.
+pub fn leaves_are_trimmed()
+    ensures leaves { LeavesAreTrimmed }
+    ensures order { CertificatesStaySo }
+    ensures fewer { AreFewer }
 {}

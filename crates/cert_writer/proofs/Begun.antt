@@ -1,19 +1,19 @@
 -- What stands before the root sections, and that the first is to begin behind it.
-use Rattle.std.specs.Prelude.{◌≡◌, ◌≤◌, ◌+◌, ◌*◌, ◌^◌, ℕ, zero, suc, false, List, [], ◌∷◌, ◌++◌, length, map, Some, None, slice_get, refl}
+use Rattle.std.specs.Prelude.{◌≡◌, ◌≤◌, ◌+◌, ◌*◌, ℕ, zero, suc, false, List, [], ◌∷◌, ◌++◌, length, map, Some, None, slice_get, refl}
 use Rattle.std.proofs.Common.{sym, ◌∙◌, ap, subst, append-nil, arith}
 use Rattle.std.proofs.lemmas.List.{append_assoc}
-use Rattle.fx_model.specs.declared.Node.{Node}
-use Rattle.facts.specs.declared.hint.HintMark.{HintMark}
+use Rattle.goals.specs.fx_model.declared.Node.{Node}
+use Rattle.goals.specs.facts.declared.hint.HintMark.{HintMark}
 use Rattle.goals.specs.declared.goal.Goal.{Goal}
 use Rattle.goals.specs.declared.line.Line.{Line}
 use Rattle.goals.specs.declared.line.Line.TheVariants as line
 use Rattle.derivation.specs.Derivations.{Setting}
 use Rattle.derivation.specs.Exists.{table_at}
 use Rattle.box_trace.specs.saturate.Universes.{setting_of}
-use Rattle.cert_bytes.specs.declared.item.Item.{Item}
-use Rattle.cert_bytes.specs.declared.item.Item.TheVariants as item
-use Rattle.cert_bytes.specs.declared.order.Due.TheVariants.{Nodes, Marks, Sections}
-use Rattle.cert_bytes.specs.Certificates.{AreDue}
+use Rattle.cert_trim.specs.cert_bytes.declared.item.Item.{Item}
+use Rattle.cert_trim.specs.cert_bytes.declared.item.Item.TheVariants as item
+use Rattle.cert_trim.specs.cert_bytes.declared.order.Due.TheVariants.{Nodes, Marks, Sections}
+use Rattle.cert_trim.specs.cert_bytes.Certificates.{AreDue}
 use Rattle.box_trace.specs.cert_checker.declared.subject.Subject.{Subject}
 use Rattle.box_trace.specs.cert_checker.Contexts.{Context, first, open_piece}
 use Rattle.box_trace.specs.cert_checker.After.{after, around_of, cuts_behind}
@@ -26,7 +26,7 @@ use Rattle.box_trace.specs.box_traces.Roots.{roots_are_counted, cases_items}
 use Rattle.box_trace.specs.box_traces.Walks.{numbered, MayBegin, IsOpen}
 use Rattle.box_trace.specs.box_traces.Laws.{TracesExist}
 use Rattle.cert_writer.specs.Standing.{IsAt, most_for, steps_left, lines_left, at_root}
-use Rattle.cert_bytes.specs.declared.style.Seen.{Seen}
+use Rattle.cert_trim.specs.cert_bytes.declared.style.Seen.{Seen}
 use Rattle.cert_writer.specs.Bytes.{seen_in}
 use Rattle.box_trace.specs.Short.{bytes_a_box}
 use Rattle.cert_writer.proofs.Sized.{head_sized}

@@ -1,11 +1,12 @@
 -- What is so of the bytes of a box's own items.
-use Rattle.std.specs.Prelude.{◌≡◌, ◌<◌, ◌≤◌, ◌+◌, ◌-◌, ℕ, List, [], ◌∷◌, ◌++◌, length, Option, Some, None, refl}
+use Rattle.std.specs.Prelude.{◌≡◌, ◌<◌, ◌≤◌, ◌+◌, ◌-◌, ℕ, zero, suc, List, [], ◌∷◌, ◌++◌, length, Option, Some, None, refl}
 use Rattle.std.specs.Borrow.{Bor}
+use Rattle.std.specs.List.{AllByRecursion}
 use Rattle.std.proofs.Common.{sym, ◌∙◌, ap, subst, arith}
 use Rattle.std.proofs.lemmas.List.{length-map}
-use Rattle.fx_model.specs.declared.ExprId.{ExprId}
-use Rattle.dyadic.specs.declared.number.Dyadic.{Dyadic}
-use Rattle.facts.specs.declared.fact.Slot.TheVariants as slot
+use Rattle.goals.specs.fx_model.declared.ExprId.{ExprId}
+use Rattle.goals.specs.dyadic.declared.number.Dyadic.{Dyadic}
+use Rattle.goals.specs.facts.declared.fact.Slot.TheVariants as slot
 use Rattle.goals.specs.declared.goal.Goal.{Goal}
 use Rattle.goals.specs.declared.line.Line.{Line}
 use Rattle.derivation.specs.Derivations.{At}
@@ -16,10 +17,11 @@ use Rattle.answer_certificates.specs.box_tree.declared.cut.Cut.TheVariants.{Forc
 use Rattle.answer_certificates.specs.box_tree.Plans.{cut_at, piece_at, pieces_at}
 use Rattle.answer_certificates.specs.box_tree.Regions.{PlanParts}
 use Rattle.answer_certificates.specs.bisect.declared.settler.State.{State}
-use Rattle.cert_bytes.specs.declared.item.Item.{Item}
-use Rattle.cert_bytes.specs.declared.item.Item.TheVariants as item
-use Rattle.cert_bytes.specs.Certificates.{HasSpelling}
-use Rattle.cert_bytes.specs.declared.style.Seen.{Seen}
+use Rattle.cert_trim.specs.cert_bytes.declared.item.Item.{Item}
+use Rattle.cert_trim.specs.cert_bytes.declared.item.Item.TheVariants as item
+use Rattle.cert_trim.specs.cert_bytes.declared.item.StepRow.{StepRow}
+use Rattle.cert_trim.specs.cert_bytes.Certificates.{HasSpelling}
+use Rattle.cert_trim.specs.cert_bytes.declared.style.Seen.{Seen}
 use Rattle.cert_writer.specs.Bytes.{seen_behind, seen_in, spelled_behind}
 use Rattle.box_trace.specs.declared.known.Known.{Known}
 use Rattle.box_trace.specs.declared.tracing.Traced.{Traced}
@@ -30,13 +32,17 @@ use Rattle.box_trace.specs.box_traces.Walks.{numbered, behind_steps}
 use Rattle.answer_certificates.specs.Boxes.{range_of_piece, pieces_from}
 use Rattle.box_trace.specs.Short.{BoxesAreShort}
 use Rattle.box_trace.specs.Rounds.{IsByRounds}
-use Rattle.cert_writer.specs.Boxes.{KnowsVoid, CutsAt, IsEnd}
-use Rattle.cert_writer.specs.Standing.{Target, Place, IsAt, AreBoxSteps, own_items, inside}
+use Rattle.cert_trim.specs.Trimmed.{number_behind_all}
+use Rattle.cert_trim.specs.Used.{CiteEarlier}
+use Rattle.cert_trim.specs.Behind.{stays_behind, trimmed_behind, IsLeafOrDead, AreFewer}
+use Rattle.cert_writer.specs.Boxes.{HasShortList, KnowsVoid, CutsAt, IsEnd, written_of}
+use Rattle.cert_writer.specs.Standing.{Target, Place, IsAt, Ended, HasEnded, AreBoxSteps, own_items, inside, closed, trimmed}
 use Rattle.cert_writer.specs.Courses.{Course, IsCourse, HasBest, course, setting, below, IsBefore, IsKnownAt, AreOwnBytes}
 use Rattle.cert_writer.specs.Walks.{MayEnd, IsLast, WalkGoesOn}
-use Rattle.cert_writer.proofs.Seen.{EndsSection, own_steps_seen, seen_with}
+use Rattle.cert_writer.proofs.Seen.{seen_with}
+use Rattle.cert_writer.proofs.Trimmed.{seen_steps}
 use Rattle.cert_writer.proofs.Turn.{begun_front, enter, enter_at}
-use Rattle.cert_writer.proofs.Own.{OwnSteps, own_steps, closed_here, box_ends, nothing_there}
+use Rattle.cert_writer.proofs.Own.{OwnSteps, own_steps, closed_here, box_ends, nothing_there, first_is}
 use Rattle.cert_writer.proofs.Node.{node_leaf, node_cut}
 
 not_void : (at : At) (goals : List Goal) (k : Cut) (p : ExprId × List Dyadic) → CutsAt at goals k (Some p) → ¬ KnowsVoid at
@@ -45,16 +51,46 @@ not_void at goals (Half x m) p h = h.0
 not_void at goals Bottom p h = absurd h
 
 -- A leaf or a dead end ends a section.
-ends_section : (u : World) (k : Known) (i : Item) → IsEnd u k i → EndsSection i
-ends_section u k (item.Leaf refs) h = λ s. (refl, refl)
-ends_section u k (item.Dead r) h = λ s. (refl, refl)
+ends_section : (u : World) (k : Known) (i : Item) → IsEnd u k i → IsLeafOrDead i
+ends_section u k (item.Leaf refs) h = tt
+ends_section u k (item.Dead r) h = tt
 ends_section u k _ h = absurd h
+
+-- what is written of a box that is cut, and of one that isn't
+written_cut : (n start : ℕ) (items : List Item) → 0 < n → written_of n start items ≡ items
+written_cut zero start items l = absurd (omega (arith, l))
+written_cut (suc n) start items l = refl
+
+written_end : (n start next : ℕ) (items : List Item) → n ≡ 0 → next ≡ start
+    → written_of n start items ≡ trimmed_behind next items
+written_end n start next items none same = ap (λ k. written_of k start items) none
+    ∙ ap (λ k. trimmed_behind k items) (sym same)
+
+-- its steps have spellings, and so has the last item
+all_spelled : (rows : List StepRow) (i : Item) → AllByRecursion HasShortList rows
+    → HasSpelling i → AllByRecursion HasSpelling (own_items rows i)
+all_spelled [] i s h = (h, tt)
+all_spelled (row ∷ rows) i s h = (s.0, all_spelled rows i s.1 h)
+
+still_few : (fewer : AreFewer) (n start : ℕ) (items : List Item)
+    → length (written_of n start items) ≤ length items
+still_few fewer zero start items = fewer.items (stays_behind start items) start items
+still_few fewer (suc n) start items = omega arith
+
+still_spelled : (fewer : AreFewer) (n start : ℕ) (items : List Item)
+    → AllByRecursion HasSpelling items → AllByRecursion HasSpelling (written_of n start items)
+still_spelled fewer zero start items h = fewer.spelled (stays_behind start items) start items h
+still_spelled fewer (suc n) start items h = h
+
+pub own_length : (rows : List StepRow) (i : Item) → length (own_items rows i) ≡ length rows + 1
+own_length [] i = refl
+own_length (row ∷ rows) i = let h = own_length rows i in omega (arith, h)
 
 module _ (plan : PlanParts) (laws : WalkGoesOn plan) (u : World) (height : ℕ) (t : Target) (lines : List Line) (states : List ℕ → State) (is : IsCourse (course u plan height t lines states))
     (path : List ℕ) (parent : Option (Bor Known)) (first : Seen) (p : Place) (before : IsBefore (course u plan height t lines states) path parent first p)
     (tr : Traced) (its : IsItsTable u height (piece_at plan path) parent tr.known) (rows : HasRows u tr.known) (steps : AreItsSteps u (piece_at plan path) parent first.steps (log_of first.steps tr))
     (few : length tr.steps.items ≤ most_steps u height) (boxes : BoxesAreShort)
-    (rounds : IsByRounds u parent height first.steps tr) where
+    (rounds : IsByRounds u parent height first.steps tr) (fewer : AreFewer) where
   abbrev c : Course
   c = course u plan height t lines states
 
@@ -75,19 +111,56 @@ module _ (plan : PlanParts) (laws : WalkGoesOn plan) (u : World) (height : ℕ) 
     leaf_here : p.tree ≡ leaf
     leaf_here = before.tree ∙ node_leaf c is path tr.known table whole
 
-    end_done : (n : ℕ) (next : Seen) → n ≡ 0 → next ≡ seen_behind first (own_items tr.steps.items i)
-        → AreOwnBytes c path p tr.known n next (spelled_behind (seen_in p.items) (own_items tr.steps.items i))
+    ended_here : (ls : List Line) × HasEnded c.aim (closed p tr.steps.items i ls)
+    ended_here = box_ends laws.writing laws.tables c is best path parent first p before tr own
+        leaf_here i end
+
+    start_is : p.context.next ≡ first.steps
+    start_is = first_is c path parent first p before
+
+    trimmed_here : CiteEarlier p.context.next (own_items tr.steps.items i)
+        × HasEnded c.aim (trimmed p tr.steps.items i (ended_here.0))
+    trimmed_here = laws.writing.trims c.aim is.aim p tr.steps.items i (ended_here.0) before.here
+        (ends_section u tr.known i end) (ended_here.1)
+
+    pub end_cites : CiteEarlier first.steps (own_items tr.steps.items i)
+    end_cites = subst (λ k. CiteEarlier k (own_items tr.steps.items i)) start_is (trimmed_here.0)
+
+    end_done : (n : ℕ) (next : Seen) → n ≡ 0
+        → next ≡ seen_behind first (written_of n first.steps (own_items tr.steps.items i))
+        → AreOwnBytes c path p tr.known n next
+        (spelled_behind (seen_in p.items) (written_of n first.steps (own_items tr.steps.items i)))
     end_done n next none same =
-        let e = box_ends laws.writing laws.tables c is best path parent first p before tr own leaf_here i end in
-        let items : List Item = own_items tr.steps.items i in
-        let steps : next.steps ≡ first.steps + length tr.steps.items =
-        ap (λ (s : Seen). s.steps) same ∙ own_steps_seen first tr.steps.items i (ends_section u tr.known i end) in
-        let seen : seen_in (e.0).items ≡ next =
-        ap seen_in e.4 ∙ seen_with p.items items first before.seen_is ∙ sym same in
-        record {
-          done = λ old new a. ((λ l. absurd (omega (arith, l, none))), λ z. (e.0, e.1, e.2, steps ∙ sym e.3, (items, e.4, a), seen));
-          front = λ old new a. begun_front c.aim p.items (own_items tr.steps.items i) (e.0).items old new (laws.writing.ended c.aim is.aim e.0 e.1) e.4 a;
-        }
+        let own : List Item = own_items tr.steps.items i in
+        let left : List Item = trimmed_behind p.context.next own in
+        let e : Ended = trimmed p tr.steps.items i (ended_here.0) in
+        let ended : HasEnded c.aim e = trimmed_here.1 in
+        let written : written_of n first.steps own ≡ left =
+        written_end n first.steps p.context.next own none start_is in
+        let shown : next ≡ seen_behind first left = same ∙ ap (λ xs. seen_behind first xs) written
+        in
+        let steps : next.steps ≡ e.context.next =
+        ap (λ (s : Seen). s.steps) shown ∙ seen_steps first left
+        ∙ ap (λ k. number_behind_all k left) (sym start_is) in
+        let seen : seen_in e.items ≡ next =
+        seen_with p.items left first before.seen_is ∙ sym shown in
+        subst (λ xs. AreOwnBytes c path p tr.known n next (spelled_behind (seen_in p.items) xs))
+        (sym written)
+        (record {
+          done = λ old new a. (
+            (λ l. absurd (omega (arith, l, none))),
+            λ z. (
+              e,
+              ended,
+              refl,
+              steps,
+              (left, refl, a),
+              seen,
+            ),
+          );
+          front = λ old new a. begun_front c.aim p.items left e.items old new (laws.writing.ended
+              c.aim is.aim e ended) refl a;
+        })
 
   -- ---- it is a cut
   module _ (x : ExprId) (points : List Dyadic) (cuts : CutsAt (known_at u tr.known) u.goals (cut_at plan path) (Some (x, points))) where
@@ -107,7 +180,7 @@ module _ (plan : PlanParts) (laws : WalkGoesOn plan) (u : World) (height : ℕ) 
     few_points : length points ≤ 63
     few_points = let proved = subst (λ y. IsProved (setting c) height u.goals y p.pieces p.depth) node.1 before.here.entered.proved in proved.2.few
 
-    pub some_points : 1 ≤ length points
+    some_points : 1 ≤ length points
     some_points = let proved = subst (λ y. IsProved (setting c) height u.goals y p.pieces p.depth) node.1 before.here.entered.proved in proved.2.some
 
     cut_done : (n : ℕ) (next : Seen) → n ≡ length points + 1
@@ -128,10 +201,26 @@ module _ (plan : PlanParts) (laws : WalkGoesOn plan) (u : World) (height : ℕ) 
         }
 
   -- ---- either way
+  cut_spelled : (x : ExprId) (points : List Dyadic) (n : ℕ) (next : Seen) → IsLast u tr.known
+      (cut_at plan path) (item.Cut x points) n
+      → next ≡ seen_behind first (written_of n first.steps (own_items tr.steps.items (item.Cut x
+      points)))
+      → AreOwnBytes c path p tr.known n next
+      (spelled_behind (seen_in p.items) (written_of n first.steps (own_items tr.steps.items
+      (item.Cut x points))))
+  cut_spelled x points n next l same =
+      let own : List Item = own_items tr.steps.items (item.Cut x points) in
+      let k = l.1 in
+      let written = written_cut n first.steps own (omega (arith, k)) in
+      subst (λ xs. AreOwnBytes c path p tr.known n next (spelled_behind (seen_in p.items) xs)) (sym
+      written)
+      (cut_done x points l.0 n next l.1 (same ∙ ap (λ xs. seen_behind first xs) written))
+
   pub own_done : (i : Item) (n : ℕ) (next : Seen) → IsLast u tr.known (cut_at plan path) i n
-      → next ≡ seen_behind first (own_items tr.steps.items i)
-      → AreOwnBytes c path p tr.known n next (spelled_behind (seen_in p.items) (own_items tr.steps.items i))
-  own_done (item.Cut x points) n next l same = cut_done x points l.0 n next l.1 same
+      → next ≡ seen_behind first (written_of n first.steps (own_items tr.steps.items i))
+      → AreOwnBytes c path p tr.known n next
+      (spelled_behind (seen_in p.items) (written_of n first.steps (own_items tr.steps.items i)))
+  own_done (item.Cut x points) n next l same = cut_spelled x points n next l same
   own_done (item.Leaf refs) n next l same = end_done (item.Leaf refs) l.0 l.1 n next l.2 same
   own_done (item.Dead r) n next l same = end_done (item.Dead r) l.0 l.1 n next l.2 same
   own_done (item.Nodes m) n next l same = absurd l.1
@@ -142,7 +231,21 @@ module _ (plan : PlanParts) (laws : WalkGoesOn plan) (u : World) (height : ℕ) 
   own_done (item.Step r) n next l same = absurd l.1
   own_done item.End n next l same = absurd l.1
 
-  pub last_spelled : (i : Item) (n : ℕ) → IsLast u tr.known (cut_at plan path) i n → HasSpelling i
+  -- what is asked of the items of a box that isn't cut
+  pub own_cites : (i : Item) (n : ℕ) → IsLast u tr.known (cut_at plan path) i n → n ≡ 0
+      → CiteEarlier first.steps (own_items tr.steps.items i)
+  own_cites (item.Cut x points) n l none = let k = l.1 in absurd (omega (arith, k, none))
+  own_cites (item.Leaf refs) n l none = end_cites (item.Leaf refs) l.0 l.1
+  own_cites (item.Dead r) n l none = end_cites (item.Dead r) l.0 l.1
+  own_cites (item.Nodes m) n l none = absurd l.1
+  own_cites (item.Node m) n l none = absurd l.1
+  own_cites (item.Marks m) n l none = absurd l.1
+  own_cites (item.Mark m) n l none = absurd l.1
+  own_cites (item.Cases m) n l none = absurd l.1
+  own_cites (item.Step r) n l none = absurd l.1
+  own_cites item.End n l none = absurd l.1
+
+  last_spelled : (i : Item) (n : ℕ) → IsLast u tr.known (cut_at plan path) i n → HasSpelling i
   last_spelled (item.Cut x points) n l = some_points x points l.0
   last_spelled (item.Leaf refs) n l =
       let e : length refs ≡ length u.goals = ap length l.1.2 ∙ length-map u.goals (λ (g : Goal). place_in u tr.known g.of) in
@@ -156,3 +259,15 @@ module _ (plan : PlanParts) (laws : WalkGoesOn plan) (u : World) (height : ℕ) 
   last_spelled (item.Cases m) n l = absurd l.1
   last_spelled (item.Step r) n l = absurd l.1
   last_spelled item.End n l = absurd l.1
+
+  -- and of those that are spelled
+  pub own_spelled : (i : Item) (n : ℕ) → IsLast u tr.known (cut_at plan path) i n
+      → AllByRecursion HasSpelling (written_of n first.steps (own_items tr.steps.items i))
+  own_spelled i n l = still_spelled fewer n first.steps (own_items tr.steps.items i)
+      (all_spelled tr.steps.items i own.short (last_spelled i n l))
+
+  pub own_few : (i : Item) (n : ℕ)
+      → length (written_of n first.steps (own_items tr.steps.items i)) ≤ length tr.steps.items + 1
+  own_few i n =
+      let a = still_few fewer n first.steps (own_items tr.steps.items i) in
+      let b = own_length tr.steps.items i in omega (arith, a, b)

@@ -1,27 +1,27 @@
 -- How a certificate goes on from box to box.
 use Rattle.std.specs.Prelude.{◌≡◌, ◌<◌, ◌≤◌, ◌+◌, ◌-◌, ◌^◌, ℕ, suc, List, [], ◌∷◌, ◌++◌, length, map, Some, None, refl}
 use Rattle.std.specs.List.{AllByRecursion}
-use Rattle.std.proofs.Common.{sym, ◌∙◌, ap, subst, append-nil, arith}
+use Rattle.std.proofs.Common.{sym, ◌∙◌, ap, subst, arith}
 use Rattle.std.proofs.lemmas.List.{append_assoc}
 use Rattle.std.proofs.lemmas.Option.{slice_get_within}
-use Rattle.fx_model.specs.declared.ExprId.{ExprId}
-use Rattle.fx_model.specs.declared.Node.TheVariants.{Var}
-use Rattle.dyadic.specs.declared.number.Dyadic.{Dyadic}
-use Rattle.interval.specs.declared.interval.Interval.{Interval}
-use Rattle.facts.specs.declared.fact.Fact.{Fact}
-use Rattle.facts.specs.declared.fact.Fact.TheVariants as fact
-use Rattle.facts.specs.declared.fact.Slot.TheVariants as slot
+use Rattle.goals.specs.fx_model.declared.ExprId.{ExprId}
+use Rattle.goals.specs.fx_model.declared.Node.TheVariants.{Var}
+use Rattle.goals.specs.dyadic.declared.number.Dyadic.{Dyadic}
+use Rattle.goals.specs.interval.declared.interval.Interval.{Interval}
+use Rattle.goals.specs.facts.declared.fact.Fact.{Fact}
+use Rattle.goals.specs.facts.declared.fact.Fact.TheVariants as fact
+use Rattle.goals.specs.facts.declared.fact.Slot.TheVariants as slot
 use Rattle.goals.specs.declared.goal.Goal.{Goal}
 use Rattle.goals.specs.declared.line.Line.{Line}
 use Rattle.derivation.specs.Derivations.{Setting, At}
 use Rattle.derivation.specs.Exists.{table_at}
 use Rattle.box_trace.specs.saturate.Universes.{setting_of}
-use Rattle.cert_bytes.specs.declared.item.Item.{Item}
-use Rattle.cert_bytes.specs.declared.item.Item.TheVariants as item
-use Rattle.cert_bytes.specs.declared.item.StepRow.{StepRow}
-use Rattle.cert_bytes.specs.declared.order.Due.TheVariants.{Sections}
-use Rattle.cert_bytes.specs.declared.style.Style.TheVariants.{Second}
-use Rattle.cert_bytes.specs.Certificates.{AreDue, AreCertificate, IsLong, IsShort}
+use Rattle.cert_trim.specs.cert_bytes.declared.item.Item.{Item}
+use Rattle.cert_trim.specs.cert_bytes.declared.item.Item.TheVariants as item
+use Rattle.cert_trim.specs.cert_bytes.declared.item.StepRow.{StepRow}
+use Rattle.cert_trim.specs.cert_bytes.declared.order.Due.TheVariants.{Sections}
+use Rattle.cert_trim.specs.cert_bytes.declared.style.Style.TheVariants.{Second}
+use Rattle.cert_trim.specs.cert_bytes.Certificates.{AreDue, AreCertificate, IsLong, IsShort}
 use Rattle.cert_writer.specs.Bytes.{seen_in, spelled_behind, certificate_of}
 use Rattle.box_trace.specs.cert_checker.declared.open.Citable.{Citable}
 use Rattle.box_trace.specs.cert_checker.Contexts.{Context, first}
@@ -37,8 +37,8 @@ use Rattle.box_trace.specs.box_traces.Walks.{behind_steps, IsEndOf, Frame, LiesI
 use Rattle.box_trace.specs.box_traces.Moves.{WalksGoOn, WalksMove, AreSteps, IsEntered, lead_both, next_behind}
 use Rattle.cert_writer.specs.Standing.{Aim, IsAim, IsWhole, IsBegun, Place, IsAt, Ended, HasEnded, HasWritten, AreBoxSteps, AreShort, AreCited, most_for, roots_left, steps_left, lines_left, own_items, inside, closed, beside, around, next_aim, next_root, root_with}
 use Rattle.cert_writer.specs.Laws.{OfAims}
-use Rattle.cert_bytes.specs.Styles.{none_seen}
-use Rattle.cert_bytes.specs.Sizes.{most_bytes_in, SpellingsAreShort}
+use Rattle.cert_trim.specs.cert_bytes.Styles.{none_seen}
+use Rattle.cert_trim.specs.cert_bytes.Sizes.{most_bytes_in, SpellingsAreShort}
 use Rattle.cert_writer.proofs.Sized.{sized_both}
 use Rattle.cert_writer.proofs.Seen.{spelled_both, EndsSection, sections_with}
 use Rattle.box_trace.specs.box_traces.Cited.{found_long}

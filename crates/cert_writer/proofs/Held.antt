@@ -3,16 +3,16 @@ use Rattle.std.specs.Prelude.{◌≡◌, ◌⊎◌, ℕ, List, [], ◌∷◌, �
 use Rattle.std.specs.Io.KnownBytes.{Appends}
 use Rattle.std.proofs.Common.{sym, ◌∙◌, ap, subst, append-nil, inl, inr}
 use Rattle.fx_edge.specs.Outside.{Empties}
-use Rattle.fx_model.specs.declared.Node.{Node}
-use Rattle.facts.specs.declared.hint.HintMark.{HintMark}
+use Rattle.goals.specs.fx_model.declared.Node.{Node}
+use Rattle.goals.specs.facts.declared.hint.HintMark.{HintMark}
 use Rattle.answer_certificates.specs.script_grammar.Cases.{cases_of}
 use Rattle.answer_certificates.specs.script_grammar.Spells.{View}
-use Rattle.cert_bytes.specs.declared.item.Item.{Item}
-use Rattle.cert_bytes.specs.declared.item.Item.TheVariants as item
-use Rattle.cert_bytes.specs.declared.style.Seen.{Seen}
-use Rattle.cert_bytes.specs.declared.style.Style.TheVariants.{Second}
-use Rattle.cert_bytes.specs.Certificates.{SpellsAs}
-use Rattle.cert_bytes.specs.Styles.{none_seen}
+use Rattle.cert_trim.specs.cert_bytes.declared.item.Item.{Item}
+use Rattle.cert_trim.specs.cert_bytes.declared.item.Item.TheVariants as item
+use Rattle.cert_trim.specs.cert_bytes.declared.style.Seen.{Seen}
+use Rattle.cert_trim.specs.cert_bytes.declared.style.Style.TheVariants.{Second}
+use Rattle.cert_trim.specs.cert_bytes.Certificates.{SpellsAs}
+use Rattle.cert_trim.specs.cert_bytes.Styles.{none_seen}
 use Rattle.cert_writer.specs.Bytes.{seen_in, spelling_of, spelled_behind, certificate_of}
 use Rattle.answer_certificates.specs.script_checker.Subjects.{IsSubjectOf}
 use Rattle.cert_writer.specs.Heads.{head_items}

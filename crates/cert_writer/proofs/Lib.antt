@@ -1,6 +1,7 @@
 mod Seen
 mod Sized
 mod GoesOn
+mod Trimmed
 mod Begun
 mod Spelled
 mod Slots

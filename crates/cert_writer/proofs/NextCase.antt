@@ -12,7 +12,7 @@ use Rattle.answer_certificates.specs.box_tree.Pieces.{piece_count}
 use Rattle.answer_certificates.specs.box_tree.Plans.{cut_at, piece_at}
 use Rattle.answer_certificates.specs.box_tree.InRanges.{root_pieces}
 use Rattle.answer_certificates.specs.box_tree.Regions.{PlanParts, region_below}
-use Rattle.cert_bytes.specs.declared.item.Item.{Item}
+use Rattle.cert_trim.specs.cert_bytes.declared.item.Item.{Item}
 use Rattle.box_trace.specs.cert_checker.Contexts.{open_piece}
 use Rattle.box_trace.specs.Boxes.{IsBox, IsOfUniverse, IsItsSection}
 use Rattle.box_trace.specs.box_traces.Roots.{Root, IsRoot}
@@ -22,9 +22,9 @@ use Rattle.box_trace.specs.saturate.Universes.{setting_of}
 use Rattle.answer_certificates.specs.Boxes.{boxes_of}
 use Rattle.answer_certificates.specs.Roots.{AreRootsOf}
 use Rattle.answer_certificates.specs.Scripts.{in_case, HasSlots}
-use Rattle.cert_bytes.specs.declared.item.Item.TheVariants as item
-use Rattle.cert_bytes.specs.declared.style.Seen.{Seen}
-use Rattle.cert_bytes.specs.Styles.{none_seen}
+use Rattle.cert_trim.specs.cert_bytes.declared.item.Item.TheVariants as item
+use Rattle.cert_trim.specs.cert_bytes.declared.style.Seen.{Seen}
+use Rattle.cert_trim.specs.cert_bytes.Styles.{none_seen}
 use Rattle.cert_writer.specs.Bytes.{seen_in, spelled_behind, certificate_of}
 use Rattle.cert_writer.specs.Standing.{IsAim, IsBegun, Ended, HasEnded, next_root}
 use Rattle.cert_writer.specs.Courses.{Course, IsCourse, course, IsBefore, IsPast, Grew, GrewToFront}

@@ -1,13 +1,13 @@
 -- What is known at a box says whether and how it is cut, as the tree of boxes has it.
 use Rattle.std.specs.Prelude.{◌≡◌, ◌<◌, ◌≤◌, ◌+◌, ◌-◌, ℕ, zero, suc, List, [], ◌∷◌, ◌++◌, length, Some, None, slice_get, refl}
 use Rattle.std.proofs.Common.{sym, ◌∙◌, ap, subst, inl, inr, arith}
-use Rattle.fx_model.specs.declared.ExprId.{ExprId}
-use Rattle.dyadic.specs.declared.number.Dyadic.{Dyadic}
-use Rattle.facts.specs.declared.fact.Fact.{Fact}
-use Rattle.facts.specs.declared.fact.Slot.{Slot}
-use Rattle.facts.specs.declared.fact.Fact.TheVariants as fact
-use Rattle.facts.specs.declared.fact.Slot.TheVariants as slot
-use Rattle.facts.specs.Meets.{IsStronger-antisymm}
+use Rattle.goals.specs.fx_model.declared.ExprId.{ExprId}
+use Rattle.goals.specs.dyadic.declared.number.Dyadic.{Dyadic}
+use Rattle.goals.specs.facts.declared.fact.Fact.{Fact}
+use Rattle.goals.specs.facts.declared.fact.Slot.{Slot}
+use Rattle.goals.specs.facts.declared.fact.Fact.TheVariants as fact
+use Rattle.goals.specs.facts.declared.fact.Slot.TheVariants as slot
+use Rattle.goals.specs.facts.Meets.{IsStronger-antisymm}
 use Rattle.goals.specs.declared.goal.Goal.{Goal}
 use Rattle.derivation.specs.Derivations.{Setting, At}
 use Rattle.derivation.specs.Known.{Piece, Known, IsTableAt}

@@ -1,13 +1,14 @@
 -- What is so of a box's own steps, where the walk stands before the box, and how a box that isn't cut ends.
-use Rattle.std.specs.Prelude.{◌≡◌, ◌<◌, ◌≤◌, ◌+◌, ◌^◌, ℕ, List, [], ◌∷◌, ◌++◌, length, Option, Some, None, refl}
+use Rattle.std.specs.Prelude.{◌≡◌, ◌<◌, ◌≤◌, ◌+◌, ◌^◌, ℕ, List, [], ◌∷◌, length, Option, Some, None, refl}
 use Rattle.std.specs.Borrow.{Bor}
 use Rattle.std.specs.List.{AllByRecursion}
 use Rattle.std.proofs.Common.{sym, ◌∙◌, ap, subst, inl, inr, arith}
 use Rattle.std.proofs.lemmas.List.{length-map}
-use Rattle.facts.specs.declared.fact.Fact.{Fact}
-use Rattle.facts.specs.declared.fact.Fact.TheVariants as fact
-use Rattle.facts.specs.declared.fact.Slot.TheVariants as slot
+use Rattle.goals.specs.facts.declared.fact.Fact.{Fact}
+use Rattle.goals.specs.facts.declared.fact.Fact.TheVariants as fact
+use Rattle.goals.specs.facts.declared.fact.Slot.TheVariants as slot
 use Rattle.goals.specs.declared.goal.Goal.{Goal}
+use Rattle.goals.specs.declared.line.Line.{Line}
 use Rattle.derivation.specs.Derivations.{Setting, Derives, At}
 use Rattle.derivation.specs.Known.{Piece, GivenAt, IsTableAt}
 use Rattle.derivation.specs.Rounds.{IsSame}
@@ -15,10 +16,10 @@ use Rattle.derivation.specs.Parts.{none_some}
 use Rattle.derivation.specs.Laws.{TablesAreOne}
 use Rattle.box_trace.specs.rule_universe.Worlds.{World}
 use Rattle.answer_certificates.specs.box_tree.Plans.{piece_at}
-use Rattle.cert_bytes.specs.declared.item.Item.{Item}
-use Rattle.cert_bytes.specs.declared.item.Item.TheVariants as item
-use Rattle.cert_bytes.specs.declared.item.StepRow.{StepRow}
-use Rattle.cert_bytes.specs.declared.style.Seen.{Seen}
+use Rattle.cert_trim.specs.cert_bytes.declared.item.Item.{Item}
+use Rattle.cert_trim.specs.cert_bytes.declared.item.Item.TheVariants as item
+use Rattle.cert_trim.specs.cert_bytes.declared.item.StepRow.{StepRow}
+use Rattle.cert_trim.specs.cert_bytes.declared.style.Seen.{Seen}
 use Rattle.cert_writer.specs.Bytes.{seen_in}
 use Rattle.box_trace.specs.cert_checker.Contexts.{Context, open_piece}
 use Rattle.box_trace.specs.cert_checker.Open.{Numbered}
@@ -32,16 +33,16 @@ use Rattle.box_trace.specs.box_traces.Sections.{behind, ArePlaces}
 use Rattle.box_trace.specs.box_traces.Traces.{HaveFields}
 use Rattle.box_trace.specs.box_traces.Trees.{Tree, leaf, cut, AllSettled, IsProved, IsSettledLeaf, lines_of_tree, steps_in, steps_in_each}
 use Rattle.box_trace.specs.box_traces.Walks.{numbered, behind_steps, IsBehind, steps_behind}
-use Rattle.box_trace.specs.box_traces.Moves.{WalksMove, AreSteps, next_behind}
+use Rattle.box_trace.specs.box_traces.Moves.{WalksMove, AreSteps}
 use Rattle.cert_writer.specs.Boxes.{HasShortList, KnowsVoid, IsClosed, IsEnd, refs_in}
 use Rattle.box_trace.specs.Short.{EndsBox, BoxesAreShort}
 use Rattle.box_trace.specs.Rounds.{IsByRounds}
-use Rattle.cert_writer.specs.Standing.{AreShort, Aim, IsAim, Place, IsAt, Ended, HasEnded, AreCited, most_for, steps_left, own_items, closed}
+use Rattle.cert_writer.specs.Standing.{AreShort, Aim, IsAim, Place, IsAt, HasEnded, AreCited, most_for, steps_left, closed}
 use Rattle.cert_writer.specs.Courses.{Course, IsCourse, HasBest, IsBefore, setting, best_at}
 use Rattle.cert_writer.specs.Laws.{WritingGoesOn}
 use Rattle.cert_writer.proofs.GoesOn.{enough}
 use Rattle.cert_writer.proofs.Turn.{next_is}
-use Rattle.facts.specs.CommonParts.{at_option, void_is}
+use Rattle.goals.specs.facts.CommonParts.{at_option, void_is}
 
 -- What is so of a box's own steps.
 pub record OwnSteps (c : Course) (p : Place) (t : Traced) : Type 0 where
@@ -108,10 +109,6 @@ module _ (c : Course) (path : List ℕ) (parent : Option (Bor Known)) (first : S
   pub first_is : p.context.next ≡ first.steps
   first_is = next_is c.aim.world (piece_at c.plan path) parent first.steps (numbered p.context) (open_piece p.context.cuts) b.section
 
-  -- so many more behind the box's steps
-  pub next_behind_own : (rows : List StepRow) → (behind_steps p.context rows).next ≡ first.steps + length rows
-  next_behind_own rows = next_behind p.context rows ∙ ap (λ n. n + length rows) first_is
-
   room_here : first.steps + first.sections + most_for c.aim ≤ 2 ^ 63
   room_here =
       let same : (seen_in p.items).sections ≡ first.sections = ap (λ (s : Seen). s.sections) b.seen_is in
@@ -126,7 +123,7 @@ module _ (c : Course) (path : List ℕ) (parent : Option (Bor Known)) (first : S
 
   -- for the box's steps and its end, with what was seen
   pub has_sections : IsCourse c → (first.steps + most_steps c.aim.world c.aim.height < 2 ^ 63)
-      × (first.sections < 2 ^ 63)
+      × (first.sections + most_steps c.aim.world c.aim.height < 2 ^ 63)
   has_sections a =
       let l = fewer c.aim a.aim in
       let h = room_here in (omega (arith, l, h), omega (arith, l, h))
@@ -199,16 +196,13 @@ module _ (goes : WritingGoesOn) (one : TablesAreOne) where
   -- Its section ends with its last item.
   pub box_ends : (c : Course) → IsCourse c → HasBest c → (path : List ℕ) (parent : Option (Bor Known)) (first : Seen) (p : Place) → IsBefore c path parent first p → (t : Traced) → OwnSteps c p t →
       p.tree ≡ leaf → (i : Item) → IsEnd c.aim.world t.known i →
-      (e : Ended) × HasEnded c.aim e × (e.frames ≡ p.frames) × (e.context.next ≡ first.steps + length t.steps.items) × (e.items ≡ p.items ++ own_items t.steps.items i)
+      (lines : List Line) × HasEnded c.aim (closed p t.steps.items i lines)
   box_ends c a best path parent first p b t own e (item.Dead r) h =
       let rows : List StepRow = t.steps.items in
       let there : step_fact (behind_steps p.context rows).steps r ≡ Some fact.Void = subst (λ n. step_fact (behind_steps p.context rows).steps n ≡ Some fact.Void) (sym h.1) (own.placed slot.Void fact.Void h.0) in
       let void = void_too (setting c) c.aim.height p.pieces (known_at c.aim.world t.known) own.table (best_at c p.pieces) (best p.pieces) fact.Void h.0 in (
-        closed p rows (item.Dead r) p.context.lines,
+        p.context.lines,
         goes.voids c.aim a.aim p rows r e b.here own.steps own.few (own.sized (item.Dead r) tt) void there,
-        refl,
-        next_behind_own c path parent first p b rows,
-        refl,
       )
   box_ends c a best path parent first p b t own e (item.Leaf refs) h =
       let u : World = c.aim.world in
@@ -219,10 +213,7 @@ module _ (goes : WritingGoesOn) (one : TablesAreOne) where
       let same : IsSame at all = one (setting c) c.aim.height p.pieces at all own.table (best p.pieces) none in
       let d : Context = behind_steps p.context rows in
       let cited : AreCited d.steps all u.goals refs = subst (λ rs. AreCited d.steps all u.goals rs) (sym h.2) (are_cited u t.known (numbered d) all u.goals same own.placed h.1) in (
-        closed p rows (item.Leaf refs) (lines_of_tree (setting c) c.aim.height u.goals leaf p.pieces p.context.lines),
+        lines_of_tree (setting c) c.aim.height u.goals leaf p.pieces p.context.lines,
         goes.settles c.aim a.aim p rows refs e b.here (record { steps = own.steps; behind = own.behind none; few = own.few }) (own.sized (item.Leaf refs) (refs_few c a p t refs h.2)) (same slot.Void ∙ none) cited,
-        refl,
-        next_behind_own c path parent first p b rows,
-        refl,
       )
   box_ends c a best path parent first p b t own e _ h = absurd h

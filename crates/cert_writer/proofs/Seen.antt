@@ -1,14 +1,14 @@
 -- What was seen behind items.
-use Rattle.std.specs.Prelude.{◌≡◌, ◌+◌, ℕ, zero, suc, List, [], ◌∷◌, ◌++◌, length, map, refl}
+use Rattle.std.specs.Prelude.{◌≡◌, ◌≤◌, ◌+◌, ℕ, zero, suc, List, [], ◌∷◌, ◌++◌, length, map, refl}
 use Rattle.std.proofs.Common.{sym, ◌∙◌, ap, arith}
-use Rattle.std.proofs.lemmas.List.{append_assoc, map-append}
-use Rattle.fx_model.specs.declared.Node.{Node}
-use Rattle.facts.specs.declared.hint.HintMark.{HintMark}
-use Rattle.cert_bytes.specs.declared.item.Item.{Item}
-use Rattle.cert_bytes.specs.declared.item.Item.TheVariants as item
-use Rattle.cert_bytes.specs.declared.item.StepRow.{StepRow}
-use Rattle.cert_bytes.specs.declared.style.Seen.{Seen}
-use Rattle.cert_bytes.specs.Styles.{none_seen, seen_after}
+use Rattle.std.proofs.lemmas.List.{append_assoc}
+use Rattle.goals.specs.fx_model.declared.Node.{Node}
+use Rattle.goals.specs.facts.declared.hint.HintMark.{HintMark}
+use Rattle.cert_trim.specs.cert_bytes.declared.item.Item.{Item}
+use Rattle.cert_trim.specs.cert_bytes.declared.item.Item.TheVariants as item
+use Rattle.cert_trim.specs.cert_bytes.declared.item.StepRow.{StepRow}
+use Rattle.cert_trim.specs.cert_bytes.declared.style.Seen.{Seen}
+use Rattle.cert_trim.specs.cert_bytes.Styles.{none_seen, seen_after}
 use Rattle.box_trace.specs.box_traces.Roots.{cases_items}
 use Rattle.cert_writer.specs.Bytes.{seen_behind, seen_in, spelling_of, spelled_behind}
 use Rattle.cert_writer.specs.Heads.{head_items}
@@ -67,13 +67,6 @@ pub no_sections_seen : (s : Seen) (rows : List StepRow)
 no_sections_seen s [] = refl
 no_sections_seen s (row ∷ rows) = no_sections_seen (seen_after s (item.Step row)) rows
 
--- with one step more
-pub step_seen : (s : Seen) (rows : List StepRow) (row : StepRow)
-    → seen_behind s (map item.Step (rows ++ row ∷ []))
-    ≡ seen_after (seen_behind s (map item.Step rows)) (item.Step row)
-step_seen s rows row = ap (λ items. seen_behind s items) (map-append item.Step rows (row ∷ []))
-    ∙ seen_both s (map item.Step rows) (item.Step row ∷ [])
-
 -- The item ends a section.
 abbrev pub EndsSection : Item → Type 0
 EndsSection i = (s : Seen) → ((seen_after s i).steps ≡ s.steps)
@@ -91,6 +84,33 @@ own_sections_seen s rows i ends =
     ap (λ (q : Seen). q.sections) (seen_both s (map item.Step rows) (i ∷ []))
     ∙ (ends (seen_behind s (map item.Step rows))).1
     ∙ ap (λ n. n + 1) (no_sections_seen s rows)
+
+-- ---- how many more are seen behind items, at most
+one_more : (s : Seen) (i : Item) → ((seen_after s i).steps ≤ s.steps + 1)
+    × ((seen_after s i).sections ≤ s.sections + 1)
+one_more s (item.Step r) = (omega arith, omega arith)
+one_more s (item.Cut x ps) = (omega arith, omega arith)
+one_more s (item.Leaf refs) = (omega arith, omega arith)
+one_more s (item.Dead r) = (omega arith, omega arith)
+one_more s (item.Nodes n) = (omega arith, omega arith)
+one_more s (item.Node n) = (omega arith, omega arith)
+one_more s (item.Marks n) = (omega arith, omega arith)
+one_more s (item.Mark m) = (omega arith, omega arith)
+one_more s (item.Cases n) = (omega arith, omega arith)
+one_more s (item.End) = (omega arith, omega arith)
+
+pub seen_few : (s : Seen) (items : List Item)
+    → ((seen_behind s items).steps ≤ s.steps + length items)
+    × ((seen_behind s items).sections ≤ s.sections + length items)
+seen_few s [] = (omega arith, omega arith)
+seen_few s (i ∷ items) =
+    let a = one_more s i in
+    let b = seen_few (seen_after s i) items in
+    let steps = a.0 in
+    let sections = a.1 in
+    let more_steps = b.0 in
+    let more_sections = b.1 in
+    (omega (arith, steps, more_steps), omega (arith, sections, more_sections))
 
 -- of a certificate's items with them
 pub sections_with : (items : List Item) (rows : List StepRow) (i : Item) → EndsSection i

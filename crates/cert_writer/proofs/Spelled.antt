@@ -1,19 +1,15 @@
 -- What is spelled one behind the other.
 use Rattle.std.specs.Prelude.{◌≡◌, ◌+◌, ℕ, zero, suc, List, [], ◌∷◌, ◌++◌, length, map, take, Some, slice_get}
-use Rattle.std.specs.List.{AllByRecursion}
-use Rattle.std.proofs.Common.{refl, sym, ◌∙◌, ap, append-nil, arith}
+use Rattle.std.proofs.Common.{sym, ◌∙◌, ap, append-nil, arith}
 use Rattle.std.proofs.lemmas.List.{append_assoc, map-append}
-use Rattle.fx_model.specs.declared.Node.{Node}
-use Rattle.facts.specs.declared.hint.HintMark.{HintMark}
-use Rattle.cert_bytes.specs.declared.item.Item.{Item}
-use Rattle.cert_bytes.specs.declared.item.Item.TheVariants as item
-use Rattle.cert_bytes.specs.declared.item.StepRow.{StepRow}
-use Rattle.cert_bytes.specs.declared.style.Seen.{Seen}
-use Rattle.cert_bytes.specs.Styles.{none_seen}
+use Rattle.goals.specs.fx_model.declared.Node.{Node}
+use Rattle.goals.specs.facts.declared.hint.HintMark.{HintMark}
+use Rattle.cert_trim.specs.cert_bytes.declared.item.Item.{Item}
+use Rattle.cert_trim.specs.cert_bytes.declared.item.Item.TheVariants as item
+use Rattle.cert_trim.specs.cert_bytes.declared.style.Seen.{Seen}
+use Rattle.cert_trim.specs.cert_bytes.Styles.{none_seen}
 use Rattle.cert_writer.specs.Bytes.{seen_behind, spelling_of, spelled_behind, certificate_of}
 use Rattle.box_trace.specs.box_traces.Roots.{cases_items}
-use Rattle.box_trace.specs.box_traces.Traces.{HasFields, HaveFields}
-use Rattle.cert_writer.specs.Boxes.{HasShortList, HasRanges}
 use Rattle.cert_writer.specs.Heads.{head_items}
 use Rattle.cert_writer.proofs.Seen.{spelled_both, nodes_seen, marks_seen}
 
@@ -98,14 +94,3 @@ spelled_next f none xs k x old now new there e h =
     h ∙ ap (λ s. now ++ spelling_of s (f x)) (sym (none (take k xs))) in
     spelled_map f none_seen (take k xs) x old now new e here
     ∙ ap (λ ys. old ++ certificate_of (map f ys)) (sym front)
-
-pub fields_more : (rows : List StepRow) (row : StepRow) → (AllByRecursion HasShortList rows → HaveFields rows) → HasRanges row → AllByRecursion HasShortList (rows ++ row ∷ []) → HaveFields (rows ++ row ∷ [])
-fields_more rows row h r all = let w = last_of rows row all in and_then rows row (h w.0) (record { counted = w.1; rule = r.0; arg = r.1 })
-  where
-    last_of : (rows : List StepRow) (row : StepRow) → AllByRecursion HasShortList (rows ++ row ∷ []) → AllByRecursion HasShortList rows × HasShortList row
-    last_of [] row a = (tt, a.0)
-    last_of (x ∷ rows) row a = let w = last_of rows row a.1 in ((a.0, w.0), w.1)
-
-    and_then : (rows : List StepRow) (row : StepRow) → HaveFields rows → HasFields row → HaveFields (rows ++ row ∷ [])
-    and_then [] row h r = (r, tt)
-    and_then (x ∷ rows) row h r = (h.0, and_then rows row h.1 r)

@@ -13,7 +13,7 @@ use Rattle.answer_certificates.specs.script_grammar.Spells.{View}
 use Rattle.box_trace.specs.rule_universe.Worlds.{World}
 use Rattle.answer_certificates.specs.settler.Answers.{Options, options, IsProved}
 use Rattle.box_trace.specs.saturate.Universes.{setting_of}
-use Rattle.cert_bytes.specs.declared.item.Item.{Item}
+use Rattle.cert_trim.specs.cert_bytes.declared.item.Item.{Item}
 use Rattle.box_trace.specs.cert_checker.declared.subject.Subject.{Subject}
 use Rattle.answer_certificates.specs.script_checker.Subjects.{IsSubjectOf, facts_of}
 use Rattle.box_trace.specs.box_traces.Roots.{Root, AreRoots, IsRoot, steps_in_roots, lines_of_roots}
@@ -29,7 +29,7 @@ use Rattle.cert_writer.specs.Heads.{head_items}
 use Rattle.cert_writer.specs.Standing.{Aim, IsAim, at_root, steps_needed}
 use Rattle.cert_writer.specs.Cases.{bare, Task, task, plan_in, aim_of, StandsAt, StandsBefore}
 use Rattle.cert_writer.specs.Laws.{WritingGoesOn}
-use Rattle.cert_bytes.specs.Styles.{none_seen}
+use Rattle.cert_trim.specs.cert_bytes.Styles.{none_seen}
 use Rattle.cert_writer.proofs.NextCase.{drop_none}
 use Rattle.cert_writer.proofs.Seen.{head_seen}
 

@@ -1,20 +1,21 @@
 -- What is spelled of a box.
-use Rattle.std.specs.Prelude.{◌≡◌, ◌⊎◌, ◌<◌, ⊤, ℕ, List, [], ◌∷◌, map, Option, Some, None}
-use Rattle.fx_model.specs.declared.ExprId.{ExprId}
-use Rattle.dyadic.specs.declared.number.Dyadic.{Dyadic}
-use Rattle.facts.specs.declared.fact.Fact.{Fact}
-use Rattle.facts.specs.declared.fact.Fact.TheVariants as fact
-use Rattle.facts.specs.declared.fact.Slot.TheVariants as slot
+use Rattle.std.specs.Prelude.{◌≡◌, ◌⊎◌, ⊤, ℕ, zero, suc, List, [], ◌∷◌, map, Option, Some, None}
+use Rattle.goals.specs.fx_model.declared.ExprId.{ExprId}
+use Rattle.goals.specs.dyadic.declared.number.Dyadic.{Dyadic}
+use Rattle.goals.specs.facts.declared.fact.Fact.{Fact}
+use Rattle.goals.specs.facts.declared.fact.Fact.TheVariants as fact
+use Rattle.goals.specs.facts.declared.fact.Slot.TheVariants as slot
 use Rattle.goals.specs.declared.goal.Goal.{Goal}
 use Rattle.goals.specs.Settles.{Settles}
 use Rattle.derivation.specs.Derivations.{At}
 use Rattle.box_trace.specs.rule_universe.Worlds.{World}
 use Rattle.answer_certificates.specs.box_tree.declared.cut.Cut.{Cut}
 use Rattle.answer_certificates.specs.box_tree.declared.cut.Cut.TheVariants.{Forced, Half, Bottom}
-use Rattle.cert_bytes.specs.declared.item.Item.{Item}
-use Rattle.cert_bytes.specs.declared.item.Item.TheVariants as item
-use Rattle.cert_bytes.specs.declared.item.StepRow.{StepRow}
-use Rattle.cert_bytes.specs.Certificates.{IsCounted, IsShort}
+use Rattle.cert_trim.specs.cert_bytes.declared.item.Item.{Item}
+use Rattle.cert_trim.specs.cert_bytes.declared.item.Item.TheVariants as item
+use Rattle.cert_trim.specs.cert_bytes.declared.item.StepRow.{StepRow}
+use Rattle.cert_trim.specs.cert_bytes.Certificates.{IsCounted}
+use Rattle.cert_trim.specs.Behind.{trimmed_behind}
 use Rattle.box_trace.specs.declared.known.Known.{Known}
 use Rattle.box_trace.specs.Tables.{known_at, place_in}
 use Rattle.box_trace.specs.box_traces.Trees.{AllSettled}
@@ -23,9 +24,12 @@ use Rattle.box_trace.specs.box_traces.Trees.{AllSettled}
 abbrev pub HasShortList : StepRow → Type 0
 HasShortList row = IsCounted row.premises
 
--- its rule and its argument have room in their fields, which the program's types keep
-abbrev pub HasRanges : StepRow → Type 0
-HasRanges row = (row.rule < 256) × IsShort row.arg
+-- Of a box's own items, whose first step has number start, those that are written, where it goes
+-- into so many pieces: all of one that is cut, as its pieces may cite each step; of another
+-- the last and the steps that it needs.
+abbrev pub written_of : ℕ → ℕ → List Item → List Item
+written_of zero start items = trimmed_behind start items
+written_of (suc n) start items = items
 
 -- for each goal the step of what is known on its slot
 abbrev pub refs_in : World → Known → List Goal → List ℕ

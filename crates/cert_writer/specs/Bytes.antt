@@ -1,10 +1,10 @@
 -- The bytes of a certificate, which is written in version 2.
 use Rattle.std.specs.Prelude.{ℕ, List, [], ◌∷◌}
-use Rattle.cert_bytes.specs.declared.item.Item.{Item}
-use Rattle.cert_bytes.specs.declared.style.Seen.{Seen}
-use Rattle.cert_bytes.specs.declared.style.Style.TheVariants.{Second}
-use Rattle.cert_bytes.specs.Spelling.{spelling, spelled_from}
-use Rattle.cert_bytes.specs.Styles.{none_seen, seen_after}
+use Rattle.cert_trim.specs.cert_bytes.declared.item.Item.{Item}
+use Rattle.cert_trim.specs.cert_bytes.declared.style.Seen.{Seen}
+use Rattle.cert_trim.specs.cert_bytes.declared.style.Style.TheVariants.{Second}
+use Rattle.cert_trim.specs.cert_bytes.Spelling.{spelling, spelled_from}
+use Rattle.cert_trim.specs.cert_bytes.Styles.{none_seen, seen_after}
 
 -- what stood before the place behind these items, where this stood before them
 abbrev pub seen_behind : Seen → List Item → Seen

@@ -10,9 +10,9 @@ use Rattle.answer_certificates.specs.box_tree.Regions.{PlanParts}
 use Rattle.answer_certificates.specs.bisect.declared.settler.State.{State}
 use Rattle.answer_certificates.specs.settler.Answers.{plan_of}
 use Rattle.answer_certificates.specs.settler.Standing.{AreStates}
-use Rattle.cert_bytes.specs.declared.item.Item.{Item}
-use Rattle.cert_bytes.specs.declared.item.Item.TheVariants as item
-use Rattle.cert_bytes.specs.declared.style.Seen.{Seen}
+use Rattle.cert_trim.specs.cert_bytes.declared.item.Item.{Item}
+use Rattle.cert_trim.specs.cert_bytes.declared.item.Item.TheVariants as item
+use Rattle.cert_trim.specs.cert_bytes.declared.style.Seen.{Seen}
 use Rattle.box_trace.specs.cert_checker.declared.subject.Subject.{Subject}
 use Rattle.box_trace.specs.box_traces.Roots.{Root}
 use Rattle.answer_certificates.specs.Boxes.{boxes_of}

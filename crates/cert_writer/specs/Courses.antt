@@ -2,7 +2,7 @@
 use Rattle.std.specs.Prelude.{◌≡◌, ◌<◌, ◌≤◌, ◌+◌, ◌-◌, ℕ, List, [], ◌∷◌, ◌++◌, length, Option, Some, None}
 use Rattle.std.specs.Io.KnownBytes.{Appends}
 use Rattle.std.specs.Borrow.{Bor}
-use Rattle.facts.specs.declared.fact.Slot.TheVariants as slot
+use Rattle.goals.specs.facts.declared.fact.Slot.TheVariants as slot
 use Rattle.goals.specs.declared.line.Line.{Line}
 use Rattle.derivation.specs.Derivations.{Setting, At}
 use Rattle.derivation.specs.Known.{Piece, IsTableAt}
@@ -14,8 +14,8 @@ use Rattle.answer_certificates.specs.box_tree.Pieces.{piece_count}
 use Rattle.answer_certificates.specs.box_tree.Regions.{PlanParts}
 use Rattle.answer_certificates.specs.bisect.declared.settler.State.{State}
 use Rattle.answer_certificates.specs.settler.Standing.{AreStates}
-use Rattle.cert_bytes.specs.declared.item.Item.{Item}
-use Rattle.cert_bytes.specs.declared.style.Seen.{Seen}
+use Rattle.cert_trim.specs.cert_bytes.declared.item.Item.{Item}
+use Rattle.cert_trim.specs.cert_bytes.declared.style.Seen.{Seen}
 use Rattle.cert_writer.specs.Bytes.{seen_in, spelled_behind, certificate_of}
 use Rattle.box_trace.specs.cert_checker.Contexts.{open_piece}
 use Rattle.box_trace.specs.cert_checker.Open.{Numbered}

@@ -1,16 +1,18 @@
 -- What is promised of a certificate that is written box by box.
-use Rattle.std.specs.Prelude.{◌≡◌, ◌<◌, ◌≤◌, ◌+◌, ◌*◌, ◌^◌, ℕ, List, [], ◌∷◌, ◌++◌, length, map, Some, None}
-use Rattle.fx_model.specs.declared.ExprId.{ExprId}
-use Rattle.dyadic.specs.declared.number.Dyadic.{Dyadic}
-use Rattle.interval.specs.declared.interval.Interval.{Interval}
-use Rattle.facts.specs.declared.fact.Fact.{Fact}
-use Rattle.facts.specs.declared.fact.Fact.TheVariants as fact
-use Rattle.facts.specs.declared.fact.Slot.TheVariants as slot
+use Rattle.std.specs.Prelude.{◌≡◌, ◌<◌, ◌≤◌, ◌+◌, ◌*◌, ℕ, List, [], ◌∷◌, ◌++◌, length, map, Some, None}
+use Rattle.goals.specs.fx_model.declared.ExprId.{ExprId}
+use Rattle.goals.specs.dyadic.declared.number.Dyadic.{Dyadic}
+use Rattle.goals.specs.interval.declared.interval.Interval.{Interval}
+use Rattle.goals.specs.facts.declared.fact.Fact.{Fact}
+use Rattle.goals.specs.facts.declared.fact.Fact.TheVariants as fact
+use Rattle.goals.specs.facts.declared.fact.Slot.TheVariants as slot
+use Rattle.goals.specs.declared.line.Line.{Line}
 use Rattle.goals.specs.declared.line.Line.TheVariants as line
 use Rattle.derivation.specs.Exists.{table_at}
 use Rattle.box_trace.specs.saturate.Universes.{setting_of}
-use Rattle.cert_bytes.specs.declared.item.Item.TheVariants as item
-use Rattle.cert_bytes.specs.declared.item.StepRow.{StepRow}
+use Rattle.cert_trim.specs.cert_bytes.declared.item.Item.{Item}
+use Rattle.cert_trim.specs.cert_bytes.declared.item.Item.TheVariants as item
+use Rattle.cert_trim.specs.cert_bytes.declared.item.StepRow.{StepRow}
 use Rattle.box_trace.specs.Short.{bytes_a_box}
 use Rattle.cert_writer.specs.Bytes.{certificate_of}
 use Rattle.box_trace.specs.cert_checker.Contexts.{Context}
@@ -19,7 +21,9 @@ use Rattle.box_trace.specs.box_traces.Trees.{Tree, Trees, leaf, cut, last, next,
 use Rattle.box_trace.specs.box_traces.Roots.{Root}
 use Rattle.box_trace.specs.box_traces.Walks.{behind_steps, Frame}
 use Rattle.box_trace.specs.box_traces.Moves.{AreSteps}
-use Rattle.cert_writer.specs.Standing.{Aim, IsAim, IsWhole, IsBegun, Place, IsAt, Ended, HasEnded, AreBoxSteps, AreShort, AreCited, most_for, steps_left, lines_left, at_root, inside, closed, beside, around, next_aim, next_root, root_with}
+use Rattle.cert_trim.specs.Behind.{IsLeafOrDead}
+use Rattle.cert_trim.specs.Used.{CiteEarlier}
+use Rattle.cert_writer.specs.Standing.{Aim, IsAim, IsWhole, IsBegun, Place, IsAt, Ended, HasEnded, AreBoxSteps, AreShort, AreCited, most_for, steps_left, lines_left, at_root, inside, own_items, closed, trimmed, beside, around, next_aim, next_root, root_with}
 
 -- This is so of each aim.
 abbrev pub OfAims : (Aim → Type 0) → Type 0
@@ -52,6 +56,11 @@ pub record WritingGoesOn : Type 0 where
       → IsAt t p → AreSteps t.target.subject p.context rows → length rows < most_for t
       → AreShort t rows (item.Dead r) →
       table_at (setting_of t.world) t.height p.pieces slot.Void ≡ Some fact.Void → step_fact (behind_steps p.context rows).steps r ≡ Some fact.Void → HasEnded t (closed p rows (item.Dead r) p.context.lines))
+  -- Of a section that has ended so the items cite earlier steps alone, and it has also ended
+  -- without the steps that its end doesn't need.
+  pub trims : OfAims (λ t. (p : Place) (rows : List StepRow) (last : Item) (lines : List Line)
+      → IsAt t p → IsLeafOrDead last → HasEnded t (closed p rows last lines)
+      → CiteEarlier p.context.next (own_items rows last) × HasEnded t (trimmed p rows last lines))
   -- Behind a section the next piece begins,
   pub follows : OfAims (λ t. (e : Ended) (fr : Frame) (i : Interval) (tree : Tree) (later : Trees) (frames : List Frame) → e.frames ≡ fr ∷ frames → fr.later ≡ next i tree later → HasEnded t e →
       IsAt t (beside e fr i tree later frames))

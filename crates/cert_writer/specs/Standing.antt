@@ -1,9 +1,9 @@
 -- Where a certificate that is being written stands.
 use Rattle.std.specs.Prelude.{◌≡◌, ◌<◌, ◌≤◌, ◌+◌, ◌*◌, ◌^◌, ⊤, ℕ, suc, List, [], ◌∷◌, ◌++◌, length, map, Some}
-use Rattle.fx_model.specs.declared.ExprId.{ExprId}
-use Rattle.dyadic.specs.declared.number.Dyadic.{Dyadic}
-use Rattle.interval.specs.declared.interval.Interval.{Interval}
-use Rattle.facts.specs.declared.fact.Fact.{Fact}
+use Rattle.goals.specs.fx_model.declared.ExprId.{ExprId}
+use Rattle.goals.specs.dyadic.declared.number.Dyadic.{Dyadic}
+use Rattle.goals.specs.interval.declared.interval.Interval.{Interval}
+use Rattle.goals.specs.facts.declared.fact.Fact.{Fact}
 use Rattle.goals.specs.declared.goal.Goal.{Goal}
 use Rattle.goals.specs.declared.line.Line.{Line}
 use Rattle.goals.specs.Settles.{Settles}
@@ -11,13 +11,13 @@ use Rattle.derivation.specs.Derivations.{At}
 use Rattle.derivation.specs.Known.{Piece}
 use Rattle.box_trace.specs.rule_universe.Worlds.{World}
 use Rattle.box_trace.specs.saturate.Universes.{setting_of}
-use Rattle.cert_bytes.specs.declared.item.Item.{Item}
-use Rattle.cert_bytes.specs.declared.item.Item.TheVariants as item
-use Rattle.cert_bytes.specs.declared.item.StepRow.{StepRow}
-use Rattle.cert_bytes.specs.declared.order.Due.TheVariants.{Sections}
-use Rattle.cert_bytes.specs.Certificates.{AreDue, AreCertificate}
-use Rattle.cert_bytes.specs.Fronts.{IsFront}
-use Rattle.cert_bytes.specs.Sizes.{most_bytes_in}
+use Rattle.cert_trim.specs.cert_bytes.declared.item.Item.{Item}
+use Rattle.cert_trim.specs.cert_bytes.declared.item.Item.TheVariants as item
+use Rattle.cert_trim.specs.cert_bytes.declared.item.StepRow.{StepRow}
+use Rattle.cert_trim.specs.cert_bytes.declared.order.Due.TheVariants.{Sections}
+use Rattle.cert_trim.specs.cert_bytes.Certificates.{AreDue, AreCertificate}
+use Rattle.cert_trim.specs.cert_bytes.Fronts.{IsFront}
+use Rattle.cert_trim.specs.cert_bytes.Sizes.{most_bytes_in}
 use Rattle.box_trace.specs.rule_universe.Sizes.{IsSmall}
 use Rattle.box_trace.specs.Short.{bytes_a_box}
 use Rattle.cert_writer.specs.Bytes.{certificate_of, seen_in}
@@ -33,6 +33,8 @@ use Rattle.box_trace.specs.box_traces.Trees as trees
 use Rattle.box_trace.specs.box_traces.Roots.{Root, AreRoots, steps_in_roots, lines_of_roots}
 use Rattle.box_trace.specs.box_traces.Walks.{behind_steps, IsBehind, IsEndOf, Frame, LiesIn, left_in, lines_behind, steps_behind}
 use Rattle.box_trace.specs.box_traces.Moves.{AreSteps, IsEntered, frame_of, turned}
+use Rattle.cert_trim.specs.Behind.{trimmed_behind, with_next}
+use Rattle.cert_trim.specs.Trimmed.{number_behind_all}
 use Rattle.cert_writer.specs.Heads.{head_items}
 
 -- ---- what is written
@@ -200,6 +202,17 @@ closed p rows last lines = record {
   items = p.items ++ own_items rows last;
   begin = p.context;
   context = after (behind_steps p.context rows) last;
+  frames = p.frames;
+  lines = lines;
+}
+
+-- it has ended without the steps that its end doesn't need
+abbrev pub trimmed : Place → List StepRow → Item → List Line → Ended
+trimmed p rows last lines = record {
+  items = p.items ++ trimmed_behind p.context.next (own_items rows last);
+  begin = p.context;
+  context = with_next (after (behind_steps p.context rows) last)
+      (number_behind_all p.context.next (trimmed_behind p.context.next (own_items rows last)));
   frames = p.frames;
   lines = lines;
 }

@@ -6,8 +6,8 @@ use Rattle.box_trace.specs.rule_universe.Worlds.{World}
 use Rattle.answer_certificates.specs.box_tree.declared.cut.Cut.{Cut}
 use Rattle.answer_certificates.specs.box_tree.Plans.{piece_at, pieces_at, with_last}
 use Rattle.answer_certificates.specs.box_tree.Regions.{PlanParts}
-use Rattle.cert_bytes.specs.declared.item.Item.{Item}
-use Rattle.cert_bytes.specs.declared.item.Item.TheVariants as item
+use Rattle.cert_trim.specs.cert_bytes.declared.item.Item.{Item}
+use Rattle.cert_trim.specs.cert_bytes.declared.item.Item.TheVariants as item
 use Rattle.box_trace.specs.declared.known.Known.{Known}
 use Rattle.box_trace.specs.Tables.{known_at}
 use Rattle.box_trace.specs.box_traces.Moves.{WalksMove}

@@ -9,12 +9,9 @@ ghost use Rattle.cert_writer.specs.Boxes.{IsSettled, CutsAt, IsEnd, IsClosed};
 use crate::spell::refs_of;
 use answer_certificates::Cut;
 use box_trace::{Known, Universe};
-use cert_bytes::Item;
-use dyadic::{Dyadic, Points};
-use facts::Slot;
+use cert_trim::Item;
 use fx_edge::Items;
-use fx_model::ExprId;
-use goals::{Goal, settles};
+use goals::{Dyadic, ExprId, Goal, Points, Slot, settles};
 use std::alloc::{AllocError, Global};
 
 // Whether the goal is settled by what is known.

@@ -4,7 +4,7 @@ ghost use Rattle.cert_writer.specs.Walks.{WalkGoesOn};
 
 use answer_certificates::{Plan, pieces_are_of_cuts};
 use box_trace::{certificates_exist, rules_are_lawful, walks_move};
-use cert_bytes::spellings_are_short;
+use cert_trim::{leaves_are_trimmed, spellings_are_short};
 use derivation::{best_tables_exist, boxes_come_to_one_state};
 
 /// Nothing is done. The clause tells a caller how a certificate goes on from box to box, that it is whole behind the last, and that
@@ -15,6 +15,7 @@ pub fn writing_goes_on()
     certificates_exist();
     walks_move();
     spellings_are_short();
+    leaves_are_trimmed();
 }
 
 // Nothing is done. The clause tells what the walk over the plan's boxes goes by.

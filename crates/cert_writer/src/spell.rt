@@ -1,52 +1,54 @@
 //! What is spelled of a box.
-ghost use Rattle.std.specs.Prelude.{◌≡◌, ◌<◌, ◌≤◌, ◌+◌, ◌^◌, ◌++◌, length, map, IfOk, OnOk};
+ghost use Rattle.std.specs.Prelude.{◌≡◌, ◌<◌, ◌≤◌, ◌+◌, ◌^◌, ◌++◌, length, map, vec_len, IfOk, OnOk};
 ghost use Rattle.std.specs.List.{AllByRecursion};
-ghost use Rattle.cert_bytes.specs.declared.item.Item.TheVariants as item;
-ghost use Rattle.cert_bytes.specs.Certificates.{HasSpelling};
+ghost use Rattle.cert_trim.specs.cert_bytes.declared.item.Item.TheVariants as item;
+ghost use Rattle.cert_trim.specs.cert_bytes.Certificates.{HasSpelling};
+ghost use Rattle.cert_trim.specs.Used.{CiteEarlier};
 ghost use Rattle.cert_writer.specs.Bytes.{seen_behind, spelled_behind};
 ghost use Rattle.box_trace.specs.Tables.{known_at};
-ghost use Rattle.box_trace.specs.box_traces.Traces.{HaveFields};
 ghost use Rattle.box_trace.specs.box_traces.Trees.{AllSettled};
-ghost use Rattle.cert_writer.specs.Boxes.{HasShortList, HasRanges, refs_in};
+ghost use Rattle.cert_writer.specs.Boxes.{refs_in, written_of};
 ghost use Rattle.cert_writer.specs.Standing.{own_items};
 
 use box_trace::{Known, Universe};
-use cert_bytes::{Item, Seen, StepRow, write_item2};
+use cert_trim::{Item, Seen, StepRow, trim_behind, write_item2};
 use goals::Goal;
 use std::alloc::{AllocError, Global};
 
-// Nothing is done. The clause tells a caller that the step's rule and argument have room in their fields.
-fn has_ranges(row: &StepRow)
-    ensures { HasRanges row.now }
+// A box's own items: its steps, and the last behind them. `Err` only where memory runs out.
+pub(crate) fn own_items(
+    alloc: Global,
+    steps: Vec<StepRow>,
+    last: Item,
+) -> Result<Vec<Item>, AllocError>
+    ensures { IfOk result (λ items. items.items ≡ own_items steps.items last) }
 {
-    let _rule = row.rule;
-    let _arg = row.arg;
+    let mut items = Vec::with_capacity(alloc, steps.len() + 1)?;
+    for row in steps {
+        items.push_reserved(Item::Step(row));
+    }
+    items.push_reserved(last);
+    Ok(items)
 }
 
-// Appends the steps as items, where this was seen before them, and answers what is behind them. The
-// numbers of their rules and their arguments have room in the steps' fields, since their types keep
-// that. `Err` only where memory runs out; a front of the items may then be there.
-pub(crate) fn spell_steps(
-    rows: Vec<StepRow>,
-    seen: Seen,
-    out: &mut Vec<u8>,
-) -> Result<Seen, AllocError>
-    requires lists { AllByRecursion HasShortList rows.items }
-    requires steps { seen.steps + length rows.items ≤ 2 ^ 63 }
-    requires sections { seen.sections < 2 ^ 63 }
-    ensures spelled { IfOk result (λ next. out.new.items
-        ≡ out.old.items ++ spelled_behind seen (map item.Step rows.items)) }
-    ensures seen { IfOk result (λ next. next ≡ seen_behind seen (map item.Step rows.items)) }
-    ensures fields { OnOk result (HaveFields rows.items) }
+// Those of them that are written, where the first step has number start and the box goes into so
+// many pieces: all of one that is cut, as its pieces may cite each step; of another the last and
+// what it needs. `Err` only where memory runs out.
+pub(crate) fn written_items(
+    alloc: Global,
+    items: Vec<Item>,
+    pieces: u8,
+    start: u64,
+) -> Result<Vec<Item>, AllocError>
+    requires room { start + vec_len items < 2 ^ 64 }
+    requires earlier { pieces ≡ 0 → CiteEarlier start items.items }
+    ensures { IfOk result (λ left. left.items ≡ written_of pieces start items.items) }
 {
-    let mut next = seen;
-    for row in rows {
-        has_ranges(&row);
-        let item = Item::Step(row);
-        write_item2(&item, next, out)?;
-        next = next.after(&item);
+    if pieces == 0 {
+        trim_behind(alloc, items, start)
+    } else {
+        Ok(items)
     }
-    Ok(next)
 }
 
 // The step of each goal's fact. `Err` only where memory runs out.
@@ -71,25 +73,37 @@ pub(crate) fn refs_of(
     Ok(refs)
 }
 
-// The bytes of a box's own items, its steps and the last, where this was seen before them; and what
-// is seen behind them. `Err` only where memory runs out.
+// Appends the items, where this was seen before them, and answers what is behind them. `Err` only
+// where memory runs out; a front of the items may then be there.
+fn spell_items(items: &[Item], seen: Seen, out: &mut Vec<u8>) -> Result<Seen, AllocError>
+    requires spelled { AllByRecursion HasSpelling items.now }
+    requires steps { seen.steps + length items.now ≤ 2 ^ 63 }
+    requires sections { seen.sections + length items.now ≤ 2 ^ 63 }
+    ensures spelled { OnOk result (out.new.items ≡ out.old.items ++ spelled_behind seen items.now) }
+    ensures seen { IfOk result (λ next. next ≡ seen_behind seen items.now) }
+{
+    let mut next = seen;
+    for item in items {
+        write_item2(item, next, out)?;
+        next = next.after(item);
+    }
+    Ok(next)
+}
+
+// The bytes of a box's items, where this was seen before them; and what is seen behind them. `Err`
+// only where memory runs out.
 pub(crate) fn spell_box(
     alloc: Global,
-    steps: Vec<StepRow>,
-    last: &Item,
+    items: &[Item],
     seen: Seen,
 ) -> Result<(Vec<u8>, Seen), AllocError>
-    requires lists { AllByRecursion HasShortList steps.items }
-    requires last { HasSpelling last.now }
-    requires steps { seen.steps + length steps.items < 2 ^ 63 }
-    requires sections { seen.sections < 2 ^ 63 }
-    ensures spelled { IfOk result (λ r.
-        r.0.items ≡ spelled_behind seen (own_items steps.items last.now)) }
-    ensures seen { IfOk result (λ r. r.1 ≡ seen_behind seen (own_items steps.items last.now)) }
-    ensures fields { IfOk result (λ r. HaveFields steps.items) }
+    requires spelled { AllByRecursion HasSpelling items.now }
+    requires steps { seen.steps + length items.now ≤ 2 ^ 63 }
+    requires sections { seen.sections + length items.now ≤ 2 ^ 63 }
+    ensures spelled { IfOk result (λ r. r.0.items ≡ spelled_behind seen items.now) }
+    ensures seen { IfOk result (λ r. r.1 ≡ seen_behind seen items.now) }
 {
     let mut bytes = Vec::new(alloc);
-    let behind = spell_steps(steps, seen, &mut bytes)?;
-    write_item2(last, behind, &mut bytes)?;
-    Ok((bytes, behind.after(last)))
+    let next = spell_items(items, seen, &mut bytes)?;
+    Ok((bytes, next))
 }

@@ -8,10 +8,10 @@ ghost use Rattle.cert_writer.specs.declared.walk.WriteStop.TheVariants as WriteS
 
 use crate::ending::{cut_of, end_of};
 use crate::laws::{walk_goes_on, writing_goes_on};
-use crate::spell::spell_box;
+use crate::spell::{own_items, spell_box, written_items};
 use answer_certificates::{Cut, Plan};
 use box_trace::{Known, Traced, Universe, boxes_are_short, trace};
-use cert_bytes::{CutPoints, Item, Seen};
+use cert_trim::{CutPoints, Item, Seen, leaves_are_trimmed};
 use fx_edge::{Failed, Folder, Path};
 use std::alloc::{AllocError, Global};
 use whole_texts::append_all;
@@ -69,7 +69,7 @@ struct Own {
     next: Seen,
 }
 
-// The bytes of the box's own items.
+// The bytes of the box's own items that are written.
 fn own_bytes(
     alloc: Global,
     uni: &Universe,
@@ -87,9 +87,12 @@ fn own_bytes(
 {
     walk_goes_on(plan);
     boxes_are_short();
+    leaves_are_trimmed();
     let Traced { steps, known } = trace(alloc, uni, plan.piece(path), parent, rounds, seen.steps)?;
     let (last, pieces) = last_item(alloc, uni, plan.cut(path), &known)?;
-    let (bytes, next) = spell_box(alloc, steps, &last, seen)?;
+    let own = own_items(alloc, steps, last)?;
+    let items = written_items(alloc, own, pieces, seen.steps)?;
+    let (bytes, next) = spell_box(alloc, items.as_slice(), seen)?;
     Ok((
         bytes,
         Own {

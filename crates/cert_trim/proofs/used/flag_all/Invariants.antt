@@ -3,5 +3,5 @@ use Rattle.cert_trim.specs.Flags.{AreFlags}
 use Rattle.cert_trim.proofs.used.flag_all.Given as goal
 
 abbrev pub invariant-loop-number : goal.invariant-loop-number
-invariant-loop-number l = (later : List ℕ)
-    → AreFlags l.initial.flags later → AreFlags l.flags (take l.number-index l.numbers ++ later)
+invariant-loop-number l = (later : List ℕ) → AreFlags l.start l.initial.flags later
+    → AreFlags l.start l.flags (take l.number-index l.numbers ++ later)

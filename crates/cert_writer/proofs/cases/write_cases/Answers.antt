@@ -2,7 +2,7 @@ use Rattle.std.specs.Prelude.{◌+◌, refl}
 use Rattle.std.proofs.Common.{sym, ◌∙◌, subst, arith}
 use Rattle.std.proofs.lemmas.List.{drop_all}
 use Rattle.answer_certificates.specs.script_grammar.Cases.{cases_of}
-use Rattle.cert_bytes.specs.Styles.{none_seen}
+use Rattle.cert_trim.specs.cert_bytes.Styles.{none_seen}
 use Rattle.cert_writer.specs.Files.{on_err}
 use Rattle.cert_writer.specs.Cases.{bare, task, whole_aim, StandsAt, StandsBefore, OfStanding, GrewFront}
 use Rattle.cert_writer.proofs.NextCase.{grew_none}

@@ -1,5 +1,5 @@
 use Rattle.std.proofs.Common.{◌≡◌, ◌++◌, map, take}
-use Rattle.cert_bytes.specs.declared.item.Item.TheVariants as item
+use Rattle.cert_trim.specs.cert_bytes.declared.item.Item.TheVariants as item
 use Rattle.cert_writer.specs.Bytes.{certificate_of}
 use Rattle.cert_writer.proofs.head.spell_marks.Given as goal
 
