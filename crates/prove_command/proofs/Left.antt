@@ -1,7 +1,7 @@
 -- What is left in the file for the certificate of a script that is answered with lines.
 use Rattle.std.specs.Prelude.{◌≡◌, ⊤, List, Option, Some, None, Result, Ok, Err, OnOk, OnErr}
 use Rattle.std.proofs.Common.{inl, inr, refl, sym, subst, ◌∙◌}
-use Rattle.goals.specs.declared.line.Line.{Line}
+use Rattle.cert_writer.specs.goals.declared.line.Line.{Line}
 use Rattle.script_answers.specs.script_grammar.Spells.{View, Spells, SpellsOnce}
 use Rattle.script_answers.specs.settler.Answers.{Options, IsProved}
 use Rattle.cert_writer.specs.Written.{OfProved, HoldsCertificate, HoldsFront}

@@ -1,6 +1,6 @@
 -- What `prove` comes to: its lines, and the certificate that it writes.
 use Rattle.std.specs.Prelude.{◌≡◌, ◌≤◌, ◌⊎◌, ◌^◌, List, length, Option, Some, None}
-use Rattle.goals.specs.declared.line.Line.{Line}
+use Rattle.cert_writer.specs.goals.declared.line.Line.{Line}
 use Rattle.script_answers.specs.script_grammar.Spells.{View}
 use Rattle.script_answers.specs.settler.Answers.{Options}
 use Rattle.cert_writer.specs.Written.{AreWrittenFor}

@@ -1,7 +1,7 @@
 -- What follows of a run of `prove`: what the certificate's file holds, by how the run ended.
 use Rattle.std.specs.Prelude.{◌≡◌, ◌≢◌, ◌≤◌, ◌⊎◌, ◌^◌, List, [], length, Option, Some, None}
 use Rattle.std.proofs.Common.{inl, inr, refl, sym, subst, ◌∙◌, append-nil}
-use Rattle.goals.specs.declared.line.Line.{Line}
+use Rattle.cert_writer.specs.goals.declared.line.Line.{Line}
 use Rattle.script_answers.specs.script_grammar.Spells.{View}
 use Rattle.cert_writer.specs.Written.{HoldsCertificate, HoldsFront}
 use Rattle.command_line.specs.Reading.{Asked}

@@ -1,7 +1,8 @@
 // What comes of a text: its lines, and the certificate that is written once they are made.
-ghost use Rattle.std.specs.Prelude.{◌≡◌, ◌≢◌, [], ℕ, List, Some, IfOk, OnOk, OnErr};
-ghost use Rattle.goals.specs.declared.line.Line.{Line};
-ghost use Rattle.script_answers.specs.universe.Universes.{IsUniverse, IsTooLarge};
+ghost use Rattle.std.specs.Prelude.{◌≡◌, ◌≢◌, ℕ, List, Some, IfOk, OnOk, OnErr};
+ghost use Rattle.cert_writer.specs.goals.declared.line.Line.{Line};
+ghost use Rattle.script_answers.specs.report.script_claims.declared.claim.Claim.{Claim};
+ghost use Rattle.script_answers.specs.universe.Universes.{IsUniverse};
 ghost use Rattle.script_answers.specs.settler.Answers.{IsProved};
 ghost use Rattle.cert_writer.specs.Walks.{HasWriteCause};
 ghost use Rattle.cert_writer.specs.Written.{HoldsCertificate, HoldsFront};
@@ -12,8 +13,8 @@ use cert_writer::{WriteStop, subject_of, write_cert};
 use command_runs::Status;
 use fx_edge::{Folder, Gate};
 use script_answers::{
-    Options, ParseStop, Script, Universe, UniverseFault, build, lines_for, parse, prove_script,
-    refusal_line, script_or_refusal,
+    Options, ParseStop, Script, Universe, UniverseFault, build, expressions_text, lines_for, parse,
+    prove_over, refusal_line, script_or_refusal,
 };
 use std::alloc::{AllocError, Global};
 use std::sync::Wait;
@@ -28,27 +29,17 @@ pub struct Certified {
     pub written: Result<(), WriteStop>,
 }
 
-// The universe of a script that hasn't too many expressions.
-fn universe_of(alloc: Global, script: &Script<'_>) -> Result<Universe, AllocError>
-    requires { ¬ IsTooLarge script.now }
-    ensures { IfOk result (IsUniverse script.now []) }
-{
-    match build(alloc, script) {
-        Ok(universe) => Ok(universe),
-        Err(UniverseFault::ExprLimit) => unreachable!(),
-        Err(UniverseFault::OutOfMemory) => Err(AllocError),
-    }
-}
-
-// Writes the certificate of a script that is proved under the options. Its universe is made again,
-// and each box is settled again: what the workers knew of it is gone.
+// Writes the certificate of a script that is proved under the options, over the universe that it
+// was proved over. Each box is settled again: what the workers knew of it is gone.
 fn write_proved<F: Folder>(
     alloc: Global,
     script: &Script<'_>,
+    universe: &mut Universe,
     options: Options,
     folder: &mut F,
     name: &str,
 ) -> Result<(), WriteStop>
+    requires universe { (before : List Claim) × IsUniverse script.now before universe.old }
     requires allowed { AreAllowed options }
     requires proved { (shown : List Line) × IsProved script.now (options_from options) shown }
     ensures ok { OnOk result ((shown : List Line)
@@ -62,12 +53,11 @@ fn write_proved<F: Folder>(
         → F.told folder.new other ≡ F.told folder.old other }
     ensures cause { HasWriteCause (F.write_faults folder.old) (F.write_faults folder.new) result }
 {
-    let mut universe = universe_of(alloc, script)?;
     let subject = subject_of(alloc, script)?;
     write_cert(
         alloc,
         script,
-        &mut universe,
+        universe,
         &subject,
         options.rounds,
         options.depth,
@@ -76,16 +66,18 @@ fn write_proved<F: Folder>(
     )
 }
 
-// Writes the certificate that is asked for of a script that is answered so.
+// Writes the certificate that is asked for of a script that is answered so over its universe.
 fn certify<F: Folder>(
     alloc: Global,
     script: &Script<'_>,
+    universe: &mut Universe,
     options: Options,
     folder: &mut F,
     cert: Option<&str>,
     status: Status,
     lines: Vec<u8>,
 ) -> Certified
+    requires universe { (before : List Claim) × IsUniverse script.now before universe.old }
     requires allowed { AreAllowed options }
     requires prints { ProvePrints (options_from options) script.now.text status lines.items }
     ensures made { IsCertified (options_from options) script.now.text (name_of cert.entry)
@@ -111,7 +103,7 @@ fn certify<F: Folder>(
             written: Ok(()),
         };
     };
-    let written = write_proved(alloc, script, options, folder, name);
+    let written = write_proved(alloc, script, universe, options, folder, name);
     Certified {
         status,
         lines,
@@ -119,7 +111,8 @@ fn certify<F: Folder>(
     }
 }
 
-// What comes of a script. `Err` only where memory runs out before anything is written.
+// What comes of a script, whose universe is made once. `Err` only where memory runs out before
+// anything is written.
 fn certify_script<F: Folder, G: Gate, R: Threads + Wait + Sync>(
     rt: &R,
     alloc: Global,
@@ -139,9 +132,29 @@ fn certify_script<F: Folder, G: Gate, R: Threads + Wait + Sync>(
     ensures still { OnErr result
         ((name : List ℕ) → F.told folder.new name ≡ F.told folder.old name) }
 {
-    let found = prove_script(rt, alloc, script, options, gate)?;
-    let (status, lines) = lines_for(alloc, script, options, found)?;
-    Ok(certify(alloc, script, options, folder, cert, status, lines))
+    script.laws();
+    match build(alloc, script) {
+        Ok(mut universe) => {
+            let found = prove_over(rt, alloc, script, &mut universe, options, gate)?;
+            let (status, lines) = lines_for(alloc, script, options, found)?;
+            Ok(certify(
+                alloc,
+                script,
+                &mut universe,
+                options,
+                folder,
+                cert,
+                status,
+                lines,
+            ))
+        }
+        Err(UniverseFault::ExprLimit) => Ok(Certified {
+            status: Status::Limit,
+            lines: expressions_text().to_vec(alloc)?,
+            written: Ok(()),
+        }),
+        Err(UniverseFault::OutOfMemory) => Err(AllocError),
+    }
 }
 
 /// What comes of a text under the options: its status and lines, and where a name is given and all
