@@ -8,7 +8,7 @@ use Rattle.fx_edge.specs.Outside.{Rose}
 use Rattle.whole_texts.specs.Pieces.{AppendsFront, HoldsAll, HoldsFront}
 use Rattle.whole_texts.specs.declared.read.ReadStop.{ReadStop}
 use Rattle.whole_texts.specs.declared.read.ReadStop.TheVariants as stop
-use Rattle.command_runs.specs.Runs.{Bytes, Run, IsKept, IsSilent, WriteFailed, PutFailed}
+use Rattle.command_runs.specs.Runs.{Bytes, Run, IsKept, IsSilent, ReadFailed, WriteFailed, PutFailed}
 use Rattle.command_runs.specs.Fates.{Left, Fate, Leaves, begun, Written, IsBrokenOff, IsUntouched, BreaksOff, Ending, ending, EndsBy, EndsIn, Runs, Comes, AreTold, IsExact, IsRunOf, OrUnread, IsKeptFile}
 use Rattle.command_runs.specs.Fates.Ending.{Done, Cut, Starved}
 use Rattle.command_runs.specs.Fates.Left.{Kept, Whole, Begun}
@@ -319,3 +319,35 @@ pub stop_comes : (why : ReadStop) (name : Bytes) (s : Status) (r : Run) → IsSt
 stop_comes why name s r (inl (same, silent)) = inr (inr (inr same))
 stop_comes why name s r (inr (is, inl (same, took))) = inr (inl same)
 stop_comes why name s r (inr (is, inr (same, took, rose))) = inr (inr (inl same))
+
+-- ---- runs of which nothing of the outside fails
+-- A run of a fate beside read faults, in which no read, no write and no put failed: where all that
+-- is read is told, the status that has lines comes, or memory ran out.
+module _ (name : Option Bytes) (Reads Named : Bytes → Type 0) (Stays : Left → Type 0)
+    (MayChange : Status → Type 0) (P : Fate) (r : Run)
+    (h : IsRunOf name Reads MayChange (OrUnread Named Stays r P) r) where
+  unread_ends : (s : Status) → r.status ≡ s → EndsIn s name (OrUnread Named Stays r P) r
+  unread_ends s e = subst (λ t. EndsIn t name (OrUnread Named Stays r P) r) e h.runs.ends
+
+  all_read : ¬ ReadFailed r → r.status ≢ status.ReadFault
+  all_read still e = by_end (unread_ends status.ReadFault e) where
+    by_end : EndsIn status.ReadFault name (OrUnread Named Stays r P) r → ⊥
+    by_end (lines, left, (n, reads, failed, stays, line), done) = absurd (still failed)
+
+  all_written : ¬ WriteFailed r → ¬ PutFailed r → r.status ≢ status.WriteFault
+  all_written still quiet e = by_cause (h.runs.cause e) where
+    by_cause : PutFailed r ⊎ ((name ≢ None) × WriteFailed r) → ⊥
+    by_cause (inl failed) = quiet failed
+    by_cause (inr (named, failed)) = still failed
+
+  pub sure_run : ¬ ReadFailed r → ¬ WriteFailed r → ¬ PutFailed r → AreTold Reads r.before.told
+      → (s : Status) (lines : Bytes) (left : Left) → s ≢ status.ReadFault → P s lines left
+      → (r.status ≡ s) ⊎ (r.status ≡ status.OutOfMemory)
+  sure_run reads writes puts told s lines left n p =
+      by_status (h.exact s lines left told n (or_unread Named Stays r P lines left s n p))
+    where
+      by_status : Comes s r.status → (r.status ≡ s) ⊎ (r.status ≡ status.OutOfMemory)
+      by_status (inl e) = inl e
+      by_status (inr (inl e)) = absurd (all_read reads e)
+      by_status (inr (inr (inl e))) = absurd (all_written writes puts e)
+      by_status (inr (inr (inr e))) = inr e

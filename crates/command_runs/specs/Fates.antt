@@ -40,8 +40,8 @@ pub record IsDone (name : Option Bytes) (lines : Bytes) (left : Left) (r : Run) 
   pub put : Puts r lines
   pub file : Written name left r
 
--- It broke off: a front of the lines was put, and no byte of them before the file was whole. After
--- a write fault the file is whole where no read and no write of the folder failed.
+-- It broke off: a front of the lines was put, and no byte of them before the file was left as these
+-- lines have it. After a write fault it is so where no read and no write of the folder failed.
 pub record IsBrokenOff (name : Option Bytes) (lines : Bytes) (left : Left) (r : Run) : Type 0 where
   pub put : PutsFront r lines
   pub file : Written name (begun left) r
