@@ -1,7 +1,7 @@
 -- What is answered to a script and a certificate, from what its check answers.
 use Rattle.std.specs.Prelude.{◌≡◌, [], length, Some, None, Err}
 use Rattle.std.proofs.Common.{◌∙◌, ap, subst, inl, inr}
-use Rattle.fx_model.specs.Expression.{Assignment}
+use Rattle.script_checker.specs.cert_checker.goals.fx_model.Expression.{Assignment}
 use Rattle.script_checker.specs.script_grammar.Spells.{View, Spells, GoalsHaveSpans}
 use Rattle.script_checker.specs.script_meets.Meets.{Meets}
 use Rattle.script_checker.specs.rewrite_hints.Marks.{AreMarks}

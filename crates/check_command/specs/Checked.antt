@@ -1,8 +1,8 @@
 -- What `check` answers to a text and a certificate: a status and lines.
 use Rattle.std.specs.Prelude.{◌≡◌, ◌≤◌, ◌⊎◌, List, length, Option}
-use Rattle.fx_model.specs.Expression.{Assignment}
-use Rattle.facts.specs.declared.hint.HintMark.{HintMark}
-use Rattle.goals.specs.declared.line.Line.{Line}
+use Rattle.script_checker.specs.cert_checker.goals.fx_model.Expression.{Assignment}
+use Rattle.script_checker.specs.cert_checker.facts.declared.hint.HintMark.{HintMark}
+use Rattle.script_checker.specs.cert_checker.goals.declared.line.Line.{Line}
 use Rattle.script_checker.specs.script_grammar.Spells.{View, Spells}
 use Rattle.script_checker.specs.script_meets.Meets.{Meets}
 use Rattle.script_checker.specs.rewrite_hints.Marks.{AreMarks}

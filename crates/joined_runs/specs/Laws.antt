@@ -93,7 +93,8 @@ pub record HasEvaluated (b : AskedAt) (q : Run) (text point : Bytes) : Type 0 wh
 
 -- Of the runs of `prove` and `at` on one script the lines were put. Where the last line of `at`
 -- says that the point meets, each line of a goal that `prove` put holds at the point, and each goal
--- is true there: the goal's value lies in its printed interval.
+-- is true there: the goal's value lies in its printed interval, or both sides of a relative goal
+-- are 0.
 pub record HoldsAtPoint (a : Asked) (r q : Run) (text point : Bytes) : Type 0 where
   pub lines : Bytes
   pub put : Puts r lines

@@ -1,16 +1,16 @@
 -- One status comes of a text and a told certificate, and one that is accepted is trimmed.
 use Rattle.std.specs.Prelude.{◌≡◌, ◌≤◌, List, [], ◌∷◌, length, Option, Some, Ok}
 use Rattle.std.proofs.Common.{◌∙◌, ap, sym, subst, refl, inl, inr, arith}
-use Rattle.goals.specs.declared.line.Line.{Line}
+use Rattle.cert_trim.specs.cert_checker.goals.declared.line.Line.{Line}
 use Rattle.check_command.specs.script_grammar.Spells.{View, Spells, SpellsOnce, NeverBoth}
-use Rattle.cert_bytes.specs.declared.item.Item.{Item}
-use Rattle.cert_bytes.specs.declared.order.Due.{Due}
-use Rattle.cert_bytes.specs.declared.order.Due.TheVariants.{Head}
-use Rattle.cert_bytes.specs.declared.style.Style.TheVariants.{First}
-use Rattle.cert_bytes.specs.Certificates.{SpellsCertificate, SpellsOnce as SpelledOnce}
-use Rattle.cert_bytes.specs.Due.{due_behind}
-use Rattle.cert_bytes.specs.ReadOut.{AreBytes, AreRead, SpelledAreRead}
-use Rattle.cert_bytes.specs.Reading.{Cursor, cursor}
+use Rattle.cert_trim.specs.cert_bytes.declared.item.Item.{Item}
+use Rattle.cert_trim.specs.cert_bytes.declared.order.Due.{Due}
+use Rattle.cert_trim.specs.cert_bytes.declared.order.Due.TheVariants.{Head}
+use Rattle.cert_trim.specs.cert_bytes.declared.style.Style.TheVariants.{First}
+use Rattle.cert_trim.specs.cert_bytes.Certificates.{SpellsCertificate, SpellsOnce as SpelledOnce}
+use Rattle.cert_trim.specs.cert_bytes.Due.{due_behind}
+use Rattle.cert_trim.specs.cert_bytes.ReadOut.{AreBytes, AreRead, SpelledAreRead}
+use Rattle.cert_trim.specs.cert_bytes.Reading.{Cursor, cursor}
 use Rattle.cert_trim.specs.cert_checker.declared.subject.Subject.{Subject}
 use Rattle.cert_trim.specs.cert_checker.Accepted.{Accepts}
 use Rattle.cert_trim.specs.cert_checker.Contexts.{Context}
@@ -126,6 +126,7 @@ module _ (spelled_once : SpelledOnce) (come : SpelledAreAccepted) (read : Spelle
       let there = come t all items shown short spelled accepts in
       record {
         shown = shown;
+        led = (t, is, accepts.end, accepts.leads, accepts.shown);
         comes = where_told all (λ b. (end : Context)
             × ComesFor s (cursor First b 0) (accepted end) × (shown ≡ end.lines))
             (there.0, (t, is, there.1), sym there.2);

@@ -1,16 +1,16 @@
 -- What a certificate's items come to, from what its check answers.
 use Rattle.std.specs.Prelude.{◌≡◌, List, [], Option, Some, None, Result, Ok, Err, IfOk}
 use Rattle.std.proofs.Common.{◌∙◌, ap, subst, refl}
-use Rattle.goals.specs.declared.line.Line.{Line}
+use Rattle.cert_trim.specs.cert_checker.goals.declared.line.Line.{Line}
 use Rattle.check_command.specs.script_grammar.Spells.{View}
-use Rattle.cert_bytes.specs.declared.item.Item.{Item}
-use Rattle.cert_bytes.specs.declared.order.Due.TheVariants.{Head}
-use Rattle.cert_bytes.specs.declared.style.Style.TheVariants.{First, Second}
-use Rattle.cert_bytes.specs.Pieces.{cursor_of}
-use Rattle.cert_bytes.specs.ReadOut.{AreBytes, AreRead}
-use Rattle.cert_bytes.specs.Readers.{Progress}
-use Rattle.cert_bytes.specs.Reading.{Cursor, cursor}
-use Rattle.cert_bytes.specs.Styles.{none_seen}
+use Rattle.cert_trim.specs.cert_bytes.declared.item.Item.{Item}
+use Rattle.cert_trim.specs.cert_bytes.declared.order.Due.TheVariants.{Head}
+use Rattle.cert_trim.specs.cert_bytes.declared.style.Style.TheVariants.{First, Second}
+use Rattle.cert_trim.specs.cert_bytes.Pieces.{cursor_of}
+use Rattle.cert_trim.specs.cert_bytes.ReadOut.{AreBytes, AreRead}
+use Rattle.cert_trim.specs.cert_bytes.Readers.{Progress}
+use Rattle.cert_trim.specs.cert_bytes.Reading.{Cursor, cursor}
+use Rattle.cert_trim.specs.cert_bytes.Styles.{none_seen}
 use Rattle.cert_trim.specs.cert_checker.declared.fault.CheckStop.{CheckStop}
 use Rattle.cert_trim.specs.cert_checker.declared.keep.Accepted.{Accepted}
 use Rattle.cert_trim.specs.cert_checker.declared.subject.Subject.{Subject}
@@ -80,6 +80,7 @@ module _ (law : AcceptsTrimmed) (used : AllLeftAreUsed) (s : View) (cert : Optio
       → AreLedFor s a → AreTrimmable s cert a.items.items
   trimmable_ok a shows are_read are_accepted (t, is, (end, leads, same)) = record {
     shown = a.lines.rows;
+    led = (t, is, end, leads, same);
     comes = λ all e. let h = shows all e in
         (h.shows.end, (h.subject, h.is, h.shows.comes), h.shows.rows);
     read = are_read;

@@ -2,10 +2,10 @@
 use Rattle.std.specs.Prelude.{◌≡◌, ◌⊎◌, List, Option, Some, Err}
 use Rattle.std.proofs.Common.{◌∙◌, subst, refl, inl, inr}
 use Rattle.check_command.specs.script_grammar.Spells.{View, Spells}
-use Rattle.cert_bytes.specs.declared.fault.CertFault.{CertFault}
-use Rattle.cert_bytes.specs.declared.item.Item.{Item}
-use Rattle.cert_bytes.specs.declared.style.Style.TheVariants.{First}
-use Rattle.cert_bytes.specs.Reading.{cursor}
+use Rattle.cert_trim.specs.cert_bytes.declared.fault.CertFault.{CertFault}
+use Rattle.cert_trim.specs.cert_bytes.declared.item.Item.{Item}
+use Rattle.cert_trim.specs.cert_bytes.declared.style.Style.TheVariants.{First}
+use Rattle.cert_trim.specs.cert_bytes.Reading.{cursor}
 use Rattle.cert_trim.specs.cert_checker.declared.fault.CheckFault.{CheckFault}
 use Rattle.cert_trim.specs.cert_checker.declared.fault.CheckStop.{CheckStop}
 use Rattle.cert_trim.specs.cert_checker.declared.fault.CheckStop.TheVariants.{Cert, Check}

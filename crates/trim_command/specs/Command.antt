@@ -1,7 +1,7 @@
 -- What the command `trim` comes to.
 use Rattle.std.specs.Prelude.{◌≡◌, ◌≤◌, ◌^◌, List, length, Some}
-use Rattle.cert_bytes.specs.declared.item.Item.{Item}
-use Rattle.cert_bytes.specs.Certificates.{SpellsCertificate}
+use Rattle.cert_trim.specs.cert_bytes.declared.item.Item.{Item}
+use Rattle.cert_trim.specs.cert_bytes.Certificates.{SpellsCertificate}
 use Rattle.command_line.specs.Trim.{AskedTrim}
 use Rattle.command_runs.specs.Runs.{Bytes, Told, Run}
 use Rattle.command_runs.specs.Fates.{Fate, Comes, IsRunOf, MayWrite, OrUnread, IsKeptFile, OfText}

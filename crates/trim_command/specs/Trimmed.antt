@@ -1,15 +1,18 @@
 -- What comes of a script's text and a certificate that is trimmed.
 use Rattle.std.specs.Prelude.{◌≡◌, ◌≤◌, ◌<◌, ◌^◌, ◌⊎◌, List, length, Option, Some}
-use Rattle.goals.specs.declared.line.Line.{Line}
+use Rattle.cert_trim.specs.cert_checker.goals.declared.line.Line.{Line}
 use Rattle.check_command.specs.script_grammar.Spells.{View, Spells}
-use Rattle.cert_bytes.specs.declared.item.Item.{Item}
-use Rattle.cert_bytes.specs.declared.order.Due.TheVariants.{Head}
-use Rattle.cert_bytes.specs.declared.style.Style.TheVariants.{First}
-use Rattle.cert_bytes.specs.Certificates.{SpellsCertificate}
-use Rattle.cert_bytes.specs.Reading.{cursor}
-use Rattle.cert_bytes.specs.ReadOut.{AreBytes, AreRead}
-use Rattle.cert_trim.specs.cert_checker.Contexts.{Context}
+use Rattle.cert_trim.specs.cert_bytes.declared.item.Item.{Item}
+use Rattle.cert_trim.specs.cert_bytes.declared.order.Due.TheVariants.{Head}
+use Rattle.cert_trim.specs.cert_bytes.declared.style.Style.TheVariants.{First}
+use Rattle.cert_trim.specs.cert_bytes.Certificates.{SpellsCertificate}
+use Rattle.cert_trim.specs.cert_bytes.Reading.{cursor}
+use Rattle.cert_trim.specs.cert_bytes.ReadOut.{AreBytes, AreRead}
+use Rattle.cert_trim.specs.cert_checker.declared.subject.Subject.{Subject}
+use Rattle.cert_trim.specs.cert_checker.Contexts.{Context, first}
+use Rattle.cert_trim.specs.cert_checker.Accepted.{LeadsTo}
 use Rattle.cert_trim.specs.cert_checker.Outcomes.{accepted}
+use Rattle.check_command.specs.script_checker.Subjects.{IsSubjectOf}
 use Rattle.check_command.specs.script_checker.Checking.{ComesFor, AreAcceptedFor}
 use Rattle.cert_trim.specs.Trimmed.{step_count}
 use Rattle.cert_trim.specs.Used.{AreAllUsed, trimmed}
@@ -32,12 +35,14 @@ new_bytes items = certificate_of (trimmed items)
 abbrev pub line_of : List Item → Bytes
 line_of items = trimmed_line (step_count (trimmed items)) (step_count items)
 
--- The items are those of a certificate that is accepted for the script with these lines. Where its
--- bytes are told, the items are read from them to their end, and nothing is wrong with any; they
--- are what the bytes spell, and the new bytes are accepted for the script with the same lines. Each
--- step that is left is used.
+-- The items are those of a certificate that is accepted for the script with these lines: whatever
+-- its bytes are, nothing is wrong with any of them, and their leaves show the lines. Where the
+-- bytes are told, the items are read from them to their end; they are what the bytes spell, and the
+-- new bytes are accepted for the script with the same lines. Each step that is left is used.
 pub record AreTrimmable (s : View) (cert : Option Bytes) (items : List Item) : Type 0 where
   pub shown : List Line
+  pub led : (t : Subject) × IsSubjectOf s t
+      × (end : Context) × LeadsTo t (first t) items end × (end.lines ≡ shown)
   pub comes : WhereTold cert (λ all. (end : Context)
       × ComesFor s (cursor First all 0) (accepted end) × (shown ≡ end.lines))
   pub read : WhereTold cert (λ all. AreRead Head (cursor First all 0) items)

@@ -1,7 +1,7 @@
 -- What the new file holds.
 use Rattle.std.specs.Prelude.{◌≡◌, ◌≤◌, ◌<◌, ◌^◌, List, length, Option}
 use Rattle.whole_texts.specs.Pieces.{HoldsAll, HoldsFront}
-use Rattle.cert_bytes.specs.declared.item.Item.{Item}
+use Rattle.cert_trim.specs.cert_bytes.declared.item.Item.{Item}
 use Rattle.check_command.specs.report.Certificates.{new_too_long_line}
 use Rattle.command_runs.specs.Runs.{Bytes}
 use Rattle.command_runs.specs.Fates.{Left, Leaves, begun}

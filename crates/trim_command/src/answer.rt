@@ -3,9 +3,9 @@ ghost use Rattle.std.specs.Prelude.{◌≡◌, ◌≢◌, ◌≤◌, ◌⊎◌, 
 ghost use Rattle.std.specs.List.{AllByRecursion};
 ghost use Rattle.fx_edge.specs.Outside.{Rose};
 ghost use Rattle.check_command.specs.script_grammar.Spells.{View, Spells};
-ghost use Rattle.cert_bytes.specs.Certificates.{HasSpelling};
-ghost use Rattle.cert_bytes.specs.Reading.{cursor};
-ghost use Rattle.cert_bytes.specs.declared.style.Style.TheVariants.{First};
+ghost use Rattle.cert_trim.specs.cert_bytes.Certificates.{HasSpelling};
+ghost use Rattle.cert_trim.specs.cert_bytes.Reading.{cursor};
+ghost use Rattle.cert_trim.specs.cert_bytes.declared.style.Style.TheVariants.{First};
 ghost use Rattle.cert_trim.specs.cert_checker.Keeping.{lines_of};
 ghost use Rattle.cert_trim.specs.cert_checker.declared.fault.CheckStop.TheVariants as CheckStop;
 ghost use Rattle.check_command.specs.script_checker.Checking.{ChecksFor};
@@ -16,9 +16,8 @@ ghost use Rattle.trim_command.specs.declared.stop.TrimStop.TheVariants as TrimSt
 
 use crate::stop::TrimStop;
 use crate::writing::write_trimmed;
-use cert_bytes::Reader;
 use cert_rewriting::WriteStop;
-use cert_trim::{Accepted, CheckStop, trimmed_are_accepted};
+use cert_trim::{Accepted, CheckStop, Reader, trimmed_are_accepted};
 use check_command::{
     ParseStop, Script, cert_fault_line, check_fault_line, parse, refusal_line, script_items,
 };

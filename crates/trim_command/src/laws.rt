@@ -1,8 +1,7 @@
 // One answer is defined for a text and a certificate, and those that are accepted are trimmed.
 ghost use Rattle.trim_command.specs.Laws.{AcceptableAreTrimmed, TrimAnswersAreOne};
 
-use cert_bytes::certificates_are_spelled_once;
-use cert_trim::{bytes_are_accepted, trimmed_are_accepted};
+use cert_trim::{bytes_are_accepted, certificates_are_spelled_once, trimmed_are_accepted};
 use check_command::{checks_are_one, script_or_refusal};
 
 /// Nothing is done. The clauses tell a caller that a text and a certificate have one status, where

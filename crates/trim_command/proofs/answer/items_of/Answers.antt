@@ -1,6 +1,6 @@
 use Rattle.std.proofs.Common.{IfOk}
-use Rattle.cert_bytes.specs.declared.order.Due.TheVariants.{Head}
-use Rattle.cert_bytes.specs.ReadOut.{AreBytes, AreRead}
+use Rattle.cert_trim.specs.cert_bytes.declared.order.Due.TheVariants.{Head}
+use Rattle.cert_trim.specs.cert_bytes.ReadOut.{AreBytes, AreRead}
 use Rattle.cert_trim.specs.cert_checker.Keeping.{lines_of}
 use Rattle.check_command.specs.script_checker.Checking.{AreAcceptedItemsFor, ChecksFor}
 use Rattle.trim_command.proofs.Trimmable.{from_first, trimmable}
