@@ -1,9 +1,8 @@
 -- What a file or a sink took, where its bytes are known.
-use Rattle.std.specs.Prelude.{⊤, ◌≡◌, ◌-◌, ◌++◌, ◌⊎◌, ℕ, List, [], length, take, drop, Option, Some, None}
+use Rattle.std.specs.Prelude.{⊤, ◌≡◌, ◌-◌, ◌++◌, ◌⊎◌, ℕ, List, length, take, drop, Option, Some, None}
 use Rattle.std.specs.Io.KnownBytes.{Appends, Keeps}
-use Rattle.std.proofs.Common.{ap, sym, refl, inl, inr, ◌∙◌, append_assoc, length-drop}
+use Rattle.std.proofs.Common.{ap, sym, ◌∙◌, append_assoc, length-drop}
 use Rattle.std.proofs.Math.Seq.{take-length}
-use Rattle.fx_edge.specs.Outside.{Empties}
 
 -- the second list begins with the first
 abbrev pub IsFront : List ℕ → List ℕ → Type 0
@@ -51,26 +50,3 @@ pub rest_of : (bytes : List ℕ) (done : ℕ)
 rest_of bytes done =
     ap (λ (i : ℕ). take i (drop done bytes)) (sym (length-drop done bytes))
     ∙ take-length (drop done bytes)
-
--- ---- a file that was emptied
--- all bytes were added to it
-pub holds_all : (old fresh new : Option (List ℕ)) (bytes : List ℕ)
-    → Empties old fresh → Appends fresh new bytes → HoldsAll bytes old new
-holds_all None fresh new bytes e p = tt
-holds_all (Some old) None new bytes e p = absurd (cc e)
-holds_all (Some old) (Some x) None bytes e p = absurd p
-holds_all (Some old) (Some x) (Some y) bytes e p = cc (e, p)
-
--- a front of them was
-pub holds_front : (old fresh new : Option (List ℕ)) (bytes : List ℕ)
-    → Empties old fresh → AppendsFront fresh new bytes → HoldsFront bytes old new
-holds_front None fresh new bytes e p = tt
-holds_front (Some old) fresh new bytes e (front, is, p) =
-    inr (front, is, holds_all (Some old) fresh new front e p)
-
--- it wasn't emptied
-pub holds_old : (old new : Option (List ℕ)) (bytes : List ℕ)
-    → (new ≡ old) ⊎ (new ≡ Some []) → HoldsFront bytes old new
-holds_old None new bytes p = tt
-holds_old (Some old) new bytes (inl same) = inl same
-holds_old (Some old) new bytes (inr none) = inr ([], (bytes, refl), none)
