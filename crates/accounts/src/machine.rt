@@ -57,7 +57,8 @@ pub(crate) fn hand_of(hands: &[Option<OpenBox>], worker: u8) -> Option<Option<Op
 
 // The path is that of the open box, which is not published, and its cut has pieces.
 fn is_publishable(found: &OpenBox, path: &Path, pieces: u8) -> bool
-    ensures { result ≡ (bytes_eq path.now found.now.path && not found.now.shown && nat_lt 0 pieces) }
+    ensures { result
+        ≡ (bytes_eq path.now found.now.path && not found.now.shown && nat_lt 0 pieces) }
 {
     *path == found.path && !found.shown && 0 < pieces
 }
@@ -74,14 +75,15 @@ fn is_child(path: &Path, parent: &Path, piece: u8) -> bool
 
 // The open box is published, and the path is that of its next child.
 fn is_next(found: &OpenBox, path: &Path) -> bool
-    ensures { result ≡ (found.now.shown && bytes_eq path.now (child found.now.path found.now.pushed)) }
+    ensures { result
+        ≡ (found.now.shown && bytes_eq path.now (child found.now.path found.now.pushed)) }
 {
     found.shown && is_child(path, &found.path, found.pushed)
 }
 
 impl<'p, C: Cuts> Core<'p, C> {
-    /// The account of so many workers (1 to 16), where the root lies in lane 0 and all else is empty. Want of memory is the
-    /// only error.
+    /// The account of so many workers (1 to 16), where the root lies in lane 0 and all else is
+    /// empty. Want of memory is the only error.
     pub fn start(alloc: Global, plan: &'p C, workers: u8) -> Result<Core<'p, C>, AllocError>
         requires { (1 ≤ workers) × (workers ≤ 16) }
         ensures { IfOk result (λ k. (k.plan ≡ plan.now) × (k.account ≡ at_start workers)) }
@@ -99,12 +101,14 @@ impl<'p, C: Cuts> Core<'p, C> {
         })
     }
 
-    /// Makes the event's step. `NotEnabled` comes exactly where the account doesn't enable it. After each refusal the account
-    /// is as it was.
+    /// Makes the event's step. `NotEnabled` comes exactly where the account doesn't enable it.
+    /// After each refusal the account is as it was.
     pub fn step(&mut self, event: Event) -> Result<(), EventRefused>
-        ensures ok { OnOk result ((after (C.pieces_of self.old.plan) event self.old.account ≡ Some self.new.account) × (self.new.plan ≡ self.old.plan)) }
+        ensures ok { OnOk result ((after (C.pieces_of self.old.plan) event self.old.account
+            ≡ Some self.new.account) × (self.new.plan ≡ self.old.plan)) }
         ensures err { OnErr result (self.new ≡ self.old) }
-        ensures refused { IfErr result (λ e. e ≡ NotEnabled ↔ after (C.pieces_of self.old.plan) event self.old.account ≡ None) }
+        ensures refused { IfErr result (λ e. e ≡ NotEnabled
+            ↔ after (C.pieces_of self.old.plan) event self.old.account ≡ None) }
     {
         match event {
             Event::Pop { worker } => self.take(worker, worker),
@@ -118,9 +122,11 @@ impl<'p, C: Cuts> Core<'p, C> {
 
     // The first box of another worker's lane comes into the hand.
     fn steal(&mut self, worker: u8, lane: u8) -> Result<(), EventRefused>
-        ensures ok { OnOk result ((after (C.pieces_of self.old.plan) (Steal worker lane) self.old.account ≡ Some self.new.account) × (self.new.plan ≡ self.old.plan)) }
+        ensures ok { OnOk result ((after (C.pieces_of self.old.plan) (Steal worker lane)
+            self.old.account ≡ Some self.new.account) × (self.new.plan ≡ self.old.plan)) }
         ensures err { OnErr result (self.new ≡ self.old) }
-        ensures refused { IfErr result (λ e. e ≡ NotEnabled ↔ after (C.pieces_of self.old.plan) (Steal worker lane) self.old.account ≡ None) }
+        ensures refused { IfErr result (λ e. e ≡ NotEnabled
+            ↔ after (C.pieces_of self.old.plan) (Steal worker lane) self.old.account ≡ None) }
     {
         if worker == lane {
             return Err(EventRefused::NotEnabled);
@@ -130,9 +136,13 @@ impl<'p, C: Cuts> Core<'p, C> {
 
     // The first box of a lane comes into the hand of the worker.
     fn take(&mut self, worker: u8, lane: u8) -> Result<(), EventRefused>
-        ensures ok { OnOk result ((take_by self.old.account worker lane (slice_get self.old.account.hands worker) (slice_get self.old.account.lanes lane) ≡ Some self.new.account) × (self.new.plan ≡ self.old.plan)) }
+        ensures ok { OnOk result ((take_by self.old.account worker lane
+            (slice_get self.old.account.hands worker) (slice_get self.old.account.lanes lane)
+            ≡ Some self.new.account) × (self.new.plan ≡ self.old.plan)) }
         ensures err { OnErr result (self.new ≡ self.old) }
-        ensures refused { IfErr result (λ e. e ≡ NotEnabled ↔ take_by self.old.account worker lane (slice_get self.old.account.hands worker) (slice_get self.old.account.lanes lane) ≡ None) }
+        ensures refused { IfErr result (λ e. e ≡ NotEnabled
+            ↔ take_by self.old.account worker lane (slice_get self.old.account.hands worker)
+            (slice_get self.old.account.lanes lane) ≡ None) }
     {
         let Some(None) = hand_of(self.hands.as_slice(), worker) else {
             return Err(EventRefused::NotEnabled);
@@ -157,9 +167,12 @@ impl<'p, C: Cuts> Core<'p, C> {
 
     // The entry of the box in the hand is published.
     fn publish(&mut self, worker: u8, path: Path) -> Result<(), EventRefused>
-        ensures ok { OnOk result ((publish_by (C.pieces_of self.old.plan) self.old.account worker path (slice_get self.old.account.hands worker) ≡ Some self.new.account) × (self.new.plan ≡ self.old.plan)) }
+        ensures ok { OnOk result ((publish_by (C.pieces_of self.old.plan) self.old.account
+            worker path (slice_get self.old.account.hands worker) ≡ Some self.new.account)
+            × (self.new.plan ≡ self.old.plan)) }
         ensures err { OnErr result (self.new ≡ self.old) }
-        ensures refused { IfErr result (λ e. e ≡ NotEnabled ↔ publish_by (C.pieces_of self.old.plan) self.old.account worker path (slice_get self.old.account.hands worker) ≡ None) }
+        ensures refused { IfErr result (λ e. e ≡ NotEnabled ↔ publish_by (C.pieces_of self.old.plan)
+            self.old.account worker path (slice_get self.old.account.hands worker) ≡ None) }
     {
         let Some(Some(found)) = hand_of(self.hands.as_slice(), worker) else {
             return Err(EventRefused::NotEnabled);
@@ -180,9 +193,13 @@ impl<'p, C: Cuts> Core<'p, C> {
 
     // The next child goes into the worker's lane.
     fn push(&mut self, worker: u8, path: Path) -> Result<(), EventRefused>
-        ensures ok { OnOk result ((push_by (C.pieces_of self.old.plan) self.old.account worker path (slice_get self.old.account.hands worker) (slice_get self.old.account.lanes worker) ≡ Some self.new.account) × (self.new.plan ≡ self.old.plan)) }
+        ensures ok { OnOk result ((push_by (C.pieces_of self.old.plan) self.old.account worker path
+            (slice_get self.old.account.hands worker) (slice_get self.old.account.lanes worker)
+            ≡ Some self.new.account) × (self.new.plan ≡ self.old.plan)) }
         ensures err { OnErr result (self.new ≡ self.old) }
-        ensures refused { IfErr result (λ e. e ≡ NotEnabled ↔ push_by (C.pieces_of self.old.plan) self.old.account worker path (slice_get self.old.account.hands worker) (slice_get self.old.account.lanes worker) ≡ None) }
+        ensures refused { IfErr result (λ e. e ≡ NotEnabled
+            ↔ push_by (C.pieces_of self.old.plan) self.old.account worker path (slice_get
+            self.old.account.hands worker) (slice_get self.old.account.lanes worker) ≡ None) }
     {
         let Some(Some(found)) = hand_of(self.hands.as_slice(), worker) else {
             return Err(EventRefused::NotEnabled);
@@ -214,9 +231,12 @@ impl<'p, C: Cuts> Core<'p, C> {
 
     // The box in the hand is settled.
     fn settle(&mut self, worker: u8) -> Result<(), EventRefused>
-        ensures ok { OnOk result ((settle_by self.old.account worker (slice_get self.old.account.hands worker) ≡ Some self.new.account) × (self.new.plan ≡ self.old.plan)) }
+        ensures ok { OnOk result
+            ((settle_by self.old.account worker (slice_get self.old.account.hands worker)
+            ≡ Some self.new.account) × (self.new.plan ≡ self.old.plan)) }
         ensures err { OnErr result (self.new ≡ self.old) }
-        ensures refused { IfErr result (λ e. e ≡ NotEnabled ↔ settle_by self.old.account worker (slice_get self.old.account.hands worker) ≡ None) }
+        ensures refused { IfErr result (λ e. e ≡ NotEnabled
+            ↔ settle_by self.old.account worker (slice_get self.old.account.hands worker) ≡ None) }
     {
         let Some(Some(found)) = hand_of(self.hands.as_slice(), worker) else {
             return Err(EventRefused::NotEnabled);
@@ -233,9 +253,12 @@ impl<'p, C: Cuts> Core<'p, C> {
 
     // The box in the hand is held.
     fn hold(&mut self, worker: u8) -> Result<(), EventRefused>
-        ensures ok { OnOk result ((hold_by self.old.account worker (slice_get self.old.account.hands worker) ≡ Some self.new.account) × (self.new.plan ≡ self.old.plan)) }
+        ensures ok { OnOk result
+            ((hold_by self.old.account worker (slice_get self.old.account.hands worker)
+            ≡ Some self.new.account) × (self.new.plan ≡ self.old.plan)) }
         ensures err { OnErr result (self.new ≡ self.old) }
-        ensures refused { IfErr result (λ e. e ≡ NotEnabled ↔ hold_by self.old.account worker (slice_get self.old.account.hands worker) ≡ None) }
+        ensures refused { IfErr result (λ e. e ≡ NotEnabled
+            ↔ hold_by self.old.account worker (slice_get self.old.account.hands worker) ≡ None) }
     {
         let Some(Some(found)) = hand_of(self.hands.as_slice(), worker) else {
             return Err(EventRefused::NotEnabled);

@@ -28,10 +28,12 @@ variable_of (Forced x points) = Some x
 variable_of (Half x m) = Some x
 variable_of Bottom = None
 
--- the pieces of the box at the path from number i on, of which n are left, each with what `below` says is below it
+-- the pieces of the box at the path from number i on, of which n are left, each with what `below`
+-- says is below it
 abbrev pub pieces_from : PlanParts → (List ℕ → Tree) → List ℕ → ℕ → ℕ → Trees
 pieces_from plan below path i zero = last
-pieces_from plan below path i (suc n) = next (range_of_piece (piece_at plan (path ++ i ∷ []))) (below (path ++ i ∷ [])) (pieces_from plan below path (i + 1) n)
+pieces_from plan below path i (suc n) = next (range_of_piece (piece_at plan (path ++ i ∷ [])))
+    (below (path ++ i ∷ [])) (pieces_from plan below path (i + 1) n)
 
 -- a box that goes into so many pieces
 abbrev pub cut_into : Cut → ℕ → Trees → Tree
@@ -43,7 +45,9 @@ cut_into Bottom (suc n) trees = leaf
 -- the box at the path with those below it, as far as so many cuts
 unfoldable pub boxes_below : PlanParts → (List ℕ → State) → ℕ → List ℕ → Tree
 boxes_below plan states zero path = leaf
-boxes_below plan states (suc cuts) path = cut_into (cut_at plan path) (children (cut_at plan path) (states path)) (pieces_from plan (boxes_below plan states cuts) path 0 (children (cut_at plan path) (states path)))
+boxes_below plan states (suc cuts) path =
+    cut_into (cut_at plan path) (children (cut_at plan path) (states path)) (pieces_from plan
+    (boxes_below plan states cuts) path 0 (children (cut_at plan path) (states path)))
 
 -- the tree of a plan's boxes that stand so, of which none is cut that lies 36 cuts below the root
 abbrev pub boxes_of : PlanParts → (List ℕ → State) → Tree

@@ -58,7 +58,9 @@ TreesAreProved = OfCases (λ s claims u. (o : Options) → o.depth ≤ 32
 
 -- The pieces of a box that is cut are of the cut's variable.
 abbrev pub PiecesAreOfCuts : PlanParts → Type 0
-PiecesAreOfCuts plan = (path : List ℕ) (x : ExprId) → variable_of (cut_at plan path) ≡ Some x → (k : ℕ) → piece_at plan (path ++ k ∷ []) ≡ Some (x, range_of_piece (piece_at plan (path ++ k ∷ [])))
+PiecesAreOfCuts plan = (path : List ℕ) (x : ExprId)
+    → variable_of (cut_at plan path) ≡ Some x → (k : ℕ)
+    → piece_at plan (path ++ k ∷ []) ≡ Some (x, range_of_piece (piece_at plan (path ++ k ∷ [])))
 
 -- ---- all cases
 -- the options as a script is proved with: at most 64 rounds, 32 halvings, and 8,192 boxes

@@ -1,4 +1,5 @@
-//! The certificates of scripts' answers: each script that is proved has one that is accepted, with its lines.
+//! The certificates of scripts' answers: each script that is proved has one that is accepted, with
+//! its lines.
 #![tactic(auto)]
 
 // What callers name of the crates below.

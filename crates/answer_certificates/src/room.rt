@@ -1,4 +1,5 @@
-//! That there is room for the certificates of scripts, for callers to cite. Nothing here is done at run time.
+//! That there is room for the certificates of scripts, for callers to cite. Nothing here is done at
+//! run time.
 ghost use Rattle.std.specs.Prelude.{List};
 ghost use Rattle.script_checker.specs.script_claims.declared.claim.Claim.{Claim};
 ghost use Rattle.settler.specs.universe.Universes.{IsUniverse};

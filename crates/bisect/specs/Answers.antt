@@ -10,9 +10,11 @@ abbrev pub IsAnswerOf : Tree → ℕ → List (List ℕ) → Outcome → Type 0
 -- there are more than are allowed
 IsAnswerOf t limit boxes outcome.BoxLimit = limit < length boxes
 -- else, where leaves are open, the first of them
-IsAnswerOf t limit boxes (outcome.Unproved count path goal) = (length boxes ≤ limit) × (first_open t boxes ≡ Some (path, goal)) × (count ≡ length boxes)
+IsAnswerOf t limit boxes (outcome.Unproved count path goal) =
+    (length boxes ≤ limit) × (first_open t boxes ≡ Some (path, goal)) × (count ≡ length boxes)
 -- else all leaves
-IsAnswerOf t limit boxes (outcome.Leaves count leaves) = (length boxes ≤ limit) × (first_open t boxes ≡ None) × (count ≡ length boxes) × (leaves ≡ leaves_of t boxes)
+IsAnswerOf t limit boxes (outcome.Leaves count leaves) = (length boxes ≤ limit)
+    × (first_open t boxes ≡ None) × (count ≡ length boxes) × (leaves ≡ leaves_of t boxes)
 
 abbrev pub IsAnswer : Tree → ℕ → Outcome → Type 0
 IsAnswer t limit found = (boxes : List (List ℕ)) × AreBoxes t boxes × IsAnswerOf t limit boxes found

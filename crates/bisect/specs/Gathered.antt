@@ -16,7 +16,8 @@ abbrev pub with_known : Line → Option Fact → Line
 with_known l None = l
 with_known l (Some f) = joined l f
 
--- the line of the goal number k with what one more leaf knows; where no assignment is left, that is nothing
+-- the line of the goal number k with what one more leaf knows; where no assignment is left, that is
+-- nothing
 abbrev pub with_state : ℕ → Line → State → Line
 with_state k l (state.Settled facts) = with_known l (slice_get facts k)
 with_state k l _ = l
@@ -33,8 +34,10 @@ line_of leaves k = line_with k line.Empty leaves
 abbrev pub lines_of : List Leaf → ℕ → List Line
 lines_of leaves goals = map (line_of leaves) (range_with_len 0 goals)
 
--- What a box's state says is true: its facts are those of the goals' slots and hold, and there is an assignment.
+-- What a box's state says is true: its facts are those of the goals' slots and hold, and there is
+-- an assignment.
 abbrev pub IsTrueState : (Fact → Type 0) → List Slot → State → Type 0
-IsTrueState Holds slots (state.Settled facts) = (map slot_of facts ≡ slots) × AllByRecursion IsOfGoal facts × AllByRecursion Holds facts
+IsTrueState Holds slots (state.Settled facts) =
+    (map slot_of facts ≡ slots) × AllByRecursion IsOfGoal facts × AllByRecursion Holds facts
 IsTrueState Holds slots state.Void = ⊥
 IsTrueState Holds slots (state.Open goal) = ⊤

@@ -16,8 +16,8 @@ pub record Tree : Type 0 where
 abbrev pub tree_of : (List ℕ → Cut) → (List ℕ → State) → Tree
 tree_of cuts states = record { cut_at = cuts; state_at = states }
 
--- Into how many boxes a box is cut. Where no assignment is left it is a leaf. A forced cut is made whether its goals are
--- settled or not. A box is halved where a goal is open.
+-- Into how many boxes a box is cut. Where no assignment is left it is a leaf. A forced cut is made
+-- whether its goals are settled or not. A box is halved where a goal is open.
 abbrev pub children : Cut → State → ℕ
 children c state.Void = 0
 children (cut.Forced x points) s = length points + 1

@@ -47,7 +47,8 @@ impl Walk {
     fn see(&mut self, path: Path, state: State, pieces: u8) -> Result<(), AllocError>
         requires { self.old.boxes < self.old.limit }
         ensures seen { OnOk result (seen_by self.new.boxes self.new.first self.new.leaves.items
-            ≡ with_one (seen_by self.old.boxes self.old.first self.old.leaves.items) path state pieces) }
+            ≡ with_one (seen_by self.old.boxes self.old.first
+            self.old.leaves.items) path state pieces) }
         ensures room { self.new.boxes ≤ self.new.limit }
         ensures limit { self.new.limit ≡ self.old.limit }
     {
@@ -65,8 +66,8 @@ impl Walk {
     }
 }
 
-/// Walks over the box and those below it, each settled from the entry of the one above. False says that there are more boxes
-/// than the limit. Want of memory is the only error.
+/// Walks over the box and those below it, each settled from the entry of the one above. False says
+/// that there are more boxes than the limit. Want of memory is the only error.
 pub fn visit<'a, S: Settler>(
     alloc: Global,
     settler: &'a S,
@@ -80,8 +81,10 @@ pub fn visit<'a, S: Settler>(
     requires parent { MatchOption parent (path ≡ []) (λ e. IsChild (S.Entry.path_of e.now) path) }
     requires depth { length path ≤ 36 }
     requires room { walk.old.boxes ≤ walk.old.limit }
-    ensures seen { IfOk result (λ all. IsTrue all → seen_by walk.new.boxes walk.new.first walk.new.leaves.items
-        ≡ after (tree_of S.Entry.cut_at S.Entry.state_at) (seen_by walk.old.boxes walk.old.first walk.old.leaves.items)
+    ensures seen { IfOk result (λ all. IsTrue all
+        → seen_by walk.new.boxes walk.new.first walk.new.leaves.items
+        ≡ after (tree_of S.Entry.cut_at S.Entry.state_at)
+        (seen_by walk.old.boxes walk.old.first walk.old.leaves.items)
         (boxes_from (tree_of S.Entry.cut_at S.Entry.state_at) (36 - length path) path)) }
     ensures over { IfOk result (λ all. all ≡ false → walk.old.limit < walk.old.boxes
         + length (boxes_from (tree_of S.Entry.cut_at S.Entry.state_at) (36 - length path) path)) }

@@ -21,15 +21,20 @@ ghost use Rattle.bisect.specs.declared.outcome.Outcome.{Outcome};
 
 use box_tree::{Plan, lines_hold};
 
-/// Nothing is done. The clauses tell a caller that all values of the whole box lie in some leaf's box; and that where no leaf
-/// is open, and each leaf's state is true wherever the values lie in its box, the gathered line of each goal holds.
+/// Nothing is done. The clauses tell a caller that all values of the whole box lie in some leaf's
+/// box; and that where no leaf is open, and each leaf's state is true wherever the values lie in
+/// its box, the gathered line of each goal holds.
 pub fn leaves_cover(plan: &Plan)
     ensures some { (states : List ℕ → State) (v : Values) → LieInBox plan.now v []
-        → (path : List ℕ) × IsLeaf (tree_of (cut_at plan.now) states) path × LieInBox plan.now v path }
-    ensures lines { (states : List ℕ → State) (nodes : List Node) (a : Assignment) (slots : List Slot) (boxes : List (List ℕ))
+        → (path : List ℕ) × IsLeaf (tree_of (cut_at plan.now) states) path
+        × LieInBox plan.now v path }
+    ensures lines { (states : List ℕ → State) (nodes : List Node) (a : Assignment)
+        (slots : List Slot) (boxes : List (List ℕ))
         → LieInBox plan.now (value nodes a) []
-        → ((path : List ℕ) → IsLeaf (tree_of (cut_at plan.now) states) path → LieInBox plan.now (value nodes a) path → IsTrueState (Holds nodes a) slots (states path))
-        → AreBoxes (tree_of (cut_at plan.now) states) boxes → first_open (tree_of (cut_at plan.now) states) boxes ≡ None
+        → ((path : List ℕ) → IsLeaf (tree_of (cut_at plan.now) states) path
+        → LieInBox plan.now (value nodes a) path → IsTrueState (Holds nodes a) slots (states path))
+        → AreBoxes (tree_of (cut_at plan.now) states) boxes
+        → first_open (tree_of (cut_at plan.now) states) boxes ≡ None
         → (k : ℕ) (s : Slot) → slice_get slots k ≡ Some s
         → LineHolds nodes a s (line_of (leaves_of (tree_of (cut_at plan.now) states) boxes) k) }
 {
@@ -40,28 +45,36 @@ pub fn leaves_cover(plan: &Plan)
 
 /// Nothing is done. The clause tells a caller that a tree has one answer under a limit.
 pub fn one_answer()
-    ensures { (t : Tree) (limit : ℕ) (found other : Outcome) → IsAnswer t limit found → IsAnswer t limit other → found ≡ other }
+    ensures { (t : Tree) (limit : ℕ) (found other : Outcome) → IsAnswer t limit found
+        → IsAnswer t limit other → found ≡ other }
 {}
 
-/// Nothing is done. The clauses tell a caller what is read off the list of a tree's boxes: the first open leaf is one, and
-/// each other lies after it; there is none exactly where no leaf is open; and the leaves are those of the tree, with their states.
+/// Nothing is done. The clauses tell a caller what is read off the list of a tree's boxes: the
+/// first open leaf is one, and each other lies after it; there is none exactly where no leaf is
+/// open; and the leaves are those of the tree, with their states.
 pub fn answers_are_told()
-    ensures first { (t : Tree) (boxes : List (List ℕ)) (path : List ℕ) (goal : ℕ) → AreBoxes t boxes → first_open t boxes ≡ Some (path, goal)
-        → IsOpenLeaf t path goal × ((other : List ℕ) (g : ℕ) → IsOpenLeaf t other g → (path ≡ other) ⊎ IsBefore path other) }
+    ensures first { (t : Tree) (boxes : List (List ℕ)) (path : List ℕ) (goal : ℕ) → AreBoxes t boxes
+        → first_open t boxes ≡ Some (path, goal)
+        → IsOpenLeaf t path goal
+        × ((other : List ℕ) (g : ℕ) → IsOpenLeaf t other g → (path ≡ other) ⊎ IsBefore path other) }
     ensures none { (t : Tree) (boxes : List (List ℕ)) → AreBoxes t boxes → first_open t boxes ≡ None
         → (path : List ℕ) (goal : ℕ) → ¬ (IsOpenLeaf t path goal) }
     ensures leaves { (t : Tree) (boxes : List (List ℕ)) → AreBoxes t boxes
-        → (leaf : Leaf) → Contains (leaves_of t boxes) leaf ↔ (IsLeaf t leaf.path × (leaf.state ≡ t.state_at leaf.path)) }
+        → (leaf : Leaf) → Contains (leaves_of t boxes) leaf
+        ↔ (IsLeaf t leaf.path × (leaf.state ≡ t.state_at leaf.path)) }
 {}
 
 /// Nothing is done. The clause tells a caller of `visit` which list it walks over.
 pub fn boxes_are_listed()
-    ensures { (cuts : List ℕ → Cut) (states : List ℕ → State) → ((path : List ℕ) → 36 ≤ length path → piece_count (cuts path) ≡ 0)
+    ensures { (cuts : List ℕ → Cut) (states : List ℕ → State)
+        → ((path : List ℕ) → 36 ≤ length path → piece_count (cuts path) ≡ 0)
         → IsListed (tree_of cuts states) }
 {}
 
 /// Nothing is done. The clauses tell a caller of `visit` what a walk over boxes has seen.
 pub fn walks_see()
-    ensures boxes { (t : Tree) (w : Seen) (paths : List (List ℕ)) → (after t w paths).boxes ≡ w.boxes + length paths }
-    ensures leaves { (t : Tree) (w : Seen) (paths : List (List ℕ)) → (after t w paths).leaves ≡ w.leaves ++ leaves_of t paths }
+    ensures boxes { (t : Tree) (w : Seen) (paths : List (List ℕ))
+        → (after t w paths).boxes ≡ w.boxes + length paths }
+    ensures leaves { (t : Tree) (w : Seen) (paths : List (List ℕ))
+        → (after t w paths).leaves ≡ w.leaves ++ leaves_of t paths }
 {}

@@ -14,7 +14,8 @@ pub struct Leaf {
 pub enum Outcome {
     /// No leaf is open: the number of boxes, and the leaves in the order of their paths.
     Leaves { boxes: u32, leaves: Items<Leaf> },
-    /// A leaf is open: the number of boxes, the first open leaf, and the first of its goals that isn't settled, from 0.
+    /// A leaf is open: the number of boxes, the first open leaf, and the first of its goals that
+    /// isn't settled, from 0.
     Unproved { boxes: u32, path: Path, goal: u16 },
     /// There are more boxes than are allowed, whether a leaf is open or not.
     BoxLimit,

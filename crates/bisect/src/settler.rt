@@ -20,8 +20,9 @@ pub enum State {
     Open(u16),
 }
 
-/// What is published of a box, for those that settle its pieces. One type of entries is one world: it has one plan and one
-/// state for each path, and a type keeps of each entry that it is its path's entry there.
+/// What is published of a box, for those that settle its pieces. One type of entries is one world:
+/// it has one plan and one state for each path, and a type keeps of each entry that it is its
+/// path's entry there.
 pub trait Posted: Drop + Send + Sync {
     // The cut at each path.
     ghost cut_at: { List ℕ → Cut };
@@ -45,8 +46,8 @@ pub trait Settler: Sync {
     /// What is posted of a box that is settled.
     type Entry: Posted;
 
-    /// Settles the box at the path, which is one of the plan. The parent is the entry of the path without its last number;
-    /// there is none at the root. Want of memory is the only error.
+    /// Settles the box at the path, which is one of the plan. The parent is the entry of the path
+    /// without its last number; there is none at the root. Want of memory is the only error.
     fn settle(
         &self,
         alloc: Global,
@@ -54,7 +55,8 @@ pub trait Settler: Sync {
         parent: Option<&Self::Entry>,
     ) -> Result<Verdict<Self::Entry>, AllocError>
         requires path { IsPathOf (λ p. piece_count (Self.Entry.cut_at p)) path.now }
-        requires parent { MatchOption parent (path.now ≡ []) (λ e. IsChild (Self.Entry.path_of e.now) path.now) }
+        requires parent { MatchOption parent (path.now ≡ [])
+            (λ e. IsChild (Self.Entry.path_of e.now) path.now) }
         ensures entry { IfOk result (λ v. Self.Entry.path_of v.entry ≡ path.now) }
         ensures state { IfOk result (λ v. v.state ≡ Self.Entry.state_at path.now) };
 }

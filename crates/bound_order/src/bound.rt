@@ -12,8 +12,8 @@ ghost use Rattle.bound_order.specs.Tests as spec;
 use facts::RelativeError;
 use literal_order::{Dyadic, End, Written, read_bytes};
 
-/// The number that the text of a literal stands for, or the negative of it. `None` exactly where the text is no literal
-/// within its limits.
+/// The number that the text of a literal stands for, or the negative of it. `None` exactly where
+/// the text is no literal within its limits.
 pub fn read_number(negative: bool, text: &[u8]) -> Option<Written>
     ensures normal { IsWritten result }
     ensures value { (x : Fraction) → (option_map written_value result ≡ Some x)

@@ -25,8 +25,10 @@ writes_all k (ts ∷ tss) xs = writes_all (k + 1) tss (writes k ts xs)
 
 -- the places of all takes are below n
 abbrev pub AllBelow : ℕ → List (List Take) → Type 0
-AllBelow n tss = (k : ℕ) (j : ℕ) (d : Take) → k < length tss → j < length (slice_index_or tss k []) → (slice_index_or (slice_index_or tss k []) j d).0 < n
+AllBelow n tss = (k : ℕ) (j : ℕ) (d : Take) → k < length tss → j < length (slice_index_or tss k [])
+    → (slice_index_or (slice_index_or tss k []) j d).0 < n
 
 -- what the ledger says of each other worker is what its hand counted on this lane
 abbrev pub AreHands : ℕ → List Hand → List Gone → Type 0
-AreHands lane hands takes = (k : ℕ) (d : Hand) → k < length hands → k ≢ lane → taken_by k 0 takes ≡ (seat_at (slice_index_or hands k d).seats lane).takes
+AreHands lane hands takes = (k : ℕ) (d : Hand) → k < length hands → k ≢ lane
+    → taken_by k 0 takes ≡ (seat_at (slice_index_or hands k d).seats lane).takes

@@ -1,11 +1,12 @@
--- What a worker can say of a lane at the moment of a pop or a steal. Others may take from it at any time, so it is this: a
--- lawful state of the lane that the worker can't tell from the real one.
+-- What a worker can say of a lane at the moment of a pop or a steal. Others may take from it at any
+-- time, so it is this: a lawful state of the lane that the worker can't tell from the real one.
 use Rattle.std.specs.Prelude.{◌≡◌, ℕ, ◌+◌, ◌<◌, ◌≤◌, List, [], ◌∷◌, ◌++◌, length, All, Some, slice_get}
 use Rattle.box_deques.specs.Views.{Take}
 use Rattle.box_deques.specs.Rule.{Gone, taken_by, paths_of}
 use Rattle.box_deques.specs.Seen.{Lane, Seat, Hand, seat_at, hand_with, with_pop, with_take}
 
--- this is what left the lane, taken by its owner (party 0) and the hands that were made, and these paths wait
+-- this is what left the lane, taken by its owner (party 0) and the hands that were made, and these
+-- paths wait
 pub record LaneFits (lane : Lane) (history : List Gone) (waiting : List (List ℕ)) : Type 0 where
   pub took : lane.takes ≡ taken_by 0 0 history
   pub parties : All (λ e. e.0 ≤ lane.hands) history
@@ -30,7 +31,8 @@ pub record Pops (capacity : ℕ) (old new : Lane) (path : List ℕ) : Type 0 whe
 abbrev pub SeatFits : Seat → List Gone → Type 0
 SeatFits seat history = seat.takes ≡ taken_by (seat.hand + 1) 0 history
 
--- a steal took this path, at a place above those of all that the hand took there. It is as many as had left the lane, in a state that the hand can't tell from the real one
+-- a steal took this path, at a place above those of all that the hand took there. It is as many as
+-- had left the lane, in a state that the hand can't tell from the real one
 pub record Takes (capacity : ℕ) (old new : Seat) (path : List ℕ) : Type 0 where
   pub place : ℕ
   pub below : place < capacity

@@ -7,7 +7,8 @@ use Rattle.box_deques.specs.Views.{Take}
 abbrev pub Name : Type 0
 Name = ℕ × ℕ
 
--- the worker's number, what the lane was pushed, what its owner popped, whether the last of these was a pop that found nothing, how many hands have a pass, and the name of the deque
+-- the worker's number, what the lane was pushed, what its owner popped, whether the last of these
+-- was a pop that found nothing, how many hands have a pass, and the name of the deque
 pub record Lane : Type 0 where
   pub number : ℕ
   pub pushed : List (List ℕ)
@@ -21,7 +22,8 @@ pub record Thief : Type 0 where
   pub number : ℕ
   pub name : Name
 
--- the hand's number, the takes that it has room for, the lane that it has a pass on, what it took there, and how often it found nothing
+-- the hand's number, the takes that it has room for, the lane that it has a pass on, what it took
+-- there, and how often it found nothing
 pub record Seat : Type 0 where
   pub hand : ℕ
   pub room : ℕ
@@ -82,9 +84,11 @@ seat_at seats n = slice_index_or seats n no_seat
 abbrev pub with_seat : List Seat → ℕ → (Seat → Seat) → List Seat
 with_seat seats n f = slice_set seats n (f (seat_at seats n))
 
--- the hand has its pass on the lane of this number and name, and room for all that the lane can be pushed
+-- the hand has its pass on the lane of this number and name, and room for all that the lane can be
+-- pushed
 abbrev pub HasPass : List Seat → ℕ → Name → ℕ → Type 0
-HasPass seats n name capacity = (n < length seats) × ((seat_at seats n).lane ≡ Some name) × ((seat_at seats n).room ≡ capacity)
+HasPass seats n name capacity = (n < length seats) × ((seat_at seats n).lane ≡ Some name)
+    × ((seat_at seats n).room ≡ capacity)
 
 -- the worker's number, and a seat for each lane
 pub record Hand : Type 0 where
@@ -101,15 +105,20 @@ takes_on lane hands = map (λ h. (seat_at h.seats lane).takes) hands
 
 -- the hand k has its pass on the lane
 abbrev pub AllPasses : ℕ → Name → List Hand → Type 0
-AllPasses lane name hands = (k : ℕ) (d : Hand) → k < length hands → (lane < length (slice_index_or hands k d).seats) × ((seat_at (slice_index_or hands k d).seats lane).lane ≡ Some name) × ((seat_at (slice_index_or hands k d).seats lane).hand ≡ k)
+AllPasses lane name hands = (k : ℕ) (d : Hand)
+    → k < length hands → (lane < length (slice_index_or hands k d).seats)
+    × ((seat_at (slice_index_or hands k d).seats lane).lane ≡ Some name)
+    × ((seat_at (slice_index_or hands k d).seats lane).hand ≡ k)
 
 -- the hand k, if there is one, took nothing of the lane k
 abbrev pub OwnIsEmpty : ℕ → List Hand → Type 0
-OwnIsEmpty lane hands = (k : ℕ) (d : Hand) → k < length hands → k ≡ lane → (seat_at (slice_index_or hands k d).seats lane).takes ≡ []
+OwnIsEmpty lane hands = (k : ℕ) (d : Hand) → k < length hands → k ≡ lane
+    → (seat_at (slice_index_or hands k d).seats lane).takes ≡ []
 
 -- each hand gave up its pass on the lane
 abbrev pub GaveBack : ℕ → List Hand → List Hand → Type 0
-GaveBack lane old new = (k : ℕ) (d : Hand) → k < length old → slice_index_or new k d ≡ hand_with (slice_index_or old k d) lane without_pass
+GaveBack lane old new = (k : ℕ) (d : Hand) → k < length old
+    → slice_index_or new k d ≡ hand_with (slice_index_or old k d) lane without_pass
 
 -- with a pass on the lane of this name
 abbrev pub with_pass : Seat → Name → Seat
@@ -117,11 +126,13 @@ with_pass s n = record s { lane = Some n }
 
 -- a seat that has no pass yet
 abbrev pub IsBare : ℕ → ℕ → Seat → Type 0
-IsBare hand room s = (s.hand ≡ hand) × (s.room ≡ room) × (s.lane ≡ None) × (s.takes ≡ []) × (s.empty ≡ 0)
+IsBare hand room s = (s.hand ≡ hand) × (s.room ≡ room) × (s.lane ≡ None)
+    × (s.takes ≡ []) × (s.empty ≡ 0)
 
 -- a hand with such seats
 abbrev pub IsBareHand : ℕ → ℕ → ℕ → Hand → Type 0
-IsBareHand number lanes room h = (h.number ≡ number) × (length h.seats ≡ lanes) × ((j : ℕ) (d : Seat) → j < lanes → IsBare number room (slice_index_or h.seats j d))
+IsBareHand number lanes room h = (h.number ≡ number) × (length h.seats ≡ lanes)
+    × ((j : ℕ) (d : Seat) → j < lanes → IsBare number room (slice_index_or h.seats j d))
 
 -- with passes for this many hands
 abbrev pub with_hands : Lane → ℕ → Lane
@@ -129,13 +140,21 @@ with_hands l n = record l { hands = n }
 
 -- each lane has passes for this many hands, and is else as before
 abbrev pub Lent : ℕ → List Lane → List Lane → Type 0
-Lent n old new = (k : ℕ) (d : Lane) → k < length old → slice_index_or new k d ≡ with_hands (slice_index_or old k d) n
+Lent n old new = (k : ℕ) (d : Lane) → k < length old
+    → slice_index_or new k d ≡ with_hands (slice_index_or old k d) n
 
 -- a hand with its pass on each lane, and no takes
 abbrev pub IsSeated : ℕ → ℕ → List Lane → Hand → Type 0
 IsSeated number room lanes h = (h.number ≡ number) × (length h.seats ≡ length lanes)
-    × ((j : ℕ) (d : Lane) → j < length lanes → seat_at h.seats j ≡ record { hand = number; room = room; lane = Some (slice_index_or lanes j d).name; takes = []; empty = 0 })
+    × ((j : ℕ) (d : Lane) → j < length lanes → seat_at h.seats j ≡ record {
+      hand = number;
+      room = room;
+      lane = Some (slice_index_or lanes j d).name;
+      takes = [];
+      empty = 0;
+    })
 
 -- the hand k has its pass on the lane 0 of this name, and took nothing there
 abbrev pub IsReady : ℕ → Name → ℕ → Hand → Type 0
-IsReady room name k h = (h.number ≡ k) × (0 < length h.seats) × (seat_at h.seats 0 ≡ record { hand = k; room = room; lane = Some name; takes = []; empty = 0 })
+IsReady room name k h = (h.number ≡ k) × (0 < length h.seats) × (seat_at h.seats 0
+    ≡ record { hand = k; room = room; lane = Some name; takes = []; empty = 0 })

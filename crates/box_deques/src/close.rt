@@ -17,7 +17,8 @@ use std::alloc::{AllocError, Global};
 
 // Writes the takes of a worker into the list, each at its place.
 fn write_takes(into: &mut [(u8, Path)], takes: &[(u64, Path)], who: u8)
-    requires { Each (λ (k : ℕ) (take : ℕ × List ℕ). take.0 < length into.old) (length takes.now) takes.now }
+    requires { Each (λ (k : ℕ) (take : ℕ × List ℕ). take.0 < length into.old)
+        (length takes.now) takes.now }
     ensures { into.new ≡ writes who takes.now into.old }
 {
     for i in 0..takes.len() {
@@ -83,7 +84,8 @@ fn collect<T: Task, Q: Naming<T::World>>(
 // Writes what each hand took of the lane.
 fn write_hands<T: Task>(into: &mut [(u8, Path)], hands: &[Hand<T>], lane: usize)
     requires few { length hands.now ≤ 16 }
-    requires seats { Each (λ (k : ℕ) (hand : seen.Hand). lane < length hand.seats) (length hands.now) hands.now }
+    requires seats { Each (λ (k : ℕ) (hand : seen.Hand). lane < length hand.seats)
+        (length hands.now) hands.now }
     requires places { AllBelow (length into.old) (takes_on lane hands.now) }
     ensures { into.new ≡ writes_all 0 (takes_on lane hands.now) into.old }
 {
@@ -96,8 +98,10 @@ fn write_hands<T: Task>(into: &mut [(u8, Path)], hands: &[Hand<T>], lane: usize)
 // Writes what the owner took, and then the hands.
 fn write_all<T: Task>(into: &mut [(u8, Path)], own: &[(u64, Path)], number: u8, hands: &[Hand<T>])
     requires few { length hands.now ≤ 16 }
-    requires seats { Each (λ (k : ℕ) (hand : seen.Hand). number < length hand.seats) (length hands.now) hands.now }
-    requires own { Each (λ (k : ℕ) (take : ℕ × List ℕ). take.0 < length into.old) (length own.now) own.now }
+    requires seats { Each (λ (k : ℕ) (hand : seen.Hand). number < length hand.seats)
+        (length hands.now) hands.now }
+    requires own { Each (λ (k : ℕ) (take : ℕ × List ℕ). take.0 < length into.old)
+        (length own.now) own.now }
     requires places { AllBelow (length into.old) (takes_on number hands.now) }
     ensures { into.new ≡ writes_all 0 (takes_on number hands.now) (writes number own.now into.old) }
 {
@@ -135,8 +139,9 @@ impl<T: Drop> LaneEnd<T> {
 }
 
 impl<T: Task, Q: Naming<T::World>> Lane<T, Q> {
-    /// Takes the lane apart, and takes out of each hand its pass on this lane. The hands are all that `hands` made for the
-    /// pool, in their order. On want of memory the lane comes back, and lane and hands are as they were.
+    /// Takes the lane apart, and takes out of each hand its pass on this lane. The hands are all
+    /// that `hands` made for the pool, in their order. On want of memory the lane comes back, and
+    /// lane and hands are as they were.
     pub fn close(
         self,
         alloc: Global,
@@ -151,12 +156,14 @@ impl<T: Task, Q: Naming<T::World>> Lane<T, Q> {
         ensures hands { OnOk result (GaveBack self.number hands.old hands.new) }
         // The ledger.
         ensures pushes { IfOk result (λ e. e.ledger.pushes ≡ self.pushed) }
-        ensures whole { IfOk result (λ e. e.ledger.pushes ≡ paths_of e.ledger.takes ++ e.ledger.left) }
+        ensures whole { IfOk result
+            (λ e. e.ledger.pushes ≡ paths_of e.ledger.takes ++ e.ledger.left) }
         ensures left { IfOk result (λ e. map T.path_of e.left ≡ e.ledger.left) }
         ensures world { IfOk result (λ e. All (λ t. Belongs (T.world t) Q.world) e.left) }
         ensures owner { IfOk result (λ e. taken_by self.number 0 e.ledger.takes ≡ self.takes) }
         ensures takes { IfOk result (λ e. AreHands self.number hands.old e.ledger.takes) }
-        ensures workers { IfOk result (λ e. All (λ take. (take.0 ≡ self.number) ⊎ (take.0 < length hands.old)) e.ledger.takes) }
+        ensures workers { IfOk result (λ e.
+            All (λ take. (take.0 ≡ self.number) ⊎ (take.0 < length hands.old)) e.ledger.takes) }
     {
         let room = self.pushed.len();
         let Ok(mut takes) = Vec::with_capacity(alloc, room) else {

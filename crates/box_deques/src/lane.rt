@@ -14,8 +14,9 @@ use fx_edge::Path;
 use std::alloc::{AllocError, Global};
 use std::marker::Model;
 
-/// The boxes that wait in one worker's lane. Contracts see what it was pushed and what its owner took. It has 64 unused
-/// bytes on each side, so that no two lanes are on one line of the processor's cache.
+/// The boxes that wait in one worker's lane. Contracts see what it was pushed and what its owner
+/// took. It has 64 unused bytes on each side, so that no two lanes are on one line of the
+/// processor's cache.
 #[derive(Drop)]
 #[repr(C)]
 pub struct Lane<T: Task, Q: Naming<T::World>> {
@@ -61,8 +62,9 @@ impl<T: Task, Q: Naming<T::World>> Model for Lane<T, Q> {
 }
 
 impl<T: Task, Q: Naming<T::World>> Lane<T, Q> {
-    /// The task goes last. It comes back exactly where the lane was already pushed as many tasks as its capacity. The
-    /// caller sees to it that the task belongs to the lane's world. It takes no memory.
+    /// The task goes last. It comes back exactly where the lane was already pushed as many tasks as
+    /// its capacity. The caller sees to it that the task belongs to the lane's world. It takes no
+    /// memory.
     pub fn push(&mut self, task: T) -> Result<(), T>
         requires { Belongs (T.world task) Q.world }
         ensures { MatchResult result
@@ -87,9 +89,9 @@ impl<T: Task, Q: Naming<T::World>> Lane<T, Q> {
         }
     }
 
-    /// The first task, which the lane counts with its place. `None` only where the lane was empty at this call's step, and
-    /// then the lane is dry. While hands are out, the clauses say so of a state that the owner can't tell from the real one.
-    /// It takes no memory.
+    /// The first task, which the lane counts with its place. `None` only where the lane was empty
+    /// at this call's step, and then the lane is dry. While hands are out, the clauses say so of a
+    /// state that the owner can't tell from the real one. It takes no memory.
     pub fn pop(&mut self) -> Option<T>
         ensures world { IfSome result (λ t. Belongs (T.world t) Q.world) }
         ensures first { IfSome result (λ t. Pops Q.capacity self.old self.new (T.path_of t)) }
@@ -158,8 +160,8 @@ impl<T: Task, Q: Naming<T::World>> Lane<T, Q> {
     }
 }
 
-/// As many lanes as there are workers (1 to 16), each for at most `capacity` pushes (1 to 8,192). It takes all memory that
-/// their pushes and pops need. Want of memory is the only error.
+/// As many lanes as there are workers (1 to 16), each for at most `capacity` pushes (1 to 8,192).
+/// It takes all memory that their pushes and pops need. Want of memory is the only error.
 pub fn pool<T: Task, Q: Naming<T::World>>(
     alloc: Global,
     lanes: u8,

@@ -36,7 +36,8 @@ fn seats_for<T: Drop>(
 fn give_passes<T: Task, Q: Naming<T::World>>(hand: &mut Hand<T>, lanes: &mut [Lane<T, Q>])
     requires seats { (length hand.old.seats ≡ length lanes.old)
         × ((k : ℕ) → k < length lanes.old → (seat_at hand.old.seats k).takes ≡ []) }
-    requires next { Each (λ (k : ℕ) (lane : seen.Lane). lane.hands ≡ (seat_at hand.old.seats k).hand)
+    requires next { Each (λ (k : ℕ) (lane : seen.Lane). lane.hands
+        ≡ (seat_at hand.old.seats k).hand)
         (length lanes.old) lanes.old }
     ensures number { hand.new.number ≡ hand.old.number }
     ensures lanes { (k : ℕ) (d : seen.Lane) → k < length lanes.old
@@ -67,9 +68,11 @@ fn bare_hands<T: Drop>(alloc: Global, count: u8, room: u32) -> Result<Vec<Hand<T
 
 // Gives each hand its passes, in their order.
 fn give_all<T: Task, Q: Naming<T::World>>(hands: &mut [Hand<T>], lanes: &mut [Lane<T, Q>])
-    requires bare { Each (λ (k : ℕ) (hand : seen.Hand). IsBareHand k (length lanes.old) Q.capacity hand)
+    requires bare { Each (λ (k : ℕ) (hand : seen.Hand).
+        IsBareHand k (length lanes.old) Q.capacity hand)
         (length hands.old) hands.old }
-    requires new { Each (λ (k : ℕ) (lane : seen.Lane). lane.hands ≡ 0) (length lanes.old) lanes.old }
+    requires new { Each (λ (k : ℕ) (lane : seen.Lane). lane.hands ≡ 0)
+        (length lanes.old) lanes.old }
     ensures lanes { Lent (length hands.old) lanes.old lanes.new }
     ensures hands { Each (λ (k : ℕ) (hand : seen.Hand). IsSeated k Q.capacity lanes.old hand)
         (length hands.old) hands.new }
@@ -80,19 +83,22 @@ fn give_all<T: Task, Q: Naming<T::World>>(hands: &mut [Hand<T>], lanes: &mut [La
     }
 }
 
-/// One hand per lane, numbered as the lanes are, with a pass on every lane, no takes, and room for all that the pool can be
-/// pushed. The lanes are a whole pool, for which no hands were made. After want of memory they are as they were.
+/// One hand per lane, numbered as the lanes are, with a pass on every lane, no takes, and room for
+/// all that the pool can be pushed. The lanes are a whole pool, for which no hands were made. After
+/// want of memory they are as they were.
 pub fn hands<T: Task, Q: Naming<T::World>>(
     alloc: Global,
     lanes: &mut [Lane<T, Q>],
 ) -> Result<Vec<Hand<T>>, AllocError>
     requires some { (0 < length lanes.old) × (length lanes.old ≤ 16) }
-    requires new { Each (λ (k : ℕ) (lane : seen.Lane). lane.hands ≡ 0) (length lanes.old) lanes.old }
+    requires new { Each (λ (k : ℕ) (lane : seen.Lane). lane.hands ≡ 0)
+        (length lanes.old) lanes.old }
     ensures err { OnErr result (lanes.new ≡ lanes.old) }
     ensures lanes { OnOk result (Lent (length lanes.old) lanes.old lanes.new) }
     ensures many { IfOk result (λ hands. vec_len hands ≡ length lanes.old) }
     ensures hands { IfOk result (λ hands.
-        Each (λ (k : ℕ) (hand : seen.Hand). IsSeated k Q.capacity lanes.old hand) (length lanes.old) hands.items) }
+        Each (λ (k : ℕ) (hand : seen.Hand). IsSeated k Q.capacity lanes.old hand)
+        (length lanes.old) hands.items) }
 {
     let room = lanes[0].capacity();
     let mut hands = bare_hands(alloc, lanes.len() as u8, room)?;

@@ -84,10 +84,11 @@ impl<T: Task, Q: Naming<T::World>> Thief<T, Q> {
         }
     }
 
-    /// The first task, which the hand counts with its place. `None` only where the lane was empty at this call's step; then
-    /// the hand's empty steals of this lane rise, unless they stand at 2^64 - 1. That the task was the first, and that the
-    /// lane was empty, is the step's own promise; the clauses say what the hand can know of it: the place is above those of
-    /// all that it took here. It may wait for another thread's step, and takes no memory.
+    /// The first task, which the hand counts with its place. `None` only where the lane was empty
+    /// at this call's step; then the hand's empty steals of this lane rise, unless they stand at
+    /// 2^64 - 1. That the task was the first, and that the lane was empty, is the step's own
+    /// promise; the clauses say what the hand can know of it: the place is above those of all that
+    /// it took here. It may wait for another thread's step, and takes no memory.
     pub fn steal<R: Wait>(&self, rt: &R, by: &mut Hand<T>) -> Option<T>
         requires pass { HasPass by.old.seats self.now.number self.now.name Q.capacity }
         requires other { by.old.number ≢ self.now.number }

@@ -1,4 +1,5 @@
-//! Which types go to other threads, and which are shared there, for every task type. Each function is the proof of its line.
+//! Which types go to other threads, and which are shared there, for every task type. Each function
+//! is the proof of its line.
 use crate::close::LaneEnd;
 use crate::hand::Hand;
 use crate::lane::Lane;

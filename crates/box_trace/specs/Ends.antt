@@ -26,7 +26,8 @@ IsHighError d None = ⊤
 IsHighError None (Some e) = ⊥
 IsHighError (Some d) (Some e) = IsHigh d.interval e.interval
 
--- Of two facts on one slot: the first one's lower end isn't above the second's. A power has this end alone.
+-- Of two facts on one slot: the first one's lower end isn't above the second's. A power has this
+-- end alone.
 abbrev pub IsLowBy : Fact → Fact → Type 0
 IsLowBy (fact.Bnd x i) (fact.Bnd y j) = IsLow i j
 IsLowBy (fact.Abs x s) (fact.Abs y t) = IsLow s.interval t.interval

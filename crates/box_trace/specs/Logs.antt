@@ -32,25 +32,31 @@ abbrev pub kept_in : World → Log → Fact → Fact
 kept_in u log c = joined (known_at u log.known (slot_of c)) c
 
 -- One step more, and what is kept stands in its row with the step's number.
-pub record IsStep (u : World) (old : Log) (rule arg : ℕ) (premises : List ℕ) (c : Fact) (new : Log) : Type 0 where
-  pub steps : new.steps.items ≡ old.steps.items ++ coming rule arg premises (known_at u old.known (slot_of c)) (place_in u old.known (slot_of c)) c ∷ []
-  pub here : cited_at u new.known (slot_of (kept_in u old c)) ≡ Some (record { fact = kept_in u old c; number = old.first + length old.steps.items })
-  pub others : (s : Slot) → s ≢ slot_of (kept_in u old c) → cited_at u new.known s ≡ cited_at u old.known s
+pub record IsStep (u : World) (old : Log) (rule arg : ℕ) (premises : List ℕ) (c : Fact)
+    (new : Log) : Type 0 where
+  pub steps : new.steps.items ≡ old.steps.items ++ coming rule arg premises
+      (known_at u old.known (slot_of c)) (place_in u old.known (slot_of c)) c ∷ []
+  pub here : cited_at u new.known (slot_of (kept_in u old c))
+      ≡ Some (record { fact = kept_in u old c; number = old.first + length old.steps.items })
+  pub others : (s : Slot) → s ≢ slot_of (kept_in u old c)
+      → cited_at u new.known s ≡ cited_at u old.known s
   pub count : length new.known.rows.items ≡ length old.known.rows.items
   pub first : new.first ≡ old.first
 
 -- What is known was as strong, and nothing changes; or there is one step more.
 abbrev pub Comes : World → Log → ℕ → ℕ → List ℕ → Fact → Log → Type 0
 Comes u old rule arg premises c new =
-    ((g : Fact) × (known_at u old.known (slot_of c) ≡ Some g) × IsStronger g c × (new ≡ old)) ⊎ IsStep u old rule arg premises c new
+    ((g : Fact) × (known_at u old.known (slot_of c) ≡ Some g) × IsStronger g c × (new ≡ old))
+    ⊎ IsStep u old rule arg premises c new
 
 -- ---- sections
--- The log's steps stand behind s, in a section with this piece: they are accepted and have room in their fields, and each fact that is
--- known has its step.
+-- The log's steps stand behind s, in a section with this piece: they are accepted and have room in
+-- their fields, and each fact that is known has its step.
 pub record InSection (u : World) (cut : Option Fact) (s : Numbered) (log : Log) : Type 0 where
   pub below : AreBelow s
   pub next : s.next ≡ log.first
-  pub traced : IsTraced (givens_of (setting_of u) u.hints cut) s log.steps.items (known_at u log.known) (place_in u log.known)
+  pub traced : IsTraced (givens_of (setting_of u) u.hints cut) s log.steps.items
+      (known_at u log.known) (place_in u log.known)
   pub fields : HaveFields log.steps.items
 
 -- Behind the log's steps each of these facts may be cited by its step.
@@ -59,11 +65,13 @@ CanCite u s log now = ArePlaces (behind s log.steps.items) (known_at u now) (pla
 
 -- Wherever the steps of the one log stand, those of the other do.
 abbrev pub GoesOn : World → Log → Log → Type 0
-GoesOn u old new = (cut : Option Fact) (s : Numbered) → InSection u cut s old → InSection u cut s new
+GoesOn u old new = (cut : Option Fact) (s : Numbered)
+    → InSection u cut s old → InSection u cut s new
 
 -- The same, where these facts may be cited, and they still may.
 abbrev pub GoesOnFrom : World → Known → Log → Log → Type 0
-GoesOnFrom u now old new = (cut : Option Fact) (s : Numbered) → InSection u cut s old → CanCite u s old now → InSection u cut s new × CanCite u s new now
+GoesOnFrom u now old new = (cut : Option Fact) (s : Numbered) → InSection u cut s old
+    → CanCite u s old now → InSection u cut s new × CanCite u s new now
 
 -- So many steps more at most, in every section where they may stand.
 pub record IsLonger (u : World) (most : ℕ) (old new : Log) : Type 0 where
@@ -85,10 +93,14 @@ pub record IsComeBy (u : World) (now : Known) (found : Found) (old new : Log) : 
   pub first : new.first ≡ old.first
   pub few : length new.steps.items ≤ length old.steps.items + 1
 
--- The conclusions that give the ends of the slot with this place came, by two steps at most, or one where the slot has one end alone.
+-- The conclusions that give the ends of the slot with this place came, by two steps at most, or one
+-- where the slot has one end alone.
 pub record IsSlotWritten (u : World) (now : Known) (p : ℕ) (e : Ends) (old new : Log) : Type 0 where
-  pub one : (¬ IsWide (length u.nodes) p) → (k : Fact) × Improves (known_at u old.known) (known_at u new.known) e.low.fact k
-  pub both : IsWide (length u.nodes) p → (mid : At) × (k : Fact) × (m : Fact) × Improves (known_at u old.known) mid e.low.fact k × Improves mid (known_at u new.known) e.high.fact m
+  pub one : (¬ IsWide (length u.nodes) p)
+      → (k : Fact) × Improves (known_at u old.known) (known_at u new.known) e.low.fact k
+  pub both : IsWide (length u.nodes) p
+      → (mid : At) × (k : Fact) × (m : Fact) × Improves (known_at u old.known) mid e.low.fact k
+      × Improves mid (known_at u new.known) e.high.fact m
   pub goes_on : IsWritable (setting_of u) u.hints → GoesOnFrom u now old new
   pub rows : HasRows u new.known
   pub adds : AddsSteps u now (more_by u e.low + more_by u e.high) old new
@@ -99,8 +111,10 @@ pub record IsSlotWritten (u : World) (now : Known) (p : ℕ) (e : Ends) (old new
 -- The conclusions of a whole round from what is known now came, and these slots changed at most.
 pub record IsRound (u : World) (now : Known) (old new : Log) (changed : List Placed) : Type 0 where
   pub ahead : IsAhead (setting_of u) (known_at u now) (known_at u new.known) AllSeen
-  pub listed : known_at u new.known slot.Void ≡ None → IsListed (slots_of changed) (known_at u now) (known_at u new.known)
-  pub placed : known_at u new.known slot.Void ≡ None → (p : Placed) → Contains changed p → IsPlaced (length u.nodes) u.pairs p
+  pub listed : known_at u new.known slot.Void ≡ None
+      → IsListed (slots_of changed) (known_at u now) (known_at u new.known)
+  pub placed : known_at u new.known slot.Void ≡ None → (p : Placed) → Contains changed p
+      → IsPlaced (length u.nodes) u.pairs p
   pub goes_on : IsWritable (setting_of u) u.hints → GoesOnFrom u now old new
   pub rows : HasRows u new.known
   pub adds : AddsSteps u now (2 * beyond_four u.instances) old new

@@ -21,7 +21,8 @@ IsBeaten o c false = ⊤
 
 -- The instance with this number concludes the fact from the table.
 abbrev pub IsConclusion : World → At → Found → Type 0
-IsConclusion u at found = (i : Instance) × (slice_get u.instances found.instance ≡ Some i) × (conclusion (concludes u.nodes u.hints) at i ≡ Some found.fact)
+IsConclusion u at found = (i : Instance) × (slice_get u.instances found.instance ≡ Some i)
+    × (conclusion (concludes u.nodes u.hints) at i ≡ Some found.fact)
 
 -- ---- ends by places
 abbrev pub held : Option (Option Ends) → Option Ends
@@ -35,13 +36,17 @@ ends_in rows p = held (slice_get rows p)
 abbrev pub IsWith : Option Ends → Found → Ends → Type 0
 IsWith None found e = (e.low ≡ found) × (e.high ≡ found)
 IsWith (Some b) found e =
-    ((e.low ≡ b.low) ⊎ (e.low ≡ found)) × ((e.high ≡ b.high) ⊎ (e.high ≡ found)) × (IsLowBy found.fact e.low.fact × IsHighBy found.fact e.high.fact)
-    × ((c : Fact) → slot_of c ≡ slot_of b.low.fact → slot_of b.low.fact ≡ slot_of found.fact → IsLowBy c b.low.fact → IsLowBy c e.low.fact)
-    × ((c : Fact) → slot_of c ≡ slot_of b.high.fact → slot_of b.high.fact ≡ slot_of found.fact → IsHighBy c b.high.fact → IsHighBy c e.high.fact)
+    ((e.low ≡ b.low) ⊎ (e.low ≡ found)) × ((e.high ≡ b.high) ⊎ (e.high ≡ found))
+    × (IsLowBy found.fact e.low.fact × IsHighBy found.fact e.high.fact)
+    × ((c : Fact) → slot_of c ≡ slot_of b.low.fact → slot_of b.low.fact ≡ slot_of found.fact
+    → IsLowBy c b.low.fact → IsLowBy c e.low.fact)
+    × ((c : Fact) → slot_of c ≡ slot_of b.high.fact → slot_of b.high.fact ≡ slot_of found.fact
+    → IsHighBy c b.high.fact → IsHighBy c e.high.fact)
 
 -- The second list is the first with one conclusion more at this place.
 abbrev pub IsNoted : List (Option Ends) → ℕ → Found → List (Option Ends) → Type 0
-IsNoted old p found new = (e : Ends) × (new ≡ slice_set old p (Some e)) × IsWith (ends_in old p) found e
+IsNoted old p found new = (e : Ends) × (new ≡ slice_set old p (Some e))
+    × IsWith (ends_in old p) found e
 
 -- Both are conclusions from the table, on the slot with this place.
 pub record AreEndsOf (u : World) (at : At) (p : ℕ) (e : Ends) : Type 0 where
@@ -50,7 +55,8 @@ pub record AreEndsOf (u : World) (at : At) (p : ℕ) (e : Ends) : Type 0 where
   pub low_place : IsPlace (length u.nodes) u.pairs (slot_of e.low.fact) p
   pub high_place : IsPlace (length u.nodes) u.pairs (slot_of e.high.fact) p
 
--- The list has, at the place of its slot, which isn't VOID's, ends that are as far in as those of c, or further.
+-- The list has, at the place of its slot, which isn't VOID's, ends that are as far in as those of
+-- c, or further.
 pub record HasEnds (u : World) (rows : List (Option Ends)) (c : Fact) : Type 0 where
   pub place : ℕ
   pub ends : Ends
@@ -60,18 +66,23 @@ pub record HasEnds (u : World) (rows : List (Option Ends)) (c : Fact) : Type 0 w
   pub low : IsLowBy c ends.low.fact
   pub high : IsHighBy c ends.high.fact
 
--- The first n instances were seen: what each concludes the table beats, or the list has ends for it.
+-- The first n instances were seen: what each concludes the table beats, or the list has ends for
+-- it.
 pub record IsScanned (u : World) (at : At) (rows : List (Option Ends)) (n : ℕ) : Type 0 where
   pub ends : (p : ℕ) (e : Ends) → ends_in rows p ≡ Some e → AreEndsOf u at p e
-  pub seen : (k : ℕ) (i : Instance) (c : Fact) → k < n → slice_get u.instances k ≡ Some i → conclusion (concludes u.nodes u.hints) at i ≡ Some c → Beats at c ⊎ HasEnds u rows c
+  pub seen : (k : ℕ) (i : Instance) (c : Fact) → k < n → slice_get u.instances k ≡ Some i
+      → conclusion (concludes u.nodes u.hints) at i ≡ Some c → Beats at c ⊎ HasEnds u rows c
 
 -- The instance with this number concludes c from the table, and this is its target's place.
 abbrev pub IsConcludedBy : World → At → ℕ → ℕ → Fact → Type 0
 IsConcludedBy u at k place c =
-    (i : Instance) × (slice_get u.instances k ≡ Some i) × (conclusion (concludes u.nodes u.hints) at i ≡ Some c) × IsPlace (length u.nodes) u.pairs i.target place
+    (i : Instance) × (slice_get u.instances k ≡ Some i)
+    × (conclusion (concludes u.nodes u.hints) at i ≡ Some c)
+    × IsPlace (length u.nodes) u.pairs i.target place
 
 -- The instance with number k concludes VOID, or was seen.
-abbrev pub IsVisited : World → At → List (Option Ends) → List (Option Ends) → ℕ → Option Found → Type 0
+abbrev pub IsVisited : World → At → List (Option Ends) → List (Option Ends)
+    → ℕ → Option Found → Type 0
 IsVisited u at old new k (Some found) = IsConclusion u at found × (found.fact ≡ fact.Void)
 IsVisited u at old new k None = IsScanned u at old k → IsScanned u at new (k + 1)
 

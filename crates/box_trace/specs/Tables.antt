@@ -20,7 +20,8 @@ one_later (Some k) = Some (k + 1)
 -- the number of the pair, if it is one of the list
 abbrev pub pair_number : ExprId → ExprId → List Pair → Option ℕ
 pair_number x y [] = None
-pair_number x y (p ∷ ps) = if is_same p.0 x && is_same p.1 y then Some 0 else one_later (pair_number x y ps)
+pair_number x y (p ∷ ps) =
+    if is_same p.0 x && is_same p.1 y then Some 0 else one_later (pair_number x y ps)
 
 abbrev pub behind_blocks : ℕ → Option ℕ → Option ℕ
 behind_blocks n None = None

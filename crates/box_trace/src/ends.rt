@@ -14,7 +14,8 @@ pub(crate) struct Found {
     pub(crate) fact: Fact,
 }
 
-/// The conclusions that give a slot's fact its ends: the one with the greatest lower end, and the one with the least upper end.
+/// The conclusions that give a slot's fact its ends: the one with the greatest lower end, and the
+/// one with the least upper end.
 #[derive(Clone, Copy, Debug)]
 pub(crate) struct Ends {
     pub(crate) low: Found,
@@ -63,7 +64,8 @@ fn is_high_by(f: &Fact, g: &Fact) -> bool
 fn lower(best: Found, found: Found) -> Found
     ensures chosen { (result ≡ best) ⊎ (result ≡ found) }
     ensures found { IsLowBy found.fact result.fact }
-    ensures before { (c : Fact) → slot_of c ≡ slot_of best.fact → slot_of best.fact ≡ slot_of found.fact → IsLowBy c best.fact → IsLowBy c result.fact }
+    ensures before { (c : Fact) → slot_of c ≡ slot_of best.fact
+        → slot_of best.fact ≡ slot_of found.fact → IsLowBy c best.fact → IsLowBy c result.fact }
 {
     if is_low_by(&found.fact, &best.fact) {
         best
@@ -75,7 +77,8 @@ fn lower(best: Found, found: Found) -> Found
 fn upper(best: Found, found: Found) -> Found
     ensures chosen { (result ≡ best) ⊎ (result ≡ found) }
     ensures found { IsHighBy found.fact result.fact }
-    ensures before { (c : Fact) → slot_of c ≡ slot_of best.fact → slot_of best.fact ≡ slot_of found.fact → IsHighBy c best.fact → IsHighBy c result.fact }
+    ensures before { (c : Fact) → slot_of c ≡ slot_of best.fact
+        → slot_of best.fact ≡ slot_of found.fact → IsHighBy c best.fact → IsHighBy c result.fact }
 {
     if is_high_by(&found.fact, &best.fact) {
         best
@@ -101,8 +104,12 @@ impl Ends {
         ensures low { (result.low ≡ self.low) ⊎ (result.low ≡ found) }
         ensures high { (result.high ≡ self.high) ⊎ (result.high ≡ found) }
         ensures found { IsLowBy found.fact result.low.fact × IsHighBy found.fact result.high.fact }
-        ensures lower { (c : Fact) → slot_of c ≡ slot_of self.low.fact → slot_of self.low.fact ≡ slot_of found.fact → IsLowBy c self.low.fact → IsLowBy c result.low.fact }
-        ensures upper { (c : Fact) → slot_of c ≡ slot_of self.high.fact → slot_of self.high.fact ≡ slot_of found.fact → IsHighBy c self.high.fact → IsHighBy c result.high.fact }
+        ensures lower { (c : Fact) → slot_of c ≡ slot_of self.low.fact
+            → slot_of self.low.fact ≡ slot_of found.fact → IsLowBy c self.low.fact
+            → IsLowBy c result.low.fact }
+        ensures upper { (c : Fact) → slot_of c ≡ slot_of self.high.fact
+            → slot_of self.high.fact ≡ slot_of found.fact → IsHighBy c self.high.fact
+            → IsHighBy c result.high.fact }
     {
         Ends {
             low: lower(self.low, found),

@@ -66,7 +66,8 @@ impl Known {
     // Nothing is known.
     pub(crate) fn blank(alloc: Global, uni: &Universe) -> Result<Known, AllocError>
         ensures blank { IfOk result (λ k. IsBlank (known_at uni.now k)) }
-        ensures rows { IfOk result (λ k. length k.rows.items ≡ place_count (length uni.now.nodes) uni.now.pairs) }
+        ensures rows { IfOk result
+            (λ k. length k.rows.items ≡ place_count (length uni.now.nodes) uni.now.pairs) }
     {
         let count = uni.place(Slot::Void) as usize + 1;
         Ok(Known {
@@ -134,7 +135,8 @@ impl Known {
         fact_of(self.at(uni.place(s)))
     }
 
-    /// The number of the step with the fact on this slot of the universe; `None` exactly where none is known.
+    /// The number of the step with the fact on this slot of the universe; `None` exactly where none
+    /// is known.
     pub fn step(&self, uni: &Universe, s: Slot) -> Option<u64>
         requires { HasSlot uni.now s }
         ensures { result ≡ step_at uni.now self.now s }

@@ -1,5 +1,5 @@
-//! The certificate steps of a box: a table of facts with the numbers of their steps, the log of steps, and rounds that write at most two
-//! steps for a slot.
+//! The certificate steps of a box: a table of facts with the numbers of their steps, the log of
+//! steps, and rounds that write at most two steps for a slot.
 #![tactic(auto)]
 
 // What callers name of the crates below.

@@ -46,7 +46,8 @@ impl Source {
     }
 }
 
-// The meet of what is known on a slot and a fact that comes there; nothing where what is known is as strong.
+// The meet of what is known on a slot and a fact that comes there; nothing where what is known is
+// as strong.
 fn met(row: Cited, c: Fact) -> Option<Fact>
     requires { slot_of row.fact ≡ slot_of c }
     ensures none { IfNone result (IsStronger row.fact c) }
@@ -67,7 +68,8 @@ fn kept(found: Option<Cited>, c: Fact) -> Option<Fact>
     requires { (row : Row) → found ≡ Some row → slot_of row.fact ≡ slot_of c }
     ensures none { IfNone result ((row : Row) × (found ≡ Some row) × IsStronger row.fact c) }
     ensures some { IfSome result (λ k. k ≡ joined (fact_of found) c) }
-    ensures with { IfSome result (λ k. number_of found ≡ with_by (fact_of found) (number_or found) c) }
+    ensures with { IfSome result
+        (λ k. number_of found ≡ with_by (fact_of found) (number_or found) c) }
 {
     match found {
         Some(row) => met(row, c),
@@ -76,7 +78,8 @@ fn kept(found: Option<Cited>, c: Fact) -> Option<Fact>
 }
 
 impl Log {
-    // Keeps the meet of the fact and what is known on its slot, whose place is given, by one step, where that is more than was known.
+    // Keeps the meet of the fact and what is known on its slot, whose place is given, by one step,
+    // where that is more than was known.
     pub(crate) fn come(
         &mut self,
         uni: &Universe,
@@ -87,7 +90,8 @@ impl Log {
         requires place { IsPlace (length uni.now.nodes) uni.now.pairs (slot_of c) place }
         requires rows { HasRows uni.now self.old.known }
         requires room { self.old.first + length self.old.steps.items < 2 ^ 64 }
-        ensures { OnOk result (Comes uni.now self.old source.rule source.arg source.premises c self.new) }
+        ensures { OnOk result
+            (Comes uni.now self.old source.rule source.arg source.premises c self.new) }
     {
         uni.laws();
         let found = self.known.at(place);

@@ -17,7 +17,8 @@ fn clear(due: &mut [bool])
 fn mark_users(due: &mut [bool], users: &[u32])
     requires { (k : ℕ) → Contains users.now k → k < length due.old }
     ensures marked { (k : ℕ) → Contains users.now k → slice_get due.new k ≡ Some true }
-    ensures only { (k : ℕ) → slice_get due.new k ≡ Some true → (slice_get due.old k ≡ Some true) ⊎ Contains users.now k }
+    ensures only { (k : ℕ) → slice_get due.new k ≡ Some true
+        → (slice_get due.old k ≡ Some true) ⊎ Contains users.now k }
     ensures kept { (k : ℕ) → slice_get due.old k ≡ Some true → slice_get due.new k ≡ Some true }
 {
     for k in users {
@@ -28,7 +29,8 @@ fn mark_users(due: &mut [bool], users: &[u32])
 /// Marks the instances that take one of these slots, and no other.
 pub(crate) fn mark(uni: &Universe, changed: &[Placed], due: &mut [bool])
     requires long { length due.old ≡ length uni.now.instances }
-    requires placed { (p : Placement) → Contains changed.now p → IsPlaced (length uni.now.nodes) uni.now.pairs p }
+    requires placed { (p : Placement) → Contains changed.now p
+        → IsPlaced (length uni.now.nodes) uni.now.pairs p }
     ensures marked { AreDue uni.now.instances (slots_of changed.now) due.new }
     ensures only { AreUsers uni.now.instances (slots_of changed.now) due.new }
 {

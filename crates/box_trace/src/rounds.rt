@@ -1,4 +1,5 @@
-//! Rounds after one another, with their steps: at most two for each slot of an interval, and one for another.
+//! Rounds after one another, with their steps: at most two for each slot of an interval, and one
+//! for another.
 ghost use Rattle.std.specs.Prelude.{◌≡◌, ◌<◌, ◌≤◌, ◌+◌, ◌*◌, ◌^◌, ◌↔◌, IsTrue, OnOk, length};
 ghost use Rattle.facts.specs.declared.fact.Fact.TheVariants as fact;
 ghost use Rattle.facts.specs.Order.{slot_of};
@@ -109,7 +110,8 @@ fn write(
     changed: &mut Vec<Placed>,
     log: &mut Log,
 ) -> Result<(), AllocError>
-    requires scanned { IsScanned uni.now (known_at uni.now now.now) ends.now (length uni.now.instances) }
+    requires scanned { IsScanned uni.now (known_at uni.now now.now) ends.now
+        (length uni.now.instances) }
     requires count { length ends.now ≡ place_count (length uni.now.nodes) uni.now.pairs }
     requires rows { HasRows uni.now log.old.known }
     requires same { IsSame (known_at uni.now now.now) (known_at uni.now log.old.known) }
@@ -157,8 +159,8 @@ fn write_void(
     come_by(alloc, uni, now, place, found, log)
 }
 
-// Applies each instance that is due to what was known, lets what it concludes come to what is known, and lists the slots about which
-// more is known then. A conclusion VOID comes alone.
+// Applies each instance that is due to what was known, lets what it concludes come to what is
+// known, and lists the slots about which more is known then. A conclusion VOID comes alone.
 fn round(
     alloc: Global,
     uni: &Universe,
@@ -191,7 +193,8 @@ pub(crate) fn rounds(
 ) -> Result<(), AllocError>
     requires rows { HasRows uni.now log.old.known }
     requires room { log.old.first + length log.old.steps.items + height * 8192 < 2 ^ 64 }
-    ensures best { OnOk result (IsBestFrom (setting_of uni.now) (known_at uni.now log.old.known) height (known_at uni.now log.new.known)) }
+    ensures best { OnOk result (IsBestFrom (setting_of uni.now)
+        (known_at uni.now log.old.known) height (known_at uni.now log.new.known)) }
     ensures longer { OnOk result (IsLonger uni.now (height * 8192) log.old log.new) }
     ensures rounds { OnOk result (HasRounds uni.now height log.old log.new) }
 {

@@ -1,4 +1,5 @@
-//! What the instances of a round conclude, and which of these conclusions give the ends of a slot's fact.
+//! What the instances of a round conclude, and which of these conclusions give the ends of a slot's
+//! fact.
 ghost use Rattle.std.specs.Prelude.{◌≡◌, ◌<◌, ◌*◌, ◌+◌, ℕ, Some, None, IfOk, OnOk, length, slice_get, map, replicate, Contains};
 ghost use Rattle.facts.specs.declared.fact.Slot.{Slot};
 ghost use Rattle.facts.specs.declared.instance.Instance.{Instance as Applied};
@@ -18,7 +19,8 @@ use facts::{Fact, Instance, stronger};
 use saturate::{Placed, Universe, conclude, rules_are_lawful};
 use std::alloc::{AllocError, Global};
 
-/// What rounds work with: by the place of a slot, the conclusions that give the ends of its fact, where one says more than is known.
+/// What rounds work with: by the place of a slot, the conclusions that give the ends of its fact,
+/// where one says more than is known.
 #[derive(Drop)]
 pub(crate) struct Scan {
     pub(crate) ends: Vec<Option<Ends>>,
@@ -36,14 +38,16 @@ pub(crate) fn instance_at(uni: &Universe, k: usize) -> &Instance
 // The place of its target.
 fn target_place(uni: &Universe, k: usize) -> u16
     requires { k < length uni.now.instances }
-    ensures { (i : Applied) → slice_get uni.now.instances k ≡ Some i → IsPlace (length uni.now.nodes) uni.now.pairs i.target result }
+    ensures { (i : Applied) → slice_get uni.now.instances k ≡ Some i
+        → IsPlace (length uni.now.nodes) uni.now.pairs i.target result }
 {
     uni.targets()[k]
 }
 
 // What the instance concludes from these premises.
 fn conclude_by(uni: &Universe, instance: &Instance, premises: &[Fact]) -> Option<Fact>
-    ensures { result ≡ concludes uni.now.nodes uni.now.hints instance.now.rule instance.now.arg premises.now instance.now.target }
+    ensures { result ≡ concludes uni.now.nodes uni.now.hints instance.now.rule instance.now.arg
+        premises.now instance.now.target }
 {
     conclude(
         uni.dag(),
@@ -55,7 +59,8 @@ fn conclude_by(uni: &Universe, instance: &Instance, premises: &[Fact]) -> Option
     )
 }
 
-// What the instance concludes from what is known. Its premises are given with their places; the list of facts is scratch.
+// What the instance concludes from what is known. Its premises are given with their places; the
+// list of facts is scratch.
 fn apply(
     uni: &Universe,
     instance: &Instance,
@@ -64,8 +69,10 @@ fn apply(
     premises: &mut Vec<Fact>,
 ) -> Result<Option<Fact>, AllocError>
     requires slots { slots_of placed.now ≡ instance.now.premises }
-    requires found { (p : Placement) → Contains placed.now p → IsPlaced (length uni.now.nodes) uni.now.pairs p }
-    ensures { IfOk result (λ r. r ≡ conclusion (concludes uni.now.nodes uni.now.hints) (known_at uni.now now.now) instance.now) }
+    requires found { (p : Placement) → Contains placed.now p
+        → IsPlaced (length uni.now.nodes) uni.now.pairs p }
+    ensures { IfOk result (λ r. r ≡ conclusion (concludes uni.now.nodes uni.now.hints)
+        (known_at uni.now now.now) instance.now) }
 {
     premises.clear();
     for p in placed {
@@ -84,7 +91,8 @@ fn numbers_of(
     now: &Known,
     placed: &[Placed],
 ) -> Result<Vec<u64>, AllocError>
-    requires { (p : Placement) → Contains placed.now p → IsPlaced (length uni.now.nodes) uni.now.pairs p }
+    requires { (p : Placement) → Contains placed.now p
+        → IsPlaced (length uni.now.nodes) uni.now.pairs p }
     ensures { IfOk result (λ ns. ns.items ≡ map (place_in uni.now now.now) (slots_of placed.now)) }
 {
     let mut numbers = Vec::new(alloc);
@@ -103,7 +111,8 @@ pub(crate) fn cite(
     k: usize,
 ) -> Result<Vec<u64>, AllocError>
     requires { k < length uni.now.instances }
-    ensures { IfOk result (λ ns. (i : Applied) → slice_get uni.now.instances k ≡ Some i → ns.items ≡ map (place_in uni.now now.now) i.premises) }
+    ensures { IfOk result (λ ns. (i : Applied) → slice_get uni.now.instances k ≡ Some i
+        → ns.items ≡ map (place_in uni.now now.now) i.premises) }
 {
     let instance = instance_at(uni, k);
     let placed = uni.premises(k);
@@ -149,7 +158,8 @@ fn note(ends: &mut Vec<Option<Ends>>, place: u16, found: Found)
     ends[here] = Some(with);
 }
 
-// What the instance with this number concluded is gathered, where it says more than is known; VOID is handed back.
+// What the instance with this number concluded is gathered, where it says more than is known; VOID
+// is handed back.
 fn take(
     ends: &mut Vec<Option<Ends>>,
     uni: &Universe,
@@ -160,7 +170,8 @@ fn take(
 ) -> Option<Found>
     requires concluded { IsConcludedBy uni.now (known_at uni.now now.now) k place c }
     requires count { length ends.old.items ≡ place_count (length uni.now.nodes) uni.now.pairs }
-    ensures visited { IsVisited uni.now (known_at uni.now now.now) ends.old.items ends.new.items k result }
+    ensures visited { IsVisited uni.now
+        (known_at uni.now now.now) ends.old.items ends.new.items k result }
     ensures count { length ends.new.items ≡ length ends.old.items }
 {
     uni.laws();
@@ -189,11 +200,14 @@ impl Scan {
         }
     }
 
-    // Gathers what the instance with this number concludes beyond what is known; VOID is handed back.
+    // Gathers what the instance with this number concludes beyond what is known; VOID is handed
+    // back.
     fn visit(&mut self, uni: &Universe, now: &Known, k: usize) -> Result<Option<Found>, AllocError>
         requires within { k < length uni.now.instances }
-        requires count { length self.old.ends.items ≡ place_count (length uni.now.nodes) uni.now.pairs }
-        ensures visited { IfOk result (IsVisited uni.now (known_at uni.now now.now) self.old.ends.items self.new.ends.items k) }
+        requires count { length self.old.ends.items
+            ≡ place_count (length uni.now.nodes) uni.now.pairs }
+        ensures visited { IfOk result (IsVisited uni.now
+            (known_at uni.now now.now) self.old.ends.items self.new.ends.items k) }
         ensures count { length self.new.ends.items ≡ length self.old.ends.items }
     {
         uni.laws();
@@ -207,7 +221,8 @@ impl Scan {
         }
     }
 
-    // Gathers what the instances that are due conclude beyond what is known, up to the first that concludes VOID.
+    // Gathers what the instances that are due conclude beyond what is known, up to the first that
+    // concludes VOID.
     pub(crate) fn gather(
         &mut self,
         uni: &Universe,
@@ -216,8 +231,10 @@ impl Scan {
     ) -> Result<Option<Found>, AllocError>
         requires due { length due.now ≡ length uni.now.instances }
         requires quiet { IsQuiet (setting_of uni.now) due.now (known_at uni.now now.now) }
-        ensures gathered { IfOk result (IsGathered uni.now (known_at uni.now now.now) self.new.ends.items) }
-        ensures count { IfOk result (λ _. length self.new.ends.items ≡ place_count (length uni.now.nodes) uni.now.pairs) }
+        ensures gathered { IfOk result
+            (IsGathered uni.now (known_at uni.now now.now) self.new.ends.items) }
+        ensures count { IfOk result
+            (λ _. length self.new.ends.items ≡ place_count (length uni.now.nodes) uni.now.pairs) }
     {
         uni.laws();
         let count = uni.place(facts::Slot::Void) as usize + 1;

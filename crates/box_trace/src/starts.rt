@@ -44,7 +44,9 @@ fn begin(alloc: Global, first: u64, known: Known) -> Log
 pub(crate) fn root_start(alloc: Global, uni: &Universe, first: u64) -> Result<Log, AllocError>
     requires few { length uni.now.hypotheses ≤ 65536 }
     requires room { first + length uni.now.hypotheses + length uni.now.nodes < 2 ^ 64 }
-    ensures gathered { IfOk result (λ l. IsGathered (setting_of uni.now) (IsGiven (setting_of uni.now)) (FirstLines uni.now.nodes uni.now.hypotheses (length uni.now.nodes)) (known_at uni.now l.known)) }
+    ensures gathered { IfOk result (λ l. IsGathered (setting_of uni.now)
+        (IsGiven (setting_of uni.now)) (FirstLines uni.now.nodes uni.now.hypotheses
+        (length uni.now.nodes)) (known_at uni.now l.known)) }
     ensures begins { IfOk result (BeginsRoot uni.now first) }
     ensures gives { IfOk result (BeginsRootBy uni.now (most_given uni.now None) first) }
 {
@@ -68,7 +70,8 @@ pub(crate) fn root_start(alloc: Global, uni: &Universe, first: u64) -> Result<Lo
     Ok(log)
 }
 
-/// A box below another begins with what is known there, and the piece that the last cut left of a variable.
+/// A box below another begins with what is known there, and the piece that the last cut left of a
+/// variable.
 pub(crate) fn child_start(
     alloc: Global,
     uni: &Universe,
@@ -79,7 +82,8 @@ pub(crate) fn child_start(
     requires variable { (piece.0).0 < length uni.now.nodes }
     requires rows { HasRows uni.now parent.now }
     requires room { first < 2 ^ 64 }
-    ensures improves { IfOk result (λ l. (k : Claim) × Improves (known_at uni.now parent.now) (known_at uni.now l.known) (fact.Bnd piece.0 piece.1) k) }
+    ensures improves { IfOk result (λ l. (k : Claim) × Improves (known_at uni.now parent.now)
+        (known_at uni.now l.known) (fact.Bnd piece.0 piece.1) k) }
     ensures begins { IfOk result (BeginsBelow uni.now (piece.0, piece.1) parent.now first) }
     ensures gives { IfOk result (BeginsBy uni.now (IsStepIn uni.now parent.now) 1 first) }
 {

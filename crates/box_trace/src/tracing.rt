@@ -16,7 +16,8 @@ use interval::Interval;
 use saturate::{Universe, rules_are_lawful};
 use std::alloc::{AllocError, Global};
 
-/// A box's own steps, in their order, and its best facts, each with the number of its step: the box's own or an ancestor's.
+/// A box's own steps, in their order, and its best facts, each with the number of its step: the
+/// box's own or an ancestor's.
 #[derive(Drop)]
 pub struct Traced {
     /// The steps.
@@ -29,7 +30,8 @@ pub struct Traced {
 fn trace_root(alloc: Global, uni: &Universe, height: u8, first: u64) -> Result<Log, AllocError>
     requires few { length uni.now.hypotheses ≤ 65536 }
     requires room { first + most_steps uni.now height < 2 ^ 64 }
-    ensures table { IfOk result (λ l. IsTableAt (setting_of uni.now) height [] (known_at uni.now l.known)) }
+    ensures table { IfOk result
+        (λ l. IsTableAt (setting_of uni.now) height [] (known_at uni.now l.known)) }
     ensures rows { IfOk result (λ l. HasRows uni.now l.known) }
     ensures steps { IfOk result (AreRootSteps uni.now first) }
     ensures few { IfOk result (λ l. length l.steps.items ≤ most_steps uni.now height) }
@@ -53,9 +55,11 @@ fn trace_child(
 ) -> Result<Log, AllocError>
     requires variable { (piece.0).0 < length uni.now.nodes }
     requires rows { HasRows uni.now parent.now }
-    requires parent { (above : List Piece) × IsTableAt (setting_of uni.now) height above (known_at uni.now parent.now) }
+    requires parent { (above : List Piece)
+        × IsTableAt (setting_of uni.now) height above (known_at uni.now parent.now) }
     requires room { first + most_steps uni.now height < 2 ^ 64 }
-    ensures table { IfOk result (λ l. IsTableBelow uni.now height (piece.0, piece.1) parent.now l.known) }
+    ensures table { IfOk result
+        (λ l. IsTableBelow uni.now height (piece.0, piece.1) parent.now l.known) }
     ensures rows { IfOk result (λ l. HasRows uni.now l.known) }
     ensures steps { IfOk result (AreStepsBelow uni.now (piece.0, piece.1) parent.now first) }
     ensures few { IfOk result (λ l. length l.steps.items ≤ most_steps uni.now height) }
@@ -95,9 +99,9 @@ fn log_at(
     }
 }
 
-/// The steps by which a checker comes to the best facts of a box, numbered from `first` on. At the root nothing is given; at any other
-/// box the piece that the last cut left and what is known at the parent, for this universe and so many rounds. A hypothesis has a
-/// number of 16 bits.
+/// The steps by which a checker comes to the best facts of a box, numbered from `first` on. At the
+/// root nothing is given; at any other box the piece that the last cut left and what is known at
+/// the parent, for this universe and so many rounds. A hypothesis has a number of 16 bits.
 pub fn trace(
     alloc: Global,
     uni: &Universe,
@@ -113,8 +117,10 @@ pub fn trace(
     // The facts are the best that are known at the box, as those of `settle` are.
     ensures table { IfOk result (λ t. IsItsTable uni.now height piece parent.entry t.known) }
     ensures rows { IfOk result (λ t. HasRows uni.now t.known) }
-    // Wherever the box's section may stand, its steps are accepted, and each fact has its step among them or the parent's.
-    ensures steps { IfOk result (λ t. AreItsSteps uni.now piece parent.entry first (log_of first t)) }
+    // Wherever the box's section may stand, its steps are accepted, and each fact has its step
+    // among them or the parent's.
+    ensures steps { IfOk result
+        (λ t. AreItsSteps uni.now piece parent.entry first (log_of first t)) }
     ensures few { IfOk result (λ t. length t.steps.items ≤ most_steps uni.now height) }
     // First come the steps that are given: at most one for each hypothesis and variable at the
     // root, and below it the piece's. Then come at most 8,192 in each round, each by an instance

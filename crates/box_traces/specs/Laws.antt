@@ -22,13 +22,17 @@ use Rattle.box_traces.specs.Writing.{IsSlotKnown, IsWritable, IsVoidFitting, IsF
 use Rattle.box_traces.specs.Traces.{Trace, IsCutTo, most_steps}
 use Rattle.box_traces.specs.Roots.{Root, AreRoots, steps_in_roots, lines_of_roots}
 
--- Behind any steps there are further ones that are accepted, and conclude each of the root's best facts; below the root the same wherever each fact of the
--- parent has its place.
+-- Behind any steps there are further ones that are accepted, and conclude each of the root's best
+-- facts; below the root the same wherever each fact of the parent has its place.
 pub record TracesExist : Type 0 where
-  pub root : (u : Setting) (hints : List HintRow) → IsWritable u hints → (s : Numbered) → AreBelow s → (height : ℕ) → Trace (givens_of u hints None) s (table_at u height []) (most_steps u height)
-  pub child : (u : Setting) (hints : List HintRow) → IsWritable u hints → (s : Numbered) → AreBelow s → (height : ℕ) (piece : Piece) (above : List Piece) (p : Fact) (place : Slot → ℕ) →
-      IsSlotKnown u.nodes (slot.Bnd piece.0) → IsProper (table_at u height above) → ArePlaces s (table_at u height above) place → IsCutTo (table_at u height above) p piece →
-      Trace (givens_of u hints (Some p)) s (table_at u height (piece ∷ above)) (most_steps u height)
+  pub root : (u : Setting) (hints : List HintRow) → IsWritable u hints → (s : Numbered) → AreBelow s
+      → (height : ℕ) → Trace (givens_of u hints None) s (table_at u height []) (most_steps u height)
+  pub child : (u : Setting) (hints : List HintRow) → IsWritable u hints → (s : Numbered)
+      → AreBelow s → (height : ℕ) (piece : Piece) (above : List Piece) (p : Fact) (place : Slot → ℕ)
+      → IsSlotKnown u.nodes (slot.Bnd piece.0) → IsProper (table_at u height above)
+      → ArePlaces s (table_at u height above) place → IsCutTo (table_at u height above) p piece
+      → Trace (givens_of u hints (Some p)) s
+      (table_at u height (piece ∷ above)) (most_steps u height)
 
 -- Trees of boxes whose leaves are settled, one for each case, 1 to 64, and whose steps can be
 -- numbered, have a certificate that the checker accepts, with the lines that the leaves of all
@@ -41,9 +45,11 @@ CertificatesExist = (hints : List HintRow)
     (items : List Item) × Accepts subject items
     (lines_of_roots height goals (r ∷ later) (map (λ g. line.Empty) subject.goals))
 
--- What the list of rules gives can be written as steps: VOID is given also where VOID is aimed at, from premises that have room in a step, by
--- rules with numbers below 100.
+-- What the list of rules gives can be written as steps: VOID is given also where VOID is aimed at,
+-- from premises that have room in a step, by rules with numbers below 100.
 pub record RulesFitSteps : Type 0 where
-  pub void_fits : (nodes : List Node) (hints : List HintRow) → IsOrdered nodes → IsVoidFitting (concludes nodes hints)
-  pub counted : (nodes : List Node) (hints : List HintRow) → IsOrdered nodes → IsFromFew (concludes nodes hints)
+  pub void_fits : (nodes : List Node) (hints : List HintRow) → IsOrdered nodes
+      → IsVoidFitting (concludes nodes hints)
+  pub counted : (nodes : List Node) (hints : List HintRow) → IsOrdered nodes
+      → IsFromFew (concludes nodes hints)
   pub low : (nodes : List Node) (hints : List HintRow) → IsNumberedLow (concludes nodes hints)

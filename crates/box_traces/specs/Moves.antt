@@ -31,16 +31,18 @@ use Rattle.cert_checker.specs.cert_bytes.declared.item.Item.{Item}
 use Rattle.cert_checker.specs.cert_bytes.Certificates.{AreDue}
 use Rattle.cert_checker.specs.cert_bytes.declared.order.Due.TheVariants.{Marks, Sections}
 
--- This is so of everything that can be written, of so many steps a box, with what certificates are judged against.
+-- This is so of everything that can be written, of so many steps a box, with what certificates are
+-- judged against.
 abbrev pub OfWalks : (Setting → List HintRow → ℕ → ℕ → List Goal → Subject → ℕ → Type 0) → Type 0
 OfWalks P = (u : Setting) (hints : List HintRow)
     → IsWritable u hints → (height most : ℕ) → most_steps u height ≤ most
     → (goals : List Goal) (subject : Subject) (case : ℕ) → IsSubjectOf subject case u hints goals →
     P u hints height most goals subject case
 
--- A walk over the boxes in the order of their paths can always go on: where the section of a box may begin, there are items from there to the
--- end of the last root section that are accepted, with the lines of all leaves that are still to
--- come, those of later cases among them. So what was written before begins an accepted certificate.
+-- A walk over the boxes in the order of their paths can always go on: where the section of a box
+-- may begin, there are items from there to the end of the last root section that are accepted, with
+-- the lines of all leaves that are still to come, those of later cases among them. So what was
+-- written before begins an accepted certificate.
 abbrev pub WalksGoOn : Type 0
 WalksGoOn = OfWalks (λ u hints height most goals subject case.
     (tree : Tree) (c : Context) (pieces : List Piece) (depth : ℕ) (frames : List Frame)
@@ -59,7 +61,16 @@ pub record AreSteps (subject : Subject) (c : Context) (rows : List StepRow) : Ty
 
 -- the box whose section begins at c, with its first piece entered
 abbrev pub frame_of : Context → List StepRow → ExprId → List Dyadic → Trees → List Piece → ℕ → Frame
-frame_of c rows x points later pieces depth = record { begin = c; steps = behind_steps c rows; var = x; points = points; piece = 0; later = later; pieces = pieces; depth = depth }
+frame_of c rows x points later pieces depth = record {
+  begin = c;
+  steps = behind_steps c rows;
+  var = x;
+  points = points;
+  piece = 0;
+  later = later;
+  pieces = pieces;
+  depth = depth;
+}
 
 -- with its next piece entered
 abbrev pub turned : Frame → Trees → Frame
@@ -80,7 +91,8 @@ pub record WalksMove : Type 0 where
   pub written : OfWalks (λ u hints height most goals subject case.
       (c : Context) (pieces : List Piece) (rows : List StepRow)
       → IsOpen u hints height most subject case c pieces →
-      AreAccepted (givens_of u hints (open_piece c.cuts)) (numbered c) rows → HaveFields rows → c.next + length rows ≤ 2 ^ 64 → AreSteps subject c rows)
+      AreAccepted (givens_of u hints (open_piece c.cuts)) (numbered c) rows → HaveFields rows
+      → c.next + length rows ≤ 2 ^ 64 → AreSteps subject c rows)
   -- where they conclude each of its best facts, the box stands behind them
   pub placed : OfWalks (λ u hints height most goals subject case.
       (c : Context) (pieces : List Piece) (rows : List StepRow) (place : Slot → ℕ)
@@ -103,12 +115,14 @@ pub record WalksMove : Type 0 where
       (c : Context) (pieces : List Piece) (rows : List StepRow) (refs : List ℕ)
       → IsOpen u hints height most subject case c pieces → AreSteps subject c rows →
       AreSettled (behind_steps c rows).steps subject.goals refs →
-      JudgesItem subject (behind_steps c rows) (item.Leaf refs) None × IsEndOf c (after (behind_steps c rows) (item.Leaf refs)) (lines_with (behind_steps c rows).steps c.lines refs))
+      JudgesItem subject (behind_steps c rows) (item.Leaf refs) None × IsEndOf c (after
+      (behind_steps c rows) (item.Leaf refs)) (lines_with (behind_steps c rows).steps c.lines refs))
   pub void : OfWalks (λ u hints height most goals subject case.
       (c : Context) (pieces : List Piece) (rows : List StepRow) (r : ℕ)
       → IsOpen u hints height most subject case c pieces → AreSteps subject c rows →
       step_fact (behind_steps c rows).steps r ≡ Some fact.Void →
-      JudgesItem subject (behind_steps c rows) (item.Dead r) None × IsEndOf c (after (behind_steps c rows) (item.Dead r)) c.lines)
+      JudgesItem subject (behind_steps c rows) (item.Dead r) None
+      × IsEndOf c (after (behind_steps c rows) (item.Dead r)) c.lines)
   -- behind a section the next piece is entered,
   pub follows : OfWalks (λ u hints height most goals subject case.
       (c d : Context) (lines : List Line) (fr : Frame) (i : Interval) (tree : Tree)
@@ -136,22 +150,28 @@ pub record WalksMove : Type 0 where
       → IsEntered later hints height most goals subject (case + 1) d tree [] 0 [])
 
 -- ---- laws
-pub lead_both : (subject : Subject) (c d e : Context) (items more : List Item) → LeadsTo subject c items d → LeadsTo subject d more e → LeadsTo subject c (items ++ more) e
+pub lead_both : (subject : Subject) (c d e : Context) (items more : List Item)
+    → LeadsTo subject c items d → LeadsTo subject d more e → LeadsTo subject c (items ++ more) e
 lead_both subject c d e [] more l m = subst (λ x. LeadsTo subject x more e) (sym l) m
-lead_both subject c d e (i ∷ items) more l m = (l.0, lead_both subject (after c i) d e items more l.1 m)
+lead_both subject c d e (i ∷ items) more l m =
+    (l.0, lead_both subject (after c i) d e items more l.1 m)
 
-pub next_behind : (c : Context) (rows : List StepRow) → (behind_steps c rows).next ≡ c.next + length rows
+pub next_behind : (c : Context) (rows : List StepRow)
+    → (behind_steps c rows).next ≡ c.next + length rows
 next_behind c [] = omega arith
 next_behind c (row ∷ rows) = let h = next_behind (after c (item.Step row)) rows in omega (arith, h)
 
-pub marks_due : (rest : List HintMark) (more : List Item) → AreDue (Some (Marks zero)) more → AreDue (Some (Marks (length rest))) (map item.Mark rest ++ more)
+pub marks_due : (rest : List HintMark) (more : List Item) → AreDue (Some (Marks zero)) more
+    → AreDue (Some (Marks (length rest))) (map item.Mark rest ++ more)
 marks_due [] more d = d
 marks_due (m ∷ rest) more d = ((tt, tt), marks_due rest more d)
 
-pub root_due : (items : List Item) → AreDue (Some (Sections 1)) items → AreDue (Some (Marks zero)) items
+pub root_due : (items : List Item) → AreDue (Some (Sections 1)) items
+    → AreDue (Some (Marks zero)) items
 root_due [] d = cc
 root_due (item.Step r ∷ items) d = d
-root_due (item.Cut x ps ∷ items) d = let e : 0 + (length ps + 1) ≡ length ps + 1 = omega arith in (d.0, subst (λ n. AreDue (Some (Sections n)) items) e d.1)
+root_due (item.Cut x ps ∷ items) d = let e : 0 + (length ps + 1) ≡ length ps + 1 = omega arith in
+    (d.0, subst (λ n. AreDue (Some (Sections n)) items) e d.1)
 root_due (item.Leaf refs ∷ items) d = d
 root_due (item.Dead r ∷ items) d = d
 root_due (item.Nodes n ∷ items) d = absurd d.1

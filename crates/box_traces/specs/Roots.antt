@@ -40,7 +40,8 @@ module _ (subject : Subject) (hints : List HintRow)
   pub roots_are_counted : (roots : List Root) (case : ℕ)
       → AreRoots case roots → case + length roots ≡ length subject.cases
   roots_are_counted [] case are = omega (arith, are)
-  roots_are_counted (r ∷ roots) case are = let e = roots_are_counted roots (case + 1) are.1 in omega (arith, e)
+  roots_are_counted (r ∷ roots) case are =
+      let e = roots_are_counted roots (case + 1) are.1 in omega (arith, e)
 
 -- how many steps there may be, so many for each box
 abbrev pub steps_in_roots : ℕ → List Root → ℕ

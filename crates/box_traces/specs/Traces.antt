@@ -37,6 +37,8 @@ pub record Trace (g : Givens) (s : Numbered) (at : At) (most : ℕ) : Type 0 whe
 abbrev pub most_steps : Setting → ℕ → ℕ
 most_steps u height = length u.hypotheses + length u.nodes + 1 + height * length u.instances
 
--- The piece of the certificate's cut, met with what the table knows of the variable, is as strong as the box's piece met with that.
+-- The piece of the certificate's cut, met with what the table knows of the variable, is as strong
+-- as the box's piece met with that.
 abbrev pub IsCutTo : At → Fact → Piece → Type 0
-IsCutTo at p piece = IsEnough (met_with (Some p) (at (slot.Bnd piece.0))) (joined (at (slot.Bnd piece.0)) (fact.Bnd piece.0 piece.1))
+IsCutTo at p piece = IsEnough (met_with (Some p) (at (slot.Bnd piece.0)))
+    (joined (at (slot.Bnd piece.0)) (fact.Bnd piece.0 piece.1))

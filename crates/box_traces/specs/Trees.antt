@@ -24,7 +24,8 @@ use Rattle.cert_checker.specs.Steps.{case_facts}
 use Rattle.cert_checker.specs.After.{with_cited}
 use Rattle.box_traces.specs.Traces.{IsCutTo}
 
--- A box that isn't cut, or is cut along a variable at some points, with a box for each piece in order, and what its range is there.
+-- A box that isn't cut, or is cut along a variable at some points, with a box for each piece in
+-- order, and what its range is there.
 mutual
   pub data Tree : Type 0 where
     leaf : Tree
@@ -49,12 +50,14 @@ module _ (u : Setting) (height : ℕ) (goals : List Goal) where
   abbrev mutual
     -- the lines with those of the tree's leaves
     pub lines_of_tree : Tree → List Piece → List Line → List Line
-    lines_of_tree leaf pieces lines = leaf_lines (table_at u height pieces slot.Void) (table_at u height pieces) goals lines
+    lines_of_tree leaf pieces lines =
+        leaf_lines (table_at u height pieces slot.Void) (table_at u height pieces) goals lines
     lines_of_tree (cut x points trees) pieces lines = lines_of_trees x trees pieces lines
 
     pub lines_of_trees : ExprId → Trees → List Piece → List Line → List Line
     lines_of_trees x last pieces lines = lines
-    lines_of_trees x (next i tree trees) pieces lines = lines_of_trees x trees pieces (lines_of_tree tree ((x, i) ∷ pieces) lines)
+    lines_of_trees x (next i tree trees) pieces lines =
+        lines_of_trees x trees pieces (lines_of_tree tree ((x, i) ∷ pieces) lines)
 
 -- ---- how many steps there may be
 abbrev mutual
@@ -75,7 +78,8 @@ AllSettled at (g ∷ goals) = ((f : Fact) × (at g.of ≡ Some f) × Settles g f
 
 -- the cut of a box at these points, with so many pieces entered and so many steps around
 abbrev pub cut_of : ExprId → List Dyadic → ℕ → ℕ → OpenCut
-cut_of x points entered around = record { var = x; points = points; entered = entered; around = around }
+cut_of x points entered around =
+    record { var = x; points = points; entered = entered; around = around }
 
 -- 1 to 63 points that rise
 pub record ArePoints (points : List Dyadic) : Type 0 where
@@ -85,27 +89,31 @@ pub record ArePoints (points : List Dyadic) : Type 0 where
 
 -- VOID is known, or each goal is settled.
 abbrev pub IsSettledLeaf : At → List Goal → Type 0
-IsSettledLeaf at goals = ((v : Fact) × (at slot.Void ≡ Some v)) ⊎ ((at slot.Void ≡ None) × AllSettled at goals)
+IsSettledLeaf at goals = ((v : Fact) × (at slot.Void ≡ Some v))
+    ⊎ ((at slot.Void ≡ None) × AllSettled at goals)
 
 module _ (u : Setting) (height : ℕ) (goals : List Goal) where
   abbrev mutual
-    -- At each leaf VOID is known, or each goal is settled. A box so many cuts deep is cut along a variable, and the line's pieces at the
-    -- points leave of its box the boxes below it.
+    -- At each leaf VOID is known, or each goal is settled. A box so many cuts deep is cut along a
+    -- variable, and the line's pieces at the points leave of its box the boxes below it.
     pub IsProved : Tree → List Piece → ℕ → Type 0
     IsProved leaf pieces depth = IsSettledLeaf (table_at u height pieces) goals
-    IsProved (cut x points trees) pieces depth = IsVariable u.nodes x × (depth < 64) × ArePoints points × AreProved x points trees 0 pieces (depth + 1)
+    IsProved (cut x points trees) pieces depth = IsVariable u.nodes x × (depth < 64)
+        × ArePoints points × AreProved x points trees 0 pieces (depth + 1)
 
     pub AreProved : ExprId → List Dyadic → Trees → ℕ → List Piece → ℕ → Type 0
     AreProved x points last k pieces depth = k ≡ length points + 1
     AreProved x points (next i tree trees) k pieces depth =
-        (k ≤ length points) × ((p : Fact) × (piece_fact (cut_of x points 0 0) k ≡ Some p) × IsCutTo (table_at u height pieces) p (x, i))
+        (k ≤ length points) × ((p : Fact) × (piece_fact (cut_of x points 0 0) k ≡ Some p)
+        × IsCutTo (table_at u height pieces) p (x, i))
         × IsProved tree ((x, i) ∷ pieces) depth × AreProved x points trees (k + 1) pieces depth
 
 -- ---- what a certificate is judged against
 -- Each node is one that the checker takes behind those before it, and can be written.
 abbrev pub AreTaken : Subject → List Node → List Node → Type 0
 AreTaken subject before [] = ⊤
-AreTaken subject before (n ∷ rest) = JudgesNode subject.nodes subject.variables before n None × IsInLimits n × HasShortParts n × AreTaken subject (before ++ n ∷ []) rest
+AreTaken subject before (n ∷ rest) = JudgesNode subject.nodes subject.variables before n None
+    × IsInLimits n × HasShortParts n × AreTaken subject (before ++ n ∷ []) rest
 
 -- The subject is what derivations of the case with this number use: their hypotheses are that case,
 -- their nodes begin with its own, and its goals and marks can be counted.

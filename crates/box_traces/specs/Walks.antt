@@ -64,7 +64,8 @@ pub record IsOpen (u : Setting) (hints : List HintRow) (height most : ℕ)
   pub below : AreBelow (numbered c)
   pub ended : c.ended ≡ false
   pub room : around_of (cuts_behind c.cuts) ≤ length c.steps
-  pub trace : Trace (givens_of u hints (open_piece c.cuts)) (numbered c) (table_at u height pieces) most
+  pub trace : Trace (givens_of u hints (open_piece c.cuts)) (numbered c)
+      (table_at u height pieces) most
 
 -- Behind the steps of a box.
 pub record IsBehind (u : Setting)
@@ -74,11 +75,13 @@ pub record IsBehind (u : Setting)
   pub place : Slot → ℕ
   pub below : AreBelow (numbered d)
   pub proper : IsProper (table_at u height pieces)
-  pub found : (t : Slot) (f : Fact) → table_at u height pieces t ≡ Some f → step_fact d.steps (place t) ≡ Some f
+  pub found : (t : Slot) (f : Fact) → table_at u height pieces t ≡ Some f
+      → step_fact d.steps (place t) ≡ Some f
   pub room : around_of (cuts_behind d.cuts) ≤ length d.steps
 
 -- Behind the steps of a box, in its cut: piece k is entered.
-pub record IsInCut (d : Context) (x : ExprId) (points : List Dyadic) (k : ℕ) (e : Context) : Type 0 where
+pub record IsInCut (d : Context) (x : ExprId) (points : List Dyadic) (k : ℕ)
+    (e : Context) : Type 0 where
   pub nodes : e.nodes ≡ d.nodes
   pub case : e.case ≡ d.case
   pub cuts : e.cuts ≡ cut_of x points (k + 1) (length d.steps) ∷ d.cuts
@@ -98,7 +101,8 @@ pub record IsEndOf (c d : Context) (lines : List Line) : Type 0 where
   pub begun : d.begun ≡ true
   pub ended : d.ended ≡ false
 
--- A box that is cut and hasn't ended: where its section begins, what is behind its steps, its cut, the piece that is open, and the later ones.
+-- A box that is cut and hasn't ended: where its section begins, what is behind its steps, its cut,
+-- the piece that is open, and the later ones.
 pub record Frame : Type 0 where
   pub begin : Context
   pub steps : Context
@@ -131,7 +135,8 @@ LiesIn u height goals case c (fr ∷ frames) = IsPieceOf u height goals case c f
 -- the lines with those of the pieces that are still to come
 abbrev pub lines_behind : Setting → ℕ → List Goal → List Frame → List Line → List Line
 lines_behind u height goals [] lines = lines
-lines_behind u height goals (fr ∷ frames) lines = lines_behind u height goals frames (lines_of_trees u height goals fr.var fr.later fr.pieces lines)
+lines_behind u height goals (fr ∷ frames) lines = lines_behind u height goals frames
+    (lines_of_trees u height goals fr.var fr.later fr.pieces lines)
 
 -- how many sections are still to come
 abbrev pub left_in : List Frame → ℕ
@@ -143,9 +148,11 @@ abbrev pub steps_behind : ℕ → List Frame → ℕ
 steps_behind most [] = 0
 steps_behind most (fr ∷ frames) = steps_in_each most fr.later + steps_behind most frames
 
--- The items are due where the first of so many sections is open, and behind them the first of so many.
+-- The items are due where the first of so many sections is open, and behind them the first of so
+-- many.
 abbrev pub IsDue : ℕ → ℕ → List Item → Type 0
-IsDue more fewer items = (rest : List Item) → AreDue (Some (Sections fewer)) rest → AreDue (Some (Sections more)) (items ++ rest)
+IsDue more fewer items = (rest : List Item) → AreDue (Some (Sections fewer)) rest
+    → AreDue (Some (Sections more)) (items ++ rest)
 
 -- Items that lead from here, where the first of n sections is open, to the end of the last root
 -- section.

@@ -24,29 +24,38 @@ IsSlotKnown nodes slot.Void = ⊤
 
 -- A rule that gives VOID on a target gives it also where VOID itself is aimed at.
 abbrev pub IsVoidFitting : RuleList → Type 0
-IsVoidFitting rules = (number arg : ℕ) (premises : List Fact) (target : Slot) → rules number arg premises target ≡ Some fact.Void → rules number arg premises slot.Void ≡ Some fact.Void
+IsVoidFitting rules = (number arg : ℕ) (premises : List Fact) (target : Slot)
+    → rules number arg premises target ≡ Some fact.Void
+    → rules number arg premises slot.Void ≡ Some fact.Void
 
 -- Rules have numbers below 100.
 abbrev pub IsNumberedLow : RuleList → Type 0
-IsNumberedLow rules = (number arg : ℕ) (premises : List Fact) (target : Slot) (f : Fact) → rules number arg premises target ≡ Some f → number < 100
+IsNumberedLow rules = (number arg : ℕ) (premises : List Fact) (target : Slot) (f : Fact)
+    → rules number arg premises target ≡ Some f → number < 100
 
 -- What rules give comes from premises that a step has room for.
 abbrev pub IsFromFew : RuleList → Type 0
-IsFromFew rules = (number arg : ℕ) (premises : List Fact) (target : Slot) (f : Fact) → rules number arg premises target ≡ Some f → length premises ≤ 65535
+IsFromFew rules = (number arg : ℕ) (premises : List Fact) (target : Slot) (f : Fact)
+    → rules number arg premises target ≡ Some f → length premises ≤ 65535
 
 -- What a step may draw on in a section with this piece.
 abbrev pub givens_of : Setting → List HintRow → Option Fact → Givens
-givens_of u hints piece = record { facts = u.hypotheses; hints = hints; nodes = u.nodes; piece = piece }
+givens_of u hints piece =
+    record { facts = u.hypotheses; hints = hints; nodes = u.nodes; piece = piece }
 
--- Derivations use the checker's rules, over these rows of hints, and facts on nodes that it knows; and their numbers have room in steps.
+-- Derivations use the checker's rules, over these rows of hints, and facts on nodes that it knows;
+-- and their numbers have room in steps.
 pub record IsWritable (u : Setting) (hints : List HintRow) : Type 0 where
-  pub listed : (number arg : ℕ) (premises : List Fact) (target : Slot) → u.rules number arg premises target ≡ concludes u.nodes hints number arg premises target
+  pub listed : (number arg : ℕ) (premises : List Fact) (target : Slot)
+      → u.rules number arg premises target ≡ concludes u.nodes hints number arg premises target
   pub on_target : IsOnTargetList u.rules
   pub void_fits : IsVoidFitting u.rules
   pub low : IsNumberedLow u.rules
   pub counted : IsFromFew u.rules
   pub args : (k : ℕ) (i : Instance) → slice_get u.instances k ≡ Some i → i.arg < 2 ^ 16
-  pub targets : (k : ℕ) (i : Instance) → slice_get u.instances k ≡ Some i → IsSlotKnown u.nodes i.target
-  pub hypotheses : (k : ℕ) (f : Fact) → slice_get u.hypotheses k ≡ Some f → IsSlotKnown u.nodes (slot_of f)
+  pub targets : (k : ℕ) (i : Instance) → slice_get u.instances k ≡ Some i
+      → IsSlotKnown u.nodes i.target
+  pub hypotheses : (k : ℕ) (f : Fact) → slice_get u.hypotheses k ≡ Some f
+      → IsSlotKnown u.nodes (slot_of f)
   pub few_hypotheses : length u.hypotheses ≤ 2 ^ 16
   pub few_nodes : length u.nodes < 2 ^ 16

@@ -64,13 +64,19 @@ abbrev pub above_or : SplitRange → Dyadic → Dyadic → Dyadic
 above_or r down up = if is_less r.low down then down else up
 
 abbrev pub middle : SplitRange → Dyadic
-middle r = above_or r (down_or r.low (halfway (value_of r.low) (value_of r.high))) (up_or r.high (halfway (value_of r.low) (value_of r.high)))
+middle r = above_or r (down_or r.low (halfway (value_of r.low) (value_of r.high)))
+    (up_or r.high (halfway (value_of r.low) (value_of r.high)))
 
 -- The point at which the range is halved. None where no number of the grid lies strictly inside.
 abbrev pub half_point : SplitRange → Option Dyadic
 half_point r = if is_inside r (middle r) then Some (middle r) else None
 
 -- ---- pieces
--- The piece number i of a range that is cut at these points: [low, p0], [p0, p1] and so on to [last, high].
+-- The piece number i of a range that is cut at these points: [low, p0], [p0, p1] and so on to
+-- [last, high].
 abbrev pub piece_of : SplitRange → List Dyadic → ℕ → SplitRange
-piece_of r points i = record { var = r.var; low = slice_index_or (r.low ∷ points) i r.high; high = slice_index_or points i r.high }
+piece_of r points i = record {
+  var = r.var;
+  low = slice_index_or (r.low ∷ points) i r.high;
+  high = slice_index_or points i r.high;
+}

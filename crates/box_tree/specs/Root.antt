@@ -41,7 +41,8 @@ abbrev pub split_ranges : List Claim → List ExprId → List SplitRange
 split_ranges claims [] = []
 split_ranges claims (x ∷ xs) = with_range (split_range claims x) (split_ranges claims xs)
 
--- What the hints ask for, over the ranges that the claims give; the claims are the hypotheses, or one case of them.
+-- What the hints ask for, over the ranges that the claims give; the claims are the hypotheses, or
+-- one case of them.
 abbrev pub plan_by : List Claim → HintList → ℕ → PlanParts
 plan_by claims hints depth = record {
   ranges = split_ranges claims hints.order;
@@ -52,4 +53,5 @@ plan_by claims hints depth = record {
 
 -- one of the claims, as a hypothesis, bounds the expression
 abbrev pub IsBounded : List Claim → ExprId → Type 0
-IsBounded claims x = (k : ℕ) × (c : Claim) × (slice_get claims k ≡ Some c) × (i : Interval) × (hypothesis_fact c ≡ Some (fact.Bnd x i))
+IsBounded claims x = (k : ℕ) × (c : Claim) × (slice_get claims k ≡ Some c) × (i : Interval)
+    × (hypothesis_fact c ≡ Some (fact.Bnd x i))

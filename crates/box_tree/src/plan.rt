@@ -29,9 +29,15 @@ impl Model for Plan {
 
     ghost Value = { seen.PlanParts };
 
-    ghost view = { λ p. record { ranges = take p.count p.entries; cuts = p.cuts; halves = p.halves; depth = p.depth } };
+    ghost view = { λ p. record {
+      ranges = take p.count p.entries;
+      cuts = p.cuts;
+      halves = p.halves;
+      depth = p.depth;
+    } };
 
-    ghost invariant = { λ p. (p.count ≤ 8) × AllByRecursion IsOrdered (take p.count p.entries) × (length p.cuts ≤ 4) × HaveFewPieces p.cuts × (p.depth ≤ 32) };
+    ghost invariant = { λ p. (p.count ≤ 8) × AllByRecursion IsOrdered (take p.count p.entries)
+        × (length p.cuts ≤ 4) × HaveFewPieces p.cuts × (p.depth ≤ 32) };
 }
 
 impl Plan {

@@ -15,7 +15,8 @@ use script_hints::hint::Split;
 use script_hints::{Dyadic, ExprId, Points};
 use std::marker::Model;
 
-/// The ranges of a box, how many unconditional cuts and how many halvings are behind it, and the variable of the last cut.
+/// The ranges of a box, how many unconditional cuts and how many halvings are behind it, and the
+/// variable of the last cut.
 #[derive(Drop)]
 pub struct Region {
     entries: [SplitRange; 8],
@@ -33,7 +34,12 @@ impl Model for Region {
 
     ghost Value = { seen.Region };
 
-    ghost view = { λ g. record { ranges = take g.count g.entries; done = g.done; halvings = g.halvings; last = g.last } };
+    ghost view = { λ g. record {
+      ranges = take g.count g.entries;
+      done = g.done;
+      halvings = g.halvings;
+      last = g.last;
+    } };
 
     ghost invariant = { λ g. (g.count ≤ 8) × AllByRecursion IsOrdered (take g.count g.entries) };
 }
@@ -180,8 +186,10 @@ impl Region {
 
     // Leaves the piece number i of the variable's range, which is cut at these points of it.
     fn narrow(&mut self, x: ExprId, points: Points, i: u8)
-        requires within { IfSome (range_in x self.old.ranges) (λ r. AllByRecursion (IsWithin r) points) }
-        ensures { self.new ≡ record self.old { ranges = spec.narrowed x points i self.old.ranges; last = Some x } }
+        requires within { IfSome (range_in x self.old.ranges)
+            (λ r. AllByRecursion (IsWithin r) points) }
+        ensures { self.new
+            ≡ record self.old { ranges = spec.narrowed x points i self.old.ranges; last = Some x } }
     {
         self.last = Some(x);
         if let Some(range) = range_in(x, self.ranges()) {

@@ -119,8 +119,9 @@ fn copy_cuts(alloc: Global, cuts: &[Split]) -> Result<Items<Split>, AllocError>
 }
 
 impl Plan {
-    /// The cuts that the hints ask for, over the ranges that the claims give the split variables; boxes are halved `depth`
-    /// times at most (0 to 32). The claims are the hypotheses, or one case of them. Want of memory is the only error.
+    /// The cuts that the hints ask for, over the ranges that the claims give the split variables;
+    /// boxes are halved `depth` times at most (0 to 32). The claims are the hypotheses, or one case
+    /// of them. Want of memory is the only error.
     pub fn new(
         alloc: Global,
         claims: &[Claim],
@@ -144,17 +145,22 @@ impl Plan {
     }
 }
 
-/// Nothing is done. The clause tells a caller that an assignment that meets the hypotheses lies in the whole box.
+/// Nothing is done. The clause tells a caller that an assignment that meets the hypotheses lies in
+/// the whole box.
 pub fn hypotheses_are_in_the_box()
-    ensures { (nodes : List Node) (a : Assignment) (claims : List Claim) (hints : HintList) (depth : ℕ)
-        → AllByRecursion (IsTrueAt nodes a) claims → LieInBox (spec.plan_by claims hints depth) (value nodes a) [] }
+    ensures { (nodes : List Node) (a : Assignment) (claims : List Claim)
+        (hints : HintList) (depth : ℕ)
+        → AllByRecursion (IsTrueAt nodes a) claims
+        → LieInBox (spec.plan_by claims hints depth) (value nodes a) [] }
 {
     hypotheses_hold();
 }
 
-/// Nothing is done. The clause tells a caller that each piece is of an expression that a hypothesis bounds.
+/// Nothing is done. The clause tells a caller that each piece is of an expression that a hypothesis
+/// bounds.
 pub fn pieces_are_of_hypotheses()
     ensures { (claims : List Claim) (hints : HintList) (depth : ℕ) (path : List ℕ) (i : ℕ)
         → i < piece_count (cut_at (spec.plan_by claims hints depth) path)
-        → IsSomeAnd (piece_at (spec.plan_by claims hints depth) (path ++ i ∷ [])) (λ p. spec.IsBounded claims p.0) }
+        → IsSomeAnd (piece_at (spec.plan_by claims hints depth) (path ++ i ∷ []))
+        (λ p. spec.IsBounded claims p.0) }
 {}

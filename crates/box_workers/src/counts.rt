@@ -5,8 +5,8 @@ use std::sync::atomic::{AtomicU64, Ordering};
 use std::time::Duration;
 use std::{hint, thread};
 
-// A worker that finds no box tries again so many times at once, and so many times after other threads could run. Then it sleeps
-// between its turns.
+// A worker that finds no box tries again so many times at once, and so many times after other
+// threads could run. Then it sleeps between its turns.
 const QUICK_TURNS: u64 = 32;
 
 const YIELDING_TURNS: u64 = 64;
@@ -48,8 +48,8 @@ impl Counts {
         self.boxes.load(Ordering::SeqCst) == 0
     }
 
-    // Lets time pass, after so many turns in a row in which a worker found no box. No sleep is much longer than the worker was idle
-    // before, and each ends by itself.
+    // Lets time pass, after so many turns in a row in which a worker found no box. No sleep is much
+    // longer than the worker was idle before, and each ends by itself.
     pub(crate) fn rest<R: Wait>(&self, rt: &R, turns: u64) {
         if turns < QUICK_TURNS {
             hint::spin_loop();

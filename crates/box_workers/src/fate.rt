@@ -70,7 +70,8 @@ fn push_children<S: Settler, G: Gate, Q: Naming<Board<S::Entry>>>(
     (count, None)
 }
 
-// Settles a box that was taken, and where it is to be cut publishes its entry and pushes its children.
+// Settles a box that was taken, and where it is to be cut publishes its entry and pushes its
+// children.
 pub(crate) fn finish_box<S: Settler, G: Gate, Q: Naming<Board<S::Entry>>, R: Wait>(
     rt: &R,
     site: &Site<'_, S, G>,
@@ -79,7 +80,8 @@ pub(crate) fn finish_box<S: Settler, G: Gate, Q: Naming<Board<S::Entry>>, R: Wai
 ) -> Fate<S::Entry>
     requires world { Q.world ≡ Some site.now }
     requires task { MatchOption task.parent (Unit {0}) (λ s. s.board ≡ site.now) }
-    ensures { IsFate (tree_of S.Entry.cut_at S.Entry.state_at) S.Entry.path_of Q.capacity site.now lane.old lane.new task result }
+    ensures { IsFate (tree_of S.Entry.cut_at S.Entry.state_at) S.Entry.path_of Q.capacity site.now
+        lane.old lane.new task result }
 {
     let path = task.path;
     let Ok(Verdict { entry, state }) = site.settle(&task) else {

@@ -27,8 +27,10 @@ fn finish_task<S: Settler, G: Gate>(
 ) -> Result<bool, AllocError>
     requires task { TaskFits site.now task.now }
     requires room { walk.old.boxes ≤ walk.old.limit }
-    ensures all { IfOk result (λ all. IsTrue all → Went (tree_of S.Entry.cut_at S.Entry.state_at) walk.old.boxes walk.old.leaves.items
-        walk.new.boxes walk.new.leaves.items (λ g. below (tree_of S.Entry.cut_at S.Entry.state_at) g task.now.path) nothing) }
+    ensures all { IfOk result (λ all. IsTrue all
+        → Went (tree_of S.Entry.cut_at S.Entry.state_at) walk.old.boxes walk.old.leaves.items
+        walk.new.boxes walk.new.leaves.items
+        (λ g. below (tree_of S.Entry.cut_at S.Entry.state_at) g task.now.path) nothing) }
     ensures over { IfOk result (λ all. all ≡ false → walk.old.limit < walk.old.boxes
         + below (tree_of S.Entry.cut_at S.Entry.state_at) (λ _. 1) task.now.path) }
     ensures room { walk.new.boxes ≤ walk.new.limit }
@@ -37,7 +39,8 @@ fn finish_task<S: Settler, G: Gate>(
     site.visit(task.path, task.parent.as_ref(), walk)
 }
 
-// Does the boxes that were left, and those below them. False says that there are more boxes than the limit.
+// Does the boxes that were left, and those below them. False says that there are more boxes than
+// the limit.
 fn finish_left<S: Settler, G: Gate>(
     site: &Site<'_, S, G>,
     mut left: Vec<BoxTask<S::Entry>>,
@@ -45,8 +48,10 @@ fn finish_left<S: Settler, G: Gate>(
 ) -> Result<bool, AllocError>
     requires tasks { All (TaskFits site.now) left.items }
     requires room { walk.old.boxes ≤ walk.old.limit }
-    ensures all { IfOk result (λ all. IsTrue all → Went (tree_of S.Entry.cut_at S.Entry.state_at) walk.old.boxes walk.old.leaves.items
-        walk.new.boxes walk.new.leaves.items (left_rest (tree_of S.Entry.cut_at S.Entry.state_at) left.items) nothing) }
+    ensures all { IfOk result (λ all. IsTrue all
+        → Went (tree_of S.Entry.cut_at S.Entry.state_at) walk.old.boxes walk.old.leaves.items
+        walk.new.boxes walk.new.leaves.items
+        (left_rest (tree_of S.Entry.cut_at S.Entry.state_at) left.items) nothing) }
     ensures over { IfOk result (λ all. all ≡ false → walk.old.limit < walk.old.boxes
         + left_rest (tree_of S.Entry.cut_at S.Entry.state_at) left.items (λ _. 1)) }
     ensures room { walk.new.boxes ≤ walk.new.limit }
@@ -74,8 +79,10 @@ fn finish_children<S: Settler, G: Gate>(
     requires depth { length path < 36 }
     requires count { (first ≤ count) × (count ≤ 64) × (count ≤ piece_count (S.Entry.cut_at path)) }
     requires room { walk.old.boxes ≤ walk.old.limit }
-    ensures all { IfOk result (λ all. IsTrue all → Went (tree_of S.Entry.cut_at S.Entry.state_at) walk.old.boxes walk.old.leaves.items
-        walk.new.boxes walk.new.leaves.items (children_rest (tree_of S.Entry.cut_at S.Entry.state_at) path first count) nothing) }
+    ensures all { IfOk result (λ all. IsTrue all
+        → Went (tree_of S.Entry.cut_at S.Entry.state_at) walk.old.boxes walk.old.leaves.items
+        walk.new.boxes walk.new.leaves.items
+        (children_rest (tree_of S.Entry.cut_at S.Entry.state_at) path first count) nothing) }
     ensures over { IfOk result (λ all. all ≡ false → walk.old.limit < walk.old.boxes
         + children_rest (tree_of S.Entry.cut_at S.Entry.state_at) path first count (λ _. 1)) }
     ensures room { walk.new.boxes ≤ walk.new.limit }
@@ -89,16 +96,20 @@ fn finish_children<S: Settler, G: Gate>(
     Ok(true)
 }
 
-// Does what a worker did not of its held box, and the boxes below. False says that there are more boxes than the limit.
+// Does what a worker did not of its held box, and the boxes below. False says that there are more
+// boxes than the limit.
 fn finish_held<S: Settler, G: Gate>(
     site: &Site<'_, S, G>,
     held: &Held<S::Entry>,
     walk: &mut Walk,
 ) -> Result<bool, AllocError>
-    requires held { HeldFits (tree_of S.Entry.cut_at S.Entry.state_at) S.Entry.path_of site.now held.now }
+    requires held { HeldFits
+        (tree_of S.Entry.cut_at S.Entry.state_at) S.Entry.path_of site.now held.now }
     requires room { walk.old.boxes ≤ walk.old.limit }
-    ensures all { IfOk result (λ all. IsTrue all → Went (tree_of S.Entry.cut_at S.Entry.state_at) walk.old.boxes walk.old.leaves.items
-        walk.new.boxes walk.new.leaves.items (λ g. held_rest (tree_of S.Entry.cut_at S.Entry.state_at) g held.now) nothing) }
+    ensures all { IfOk result (λ all. IsTrue all
+        → Went (tree_of S.Entry.cut_at S.Entry.state_at) walk.old.boxes walk.old.leaves.items
+        walk.new.boxes walk.new.leaves.items
+        (λ g. held_rest (tree_of S.Entry.cut_at S.Entry.state_at) g held.now) nothing) }
     ensures over { IfOk result (λ all. all ≡ false → walk.old.limit < walk.old.boxes
         + held_rest (tree_of S.Entry.cut_at S.Entry.state_at) (λ _. 1) held.now) }
     ensures room { walk.new.boxes ≤ walk.new.limit }
@@ -116,12 +127,15 @@ fn finish_held<S: Settler, G: Gate>(
     finish_children(site, path, own, held.pushed, site.pieces(&path), walk)
 }
 
-// Counts the boxes of a record, and takes over its leaves. False says that there are more boxes than the limit.
+// Counts the boxes of a record, and takes over its leaves. False says that there are more boxes
+// than the limit.
 fn see_record(walk: &mut Walk, settled: &mut Vec<Leaf>, split: usize) -> Result<bool, AllocError>
     requires room { walk.old.boxes ≤ walk.old.limit }
-    ensures all { IfOk result (λ all. IsTrue all → (walk.new.boxes ≡ walk.old.boxes + (length settled.old.items + split))
+    ensures all { IfOk result (λ all. IsTrue all
+        → (walk.new.boxes ≡ walk.old.boxes + (length settled.old.items + split))
         × (walk.new.leaves.items ≡ walk.old.leaves.items ++ settled.old.items)) }
-    ensures over { IfOk result (λ all. all ≡ false → walk.old.limit < walk.old.boxes + (length settled.old.items + split)) }
+    ensures over { IfOk result (λ all. all ≡ false
+        → walk.old.limit < walk.old.boxes + (length settled.old.items + split)) }
     ensures room { walk.new.boxes ≤ walk.new.limit }
     ensures limit { walk.new.limit ≡ walk.old.limit }
 {
@@ -140,10 +154,13 @@ fn finish_any_held<S: Settler, G: Gate>(
     held: &Option<Held<S::Entry>>,
     walk: &mut Walk,
 ) -> Result<bool, AllocError>
-    requires held { MatchOption held.now (Unit {0}) (HeldFits (tree_of S.Entry.cut_at S.Entry.state_at) S.Entry.path_of site.now) }
+    requires held { MatchOption held.now (Unit {0})
+        (HeldFits (tree_of S.Entry.cut_at S.Entry.state_at) S.Entry.path_of site.now) }
     requires room { walk.old.boxes ≤ walk.old.limit }
-    ensures all { IfOk result (λ all. IsTrue all → Went (tree_of S.Entry.cut_at S.Entry.state_at) walk.old.boxes walk.old.leaves.items
-        walk.new.boxes walk.new.leaves.items (λ g. held_rest_of (tree_of S.Entry.cut_at S.Entry.state_at) g held.now) nothing) }
+    ensures all { IfOk result (λ all. IsTrue all
+        → Went (tree_of S.Entry.cut_at S.Entry.state_at) walk.old.boxes walk.old.leaves.items
+        walk.new.boxes walk.new.leaves.items
+        (λ g. held_rest_of (tree_of S.Entry.cut_at S.Entry.state_at) g held.now) nothing) }
     ensures over { IfOk result (λ all. all ≡ false → walk.old.limit < walk.old.boxes
         + held_rest_of (tree_of S.Entry.cut_at S.Entry.state_at) (λ _. 1) held.now) }
     ensures room { walk.new.boxes ≤ walk.new.limit }
@@ -161,10 +178,13 @@ fn finish_record<S: Settler, G: Gate>(
     done: Record<S::Entry>,
     walk: &mut Walk,
 ) -> Result<bool, AllocError>
-    requires done { RecordFits (tree_of S.Entry.cut_at S.Entry.state_at) S.Entry.path_of site.now done }
+    requires done { RecordFits
+        (tree_of S.Entry.cut_at S.Entry.state_at) S.Entry.path_of site.now done }
     requires room { walk.old.boxes ≤ walk.old.limit }
-    ensures all { IfOk result (λ all. IsTrue all → Went (tree_of S.Entry.cut_at S.Entry.state_at) walk.old.boxes walk.old.leaves.items
-        walk.new.boxes walk.new.leaves.items (λ g. record_rest (tree_of S.Entry.cut_at S.Entry.state_at) g done) nothing) }
+    ensures all { IfOk result (λ all. IsTrue all
+        → Went (tree_of S.Entry.cut_at S.Entry.state_at) walk.old.boxes walk.old.leaves.items
+        walk.new.boxes walk.new.leaves.items
+        (λ g. record_rest (tree_of S.Entry.cut_at S.Entry.state_at) g done) nothing) }
     ensures over { IfOk result (λ all. all ≡ false → walk.old.limit < walk.old.boxes
         + record_rest (tree_of S.Entry.cut_at S.Entry.state_at) (λ _. 1) done) }
     ensures room { walk.new.boxes ≤ walk.new.limit }
@@ -187,10 +207,13 @@ fn finish_records<S: Settler, G: Gate>(
     mut records: Vec<Record<S::Entry>>,
     walk: &mut Walk,
 ) -> Result<bool, AllocError>
-    requires records { All (RecordFits (tree_of S.Entry.cut_at S.Entry.state_at) S.Entry.path_of site.now) records.items }
+    requires records { All (RecordFits
+        (tree_of S.Entry.cut_at S.Entry.state_at) S.Entry.path_of site.now) records.items }
     requires room { walk.old.boxes ≤ walk.old.limit }
-    ensures all { IfOk result (λ all. IsTrue all → Went (tree_of S.Entry.cut_at S.Entry.state_at) walk.old.boxes walk.old.leaves.items
-        walk.new.boxes walk.new.leaves.items (records_rest (tree_of S.Entry.cut_at S.Entry.state_at) records.items) nothing) }
+    ensures all { IfOk result (λ all. IsTrue all
+        → Went (tree_of S.Entry.cut_at S.Entry.state_at) walk.old.boxes walk.old.leaves.items
+        walk.new.boxes walk.new.leaves.items
+        (records_rest (tree_of S.Entry.cut_at S.Entry.state_at) records.items) nothing) }
     ensures over { IfOk result (λ all. all ≡ false → walk.old.limit < walk.old.boxes
         + records_rest (tree_of S.Entry.cut_at S.Entry.state_at) records.items (λ _. 1)) }
     ensures room { walk.new.boxes ≤ walk.new.limit }
@@ -204,16 +227,19 @@ fn finish_records<S: Settler, G: Gate>(
     Ok(true)
 }
 
-/// What the tree comes to, once all workers have ended: the caller does by itself what their records and lanes leave.
+/// What the tree comes to, once all workers have ended: the caller does by itself what their
+/// records and lanes leave.
 pub(crate) fn finish<S: Settler, G: Gate>(
     site: &Site<'_, S, G>,
     records: Vec<Record<S::Entry>>,
     left: Vec<BoxTask<S::Entry>>,
     limit: u32,
 ) -> Result<Outcome, AllocError>
-    requires records { All (RecordFits (tree_of S.Entry.cut_at S.Entry.state_at) S.Entry.path_of site.now) records.items }
+    requires records { All (RecordFits
+        (tree_of S.Entry.cut_at S.Entry.state_at) S.Entry.path_of site.now) records.items }
     requires left { All (TaskFits site.now) left.items }
-    requires account { IsAccount (tree_of S.Entry.cut_at S.Entry.state_at) records.items left.items }
+    requires account { IsAccount
+        (tree_of S.Entry.cut_at S.Entry.state_at) records.items left.items }
     ensures { IfOk result (IsAnswer (tree_of S.Entry.cut_at S.Entry.state_at) limit) }
 {
     site.laws();

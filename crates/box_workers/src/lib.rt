@@ -1,4 +1,5 @@
-//! Workers that share the boxes of a tree: each takes boxes from its lane and from those of the others.
+//! Workers that share the boxes of a tree: each takes boxes from its lane and from those of the
+//! others.
 #![tactic(auto)]
 
 mod answer;

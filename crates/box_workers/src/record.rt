@@ -54,8 +54,10 @@ fn enter<S: Settler, G: Gate, Q: Naming<Board<S::Entry>>, R: Wait>(
     requires task { MatchOption task.parent (Unit {0}) (λ s. s.board ≡ site.now) }
     requires held { done.old.held ≡ None }
     ensures { (fate : _)
-        × IsFate (tree_of S.Entry.cut_at S.Entry.state_at) S.Entry.path_of Q.capacity site.now lane.old lane.new task fate
-        × IsEntered done.old.settled.items done.old.split.items fate done.new.settled.items done.new.split.items done.new.held }
+        × IsFate (tree_of S.Entry.cut_at S.Entry.state_at) S.Entry.path_of Q.capacity site.now
+        lane.old lane.new task fate
+        × IsEntered done.old.settled.items done.old.split.items fate done.new.settled.items
+        done.new.split.items done.new.held }
 {
     let fate = match done.make_room() {
         Ok(()) => finish_box(rt, site, lane, task),
@@ -84,9 +86,11 @@ pub fn work_at<S: Settler, G: Gate, Q: Naming<Board<S::Entry>>, R: Wait>(
 ) -> Record<S::Entry>
     requires world { Q.world ≡ Some site.now }
     requires passes { CanSteal Q.capacity hand.old thieves.now }
-    ensures did { IsRecord (tree_of S.Entry.cut_at S.Entry.state_at) S.Entry.path_of Q.capacity site.now
+    ensures did { IsRecord (tree_of S.Entry.cut_at S.Entry.state_at)
+        S.Entry.path_of Q.capacity site.now
         lane.old lane.new hand.old hand.new result.settled.items result.split.items result.held }
-    ensures idle { IfNone result.held ((lane.new.dry ≡ true) × All (RoseAt hand.old hand.new) thieves.now) }
+    ensures idle { IfNone result.held ((lane.new.dry ≡ true)
+        × All (RoseAt hand.old hand.new) thieves.now) }
 {
     let mut done = site.no_record();
     let mut idle: u64 = 0;

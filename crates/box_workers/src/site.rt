@@ -18,7 +18,8 @@ use std::alloc::{AllocError, Global};
 use std::marker::Model;
 use std::sync::Wait;
 
-/// What all workers of a run share. Contracts see the board's name. Its type keeps that the plan is that of the entries.
+/// What all workers of a run share. Contracts see the board's name. Its type keeps that the plan is
+/// that of the entries.
 #[derive(Drop)]
 pub struct Site<'a, S: Settler, G: Gate> {
     alloc: Global,
@@ -145,8 +146,8 @@ impl<'a, S: Settler, G: Gate> Site<'a, S, G> {
         }
     }
 
-    // Walks over the box of the path and those below it, from its parent's entry. False says that there are more boxes than the
-    // limit.
+    // Walks over the box of the path and those below it, from its parent's entry. False says that
+    // there are more boxes than the limit.
     pub(crate) fn visit(
         &self,
         path: Path,
@@ -154,10 +155,13 @@ impl<'a, S: Settler, G: Gate> Site<'a, S, G> {
         walk: &mut Walk,
     ) -> Result<bool, AllocError>
         requires path { IsPathOf (λ p. piece_count (S.Entry.cut_at p)) path }
-        requires parent { MatchOption parent (path ≡ []) (λ s. (s.now.board ≡ self.now) × IsChild (S.Entry.path_of s.now.entry) path) }
+        requires parent { MatchOption parent (path ≡ [])
+            (λ s. (s.now.board ≡ self.now) × IsChild (S.Entry.path_of s.now.entry) path) }
         requires room { walk.old.boxes ≤ walk.old.limit }
-        ensures all { IfOk result (λ all. IsTrue all → Went (tree_of S.Entry.cut_at S.Entry.state_at) walk.old.boxes walk.old.leaves.items
-            walk.new.boxes walk.new.leaves.items (λ g. below (tree_of S.Entry.cut_at S.Entry.state_at) g path) nothing) }
+        ensures all { IfOk result (λ all. IsTrue all
+            → Went (tree_of S.Entry.cut_at S.Entry.state_at) walk.old.boxes walk.old.leaves.items
+            walk.new.boxes walk.new.leaves.items
+            (λ g. below (tree_of S.Entry.cut_at S.Entry.state_at) g path) nothing) }
         ensures over { IfOk result (λ all. all ≡ false → walk.old.limit < walk.old.boxes
             + below (tree_of S.Entry.cut_at S.Entry.state_at) (λ _. 1) path) }
         ensures room { walk.new.boxes ≤ walk.new.limit }

@@ -9,7 +9,8 @@ use fact_board::{Board, Token};
 use fx_edge::Path;
 use std::marker::Model;
 
-/// A box that waits. Its type keeps that its path is one of the plan, and that its token's entry is that of its parent.
+/// A box that waits. Its type keeps that its path is one of the plan, and that its token's entry is
+/// that of its parent.
 #[derive(Drop)]
 pub struct BoxTask<E: Posted> {
     pub(crate) path: Path,

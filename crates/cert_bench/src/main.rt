@@ -1,6 +1,7 @@
 //! Measures by the clock: steps written, the same steps read, and a certificate checked.
 //!
-//! The argument names a file with a certificate of the script that `gen 12` makes. Nothing is asserted of a figure.
+//! The argument names a file with a certificate of the script that `gen 12` makes. Nothing is
+//! asserted of a figure.
 #![tactic(auto)]
 
 mod checking;

@@ -57,8 +57,10 @@ abbrev pub IsEnd : List ℕ → Ahead → Bool → Type 0
 IsEnd all s true = ⊤
 IsEnd all s false = length all ≤ s.at
 
--- What a call gave, seen by view, is what reading gives from the place before; and it left the place behind what it read. Where the
--- folder failed or memory wasn't found, nothing is said.
-abbrev pub Gives : {X Y : Type 0} → (X → Y) → List ℕ → Ahead → Ahead → Result X Stop → (Cursor → Result (Y × Cursor) CertFault) → Type 0
+-- What a call gave, seen by view, is what reading gives from the place before; and it left the
+-- place behind what it read. Where the folder failed or memory wasn't found, nothing is said.
+abbrev pub Gives : {X Y : Type 0} → (X → Y) → List ℕ → Ahead → Ahead → Result X Stop
+    → (Cursor → Result (Y × Cursor) CertFault) → Type 0
 Gives view all old new (Ok x) read = read (cursor_of all old) ≡ Ok (view x, cursor_of all new)
-Gives view all old new (Err e) read = (f : CertFault) → e ≡ Fault f → read (cursor_of all old) ≡ Err f
+Gives view all old new (Err e) read = (f : CertFault) → e ≡ Fault f
+    → read (cursor_of all old) ≡ Err f

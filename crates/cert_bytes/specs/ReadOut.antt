@@ -29,23 +29,27 @@ pub record IsRead (d : Due) (c next : Cursor) (i : Item) : Type 0 where
   pub behind : AreBytes next.rest
 
 abbrev pub ItemsReadOut : Type 0
-ItemsReadOut = (d : Due) (c next : Cursor) (i : Item) → AreBytes c.rest → ¬ (d ≡ Done) → item_at d c ≡ Ok (i, next) → IsRead d c next i
+ItemsReadOut = (d : Due) (c next : Cursor) (i : Item) → AreBytes c.rest → ¬ (d ≡ Done)
+    → item_at d c ≡ Ok (i, next) → IsRead d c next i
 
 -- What is due behind an item that is due, as a function.
 abbrev pub DueBehind : Type 0
-DueBehind = (d : Due) (i : Item) (e : Due) → due_after d i ≡ Some e → due_after d i ≡ Some (due_behind d i)
+DueBehind = (d : Due) (i : Item) (e : Due) → due_after d i ≡ Some e
+    → due_after d i ≡ Some (due_behind d i)
 
 -- ---- whole certificates
 
 -- These items are read one after the other, to the end.
 abbrev pub AreRead : Due → Cursor → List Item → Type 0
 AreRead d c [] = d ≡ Done
-AreRead d c (i ∷ items) = (next : Cursor) × (item_at d c ≡ Ok (i, next)) × (¬ (d ≡ Done)) × AreRead (due_behind d i) next items
+AreRead d c (i ∷ items) = (next : Cursor) × (item_at d c ≡ Ok (i, next)) × (¬ (d ≡ Done))
+    × AreRead (due_behind d i) next items
 
 -- These items are read, and then the fault is met.
 abbrev pub FailsBehind : Due → Cursor → List Item → CertFault → Type 0
 FailsBehind d c [] f = item_at d c ≡ Err f
-FailsBehind d c (i ∷ items) f = (next : Cursor) × (item_at d c ≡ Ok (i, next)) × (¬ (d ≡ Done)) × FailsBehind (due_behind d i) next items f
+FailsBehind d c (i ∷ items) f = (next : Cursor) × (item_at d c ≡ Ok (i, next)) × (¬ (d ≡ Done))
+    × FailsBehind (due_behind d i) next items f
 
 -- the first fault of the bytes; which version they have stands in them
 abbrev pub HasFault : List ℕ → CertFault → Type 0
@@ -53,19 +57,23 @@ HasFault bytes f = (items : List Item) × FailsBehind Head (cursor First bytes 0
 
 -- Items that are read to the end are those that the bytes spell.
 abbrev pub ReadsAreSpelled : Type 0
-ReadsAreSpelled = (bytes : List ℕ) (items : List Item) → AreBytes bytes → AreRead Head (cursor First bytes 0) items → SpellsCertificate bytes items
+ReadsAreSpelled = (bytes : List ℕ) (items : List Item) → AreBytes bytes
+    → AreRead Head (cursor First bytes 0) items → SpellsCertificate bytes items
 
 -- What is spelled is read to the end, as far as byte 2^44 isn't asked for.
 abbrev pub SpelledAreRead : Type 0
-SpelledAreRead = (bytes : List ℕ) (items : List Item) → length bytes ≤ 17592186044416 → SpellsCertificate bytes items → AreRead Head (cursor First bytes 0) items
+SpelledAreRead = (bytes : List ℕ) (items : List Item) → length bytes ≤ 17592186044416
+    → SpellsCertificate bytes items → AreRead Head (cursor First bytes 0) items
 
 -- Bytes spell items or have a fault,
 abbrev pub SpellOrFail : Type 0
-SpellOrFail = (bytes : List ℕ) → AreBytes bytes → ((items : List Item) × SpellsCertificate bytes items) ⊎ ((f : CertFault) × HasFault bytes f)
+SpellOrFail = (bytes : List ℕ) → AreBytes bytes
+    → ((items : List Item) × SpellsCertificate bytes items) ⊎ ((f : CertFault) × HasFault bytes f)
 
 -- never both,
 abbrev pub NeverBoth : Type 0
-NeverBoth = (bytes : List ℕ) (items : List Item) (f : CertFault) → length bytes ≤ 17592186044416 → SpellsCertificate bytes items → HasFault bytes f → ⊥
+NeverBoth = (bytes : List ℕ) (items : List Item) (f : CertFault) → length bytes ≤ 17592186044416
+    → SpellsCertificate bytes items → HasFault bytes f → ⊥
 
 -- and one fault at most.
 abbrev pub OneFault : Type 0

@@ -1,4 +1,5 @@
--- How bytes are read as items, field by field from the left. The first fault that is met is the fault of the bytes.
+-- How bytes are read as items, field by field from the left. The first fault that is met is the
+-- fault of the bytes.
 use Rattle.std.specs.Prelude.{⊤, ◌+◌, ◌-◌, ◌*◌, ◌/◌, ◌%◌, ◌==◌, ◌&&◌, not, ℕ, zero, suc, ℤ, pos, negsuc, Bool, true, false, List, [], ◌∷◌, ◌++◌, length, drop, nat_lt, nat_le, if◌then◌else◌, Option, Some, None, Result, Ok, Err}
 use Rattle.std.specs.Int.{Width, w16, w64, cast_signed}
 use Rattle.std.specs.Int.RustNames.{int_lt}
@@ -59,7 +60,8 @@ abbrev pub Read : Type 0 → Type 0
 Read A = Result (A × Cursor) CertFault
 
 infixl 10 ◌>>=◌
-abbrev pub ◌>>=◌ : {A B : Type 0} → Result A CertFault → (A → Result B CertFault) → Result B CertFault
+abbrev pub ◌>>=◌ : {A B : Type 0} → Result A CertFault
+    → (A → Result B CertFault) → Result B CertFault
 (Ok x) >>= f = f x
 (Err e) >>= f = Err e
 
@@ -76,7 +78,8 @@ numbered at (Some x) c = Ok (x, c)
 -- One byte. It is Truncated at the end of the bytes, and TooLong where it is byte 2^44.
 abbrev pub next_byte : Style → ℕ → List ℕ → Read ℕ
 next_byte style at [] = fault Truncated at
-next_byte style at (b ∷ rest) = if nat_le 17592186044416 at then fault TooLong 17592186044416 else Ok (b, record { style = style; at = at + 1; rest = rest })
+next_byte style at (b ∷ rest) = if nat_le 17592186044416 at then fault TooLong 17592186044416
+    else Ok (b, record { style = style; at = at + 1; rest = rest })
 
 unfoldable pub byte_at : Cursor → Read ℕ
 byte_at c = next_byte c.style c.at c.rest
@@ -164,7 +167,8 @@ unfoldable pub expr_at : Cursor → Read ExprId
 expr_at c = short_at c >>= λ n. Ok (record { 0 = n.0 }, n.1)
 
 -- one field behind another
-unfoldable pub both_at : {A B : Type 0} → (Cursor → Read A) → (Cursor → Read B) → Cursor → Read (A × B)
+unfoldable pub both_at : {A B : Type 0} → (Cursor → Read A)
+    → (Cursor → Read B) → Cursor → Read (A × B)
 both_at f g c = do
   x ← f c
   y ← g x.1
@@ -242,9 +246,12 @@ fact_at c = do
 
 abbrev pub direction_from : ℕ → Option Direction
 direction_from n =
-    if n == 0 then Some Zr else (if n == 1 then Some Aw else (if n == 2 then Some Dn else (if n == 3 then Some Up
-    else (if n == 4 then Some Od else (if n == 5 then Some Ne else (if n == 6 then Some No else (if n == 7 then Some Nz
-    else (if n == 8 then Some Na else (if n == 9 then Some Nd else (if n == 10 then Some Nu else None))))))))))
+    if n == 0 then Some Zr else (if n == 1 then Some Aw
+    else (if n == 2 then Some Dn else (if n == 3 then Some Up
+    else (if n == 4 then Some Od
+    else (if n == 5 then Some Ne else (if n == 6 then Some No else (if n == 7 then Some Nz
+    else (if n == 8 then Some Na
+    else (if n == 9 then Some Nd else (if n == 10 then Some Nu else None))))))))))
 
 abbrev pub tagged : {A : Type 0} → ℕ → Option A → Cursor → Read A
 tagged at None c = fault BadTag at
@@ -255,7 +262,8 @@ direction_at c = byte_at c >>= λ b. tagged c.at (direction_from b.0) b.1
 
 -- the power of a rounding, from 2^-512 to 2^512
 unfoldable pub lsb_at : Cursor → Read ℤ
-lsb_at c = signed_short_at c >>= λ k. if int_lt k.0 (negsuc 511) then fault BadNumber c.at else (if int_lt (pos 512) k.0 then fault BadNumber c.at else Ok k)
+lsb_at c = signed_short_at c >>= λ k. if int_lt k.0 (negsuc 511) then fault BadNumber c.at
+    else (if int_lt (pos 512) k.0 then fault BadNumber c.at else Ok k)
 
 abbrev pub exponents_at : Cursor → Read (ℤ × ℤ)
 exponents_at = both_at signed_short_at signed_short_at
@@ -264,7 +272,8 @@ unfoldable pub literal_at : Cursor → Read Literal
 literal_at c = do
   num ← wide_at c
   e ← exponents_at num.1
-  if is_normal (record { num = num.0; two = e.0.0; ten = e.0.1 }) then Ok (record { num = num.0; two = e.0.0; ten = e.0.1 }, e.1) else fault BadNumber c.at
+  if is_normal (record { num = num.0; two = e.0.0; ten = e.0.1 })
+      then Ok (record { num = num.0; two = e.0.0; ten = e.0.1 }, e.1) else fault BadNumber c.at
 
 unfoldable pub one_at : (ExprId → Node) → Cursor → Read Node
 one_at op c = expr_at c >>= λ x. Ok (op x.0, x.1)
@@ -340,7 +349,16 @@ unfoldable pub step_at : Cursor → Read StepRow
 step_at c = do
   claim ← claim_at c
   cited ← cited_at claim.1
-  Ok (record { rule = claim.0.0.0; arg = claim.0.0.1; fact = claim.0.1; with = cited.0.0; premises = cited.0.1 }, cited.1)
+  Ok (
+    record {
+      rule = claim.0.0.0;
+      arg = claim.0.0.1;
+      fact = claim.0.1;
+      with = cited.0.0;
+      premises = cited.0.1;
+    },
+    cited.1,
+  )
 
 -- p is above the last of the points, if there is one
 abbrev pub rises : List Dyadic → Dyadic → Bool
@@ -349,7 +367,8 @@ rises (d ∷ ds) p = not (le_ℚ (value_of p) (value_of (point_of (d ∷ ds) (le
 
 -- the points with one more behind them, which is above the last
 unfoldable pub rising_at : List Dyadic → Cursor → Read (List Dyadic)
-rising_at ds c = point_at c >>= λ p. if rises ds p.0 then Ok (ds ++ p.0 ∷ [], p.1) else fault BadNumber c.at
+rising_at ds c =
+    point_at c >>= λ p. if rises ds p.0 then Ok (ds ++ p.0 ∷ [], p.1) else fault BadNumber c.at
 
 -- so many further points
 unfoldable pub points_at : ℕ → List Dyadic → Cursor → Read (List Dyadic)

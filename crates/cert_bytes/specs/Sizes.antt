@@ -5,7 +5,8 @@ use Rattle.cert_bytes.specs.declared.item.Item.TheVariants as item
 use Rattle.cert_bytes.specs.declared.style.Style.{Style}
 use Rattle.cert_bytes.specs.Spelling.{spelling, spelled_from}
 
--- So many bytes an item: ten for each step that it names, and no more for the rest of it than these.
+-- So many bytes an item: ten for each step that it names, and no more for the rest of it than
+-- these.
 abbrev pub most_bytes : Item → ℕ
 most_bytes (item.Nodes n) = 24
 most_bytes (item.Node n) = 58

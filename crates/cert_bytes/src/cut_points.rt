@@ -5,8 +5,8 @@ use facts::Points;
 use std::alloc::{AllocError, Global};
 use std::marker::Model;
 
-/// The points of a cut, apart from the item that has them: they take far more room than any other item. In contracts they are
-/// their list.
+/// The points of a cut, apart from the item that has them: they take far more room than any other
+/// item. In contracts they are their list.
 #[derive(Debug, Drop)]
 pub struct CutPoints {
     points: Box<Points>,

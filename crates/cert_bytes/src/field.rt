@@ -19,7 +19,8 @@ pub trait Field: Sized {
     /// The value that stands at the source's place.
     fn read<F: Folder>(source: &mut Source, folder: &mut F) -> Result<Self, Stop>
         requires agrees { AgreesTold (F.told folder.old source.old.name) source.old }
-        ensures gives { (all : List ℕ) → F.told folder.old source.old.name ≡ Some all → Gives (λ x. x) all source.old source.new result read_at }
+        ensures gives { (all : List ℕ) → F.told folder.old source.old.name ≡ Some all
+            → Gives (λ x. x) all source.old source.new result read_at }
         ensures agrees { AgreesTold (F.told folder.new source.new.name) source.new }
         ensures keeps { IfOk result Keeps }
         ensures kept { kept_of source.new ≡ kept_of source.old }
@@ -28,7 +29,8 @@ pub trait Field: Sized {
         ensures told { (other : List ℕ) → F.told folder.new other ≡ F.told folder.old other }
         ensures later { F.read_faults folder.old ≤ F.read_faults folder.new }
         ensures quiet { F.write_faults folder.new ≡ F.write_faults folder.old }
-        ensures cause { IsErrOf result Stop.Failed → Rose (F.read_faults folder.old) (F.read_faults folder.new) };
+        ensures cause { IsErrOf result Stop.Failed
+            → Rose (F.read_faults folder.old) (F.read_faults folder.new) };
 }
 
 /// One field behind another.

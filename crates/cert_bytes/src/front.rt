@@ -19,14 +19,16 @@ impl Source {
     #[tactic(auto, unfolding(crate::specs::Reading::magic_at))]
     fn magic<F: Folder>(&mut self, folder: &mut F) -> Result<(), Stop>
         requires agrees { AgreesTold (F.told folder.old self.old.name) self.old }
-        ensures gives { (all : List ℕ) → F.told folder.old self.old.name ≡ Some all → Gives (λ _. tt) all self.old self.new result magic_at }
+        ensures gives { (all : List ℕ) → F.told folder.old self.old.name ≡ Some all
+            → Gives (λ _. tt) all self.old self.new result magic_at }
         ensures agrees { AgreesTold (F.told folder.new self.new.name) self.new }
         ensures kept { kept_of self.new ≡ kept_of self.old }
         ensures grows { self.old.at ≤ self.new.at }
         ensures told { (other : List ℕ) → F.told folder.new other ≡ F.told folder.old other }
         ensures later { F.read_faults folder.old ≤ F.read_faults folder.new }
         ensures quiet { F.write_faults folder.new ≡ F.write_faults folder.old }
-        ensures cause { IsErrOf result Stop.Failed → Rose (F.read_faults folder.old) (F.read_faults folder.new) }
+        ensures cause { IsErrOf result Stop.Failed
+            → Rose (F.read_faults folder.old) (F.read_faults folder.new) }
     {
         let start = self.at();
         let magic = self.digits(folder, 4)?;
@@ -39,7 +41,8 @@ impl Source {
     #[tactic(auto, unfolding(crate::specs::Reading::version_at))]
     fn version<F: Folder>(&mut self, folder: &mut F) -> Result<(), Stop>
         requires agrees { AgreesTold (F.told folder.old self.old.name) self.old }
-        ensures gives { (all : List ℕ) → F.told folder.old self.old.name ≡ Some all → Gives (λ _. tt) all self.old self.new result version_at }
+        ensures gives { (all : List ℕ) → F.told folder.old self.old.name ≡ Some all
+            → Gives (λ _. tt) all self.old self.new result version_at }
         ensures agrees { AgreesTold (F.told folder.new self.new.name) self.new }
         ensures name { self.new.name ≡ self.old.name }
         ensures opens { IfOk result (λ _. Opens self.new.style) }
@@ -48,7 +51,8 @@ impl Source {
         ensures told { (other : List ℕ) → F.told folder.new other ≡ F.told folder.old other }
         ensures later { F.read_faults folder.old ≤ F.read_faults folder.new }
         ensures quiet { F.write_faults folder.new ≡ F.write_faults folder.old }
-        ensures cause { IsErrOf result Stop.Failed → Rose (F.read_faults folder.old) (F.read_faults folder.new) }
+        ensures cause { IsErrOf result Stop.Failed
+            → Rose (F.read_faults folder.old) (F.read_faults folder.new) }
     {
         let start = self.at();
         match u8::read(self, folder)? {
@@ -62,7 +66,8 @@ impl Source {
     #[tactic(auto, unfolding(crate::specs::Reading::preamble_at))]
     fn preamble<F: Folder>(&mut self, folder: &mut F) -> Result<(), Stop>
         requires agrees { AgreesTold (F.told folder.old self.old.name) self.old }
-        ensures gives { (all : List ℕ) → F.told folder.old self.old.name ≡ Some all → Gives (λ _. tt) all self.old self.new result preamble_at }
+        ensures gives { (all : List ℕ) → F.told folder.old self.old.name ≡ Some all
+            → Gives (λ _. tt) all self.old self.new result preamble_at }
         ensures agrees { AgreesTold (F.told folder.new self.new.name) self.new }
         ensures name { self.new.name ≡ self.old.name }
         ensures opens { IfOk result (λ _. Opens self.new.style) }
@@ -71,7 +76,8 @@ impl Source {
         ensures told { (other : List ℕ) → F.told folder.new other ≡ F.told folder.old other }
         ensures later { F.read_faults folder.old ≤ F.read_faults folder.new }
         ensures quiet { F.write_faults folder.new ≡ F.write_faults folder.old }
-        ensures cause { IsErrOf result Stop.Failed → Rose (F.read_faults folder.old) (F.read_faults folder.new) }
+        ensures cause { IsErrOf result Stop.Failed
+            → Rose (F.read_faults folder.old) (F.read_faults folder.new) }
     {
         self.magic(folder)?;
         self.version(folder)?;
@@ -82,7 +88,8 @@ impl Source {
     #[tactic(auto, unfolding(crate::specs::Reading::head_at))]
     pub fn head<F: Folder>(&mut self, folder: &mut F) -> Result<Item, Stop>
         requires agrees { AgreesTold (F.told folder.old self.old.name) self.old }
-        ensures gives { (all : List ℕ) → F.told folder.old self.old.name ≡ Some all → Gives (λ x. x) all self.old self.new result head_at }
+        ensures gives { (all : List ℕ) → F.told folder.old self.old.name ≡ Some all
+            → Gives (λ x. x) all self.old self.new result head_at }
         ensures agrees { AgreesTold (F.told folder.new self.new.name) self.new }
         ensures name { self.new.name ≡ self.old.name }
         ensures opens { IfOk result (λ _. Opens self.new.style) }
@@ -93,7 +100,8 @@ impl Source {
         ensures told { (other : List ℕ) → F.told folder.new other ≡ F.told folder.old other }
         ensures later { F.read_faults folder.old ≤ F.read_faults folder.new }
         ensures quiet { F.write_faults folder.new ≡ F.write_faults folder.old }
-        ensures cause { IsErrOf result Stop.Failed → Rose (F.read_faults folder.old) (F.read_faults folder.new) }
+        ensures cause { IsErrOf result Stop.Failed
+            → Rose (F.read_faults folder.old) (F.read_faults folder.new) }
     {
         self.preamble(folder)?;
         let count = u16::read(self, folder)?;
@@ -104,7 +112,8 @@ impl Source {
     #[tactic(auto, unfolding(crate::specs::Reading::mark_at))]
     pub fn mark<F: Folder>(&mut self, folder: &mut F) -> Result<Item, Stop>
         requires agrees { AgreesTold (F.told folder.old self.old.name) self.old }
-        ensures gives { (all : List ℕ) → F.told folder.old self.old.name ≡ Some all → Gives (λ x. x) all self.old self.new result mark_at }
+        ensures gives { (all : List ℕ) → F.told folder.old self.old.name ≡ Some all
+            → Gives (λ x. x) all self.old self.new result mark_at }
         ensures agrees { AgreesTold (F.told folder.new self.new.name) self.new }
         ensures kept { kept_of self.new ≡ kept_of self.old }
         ensures grows { self.old.at ≤ self.new.at }
@@ -114,7 +123,8 @@ impl Source {
         ensures told { (other : List ℕ) → F.told folder.new other ≡ F.told folder.old other }
         ensures later { F.read_faults folder.old ≤ F.read_faults folder.new }
         ensures quiet { F.write_faults folder.new ≡ F.write_faults folder.old }
-        ensures cause { IsErrOf result Stop.Failed → Rose (F.read_faults folder.old) (F.read_faults folder.new) }
+        ensures cause { IsErrOf result Stop.Failed
+            → Rose (F.read_faults folder.old) (F.read_faults folder.new) }
     {
         let start = self.at();
         let tag = u8::read(self, folder)?;

@@ -1,4 +1,5 @@
-//! The bytes of certificates: the items that they spell, one spelling for each, and where they fail.
+//! The bytes of certificates: the items that they spell, one spelling for each, and where they
+//! fail.
 #![tactic(auto, using(crate::proofs::Fronts::front_then, crate::proofs::Fronts::same_front))]
 
 // What callers name of the crates below.

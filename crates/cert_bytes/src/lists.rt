@@ -16,7 +16,8 @@ impl Source {
     #[inline(always)]
     fn references<F: Folder>(&mut self, folder: &mut F, count: u16) -> Result<Items<u64>, Stop>
         requires agrees { AgreesTold (F.told folder.old self.old.name) self.old }
-        ensures gives { (all : List ℕ) → F.told folder.old self.old.name ≡ Some all → Gives (λ x. x) all self.old self.new result (references_at count []) }
+        ensures gives { (all : List ℕ) → F.told folder.old self.old.name ≡ Some all
+            → Gives (λ x. x) all self.old self.new result (references_at count []) }
         ensures agrees { AgreesTold (F.told folder.new self.new.name) self.new }
         ensures kept { kept_of self.new ≡ kept_of self.old }
         ensures grows { self.old.at ≤ self.new.at }
@@ -24,7 +25,8 @@ impl Source {
         ensures told { (other : List ℕ) → F.told folder.new other ≡ F.told folder.old other }
         ensures later { F.read_faults folder.old ≤ F.read_faults folder.new }
         ensures quiet { F.write_faults folder.new ≡ F.write_faults folder.old }
-        ensures cause { IsErrOf result Stop.Failed → Rose (F.read_faults folder.old) (F.read_faults folder.new) }
+        ensures cause { IsErrOf result Stop.Failed
+            → Rose (F.read_faults folder.old) (F.read_faults folder.new) }
     {
         let mut numbers = Vec::new(self.alloc());
         let mut have = 0;
@@ -39,7 +41,8 @@ impl Source {
     #[tactic(auto, unfolding(crate::specs::Reading::count_at))]
     pub fn count<F: Folder>(&mut self, folder: &mut F) -> Result<u8, Stop>
         requires agrees { AgreesTold (F.told folder.old self.old.name) self.old }
-        ensures gives { (all : List ℕ) → F.told folder.old self.old.name ≡ Some all → Gives (λ x. x) all self.old self.new result count_at }
+        ensures gives { (all : List ℕ) → F.told folder.old self.old.name ≡ Some all
+            → Gives (λ x. x) all self.old self.new result count_at }
         ensures agrees { AgreesTold (F.told folder.new self.new.name) self.new }
         ensures kept { kept_of self.new ≡ kept_of self.old }
         ensures grows { self.old.at ≤ self.new.at }
@@ -47,7 +50,8 @@ impl Source {
         ensures told { (other : List ℕ) → F.told folder.new other ≡ F.told folder.old other }
         ensures later { F.read_faults folder.old ≤ F.read_faults folder.new }
         ensures quiet { F.write_faults folder.new ≡ F.write_faults folder.old }
-        ensures cause { IsErrOf result Stop.Failed → Rose (F.read_faults folder.old) (F.read_faults folder.new) }
+        ensures cause { IsErrOf result Stop.Failed
+            → Rose (F.read_faults folder.old) (F.read_faults folder.new) }
     {
         let start = self.at();
         let count = self.tiny(folder)?;
@@ -65,7 +69,8 @@ impl Source {
     fn rising<F: Folder>(&mut self, folder: &mut F, points: Points) -> Result<Points, Stop>
         requires room { length points < 63 }
         requires agrees { AgreesTold (F.told folder.old self.old.name) self.old }
-        ensures gives { (all : List ℕ) → F.told folder.old self.old.name ≡ Some all → Gives (λ x. x) all self.old self.new result (rising_at points) }
+        ensures gives { (all : List ℕ) → F.told folder.old self.old.name ≡ Some all
+            → Gives (λ x. x) all self.old self.new result (rising_at points) }
         ensures agrees { AgreesTold (F.told folder.new self.new.name) self.new }
         ensures kept { kept_of self.new ≡ kept_of self.old }
         ensures grows { self.old.at ≤ self.new.at }
@@ -73,7 +78,8 @@ impl Source {
         ensures told { (other : List ℕ) → F.told folder.new other ≡ F.told folder.old other }
         ensures later { F.read_faults folder.old ≤ F.read_faults folder.new }
         ensures quiet { F.write_faults folder.new ≡ F.write_faults folder.old }
-        ensures cause { IsErrOf result Stop.Failed → Rose (F.read_faults folder.old) (F.read_faults folder.new) }
+        ensures cause { IsErrOf result Stop.Failed
+            → Rose (F.read_faults folder.old) (F.read_faults folder.new) }
     {
         let start = self.at();
         let point = Dyadic::read(self, folder)?;
@@ -87,7 +93,8 @@ impl Source {
     pub fn points<F: Folder>(&mut self, folder: &mut F, count: u8) -> Result<Points, Stop>
         requires room { count ≤ 63 }
         requires agrees { AgreesTold (F.told folder.old self.old.name) self.old }
-        ensures gives { (all : List ℕ) → F.told folder.old self.old.name ≡ Some all → Gives (λ x. x) all self.old self.new result (points_at count []) }
+        ensures gives { (all : List ℕ) → F.told folder.old self.old.name ≡ Some all
+            → Gives (λ x. x) all self.old self.new result (points_at count []) }
         ensures agrees { AgreesTold (F.told folder.new self.new.name) self.new }
         ensures kept { kept_of self.new ≡ kept_of self.old }
         ensures grows { self.old.at ≤ self.new.at }
@@ -95,7 +102,8 @@ impl Source {
         ensures told { (other : List ℕ) → F.told folder.new other ≡ F.told folder.old other }
         ensures later { F.read_faults folder.old ≤ F.read_faults folder.new }
         ensures quiet { F.write_faults folder.new ≡ F.write_faults folder.old }
-        ensures cause { IsErrOf result Stop.Failed → Rose (F.read_faults folder.old) (F.read_faults folder.new) }
+        ensures cause { IsErrOf result Stop.Failed
+            → Rose (F.read_faults folder.old) (F.read_faults folder.new) }
     {
         let mut points = Points::new();
         let mut have = 0;

@@ -37,7 +37,8 @@ impl Source {
     #[tactic(auto, unfolding(crate::specs::Reading::lsb_at))]
     fn lsb<F: Folder>(&mut self, folder: &mut F) -> Result<i16, Stop>
         requires agrees { AgreesTold (F.told folder.old self.old.name) self.old }
-        ensures gives { (all : List ℕ) → F.told folder.old self.old.name ≡ Some all → Gives (λ x. x) all self.old self.new result lsb_at }
+        ensures gives { (all : List ℕ) → F.told folder.old self.old.name ≡ Some all
+            → Gives (λ x. x) all self.old self.new result lsb_at }
         ensures agrees { AgreesTold (F.told folder.new self.new.name) self.new }
         ensures within { IfOk result (λ lsb. IsBetween (negsuc 511) (pos 512) lsb) }
         ensures kept { kept_of self.new ≡ kept_of self.old }
@@ -45,7 +46,8 @@ impl Source {
         ensures told { (other : List ℕ) → F.told folder.new other ≡ F.told folder.old other }
         ensures later { F.read_faults folder.old ≤ F.read_faults folder.new }
         ensures quiet { F.write_faults folder.new ≡ F.write_faults folder.old }
-        ensures cause { IsErrOf result Stop.Failed → Rose (F.read_faults folder.old) (F.read_faults folder.new) }
+        ensures cause { IsErrOf result Stop.Failed
+            → Rose (F.read_faults folder.old) (F.read_faults folder.new) }
     {
         let start = self.at();
         let lsb = i16::read(self, folder)?;
@@ -61,7 +63,8 @@ impl Source {
     #[tactic(auto, unfolding(crate::specs::Reading::late_node_at, crate::specs::Reading::two_at, crate::specs::Reading::one_at, crate::specs::Reading::round_at))]
     fn late_node<F: Folder>(&mut self, folder: &mut F, start: u64, tag: u8) -> Result<Node, Stop>
         requires agrees { AgreesTold (F.told folder.old self.old.name) self.old }
-        ensures gives { (all : List ℕ) → F.told folder.old self.old.name ≡ Some all → Gives (λ x. x) all self.old self.new result (late_node_at start tag) }
+        ensures gives { (all : List ℕ) → F.told folder.old self.old.name ≡ Some all
+            → Gives (λ x. x) all self.old self.new result (late_node_at start tag) }
         ensures agrees { AgreesTold (F.told folder.new self.new.name) self.new }
         ensures limits { IfOk result IsInLimits }
         ensures kept { kept_of self.new ≡ kept_of self.old }
@@ -69,7 +72,8 @@ impl Source {
         ensures told { (other : List ℕ) → F.told folder.new other ≡ F.told folder.old other }
         ensures later { F.read_faults folder.old ≤ F.read_faults folder.new }
         ensures quiet { F.write_faults folder.new ≡ F.write_faults folder.old }
-        ensures cause { IsErrOf result Stop.Failed → Rose (F.read_faults folder.old) (F.read_faults folder.new) }
+        ensures cause { IsErrOf result Stop.Failed
+            → Rose (F.read_faults folder.old) (F.read_faults folder.new) }
     {
         match tag {
             5 => {
@@ -92,7 +96,8 @@ impl Source {
     #[tactic(auto, unfolding(crate::specs::Reading::node_by, crate::specs::Reading::var_at, crate::specs::Reading::lit_at, crate::specs::Reading::one_at, crate::specs::Reading::two_at))]
     fn node_by<F: Folder>(&mut self, folder: &mut F, start: u64, tag: u8) -> Result<Node, Stop>
         requires agrees { AgreesTold (F.told folder.old self.old.name) self.old }
-        ensures gives { (all : List ℕ) → F.told folder.old self.old.name ≡ Some all → Gives (λ x. x) all self.old self.new result (node_by start tag) }
+        ensures gives { (all : List ℕ) → F.told folder.old self.old.name ≡ Some all
+            → Gives (λ x. x) all self.old self.new result (node_by start tag) }
         ensures agrees { AgreesTold (F.told folder.new self.new.name) self.new }
         ensures limits { IfOk result IsInLimits }
         ensures kept { kept_of self.new ≡ kept_of self.old }
@@ -100,7 +105,8 @@ impl Source {
         ensures told { (other : List ℕ) → F.told folder.new other ≡ F.told folder.old other }
         ensures later { F.read_faults folder.old ≤ F.read_faults folder.new }
         ensures quiet { F.write_faults folder.new ≡ F.write_faults folder.old }
-        ensures cause { IsErrOf result Stop.Failed → Rose (F.read_faults folder.old) (F.read_faults folder.new) }
+        ensures cause { IsErrOf result Stop.Failed
+            → Rose (F.read_faults folder.old) (F.read_faults folder.new) }
     {
         match tag {
             0 => Ok(Node::Var(u16::read(self, folder)?)),

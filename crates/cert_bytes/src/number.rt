@@ -19,7 +19,8 @@ impl Source {
         requires width { width ≤ 16 }
         requires ahead { width ≤ length self.old.ahead }
         requires room { self.old.at + width ≤ 2 ^ 44 }
-        ensures gives { (all : List ℕ) → Agrees all self.old → number_at width (cursor_of all self.old) ≡ Ok (result, cursor_of all self.new) }
+        ensures gives { (all : List ℕ) → Agrees all self.old
+            → number_at width (cursor_of all self.old) ≡ Ok (result, cursor_of all self.new) }
         ensures agrees { (all : List ℕ) → Agrees all self.old → Agrees all self.new }
         ensures small { result < 256 ^ width }
         ensures at { self.new.at ≡ self.old.at + width }
@@ -39,9 +40,12 @@ impl Source {
     #[inline(never)]
     fn number_over<F: Folder>(&mut self, folder: &mut F, width: usize) -> Result<u128, Stop>
         requires width { width ≤ 16 }
-        requires agrees { (all : List ℕ) → F.told folder.old self.old.name ≡ Some all → Agrees all self.old }
-        ensures gives { (all : List ℕ) → F.told folder.old self.old.name ≡ Some all → Gives (λ x. x) all self.old self.new result (number_at width) }
-        ensures agrees { (all : List ℕ) → F.told folder.old self.old.name ≡ Some all → Agrees all self.new }
+        requires agrees { (all : List ℕ)
+            → F.told folder.old self.old.name ≡ Some all → Agrees all self.old }
+        ensures gives { (all : List ℕ) → F.told folder.old self.old.name ≡ Some all
+            → Gives (λ x. x) all self.old self.new result (number_at width) }
+        ensures agrees { (all : List ℕ)
+            → F.told folder.old self.old.name ≡ Some all → Agrees all self.new }
         ensures small { IfOk result (λ n. n < 256 ^ width) }
         ensures kept { kept_of self.new ≡ kept_of self.old }
         ensures grows { self.old.at ≤ self.new.at }
@@ -49,7 +53,8 @@ impl Source {
         ensures told { (other : List ℕ) → F.told folder.new other ≡ F.told folder.old other }
         ensures later { F.read_faults folder.old ≤ F.read_faults folder.new }
         ensures quiet { F.write_faults folder.new ≡ F.write_faults folder.old }
-        ensures cause { IsErrOf result Stop.Failed → Rose (F.read_faults folder.old) (F.read_faults folder.new) }
+        ensures cause { IsErrOf result Stop.Failed
+            → Rose (F.read_faults folder.old) (F.read_faults folder.new) }
     {
         let mut value = 0u128;
         let mut have = 0usize;
@@ -65,7 +70,8 @@ impl Source {
     pub fn digits<F: Folder>(&mut self, folder: &mut F, width: usize) -> Result<u128, Stop>
         requires width { width ≤ 16 }
         requires agrees { AgreesTold (F.told folder.old self.old.name) self.old }
-        ensures gives { (all : List ℕ) → F.told folder.old self.old.name ≡ Some all → Gives (λ x. x) all self.old self.new result (number_at width) }
+        ensures gives { (all : List ℕ) → F.told folder.old self.old.name ≡ Some all
+            → Gives (λ x. x) all self.old self.new result (number_at width) }
         ensures agrees { AgreesTold (F.told folder.new self.new.name) self.new }
         ensures small { IfOk result (λ n. n < 256 ^ width) }
         ensures kept { kept_of self.new ≡ kept_of self.old }
@@ -74,7 +80,8 @@ impl Source {
         ensures told { (other : List ℕ) → F.told folder.new other ≡ F.told folder.old other }
         ensures later { F.read_faults folder.old ≤ F.read_faults folder.new }
         ensures quiet { F.write_faults folder.new ≡ F.write_faults folder.old }
-        ensures cause { IsErrOf result Stop.Failed → Rose (F.read_faults folder.old) (F.read_faults folder.new) }
+        ensures cause { IsErrOf result Stop.Failed
+            → Rose (F.read_faults folder.old) (F.read_faults folder.new) }
     {
         if self.has(width) {
             return Ok(self.number_ahead(width));

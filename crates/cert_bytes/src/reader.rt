@@ -39,8 +39,13 @@ impl Reader {
     /// A reader that has read nothing.
     #[tactic(auto, using(crate::proofs::Paced::fresh_agrees))]
     pub fn new(alloc: Global, name: &str) -> Result<Reader, AllocError>
-        ensures begins { IfOk result (λ reader. reader ≡ record { ahead = record { name = name.now; style = Style.First; at = 0; ahead = [] }; due = Due.Head; fault = None }) }
-        ensures agrees { IfOk result (λ reader. (told : Option (List ℕ)) → AgreesTold told reader.ahead) }
+        ensures begins { IfOk result (λ reader. reader ≡ record {
+          ahead = record { name = name.now; style = Style.First; at = 0; ahead = [] };
+          due = Due.Head;
+          fault = None;
+        }) }
+        ensures agrees { IfOk result (λ reader. (told : Option (List ℕ))
+            → AgreesTold told reader.ahead) }
     {
         let source = Source::new(alloc, name, Style::First)?;
         Ok(Reader {
@@ -56,12 +61,14 @@ impl Reader {
     fn advance<F: Folder>(&mut self, folder: &mut F) -> Result<Item, Stop>
         requires sound { self.old.fault ≡ None }
         requires agrees { AgreesTold (F.told folder.old self.old.ahead.name) self.old.ahead }
-        ensures gives { (all : List ℕ) → F.told folder.old self.old.ahead.name ≡ Some all → Gives (λ x. x) all self.old.ahead self.new.ahead result (item_at self.old.due) }
+        ensures gives { (all : List ℕ) → F.told folder.old self.old.ahead.name ≡ Some all
+            → Gives (λ x. x) all self.old.ahead self.new.ahead result (item_at self.old.due) }
         ensures due { IfOk result (λ i. is_due self.old.due i ≡ true) }
         ensures spelled { IfOk result HasSpelling }
         ensures answers { Answers self.old result self.new }
         ensures grows { self.old.ahead.at ≤ self.new.ahead.at }
-        ensures reads { IfOk result (λ i. ¬ (i ≡ item.End) → self.old.ahead.at < self.new.ahead.at) }
+        ensures reads { IfOk result (λ i. ¬ (i ≡ item.End)
+            → self.old.ahead.at < self.new.ahead.at) }
         ensures within { self.new.ahead.at ≤ 2 ^ 44 }
         ensures few { length self.new.ahead.ahead ≤ 4096 }
         ensures agrees { AgreesTold (F.told folder.new self.new.ahead.name) self.new.ahead }
@@ -70,7 +77,8 @@ impl Reader {
         ensures told { (other : List ℕ) → F.told folder.new other ≡ F.told folder.old other }
         ensures later { F.read_faults folder.old ≤ F.read_faults folder.new }
         ensures quiet { F.write_faults folder.new ≡ F.write_faults folder.old }
-        ensures cause { IsErrOf result Stop.Failed → Rose (F.read_faults folder.old) (F.read_faults folder.new) }
+        ensures cause { IsErrOf result Stop.Failed
+            → Rose (F.read_faults folder.old) (F.read_faults folder.new) }
     {
         let start = self.source.at();
         let style = self.source.style();
@@ -104,13 +112,17 @@ impl Reader {
     #[inline(always)]
     pub fn next<F: Folder>(&mut self, folder: &mut F) -> Result<Item, Stop>
         requires agrees { AgreesTold (F.told folder.old self.old.ahead.name) self.old.ahead }
-        ensures gives { (all : List ℕ) → F.told folder.old self.old.ahead.name ≡ Some all → self.old.fault ≡ None → Gives (λ x. x) all self.old.ahead self.new.ahead result (item_at self.old.due) }
-        ensures again { (f : CertFault) → self.old.fault ≡ Some f → (result ≡ Err (Stop.Fault f)) × (self.new ≡ self.old) }
+        ensures gives { (all : List ℕ)
+            → F.told folder.old self.old.ahead.name ≡ Some all → self.old.fault ≡ None
+            → Gives (λ x. x) all self.old.ahead self.new.ahead result (item_at self.old.due) }
+        ensures again { (f : CertFault) → self.old.fault ≡ Some f
+            → (result ≡ Err (Stop.Fault f)) × (self.new ≡ self.old) }
         ensures due { IfOk result (λ i. is_due self.old.due i ≡ true) }
         ensures spelled { IfOk result HasSpelling }
         ensures answers { Answers self.old result self.new }
         ensures grows { self.old.ahead.at ≤ self.new.ahead.at }
-        ensures reads { IfOk result (λ i. ¬ (i ≡ item.End) → self.old.ahead.at < self.new.ahead.at) }
+        ensures reads { IfOk result (λ i. ¬ (i ≡ item.End)
+            → self.old.ahead.at < self.new.ahead.at) }
         ensures within { self.new.ahead.at ≤ 2 ^ 44 }
         ensures few { length self.new.ahead.ahead ≤ 4096 }
         ensures agrees { AgreesTold (F.told folder.new self.new.ahead.name) self.new.ahead }
@@ -119,7 +131,8 @@ impl Reader {
         ensures told { (other : List ℕ) → F.told folder.new other ≡ F.told folder.old other }
         ensures later { F.read_faults folder.old ≤ F.read_faults folder.new }
         ensures quiet { F.write_faults folder.new ≡ F.write_faults folder.old }
-        ensures cause { IsErrOf result Stop.Failed → Rose (F.read_faults folder.old) (F.read_faults folder.new) }
+        ensures cause { IsErrOf result Stop.Failed
+            → Rose (F.read_faults folder.old) (F.read_faults folder.new) }
     {
         self.source.bounded();
         if let Some(fault) = self.fault {

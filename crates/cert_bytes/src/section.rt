@@ -39,7 +39,8 @@ impl Source {
     #[tactic(auto, unfolding(crate::specs::Reading::cut_head_at))]
     fn cut_head<F: Folder>(&mut self, folder: &mut F) -> Result<(ExprId, u8), Stop>
         requires agrees { AgreesTold (F.told folder.old self.old.name) self.old }
-        ensures gives { (all : List ℕ) → F.told folder.old self.old.name ≡ Some all → Gives (λ x. x) all self.old self.new result cut_head_at }
+        ensures gives { (all : List ℕ) → F.told folder.old self.old.name ≡ Some all
+            → Gives (λ x. x) all self.old self.new result cut_head_at }
         ensures agrees { AgreesTold (F.told folder.new self.new.name) self.new }
         ensures kept { kept_of self.new ≡ kept_of self.old }
         ensures grows { self.old.at ≤ self.new.at }
@@ -47,7 +48,8 @@ impl Source {
         ensures told { (other : List ℕ) → F.told folder.new other ≡ F.told folder.old other }
         ensures later { F.read_faults folder.old ≤ F.read_faults folder.new }
         ensures quiet { F.write_faults folder.new ≡ F.write_faults folder.old }
-        ensures cause { IsErrOf result Stop.Failed → Rose (F.read_faults folder.old) (F.read_faults folder.new) }
+        ensures cause { IsErrOf result Stop.Failed
+            → Rose (F.read_faults folder.old) (F.read_faults folder.new) }
     {
         let x = ExprId::read(self, folder)?;
         let count = self.count(folder)?;
@@ -57,7 +59,8 @@ impl Source {
     #[tactic(auto, unfolding(crate::specs::Reading::cut_at))]
     fn cut<F: Folder>(&mut self, folder: &mut F) -> Result<Item, Stop>
         requires agrees { AgreesTold (F.told folder.old self.old.name) self.old }
-        ensures gives { (all : List ℕ) → F.told folder.old self.old.name ≡ Some all → Gives (λ x. x) all self.old self.new result cut_at }
+        ensures gives { (all : List ℕ) → F.told folder.old self.old.name ≡ Some all
+            → Gives (λ x. x) all self.old self.new result cut_at }
         ensures agrees { AgreesTold (F.told folder.new self.new.name) self.new }
         ensures kept { kept_of self.new ≡ kept_of self.old }
         ensures grows { self.old.at ≤ self.new.at }
@@ -66,7 +69,8 @@ impl Source {
         ensures told { (other : List ℕ) → F.told folder.new other ≡ F.told folder.old other }
         ensures later { F.read_faults folder.old ≤ F.read_faults folder.new }
         ensures quiet { F.write_faults folder.new ≡ F.write_faults folder.old }
-        ensures cause { IsErrOf result Stop.Failed → Rose (F.read_faults folder.old) (F.read_faults folder.new) }
+        ensures cause { IsErrOf result Stop.Failed
+            → Rose (F.read_faults folder.old) (F.read_faults folder.new) }
     {
         let (x, count) = self.cut_head(folder)?;
         let points = self.points(folder, count)?;
@@ -77,7 +81,8 @@ impl Source {
     #[tactic(auto, unfolding(crate::specs::Reading::section_by, crate::specs::Reading::step_item_at, crate::specs::Reading::leaf_at, crate::specs::Reading::dead_at))]
     fn section_by<F: Folder>(&mut self, folder: &mut F, start: u64, tag: u8) -> Result<Item, Stop>
         requires agrees { AgreesTold (F.told folder.old self.old.name) self.old }
-        ensures gives { (all : List ℕ) → F.told folder.old self.old.name ≡ Some all → Gives (λ x. x) all self.old self.new result (section_by start tag) }
+        ensures gives { (all : List ℕ) → F.told folder.old self.old.name ≡ Some all
+            → Gives (λ x. x) all self.old self.new result (section_by start tag) }
         ensures agrees { AgreesTold (F.told folder.new self.new.name) self.new }
         ensures kept { kept_of self.new ≡ kept_of self.old }
         ensures grows { self.old.at ≤ self.new.at }
@@ -86,7 +91,8 @@ impl Source {
         ensures told { (other : List ℕ) → F.told folder.new other ≡ F.told folder.old other }
         ensures later { F.read_faults folder.old ≤ F.read_faults folder.new }
         ensures quiet { F.write_faults folder.new ≡ F.write_faults folder.old }
-        ensures cause { IsErrOf result Stop.Failed → Rose (F.read_faults folder.old) (F.read_faults folder.new) }
+        ensures cause { IsErrOf result Stop.Failed
+            → Rose (F.read_faults folder.old) (F.read_faults folder.new) }
     {
         match tag {
             1 => Ok(Item::Step(StepRow::read(self, folder)?)),
@@ -102,7 +108,8 @@ impl Source {
     #[tactic(auto, unfolding(crate::specs::Reading::section_item_at))]
     pub fn section_item<F: Folder>(&mut self, folder: &mut F) -> Result<Item, Stop>
         requires agrees { AgreesTold (F.told folder.old self.old.name) self.old }
-        ensures gives { (all : List ℕ) → F.told folder.old self.old.name ≡ Some all → Gives (λ x. x) all self.old self.new result section_item_at }
+        ensures gives { (all : List ℕ) → F.told folder.old self.old.name ≡ Some all
+            → Gives (λ x. x) all self.old self.new result section_item_at }
         ensures agrees { AgreesTold (F.told folder.new self.new.name) self.new }
         ensures kept { kept_of self.new ≡ kept_of self.old }
         ensures grows { self.old.at ≤ self.new.at }
@@ -112,7 +119,8 @@ impl Source {
         ensures told { (other : List ℕ) → F.told folder.new other ≡ F.told folder.old other }
         ensures later { F.read_faults folder.old ≤ F.read_faults folder.new }
         ensures quiet { F.write_faults folder.new ≡ F.write_faults folder.old }
-        ensures cause { IsErrOf result Stop.Failed → Rose (F.read_faults folder.old) (F.read_faults folder.new) }
+        ensures cause { IsErrOf result Stop.Failed
+            → Rose (F.read_faults folder.old) (F.read_faults folder.new) }
     {
         let start = self.at();
         let tag = u8::read(self, folder)?;

@@ -36,7 +36,12 @@ impl Model for Source {
 
     ghost Value = { Ahead };
 
-    ghost view = { λ s. record { name = string_bytes s.name; style = s.style; at = s.at; ahead = slice_range s.buffer s.begin s.end } };
+    ghost view = { λ s. record {
+      name = string_bytes s.name;
+      style = s.style;
+      at = s.at;
+      ahead = slice_range s.buffer s.begin s.end;
+    } };
 
     ghost invariant = { λ s. (s.begin ≤ s.end) × (s.end ≤ length s.buffer) × (s.at ≤ 2 ^ 44) };
 }
@@ -62,7 +67,8 @@ fn is_too_long() -> Stop
 impl Source {
     /// The first byte of a name.
     pub fn new(alloc: Global, name: &str, style: Style) -> Result<Source, AllocError>
-        ensures { IfOk result (λ source. source ≡ record { name = name.now; style = style; at = 0; ahead = [] }) }
+        ensures { IfOk result (λ source. source
+            ≡ record { name = name.now; style = style; at = 0; ahead = [] }) }
     {
         let name = String::from_str(alloc, name)?;
         Ok(Source {
@@ -110,7 +116,8 @@ impl Source {
         self.at
     }
 
-    /// Nothing is done. The clauses tell a caller how far the offset goes, and how much is read ahead.
+    /// Nothing is done. The clauses tell a caller how far the offset goes, and how much is read
+    /// ahead.
     pub fn bounded(&self)
         ensures within { self.now.at ≤ 2 ^ 44 }
         ensures few { length self.now.ahead ≤ 4096 }
@@ -142,9 +149,12 @@ impl Source {
     #[cold]
     #[inline(never)]
     fn fill<F: Folder>(&mut self, folder: &mut F) -> Result<(), Failed>
-        requires agrees { (all : List ℕ) → F.told folder.old self.old.name ≡ Some all → Agrees all self.old }
-        ensures filled { IfOk result (λ _. (all : List ℕ) → F.told folder.old self.old.name ≡ Some all → IsFilled all self.new) }
-        ensures agrees { (all : List ℕ) → F.told folder.old self.old.name ≡ Some all → Agrees all self.new }
+        requires agrees { (all : List ℕ)
+            → F.told folder.old self.old.name ≡ Some all → Agrees all self.old }
+        ensures filled { IfOk result (λ _. (all : List ℕ)
+            → F.told folder.old self.old.name ≡ Some all → IsFilled all self.new) }
+        ensures agrees { (all : List ℕ)
+            → F.told folder.old self.old.name ≡ Some all → Agrees all self.new }
         ensures kept { kept_of self.new ≡ kept_of self.old }
         ensures at { self.new.at ≡ self.old.at }
         ensures told { (other : List ℕ) → F.told folder.new other ≡ F.told folder.old other }
@@ -161,10 +171,13 @@ impl Source {
     // Whether a further byte is there. It is then read ahead.
     #[inline(always)]
     pub fn ready<F: Folder>(&mut self, folder: &mut F) -> Result<bool, Failed>
-        requires agrees { (all : List ℕ) → F.told folder.old self.old.name ≡ Some all → Agrees all self.old }
+        requires agrees { (all : List ℕ)
+            → F.told folder.old self.old.name ≡ Some all → Agrees all self.old }
         ensures ready { IfOk result (λ more. IsReady self.new more) }
-        ensures end { IfOk result (λ more. (all : List ℕ) → F.told folder.old self.old.name ≡ Some all → IsEnd all self.new more) }
-        ensures agrees { (all : List ℕ) → F.told folder.old self.old.name ≡ Some all → Agrees all self.new }
+        ensures end { IfOk result (λ more. (all : List ℕ)
+            → F.told folder.old self.old.name ≡ Some all → IsEnd all self.new more) }
+        ensures agrees { (all : List ℕ)
+            → F.told folder.old self.old.name ≡ Some all → Agrees all self.new }
         ensures kept { kept_of self.new ≡ kept_of self.old }
         ensures at { self.new.at ≡ self.old.at }
         ensures told { (other : List ℕ) → F.told folder.new other ≡ F.told folder.old other }
@@ -229,16 +242,20 @@ impl Source {
     #[inline(always)]
     #[tactic(auto, unfolding(crate::specs::Reading::byte_at))]
     pub fn byte<F: Folder>(&mut self, folder: &mut F) -> Result<u8, Stop>
-        requires agrees { (all : List ℕ) → F.told folder.old self.old.name ≡ Some all → Agrees all self.old }
-        ensures gives { (all : List ℕ) → F.told folder.old self.old.name ≡ Some all → Gives (λ n. n) all self.old self.new result byte_at }
-        ensures agrees { (all : List ℕ) → F.told folder.old self.old.name ≡ Some all → Agrees all self.new }
+        requires agrees { (all : List ℕ)
+            → F.told folder.old self.old.name ≡ Some all → Agrees all self.old }
+        ensures gives { (all : List ℕ) → F.told folder.old self.old.name ≡ Some all
+            → Gives (λ n. n) all self.old self.new result byte_at }
+        ensures agrees { (all : List ℕ)
+            → F.told folder.old self.old.name ≡ Some all → Agrees all self.new }
         ensures kept { kept_of self.new ≡ kept_of self.old }
         ensures grows { self.old.at ≤ self.new.at }
         ensures moves { IfOk result (λ _. self.old.at < self.new.at) }
         ensures told { (other : List ℕ) → F.told folder.new other ≡ F.told folder.old other }
         ensures later { F.read_faults folder.old ≤ F.read_faults folder.new }
         ensures quiet { F.write_faults folder.new ≡ F.write_faults folder.old }
-        ensures cause { IsErrOf result Stop.Failed → Rose (F.read_faults folder.old) (F.read_faults folder.new) }
+        ensures cause { IsErrOf result Stop.Failed
+            → Rose (F.read_faults folder.old) (F.read_faults folder.new) }
     {
         if !self.ready(folder)? {
             return Err(is_truncated(self.at));

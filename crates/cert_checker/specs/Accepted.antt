@@ -20,10 +20,11 @@ LeadsTo s c (i ∷ items) end = JudgesItem s c i None × LeadsTo s (after c i) i
 -- Something is wrong with one of the items, and this is the first fault.
 abbrev pub FailsWith : Subject → Context → List Item → CheckFault → Type 0
 FailsWith s c [] f = ⊥
-FailsWith s c (i ∷ items) f = JudgesItem s c i (Some f) ⊎ (JudgesItem s c i None × FailsWith s (after c i) items f)
+FailsWith s c (i ∷ items) f =
+    JudgesItem s c i (Some f) ⊎ (JudgesItem s c i None × FailsWith s (after c i) items f)
 
--- The items are a whole certificate with which nothing is wrong and which has a root section for each case, and its leaves show
--- these lines.
+-- The items are a whole certificate with which nothing is wrong and which has a root section for
+-- each case, and its leaves show these lines.
 pub record Accepts (s : Subject) (items : List Item) (lines : List Line) : Type 0 where
   pub certificate : AreCertificate items
   pub end : Context
@@ -31,7 +32,8 @@ pub record Accepts (s : Subject) (items : List Item) (lines : List Line) : Type 
   pub cases : end.case ≡ length s.cases
   pub shown : end.lines ≡ lines
 
--- Each item is due where it stands, and behind the last nothing is. (Of a certificate, this and that each item has a spelling.)
+-- Each item is due where it stands, and behind the last nothing is. (Of a certificate, this and
+-- that each item has a spelling.)
 abbrev pub AreInOrder : Option Due → List Item → Type 0
 AreInOrder None items = ⊥
 AreInOrder (Some d) [] = d ≡ Done

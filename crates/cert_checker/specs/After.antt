@@ -39,20 +39,28 @@ abbrev pub entered : List OpenCut → List OpenCut
 entered [] = []
 entered (cut ∷ cuts) = record cut { entered = cut.entered + 1 } ∷ cuts
 
--- The cuts around the section that comes behind one that has ended: a cut whose last piece has ended goes, and of the first other one
--- the next piece is entered.
+-- The cuts around the section that comes behind one that has ended: a cut whose last piece has
+-- ended goes, and of the first other one the next piece is entered.
 abbrev pub cuts_behind : List OpenCut → List OpenCut
 cuts_behind [] = []
-cuts_behind (cut ∷ cuts) = if nat_lt (length cut.points) cut.entered then cuts_behind cuts else record cut { entered = cut.entered + 1 } ∷ cuts
+cuts_behind (cut ∷ cuts) = if nat_lt (length cut.points) cut.entered then cuts_behind cuts
+    else record cut { entered = cut.entered + 1 } ∷ cuts
 
--- the case that is open where these cuts are left behind a section: where none are, its root section has ended
+-- the case that is open where these cuts are left behind a section: where none are, its root
+-- section has ended
 abbrev pub case_behind : ℕ → List OpenCut → ℕ
 case_behind k [] = k + 1
 case_behind k (cut ∷ cuts) = k
 
--- The section that is open innermost ends, and with it each cut whose last piece it was. Their steps can't be cited any more.
+-- The section that is open innermost ends, and with it each cut whose last piece it was. Their
+-- steps can't be cited any more.
 abbrev pub behind : Context → Context
-behind c = record c { section = c.section + 1; cuts = cuts_behind c.cuts; case = case_behind c.case (cuts_behind c.cuts); steps = take (around_of (cuts_behind c.cuts)) c.steps }
+behind c = record c {
+  section = c.section + 1;
+  cuts = cuts_behind c.cuts;
+  case = case_behind c.case (cuts_behind c.cuts);
+  steps = take (around_of (cuts_behind c.cuts)) c.steps;
+}
 
 -- the first piece is entered
 abbrev pub new_cut : Context → ExprId → List Dyadic → OpenCut
@@ -66,7 +74,8 @@ with_cited l (Some f) = joined l f
 
 -- each line, with the fact that a leaf cites for it
 abbrev pub lines_with : List Citable → List Line → List ℕ → List Line
-lines_with steps (l ∷ lines) (r ∷ refs) = with_cited l (step_fact steps r) ∷ lines_with steps lines refs
+lines_with steps (l ∷ lines) (r ∷ refs) =
+    with_cited l (step_fact steps r) ∷ lines_with steps lines refs
 lines_with steps lines _ = lines
 
 -- ---- items
@@ -77,7 +86,8 @@ changed_by c (item.Node n) = record c { nodes = c.nodes ++ n ∷ [] }
 changed_by c (item.Marks n) = c
 changed_by c (item.Mark m) = record c { marked = c.marked + 1 }
 changed_by c (item.Cases n) = c
-changed_by c (item.Step r) = record c { steps = c.steps ++ record { number = c.next; fact = r.fact } ∷ []; next = c.next + 1 }
+changed_by c (item.Step r) = record c
+    { steps = c.steps ++ record { number = c.next; fact = r.fact } ∷ []; next = c.next + 1 }
 changed_by c (item.Cut x ps) = record c { section = c.section + 1; cuts = new_cut c x ps ∷ c.cuts }
 changed_by c (item.Leaf refs) = behind (record c { lines = lines_with c.steps c.lines refs })
 changed_by c (item.Dead r) = behind c

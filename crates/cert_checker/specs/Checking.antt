@@ -39,8 +39,8 @@ pub record ShowsLines (s : Subject) (p : Cursor) (lines : Lines) : Type 0 where
   pub rows : lines.rows ≡ end.lines
   pub marks : lines.marks ≡ s.marks
 
--- From the bytes at the cursor: lines where they are accepted, or their first fault. Where the folder failed or memory wasn't found,
--- nothing is said.
+-- From the bytes at the cursor: lines where they are accepted, or their first fault. Where the
+-- folder failed or memory wasn't found, nothing is said.
 abbrev pub Checks : Subject → Cursor → Result Lines CheckStop → Type 0
 Checks s p (Ok lines) = ShowsLines s p lines
 Checks s p (Err (check_stop.Cert f)) = ComesOf s p (unread f)
@@ -69,7 +69,8 @@ pub record AreAccepted (s : Subject) (bytes : List ℕ) (lines : List Line) : Ty
 pub record TakesNext (told : Option (List ℕ)) (c d : Standing) (r q : Progress) : Type 0 where
   pub item : Item
   pub order : is_due r.due item ≡ true
-  pub read : (all : List ℕ) → told ≡ Some all → item_at r.due (cursor_of all r.ahead) ≡ Ok (item, cursor_of all q.ahead)
+  pub read : (all : List ℕ) → told ≡ Some all
+      → item_at r.due (cursor_of all r.ahead) ≡ Ok (item, cursor_of all q.ahead)
   pub judged : JudgesItem c.subject c.context item None
   pub taken : d ≡ record c { context = after c.context item }
   pub due : q.due ≡ due_behind r.due item
@@ -88,6 +89,9 @@ pub record Refuses (all : List ℕ) (c : Standing) (r : Progress) (f : CheckFaul
 abbrev pub IsUnread : List ℕ → Progress → CertFault → Type 0
 IsUnread all r f = item_at r.due (cursor_of all r.ahead) ≡ Err f
 
-abbrev pub Turns : {X : Type 0} → Option (List ℕ) → Standing → Standing → Progress → Progress → Result X CheckStop → Type 0
+abbrev pub Turns : {X : Type 0} → Option (List ℕ) → Standing → Standing → Progress → Progress
+    → Result X CheckStop → Type 0
 Turns told c d r q (Ok x) = TakesNext told c d r q
-Turns told c d r q (Err e) = ((f : CertFault) → e ≡ check_stop.Cert f → (all : List ℕ) → told ≡ Some all → IsUnread all r f) × ((f : CheckFault) → e ≡ check_stop.Check f → (all : List ℕ) → told ≡ Some all → Refuses all c r f)
+Turns told c d r q (Err e) = ((f : CertFault) → e ≡ check_stop.Cert f → (all : List ℕ)
+    → told ≡ Some all → IsUnread all r f) × ((f : CheckFault) → e ≡ check_stop.Check f
+    → (all : List ℕ) → told ≡ Some all → Refuses all c r f)

@@ -54,7 +54,8 @@ first s = record {
 
 -- ---- pieces
 
--- The pieces of a cut at points p1 to pn lie from minus infinity to p1, from p1 to p2, and so on to plus infinity.
+-- The pieces of a cut at points p1 to pn lie from minus infinity to p1, from p1 to p2, and so on to
+-- plus infinity.
 abbrev pub low_end : List Dyadic → ℕ → End
 low_end points k = if k == 0 then Low else At (point_of points (k - 1))
 
@@ -69,7 +70,8 @@ piece_of points k = interval_from (low_end points k) (high_end points k)
 abbrev pub piece_fact : OpenCut → ℕ → Option Fact
 piece_fact cut k = bnd_of cut.var (piece_of cut.points k)
 
--- that the variable of the innermost cut lies in the piece that is open; nothing in the root section
+-- that the variable of the innermost cut lies in the piece that is open; nothing in the root
+-- section
 abbrev pub open_piece : List OpenCut → Option Fact
 open_piece [] = None
 open_piece (cut ∷ cuts) = piece_fact cut (cut.entered - 1)

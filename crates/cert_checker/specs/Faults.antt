@@ -30,7 +30,8 @@ abbrev pub IsVariableBelow : ℕ → Node → Type 0
 IsVariableBelow n (Var v) = v < n
 IsVariableBelow n _ = ⊤
 
--- A node behind the script's own: it is made of earlier ones, is none of them, and there is room for it.
+-- A node behind the script's own: it is made of earlier ones, is none of them, and there is room
+-- for it.
 pub record IsFurther (variables : ℕ) (nodes : List Node) (n : Node) : Type 0 where
   pub room : length nodes < 1024
   pub children : ChildrenBelow (length nodes) n
@@ -43,9 +44,12 @@ IsOwn own nodes n = slice_get own (length nodes) ≡ Some n
 
 -- as long as the script has one, the next node is its own
 abbrev pub JudgesNode : List Node → ℕ → List Node → Node → Option CheckFault → Type 0
-JudgesNode own variables nodes n None = (length nodes < length own → IsOwn own nodes n) × (length own ≤ length nodes → IsFurther variables nodes n)
-JudgesNode own variables nodes n (Some (WrongScript k)) = (k ≡ length nodes) × (k < length own) × ¬ IsOwn own nodes n
-JudgesNode own variables nodes n (Some (BadNode k)) = (k ≡ length nodes) × (length own ≤ k) × ¬ IsFurther variables nodes n
+JudgesNode own variables nodes n None = (length nodes < length own → IsOwn own nodes n)
+    × (length own ≤ length nodes → IsFurther variables nodes n)
+JudgesNode own variables nodes n (Some (WrongScript k)) =
+    (k ≡ length nodes) × (k < length own) × ¬ IsOwn own nodes n
+JudgesNode own variables nodes n (Some (BadNode k)) = (k ≡ length nodes) × (length own ≤ k)
+    × ¬ IsFurther variables nodes n
 JudgesNode own variables nodes n (Some _) = ⊥
 
 -- ---- ends of sections
@@ -60,10 +64,12 @@ AreSettled steps [] [] = ⊤
 AreSettled steps (g ∷ goals) (r ∷ refs) = IsSettledBy steps g r × AreSettled steps goals refs
 AreSettled steps _ _ = ⊥
 
--- Goal k, from 0, is the first that isn't settled by its step, or has none, or is a step without a goal.
+-- Goal k, from 0, is the first that isn't settled by its step, or has none, or is a step without a
+-- goal.
 abbrev pub IsFirstMissing : List Citable → List Goal → List ℕ → ℕ → Type 0
 IsFirstMissing steps (g ∷ goals) (r ∷ refs) zero = ¬ IsSettledBy steps g r
-IsFirstMissing steps (g ∷ goals) (r ∷ refs) (suc k) = IsSettledBy steps g r × IsFirstMissing steps goals refs k
+IsFirstMissing steps (g ∷ goals) (r ∷ refs) (suc k) =
+    IsSettledBy steps g r × IsFirstMissing steps goals refs k
 IsFirstMissing steps (g ∷ goals) [] zero = ⊤
 IsFirstMissing steps [] (r ∷ refs) zero = ⊤
 IsFirstMissing steps _ _ k = ⊥
@@ -82,7 +88,8 @@ MayBeCut nodes depth x = IsVariable nodes x × (depth < 64)
 abbrev pub JudgesStep : Givens → List Citable → ℕ → StepRow → Option CheckFault → Type 0
 JudgesStep g steps next r None = IsConcluded g steps r
 JudgesStep g steps next r (Some (BadPremise k)) = (k ≡ next) × ¬ IsCiting steps r
-JudgesStep g steps next r (Some (BadStep k)) = (k ≡ next) × IsCiting steps r × ¬ IsConcluded g steps r
+JudgesStep g steps next r (Some (BadStep k)) =
+    (k ≡ next) × IsCiting steps r × ¬ IsConcluded g steps r
 JudgesStep g steps next r (Some _) = ⊥
 
 abbrev pub JudgesCut : List Node → ℕ → ℕ → ExprId → Option CheckFault → Type 0
@@ -93,12 +100,14 @@ JudgesCut nodes depth section x (Some _) = ⊥
 -- goals are named from 1
 abbrev pub JudgesLeaf : List Citable → List Goal → ℕ → List ℕ → Option CheckFault → Type 0
 JudgesLeaf steps goals section refs None = AreSettled steps goals refs
-JudgesLeaf steps goals section refs (Some (GoalMissing k (suc g))) = (k ≡ section) × IsFirstMissing steps goals refs g
+JudgesLeaf steps goals section refs (Some (GoalMissing k (suc g))) =
+    (k ≡ section) × IsFirstMissing steps goals refs g
 JudgesLeaf steps goals section refs (Some _) = ⊥
 
 abbrev pub JudgesDead : List Citable → ℕ → ℕ → Option CheckFault → Type 0
 JudgesDead steps section r None = step_fact steps r ≡ Some fact.Void
-JudgesDead steps section r (Some (GoalMissing k zero)) = (k ≡ section) × ¬ (step_fact steps r ≡ Some fact.Void)
+JudgesDead steps section r (Some (GoalMissing k zero)) =
+    (k ≡ section) × ¬ (step_fact steps r ≡ Some fact.Void)
 JudgesDead steps section r (Some _) = ⊥
 
 -- there are at least the script's nodes; the first that is missing is named

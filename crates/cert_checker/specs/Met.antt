@@ -50,7 +50,8 @@ pub record RowIsAmong (n : ℕ) (row : HintRow) : Type 0 where
 
 -- The facts of the cases, the goals and the rows of the hints name nodes of the script.
 pub record NamesNodes (s : Subject) : Type 0 where
-  pub facts : AllByRecursion (AllByRecursion (λ (f : Fact). SlotIsAmong (length s.nodes) (slot_of f))) s.cases
+  pub facts : AllByRecursion
+      (AllByRecursion (λ (f : Fact). SlotIsAmong (length s.nodes) (slot_of f))) s.cases
   pub goals : AllByRecursion (λ (g : Goal). SlotIsAmong (length s.nodes) g.of) s.goals
   pub hints : AllByRecursion (RowIsAmong (length s.nodes)) s.hints
 
@@ -82,14 +83,20 @@ LinesHold nodes a _ _ = ⊥
 
 -- ---- what acceptance promises
 
--- Over the nodes of the certificate: each line of an accepted one holds of every assignment that meets the subject there.
+-- Over the nodes of the certificate: each line of an accepted one holds of every assignment that
+-- meets the subject there.
 abbrev pub HoldsOverCertificates : Type 0
-HoldsOverCertificates = (s : Subject) (items : List Item) (lines : List Line) (accepted : Accepts s items lines) (a : Assignment)
-    → IsOrdered s.nodes → MeetsOver accepted.end.nodes s a → LinesHold accepted.end.nodes a s.goals lines
+HoldsOverCertificates = (s : Subject) (items : List Item) (lines : List Line)
+    (accepted : Accepts s items lines) (a : Assignment)
+    → IsOrdered s.nodes → MeetsOver accepted.end.nodes s a
+    → LinesHold accepted.end.nodes a s.goals lines
 
--- Over the script's own nodes: each line of an accepted certificate holds of every assignment that meets the subject, whoever wrote it.
+-- Over the script's own nodes: each line of an accepted certificate holds of every assignment that
+-- meets the subject, whoever wrote it.
 abbrev pub AcceptedHolds : Type 0
-AcceptedHolds = (s : Subject) (items : List Item) (lines : List Line) → IsOrdered s.nodes → NamesNodes s → Accepts s items lines → (a : Assignment) → Meets s a → LinesHold s.nodes a s.goals lines
+AcceptedHolds = (s : Subject) (items : List Item) (lines : List Line)
+    → IsOrdered s.nodes → NamesNodes s → Accepts s items lines → (a : Assignment) → Meets s a
+    → LinesHold s.nodes a s.goals lines
 
 -- The same of items in order, whatever the bytes are that spell them.
 abbrev pub InOrderHolds : Type 0

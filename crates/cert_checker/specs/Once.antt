@@ -9,15 +9,19 @@ use Rattle.cert_checker.specs.Accepted.{LeadsTo, FailsWith}
 
 -- Nothing is wrong with an item, or one fault is its own.
 abbrev pub JudgedOnce : Type 0
-JudgedOnce = (s : Subject) (c : Context) (i : Item) (o p : Option CheckFault) → JudgesItem s c i o → JudgesItem s c i p → o ≡ p
+JudgedOnce = (s : Subject) (c : Context) (i : Item) (o p : Option CheckFault) → JudgesItem s c i o
+    → JudgesItem s c i p → o ≡ p
 
 -- Items with which nothing is wrong lead to one context, and have no fault.
 abbrev pub LeadsOnce : Type 0
-LeadsOnce = (s : Subject) (c : Context) (items : List Item) (end other : Context) → LeadsTo s c items end → LeadsTo s c items other → end ≡ other
+LeadsOnce = (s : Subject) (c : Context) (items : List Item) (end other : Context)
+    → LeadsTo s c items end → LeadsTo s c items other → end ≡ other
 
 abbrev pub LeadsOrFails : Type 0
-LeadsOrFails = (s : Subject) (c : Context) (items : List Item) (end : Context) (f : CheckFault) → LeadsTo s c items end → ¬ FailsWith s c items f
+LeadsOrFails = (s : Subject) (c : Context) (items : List Item) (end : Context) (f : CheckFault)
+    → LeadsTo s c items end → ¬ FailsWith s c items f
 
 -- Other items have one first fault.
 abbrev pub FailsOnce : Type 0
-FailsOnce = (s : Subject) (c : Context) (items : List Item) (f g : CheckFault) → FailsWith s c items f → FailsWith s c items g → f ≡ g
+FailsOnce = (s : Subject) (c : Context) (items : List Item) (f g : CheckFault)
+    → FailsWith s c items f → FailsWith s c items g → f ≡ g

@@ -13,7 +13,8 @@ abbrev pub none_open : Numbered
 none_open = record { rows = []; next = 0 }
 
 abbrev pub with_step : Numbered → Fact → Numbered
-with_step s f = record { rows = s.rows ++ record { number = s.next; fact = f } ∷ []; next = s.next + 1 }
+with_step s f =
+    record { rows = s.rows ++ record { number = s.next; fact = f } ∷ []; next = s.next + 1 }
 
 abbrev pub cut_back : Numbered → ℕ → Numbered
 cut_back s n = record s { rows = take n s.rows }

@@ -33,18 +33,22 @@ ChangesByContent old i (Err OutOfMemory) new = new ≡ old
 
 -- The same, with the number of cases judged before.
 abbrev pub Changes : {X : Type 0} → Standing → Item → Result X TakeStop → Standing → Type 0
-Changes old i (Ok x) new = JudgesItem old.subject old.context i None × (new ≡ record old { context = changed_by old.context i })
+Changes old i (Ok x) new = JudgesItem old.subject old.context i None
+    × (new ≡ record old { context = changed_by old.context i })
 Changes old i (Err (Check f)) new = JudgesItem old.subject old.context i (Some f) × (new ≡ old)
 Changes old i (Err OutOfMemory) new = new ≡ old
 
 -- The same, with the fault kept for later calls.
 abbrev pub TakesFresh : {X : Type 0} → Standing → Item → Result X TakeStop → Standing → Type 0
-TakesFresh old i (Ok x) new = JudgesItem old.subject old.context i None × (new ≡ record old { context = after old.context i })
-TakesFresh old i (Err (Check f)) new = JudgesItem old.subject old.context i (Some f) × (new ≡ record old { fault = Some f })
+TakesFresh old i (Ok x) new = JudgesItem old.subject old.context i None
+    × (new ≡ record old { context = after old.context i })
+TakesFresh old i (Err (Check f)) new = JudgesItem old.subject old.context i (Some f)
+    × (new ≡ record old { fault = Some f })
 TakesFresh old i (Err OutOfMemory) new = new ≡ old
 
 -- What taking an item answers. A fault is answered again.
-abbrev pub TakesBehind : {X : Type 0} → Option CheckFault → Standing → Item → Result X TakeStop → Standing → Type 0
+abbrev pub TakesBehind : {X : Type 0} → Option CheckFault → Standing → Item
+    → Result X TakeStop → Standing → Type 0
 TakesBehind None old i result new = TakesFresh old i result new
 TakesBehind (Some f) old i result new = (result ≡ Err (Check f)) × (new ≡ old)
 

@@ -46,8 +46,10 @@ abbrev pub IsLike : Fact → Option Fact → Type 0
 IsLike f None = ⊤
 IsLike f (Some w) = ¬ AreUnlike f w
 
--- The step cites these premises, and is met with this fact, if any. They are facts of earlier steps of the open sections.
-pub record Cites (steps : List Citable) (row : StepRow) (premises : List Fact) (with : Option Fact) : Type 0 where
+-- The step cites these premises, and is met with this fact, if any. They are facts of earlier steps
+-- of the open sections.
+pub record Cites (steps : List Citable) (row : StepRow) (premises : List Fact)
+    (with : Option Fact) : Type 0 where
   pub found : step_facts steps row.premises ≡ Some premises
   pub met : IsMetWith steps row.with with
   pub like : IsLike row.fact with
@@ -86,7 +88,8 @@ or_else None o = o
 abbrev pub whole_line : List Node → Fact → Option Fact
 whole_line nodes (fact.Bnd x i) = variable_fact x (slice_get nodes x.0)
 whole_line nodes (fact.Abs x s) = variable_fact x (slice_get nodes x.0)
-whole_line nodes (fact.Rel x y e) = or_else (variable_fact x (slice_get nodes x.0)) (variable_fact y (slice_get nodes y.0))
+whole_line nodes (fact.Rel x y e) =
+    or_else (variable_fact x (slice_get nodes x.0)) (variable_fact y (slice_get nodes y.0))
 whole_line nodes (fact.Fix x k) = variable_fact x (slice_get nodes x.0)
 whole_line nodes (fact.Nzr x) = variable_fact x (slice_get nodes x.0)
 whole_line nodes fact.Void = None
@@ -99,7 +102,8 @@ without (p ∷ ps) o = None
 abbrev pub only_for : ℕ → Option Fact → Option Fact
 only_for arg o = if arg == 0 then o else None
 
--- the slot that is aimed at: that of the stated fact, and where this is VOID that of the fact that it is met with
+-- the slot that is aimed at: that of the stated fact, and where this is VOID that of the fact that
+-- it is met with
 abbrev pub target_of : Fact → Option Fact → Slot
 target_of fact.Void (Some w) = slot_of w
 target_of f w = slot_of f
@@ -108,7 +112,8 @@ target_of f w = slot_of f
 abbrev pub case_facts : List (List Fact) → ℕ → List Fact
 case_facts cases k = slice_index_or cases k []
 
--- What rules draw on beside premises: the facts of the case that is open, the rows of the hints, the nodes, and the piece that is open.
+-- What rules draw on beside premises: the facts of the case that is open, the rows of the hints,
+-- the nodes, and the piece that is open.
 pub record Givens : Type 0 where
   pub facts : List Fact
   pub hints : List HintRow
@@ -116,10 +121,16 @@ pub record Givens : Type 0 where
   pub piece : Option Fact
 
 abbrev pub givens : Subject → Context → Givens
-givens s c = record { facts = case_facts s.cases c.case; hints = s.hints; nodes = c.nodes; piece = open_piece c.cuts }
+givens s c = record {
+  facts = case_facts s.cases c.case;
+  hints = s.hints;
+  nodes = c.nodes;
+  piece = open_piece c.cuts;
+}
 
--- What the rule of a step gives. Rule 100 gives hypothesis number arg, 101 the whole line for a variable, and 102 the piece of the
--- cut that made the section; these take no premises. All others are those of the list.
+-- What the rule of a step gives. Rule 100 gives hypothesis number arg, 101 the whole line for a
+-- variable, and 102 the piece of the cut that made the section; these take no premises. All others
+-- are those of the list.
 abbrev pub gives : Givens → StepRow → List Fact → Option Fact → Option Fact
 gives g row premises with =
     if row.rule == 100 then without premises (slice_get g.facts row.arg)
@@ -138,11 +149,14 @@ abbrev pub IsEnough : Option Fact → Fact → Type 0
 IsEnough None f = ⊥
 IsEnough (Some c) f = IsStronger c f
 
--- The stated fact is no stronger than what the rule gives, met with the fact that is cited for that.
-pub record Concludes (g : Givens) (row : StepRow) (premises : List Fact) (with : Option Fact) : Type 0 where
+-- The stated fact is no stronger than what the rule gives, met with the fact that is cited for
+-- that.
+pub record Concludes (g : Givens) (row : StepRow) (premises : List Fact)
+    (with : Option Fact) : Type 0 where
   pub known : AreKnown g.nodes row.fact
   pub enough : IsEnough (met_with (gives g row premises with) with) row.fact
 
 -- the step cites what it may, and is concluded
 abbrev pub IsConcluded : Givens → List Citable → StepRow → Type 0
-IsConcluded g steps row = (premises : List Fact) × (with : Option Fact) × Cites steps row premises with × Concludes g row premises with
+IsConcluded g steps row = (premises : List Fact) × (with : Option Fact)
+    × Cites steps row premises with × Concludes g row premises with

@@ -53,15 +53,36 @@ impl Model for Chain {
 
     ghost Value = { Standing };
 
-    ghost coded = { Prim.hlevel (codes, subject_type.the_row.coded, citable_type.the_row.coded, cut_type.the_row.coded, line_type.the_row.coded, fault_type.the_row.coded, node_type.the_row.coded) };
+    ghost coded = { Prim.hlevel (
+      codes,
+      subject_type.the_row.coded,
+      citable_type.the_row.coded,
+      cut_type.the_row.coded,
+      line_type.the_row.coded,
+      fault_type.the_row.coded,
+      node_type.the_row.coded,
+    ) };
 
     ghost view = { λ c. record {
       subject = c.subject;
-      context = record { nodes = c.nodes; marked = c.marked; steps = c.steps.rows; next = c.steps.next; section = c.section; cuts = c.cuts; case = c.case; begun = c.begun; lines = c.lines.items; ended = c.ended };
+      context = record {
+        nodes = c.nodes;
+        marked = c.marked;
+        steps = c.steps.rows;
+        next = c.steps.next;
+        section = c.section;
+        cuts = c.cuts;
+        case = c.case;
+        begun = c.begun;
+        lines = c.lines.items;
+        ended = c.ended;
+      };
       fault = c.fault;
     } };
 
-    ghost invariant = { λ c. Agrees c.subject.nodes c.nodes × (length c.subject.goals < 65535) × (length c.subject.marks < 65535) × (c.marked ≤ length c.subject.marks) × (c.case ≤ c.section) };
+    ghost invariant = { λ c. Agrees c.subject.nodes c.nodes × (length c.subject.goals < 65535)
+        × (length c.subject.marks < 65535) × (c.marked ≤ length c.subject.marks)
+        × (c.case ≤ c.section) };
 }
 
 fn is_of_root(item: &Item) -> bool
@@ -113,7 +134,8 @@ impl Chain {
         })
     }
 
-    /// Takes the next item. The first fault is answered, and answered again from then on. After want of memory nothing has changed.
+    /// Takes the next item. The first fault is answered, and answered again from then on. After
+    /// want of memory nothing has changed.
     pub fn take(&mut self, item: &Item) -> Result<(), TakeStop>
         requires room { HasRoom self.old }
         requires spelled { HasSpelling item.now }

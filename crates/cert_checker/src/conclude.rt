@@ -94,7 +94,12 @@ fn gives(
     premises: &[Fact],
     with: Option<Fact>,
 ) -> Option<Fact>
-    ensures { result ≡ spec.gives (record { facts = spec.case_facts subject.now.cases case; hints = subject.now.hints; nodes = nodes.now; piece = open_piece cuts.now }) row.now premises.now with }
+    ensures { result ≡ spec.gives (record {
+      facts = spec.case_facts subject.now.cases case;
+      hints = subject.now.hints;
+      nodes = nodes.now;
+      piece = open_piece cuts.now;
+    }) row.now premises.now with }
 {
     if row.rule == 100 {
         return without(premises, hypothesis(subject.facts(case), row.arg));
@@ -142,7 +147,8 @@ fn met_with(given: Option<Fact>, with: Option<Fact>) -> Option<Fact>
     }
 }
 
-// Whether what is given, met with the cited fact, is as strong as the stated one. The meet is made only where what is given isn't as strong alone.
+// Whether what is given, met with the cited fact, is as strong as the stated one. The meet is made
+// only where what is given isn't as strong alone.
 fn is_enough(given: Option<Fact>, with: Option<Fact>, fact: &Fact) -> bool
     requires { IsLike fact.now with }
     ensures { IsTrue result ↔ spec.IsEnough (spec.met_with given with) fact.now }
@@ -150,7 +156,8 @@ fn is_enough(given: Option<Fact>, with: Option<Fact>, fact: &Fact) -> bool
     is_given(given, fact) || is_given(met_with(given, with), fact)
 }
 
-/// Whether the stated fact is no stronger than what the rule gives from these premises, met with the fact that is cited for that.
+/// Whether the stated fact is no stronger than what the rule gives from these premises, met with
+/// the fact that is cited for that.
 pub fn is_concluded(
     subject: &Subject,
     case: usize,
@@ -161,7 +168,12 @@ pub fn is_concluded(
     with: Option<Fact>,
 ) -> bool
     requires { IsLike row.now.fact with }
-    ensures { IsTrue result ↔ Concludes (record { facts = spec.case_facts subject.now.cases case; hints = subject.now.hints; nodes = nodes.now; piece = open_piece cuts.now }) row.now premises.now with }
+    ensures { IsTrue result ↔ Concludes (record {
+      facts = spec.case_facts subject.now.cases case;
+      hints = subject.now.hints;
+      nodes = nodes.now;
+      piece = open_piece cuts.now;
+    }) row.now premises.now with }
 {
     if !are_known(nodes, &row.fact) {
         return false;
@@ -208,7 +220,8 @@ pub fn is_like(fact: &Fact, with: Option<Fact>) -> bool
 
 // What the step is met with, if anything; None where it can't be cited.
 pub fn with_fact(steps: &OpenSteps, with: Option<u64>) -> Option<Option<Fact>>
-    ensures { MatchOption result ((f : Option Fact) → ¬ IsMetWith steps.now.rows with f) (λ f. IsMetWith steps.now.rows with f) }
+    ensures { MatchOption result ((f : Option Fact) → ¬ IsMetWith steps.now.rows with f)
+        (λ f. IsMetWith steps.now.rows with f) }
 {
     match with {
         None => Some(None),

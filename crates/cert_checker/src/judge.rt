@@ -20,7 +20,8 @@ fn refuse(fault: CheckFault) -> Result<(), TakeStop>
     Err(TakeStop::Check(fault))
 }
 
-/// Whether the step cites what it may, and is concluded. The facts of its premises are left in `premises`.
+/// Whether the step cites what it may, and is concluded. The facts of its premises are left in
+/// `premises`.
 pub fn judge_step(
     subject: &Subject,
     case: usize,
@@ -30,7 +31,12 @@ pub fn judge_step(
     row: &StepRow,
     premises: &mut Vec<Fact>,
 ) -> Result<(), TakeStop>
-    ensures { IsJudged (JudgesStep (record { facts = case_facts subject.now.cases case; hints = subject.now.hints; nodes = nodes.now; piece = open_piece cuts.now }) steps.now.rows steps.now.next row.now) result }
+    ensures { IsJudged (JudgesStep (record {
+      facts = case_facts subject.now.cases case;
+      hints = subject.now.hints;
+      nodes = nodes.now;
+      piece = open_piece cuts.now;
+    }) steps.now.rows steps.now.next row.now) result }
 {
     let bad_premise = CheckFault::BadPremise(steps.next());
     if !premise_facts(steps, row.premises.as_slice(), premises)? {
@@ -71,7 +77,8 @@ fn is_settled(steps: &OpenSteps, goal: &Goal, step: u64) -> bool
 // The number of the first goal, from 0, that the steps don't settle, each in its place.
 fn first_missing(steps: &OpenSteps, goals: &[Goal], refs: &[u64]) -> Option<u16>
     requires { length goals.now < 65535 }
-    ensures first { MatchOption result (AreSettled steps.now.rows goals.now refs.now) (IsFirstMissing steps.now.rows goals.now refs.now) }
+    ensures first { MatchOption result (AreSettled steps.now.rows goals.now refs.now)
+        (IsFirstMissing steps.now.rows goals.now refs.now) }
     ensures short { MatchOption result (Unit {0}) (λ k. k < 65535) }
 {
     let partners = goals.len().min(refs.len());

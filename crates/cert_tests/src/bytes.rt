@@ -38,7 +38,8 @@ fn stop_text(alloc: Global, stop: Stop) -> Result<String, AllocError> {
     Ok(text)
 }
 
-// What comes of reading the bytes: `same` where the items are written as the same bytes, or the fault and its byte.
+// What comes of reading the bytes: `same` where the items are written as the same bytes, or the
+// fault and its byte.
 fn read(alloc: Global, bytes: &[u8], failing: &[u64], most: usize) -> Result<String, AllocError>
     requires { 1 ≤ most }
 {

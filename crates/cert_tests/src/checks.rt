@@ -92,7 +92,8 @@ const LAST_FIRST: &[u8] = &[
     0, 1, 0, 0, 0, 0, 0, 0, 0, 0, 0, 0, 1, 0, 1, 0, 0, 0,
 ];
 
-// The bytes before a place of the certificate, a piece, and the bytes from a place on; and what comes of them.
+// The bytes before a place of the certificate, a piece, and the bytes from a place on; and what
+// comes of them.
 const ROWS: [(usize, &[u8], usize, &str); 31] = [
     (143, &[], 143, LINE),
     (4, &[9], 5, "BadVersion 4"),
@@ -152,7 +153,8 @@ const ROWS: [(usize, &[u8], usize, &str); 31] = [
         132,
         "Truncated 157",
     ),
-    // a dead end by a step that isn't VOID; no goal, two goals, steps of other goals, a step that isn't there
+    // a dead end by a step that isn't VOID; no goal, two goals, steps of other goals, a step that
+    // isn't there
     (132, &[4], 135, "GoalMissing(0, 0)"),
     (134, &[0], 143, "GoalMissing(0, 1)"),
     (134, &[2, 0, 0, 0, 0, 0, 0, 0, 2], 135, "GoalMissing(0, 2)"),

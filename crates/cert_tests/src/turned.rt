@@ -1,4 +1,5 @@
-// What comes of the worked certificate with one bit turned, as a program of its own answers. A row is how many neighbours answer alike.
+// What comes of the worked certificate with one bit turned, as a program of its own answers. A row
+// is how many neighbours answer alike.
 
 /// Reading, for each bit in turn, the low one of a byte first.
 pub const READ: [(usize, &str); 140] = [

@@ -42,7 +42,8 @@ pub fn turned(alloc: Global, bit: usize) -> Result<Vec<u8>, AllocError> {
     Ok(bytes)
 }
 
-/// A folder with these bytes under "c", which gives `most` of them a read, and fails at these reads.
+/// A folder with these bytes under "c", which gives `most` of them a read, and fails at these
+/// reads.
 pub fn folder_of(
     alloc: Global,
     bytes: &[u8],

@@ -46,8 +46,8 @@ KnowsVoid at = at slot.Void ≡ Some fact.Void
 abbrev pub IsClosed : At → List Goal → Type 0
 IsClosed at goals = KnowsVoid at ⊎ AllSettled at goals
 
--- A box with these facts is cut so, or isn't: a forced cut is made where VOID isn't known, whether goals are settled or not, and a
--- halving where moreover one isn't.
+-- A box with these facts is cut so, or isn't: a forced cut is made where VOID isn't known, whether
+-- goals are settled or not, and a halving where moreover one isn't.
 abbrev pub CutsAt : At → List Goal → Cut → Option (ExprId × List Dyadic) → Type 0
 CutsAt at goals (Forced x points) None = KnowsVoid at
 CutsAt at goals (Forced x points) (Some p) = (¬ KnowsVoid at) × (p ≡ (x, points))
@@ -56,8 +56,10 @@ CutsAt at goals (Half x m) (Some p) = (¬ KnowsVoid at) × (¬ AllSettled at goa
 CutsAt at goals Bottom None = ⊤
 CutsAt at goals Bottom (Some p) = ⊥
 
--- The item that ends a box which isn't cut: VOID's step, or where VOID isn't known a step for each goal, which it settles.
+-- The item that ends a box which isn't cut: VOID's step, or where VOID isn't known a step for each
+-- goal, which it settles.
 abbrev pub IsEnd : World → Known → Item → Type 0
 IsEnd u k (item.Dead r) = KnowsVoid (known_at u k) × (r ≡ place_in u k slot.Void)
-IsEnd u k (item.Leaf refs) = (¬ KnowsVoid (known_at u k)) × AllSettled (known_at u k) u.goals × (refs ≡ refs_in u k u.goals)
+IsEnd u k (item.Leaf refs) = (¬ KnowsVoid (known_at u k)) × AllSettled (known_at u k) u.goals
+    × (refs ≡ refs_in u k u.goals)
 IsEnd u k _ = ⊥

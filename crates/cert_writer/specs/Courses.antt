@@ -37,7 +37,8 @@ pub record Course : Type 0 where
   pub plan : PlanParts
   pub states : List ℕ → State
 
--- The aim is one, its universe is whole, its goals are about it, boxes stand as what is known there says, and none is cut 36 cuts below the root.
+-- The aim is one, its universe is whole, its goals are about it, boxes stand as what is known there
+-- says, and none is cut 36 cuts below the root.
 pub record IsCourse (c : Course) : Type 0 where
   pub aim : IsAim c.aim
   pub whole : IsWhole c.aim.world
@@ -79,9 +80,11 @@ abbrev pub Grew : List Item → Option (List ℕ) → Option (List ℕ) → List
 Grew before old new items = (more : List Item) × (items ≡ before ++ more)
     × Appends old new (spelled_behind (seen_in before) more)
 
--- It took some bytes, with which those of the items before are a front of a certificate that is accepted with all lines.
+-- It took some bytes, with which those of the items before are a front of a certificate that is
+-- accepted with all lines.
 abbrev pub GrewToFront : Aim → List Item → Option (List ℕ) → Option (List ℕ) → Type 0
-GrewToFront t before old new = (bytes : List ℕ) × Appends old new bytes × IsBegun t (certificate_of before ++ bytes)
+GrewToFront t before old new = (bytes : List ℕ) × Appends old new bytes
+    × IsBegun t (certificate_of before ++ bytes)
 
 -- ---- where the walk stands
 -- Before the box at the path: the place is that of its section, before which the items so far were
@@ -122,7 +125,8 @@ IsPast c p old seen new = (e : Ended) × HasEnded c.aim e × (e.frames ≡ p.fra
 
 -- What is known at the box at the path, which isn't VOID, and where its steps are.
 pub record IsKnownAt (c : Course) (path : List ℕ) (known : Known) (steps : Numbered) : Type 0 where
-  pub table : IsTableAt (setting c) c.aim.height (pieces_at c.plan path) (known_at c.aim.world known)
+  pub table : IsTableAt (setting c) c.aim.height (pieces_at c.plan path)
+      (known_at c.aim.world known)
   pub no_void : known_at c.aim.world known slot.Void ≡ None
   pub rows : HasRows c.aim.world known
   pub placed : ArePlaces steps (known_at c.aim.world known) (place_in c.aim.world known)
@@ -134,9 +138,11 @@ pub record IsWithin (c : Course) (path : List ℕ) (known : Known) (p : Place)
   pub frame : Frame
   pub before : (b : Bor Known) → b.now ≡ known → IsBefore c (path ++ i ∷ []) (Some b) seen place
   pub frames : place.frames ≡ frame ∷ p.frames
-  pub later : frame.later ≡ pieces_from c.plan (below c (35 - length path)) path (i + 1) (n - (i + 1))
+  pub later : frame.later
+      ≡ pieces_from c.plan (below c (35 - length path)) path (i + 1) (n - (i + 1))
   pub pieces : frame.pieces ≡ pieces_at c.plan path
-  pub of_variable : (k : ℕ) → k < n → piece_at c.plan (path ++ k ∷ []) ≡ Some (frame.var, range_of_piece (piece_at c.plan (path ++ k ∷ [])))
+  pub of_variable : (k : ℕ) → k < n → piece_at c.plan (path ++ k ∷ [])
+      ≡ Some (frame.var, range_of_piece (piece_at c.plan (path ++ k ∷ [])))
   pub known_is : IsKnownAt c path known (numbered frame.steps)
   pub grew : Grew p.items old new place.items
 
@@ -146,9 +152,11 @@ abbrev pub HasDone : Course → List ℕ
 HasDone c path known p old n i seen new = (i < n → IsWithin c path known p old n i seen new)
     × (i ≡ n → IsPast c p old seen new)
 
--- Bytes that a file may take behind p: with all of them it stands in the box or behind it, and with a front of them it holds a front.
+-- Bytes that a file may take behind p: with all of them it stands in the box or behind it, and with
+-- a front of them it holds a front.
 pub record AreOwnBytes (c : Course) (path : List ℕ)
     (p : Place) (known : Known) (n : ℕ) (seen : Seen) (bytes : List ℕ) : Type 0 where
   pub done : (old new : Option (List ℕ))
       → Appends old new bytes → HasDone c path known p old n 0 seen new
-  pub front : (old new : Option (List ℕ)) → AppendsFront old new bytes → GrewToFront c.aim p.items old new
+  pub front : (old new : Option (List ℕ)) → AppendsFront old new bytes
+      → GrewToFront c.aim p.items old new

@@ -38,34 +38,44 @@ pub record WritingGoesOn : Type 0 where
       t.lines ≡ lines_left t (lines_of_tree
       (setting_of t.world) t.height t.world.goals tree [] (map (λ g. line.Empty) t.world.goals))
       → (c : Context) × (c.next ≡ 0) × IsAt t (at_root t c tree))
-  -- Where a section is to begin, what was written is a front of an accepted certificate with all lines,
+  -- Where a section is to begin, what was written is a front of an accepted certificate with all
+  -- lines,
   pub begun : OfAims (λ t. (p : Place) → IsAt t p → IsBegun t (certificate_of p.items))
   -- and where one has ended.
   pub ended : OfAims (λ t. (e : Ended) → HasEnded t e → IsBegun t (certificate_of e.items))
   -- Behind its steps a box is cut, and its first piece begins;
-  pub enters : OfAims (λ t. (p : Place) (rows : List StepRow) (x : ExprId) (points : List Dyadic) (i : Interval) (tree : Tree) (later : Trees) → p.tree ≡ cut x points (next i tree later) → IsAt t p →
-      AreBoxSteps t p rows → AreShort t rows (item.Cut x points)
+  pub enters : OfAims (λ t. (p : Place) (rows : List StepRow)
+      (x : ExprId) (points : List Dyadic) (i : Interval) (tree : Tree) (later : Trees)
+      → p.tree ≡ cut x points (next i tree later) → IsAt t p
+      → AreBoxSteps t p rows → AreShort t rows (item.Cut x points)
       → IsAt t (inside p rows x points i tree later))
   -- or a leaf ends it,
   pub settles : OfAims (λ t. (p : Place) (rows : List StepRow) (refs : List ℕ)
       → p.tree ≡ leaf → IsAt t p → AreBoxSteps t p rows → AreShort t rows (item.Leaf refs) →
-      table_at (setting_of t.world) t.height p.pieces slot.Void ≡ None → AreCited (behind_steps p.context rows).steps (table_at (setting_of t.world) t.height p.pieces) t.world.goals refs →
-      HasEnded t (closed p rows (item.Leaf refs) (lines_of_tree (setting_of t.world) t.height t.world.goals leaf p.pieces p.context.lines)))
+      table_at (setting_of t.world) t.height p.pieces slot.Void ≡ None
+      → AreCited (behind_steps p.context rows).steps
+      (table_at (setting_of t.world) t.height p.pieces) t.world.goals refs
+      → HasEnded t (closed p rows (item.Leaf refs)
+      (lines_of_tree (setting_of t.world) t.height t.world.goals leaf p.pieces p.context.lines)))
   -- or a step that concludes VOID, whatever else its steps conclude.
   pub voids : OfAims (λ t. (p : Place) (rows : List StepRow) (r : ℕ) → p.tree ≡ leaf
       → IsAt t p → AreSteps t.target.subject p.context rows → length rows < most_for t
       → AreShort t rows (item.Dead r) →
-      table_at (setting_of t.world) t.height p.pieces slot.Void ≡ Some fact.Void → step_fact (behind_steps p.context rows).steps r ≡ Some fact.Void → HasEnded t (closed p rows (item.Dead r) p.context.lines))
+      table_at (setting_of t.world) t.height p.pieces slot.Void ≡ Some fact.Void
+      → step_fact (behind_steps p.context rows).steps r ≡ Some fact.Void
+      → HasEnded t (closed p rows (item.Dead r) p.context.lines))
   -- Of a section that has ended so the items cite earlier steps alone, and it has also ended
   -- without the steps that its end doesn't need.
   pub trims : OfAims (λ t. (p : Place) (rows : List StepRow) (last : Item) (lines : List Line)
       → IsAt t p → IsLeafOrDead last → HasEnded t (closed p rows last lines)
       → CiteEarlier p.context.next (own_items rows last) × HasEnded t (trimmed p rows last lines))
   -- Behind a section the next piece begins,
-  pub follows : OfAims (λ t. (e : Ended) (fr : Frame) (i : Interval) (tree : Tree) (later : Trees) (frames : List Frame) → e.frames ≡ fr ∷ frames → fr.later ≡ next i tree later → HasEnded t e →
-      IsAt t (beside e fr i tree later frames))
+  pub follows : OfAims (λ t. (e : Ended) (fr : Frame) (i : Interval) (tree : Tree) (later : Trees)
+      (frames : List Frame) → e.frames ≡ fr ∷ frames → fr.later ≡ next i tree later → HasEnded t e
+      → IsAt t (beside e fr i tree later frames))
   -- and behind the last its box has ended.
-  pub ends : OfAims (λ t. (e : Ended) (fr : Frame) (frames : List Frame) → e.frames ≡ fr ∷ frames → fr.later ≡ last → HasEnded t e → HasEnded t (around e fr frames))
+  pub ends : OfAims (λ t. (e : Ended) (fr : Frame) (frames : List Frame) → e.frames ≡ fr ∷ frames
+      → fr.later ≡ last → HasEnded t e → HasEnded t (around e fr frames))
   -- Behind the root section of a case that of the next is to begin,
   pub next_case : OfAims (λ t.
       (e : Ended) (hypotheses : List Fact) (tree : Tree) (later : List Root)

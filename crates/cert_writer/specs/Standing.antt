@@ -71,7 +71,8 @@ pub record IsAim (t : Aim) : Type 0 where
   pub small : IsSmall t.world
   pub low : t.height ≤ 64
   pub wide : bytes_a_box ≤ t.target.most
-  pub later : AreRoots t.target.subject t.world.hints t.height t.target.most t.world.goals t.world.nodes (t.target.number + 1) t.target.later
+  pub later : AreRoots t.target.subject t.world.hints t.height t.target.most t.world.goals
+      t.world.nodes (t.target.number + 1) t.target.later
   pub few : length t.target.subject.cases ≤ 64
 
 -- how many steps, and how many bytes, a box may have
@@ -102,12 +103,14 @@ IsBegun t bytes = (items : List Item)
     × Accepts t.target.subject items t.lines × IsFront bytes (certificate_of items)
 
 -- ---- where it stands
--- Nothing is wrong with the items; behind them the context is c, and so many sections are still to come.
+-- Nothing is wrong with the items; behind them the context is c, and so many sections are still to
+-- come.
 pub record HasWritten (t : Aim) (items : List Item) (c : Context) (n : ℕ) : Type 0 where
   pub leads : LeadsTo t.target.subject (first t.target.subject) items c
   pub due : (rest : List Item) → AreDue (Some (Sections n)) rest → AreCertificate (items ++ rest)
 
--- The section of a box is to begin: the items so far, what they come to, the box with those below it, its pieces, how many cuts there are around it, and these.
+-- The section of a box is to begin: the items so far, what they come to, the box with those below
+-- it, its pieces, how many cuts there are around it, and these.
 pub record Place : Type 0 where
   pub items : List Item
   pub context : Context
@@ -119,7 +122,8 @@ pub record Place : Type 0 where
 -- The certificate stands there.
 pub record IsAt (t : Aim) (p : Place) : Type 0 where
   pub written : HasWritten t p.items p.context (suc (left_in p.frames + roots_left t))
-  pub entered : IsEntered (setting_of t.world) t.world.hints t.height (most_for t) t.world.goals t.target.subject t.target.number p.context p.tree p.pieces p.depth p.frames
+  pub entered : IsEntered (setting_of t.world) t.world.hints t.height (most_for t) t.world.goals
+      t.target.subject t.target.number p.context p.tree p.pieces p.depth p.frames
   -- each box that is left takes fewer steps than it may have, and is one section more
   pub room : p.context.next + (seen_in p.items).sections
       + (steps_in (most_for t) p.tree + steps_behind (most_for t) p.frames + steps_left t) ≤ 2 ^ 63
@@ -131,7 +135,8 @@ pub record IsAt (t : Aim) (p : Place) : Type 0 where
       (lines_behind (setting_of t.world) t.height t.world.goals p.frames
       (lines_of_tree (setting_of t.world) t.height t.world.goals p.tree p.pieces p.context.lines))
 
--- The section of a box has ended: the items so far, where it began, what they come to, the cuts around it, and the lines that the leaves so far show.
+-- The section of a box has ended: the items so far, where it began, what they come to, the cuts
+-- around it, and the lines that the leaves so far show.
 pub record Ended : Type 0 where
   pub items : List Item
   pub begin : Context
@@ -174,7 +179,8 @@ pub record AreBoxSteps (t : Aim) (p : Place) (rows : List StepRow) : Type 0 wher
 -- Each goal has a step with the table's fact on its slot, which settles it.
 abbrev pub AreCited : List Citable → At → List Goal → List ℕ → Type 0
 AreCited steps at [] [] = ⊤
-AreCited steps at (g ∷ goals) (r ∷ refs) = ((f : Fact) × (at g.of ≡ Some f) × (step_fact steps r ≡ Some f) × Settles g f) × AreCited steps at goals refs
+AreCited steps at (g ∷ goals) (r ∷ refs) = ((f : Fact) × (at g.of ≡ Some f)
+    × (step_fact steps r ≡ Some f) × Settles g f) × AreCited steps at goals refs
 AreCited steps at _ _ = ⊥
 
 -- the box's items: its steps, and what is behind them

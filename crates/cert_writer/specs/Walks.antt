@@ -23,13 +23,16 @@ use Rattle.cert_writer.specs.Laws.{WritingGoesOn}
 abbrev pub MayEnd : World → Known → Cut → Type 0
 MayEnd u k cut = CutsAt (known_at u k) u.goals cut None → IsClosed (known_at u k) u.goals
 
--- The item is the last of the box's own, by what is known there, and the box goes into so many pieces.
+-- The item is the last of the box's own, by what is known there, and the box goes into so many
+-- pieces.
 abbrev pub IsLast : World → Known → Cut → Item → ℕ → Type 0
-IsLast u k cut (item.Cut x points) n = CutsAt (known_at u k) u.goals cut (Some (x, points)) × (n ≡ length points + 1)
+IsLast u k cut (item.Cut x points) n = CutsAt (known_at u k) u.goals cut (Some (x, points))
+    × (n ≡ length points + 1)
 IsLast u k cut i n = CutsAt (known_at u k) u.goals cut None × IsEnd u k i × (n ≡ 0)
 
 -- ---- calls
--- The count of failed writes doesn't fall, and the call says that a write failed only where it rose.
+-- The count of failed writes doesn't fall, and the call says that a write failed only where it
+-- rose.
 pub record HasWriteCause {T : Type 0} (before now : ℕ) (result : Result T WriteStop) : Type 0 where
   pub later : before ≤ now
   pub failed : IsErrOf result write_stop.Failed → Rose before now
@@ -43,4 +46,5 @@ pub record WalkGoesOn (plan : PlanParts) : Type 0 where
   pub states : BoxesComeToOneState
   pub best : (c : Course) → IsCourse c → HasBest c
   pub pieces : PiecesAreOfCuts plan
-  pub one_more : (path : List ℕ) (i : ℕ) → pieces_at plan (path ++ i ∷ []) ≡ with_last (piece_at plan (path ++ i ∷ [])) (pieces_at plan path)
+  pub one_more : (path : List ℕ) (i : ℕ) → pieces_at plan (path ++ i ∷ [])
+      ≡ with_last (piece_at plan (path ++ i ∷ [])) (pieces_at plan path)

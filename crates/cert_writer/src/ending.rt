@@ -46,7 +46,8 @@ fn one_point(m: Dyadic) -> Points
     }
 }
 
-// At what the box is cut, if it is: a forced cut is made unless VOID is known, and a halving where moreover a goal isn't settled.
+// At what the box is cut, if it is: a forced cut is made unless VOID is known, and a halving where
+// moreover a goal isn't settled.
 pub(crate) fn cut_of(uni: &Universe, cut: Cut, known: &Known) -> Option<(ExprId, Points)>
     requires slots { HasSlots uni.now uni.now.goals }
     requires rows { HasRows uni.now known.now }

@@ -22,7 +22,8 @@ fn put(item: &Item, out: &mut Vec<u8>) -> Result<(), AllocError>
 
 // Appends the nodes.
 fn spell_nodes(nodes: &Dag, out: &mut Vec<u8>) -> Result<(), AllocError>
-    ensures { OnOk result (out.new.items ≡ out.old.items ++ certificate_of (map item.Node nodes.now)) }
+    ensures { OnOk result (out.new.items
+        ≡ out.old.items ++ certificate_of (map item.Node nodes.now)) }
 {
     nodes.laws();
     for k in 0..nodes.len() {
@@ -33,7 +34,8 @@ fn spell_nodes(nodes: &Dag, out: &mut Vec<u8>) -> Result<(), AllocError>
 
 // Appends the marks.
 fn spell_marks(marks: &[HintMark], out: &mut Vec<u8>) -> Result<(), AllocError>
-    ensures { OnOk result (out.new.items ≡ out.old.items ++ certificate_of (map item.Mark marks.now)) }
+    ensures { OnOk result (out.new.items
+        ≡ out.old.items ++ certificate_of (map item.Mark marks.now)) }
 {
     for mark in marks {
         put(&Item::Mark(*mark), out)?;

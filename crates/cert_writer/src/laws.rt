@@ -1,4 +1,5 @@
-//! What holds of a certificate that is written box by box, for callers to cite. Nothing here is done at run time.
+//! What holds of a certificate that is written box by box, for callers to cite. Nothing here is
+//! done at run time.
 ghost use Rattle.cert_writer.specs.Laws.{WritingGoesOn};
 ghost use Rattle.cert_writer.specs.Walks.{WalkGoesOn};
 
@@ -7,8 +8,8 @@ use box_trace::{certificates_exist, rules_are_lawful, walks_move};
 use cert_trim::{leaves_are_trimmed, spellings_are_short};
 use derivation::{best_tables_exist, boxes_come_to_one_state};
 
-/// Nothing is done. The clause tells a caller how a certificate goes on from box to box, that it is whole behind the last, and that
-/// before it is a front of an accepted one with all its lines.
+/// Nothing is done. The clause tells a caller how a certificate goes on from box to box, that it is
+/// whole behind the last, and that before it is a front of an accepted one with all its lines.
 pub fn writing_goes_on()
     ensures { WritingGoesOn }
 {

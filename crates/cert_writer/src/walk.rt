@@ -117,12 +117,15 @@ fn write_own<F: Folder>(
 ) -> Result<Own, WriteStop>
     requires somewhere { IsSomewhere uni.now plan.now rounds path.now parent seen }
     ensures ok { IfOk result (λ own. OnCourses uni.now plan.now rounds path.now parent.entry seen
-        (λ c p. HasDone c path.now own.known p (F.told folder.old name.now) own.pieces 0 own.next (F.told folder.new name.now))) }
+        (λ c p. HasDone c path.now own.known p (F.told folder.old name.now) own.pieces 0 own.next
+        (F.told folder.new name.now))) }
     ensures room { IfOk result (λ own. 0 < own.pieces → length path.now < 36) }
     ensures pieces { IfOk result (λ own. own.pieces ≤ 64) }
     ensures err { OnErr result (OnCourses uni.now plan.now rounds path.now parent.entry seen
-        (λ c p. GrewToFront c.aim p.items (F.told folder.old name.now) (F.told folder.new name.now))) }
-    ensures others { (other : List ℕ) → other ≢ name.now → F.told folder.new other ≡ F.told folder.old other }
+        (λ c p. GrewToFront c.aim p.items (F.told folder.old name.now)
+        (F.told folder.new name.now))) }
+    ensures others { (other : List ℕ) → other ≢ name.now
+        → F.told folder.new other ≡ F.told folder.old other }
     ensures cause { HasWriteCause (F.write_faults folder.old) (F.write_faults folder.new) result }
     ensures quiet { F.read_faults folder.new ≡ F.read_faults folder.old }
 {
@@ -149,8 +152,10 @@ pub(crate) fn write_box<F: Folder>(
     ensures ok { IfOk result (λ next. OnCourses uni.now plan.now rounds path parent.entry seen
         (λ c p. IsPast c p (F.told folder.old name.now) next (F.told folder.new name.now))) }
     ensures err { OnErr result (OnCourses uni.now plan.now rounds path parent.entry seen
-        (λ c p. GrewToFront c.aim p.items (F.told folder.old name.now) (F.told folder.new name.now))) }
-    ensures others { (other : List ℕ) → other ≢ name.now → F.told folder.new other ≡ F.told folder.old other }
+        (λ c p. GrewToFront c.aim p.items (F.told folder.old name.now)
+        (F.told folder.new name.now))) }
+    ensures others { (other : List ℕ) → other ≢ name.now
+        → F.told folder.new other ≡ F.told folder.old other }
     ensures cause { HasWriteCause (F.write_faults folder.old) (F.write_faults folder.new) result }
     ensures quiet { F.read_faults folder.new ≡ F.read_faults folder.old }
 {

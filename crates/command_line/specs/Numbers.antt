@@ -7,14 +7,17 @@ abbrev pub is_digit : ℕ → Bool
 is_digit b = nat_le 48 b && nat_le b 57
 
 abbrev pub is_plain_decimal : List ℕ → Bool
-is_plain_decimal ds = list_all is_digit ds && (length ds == 1 || (nat_lt 1 (length ds) && not (slice_index ds 0 == 48)))
+is_plain_decimal ds = list_all is_digit ds
+    && (length ds == 1 || (nat_lt 1 (length ds) && not (slice_index ds 0 == 48)))
 
 abbrev pub value_of : List ℕ → ℕ
 value_of ds = fold (λ v d. 10 * v + (d - 48)) 0 ds
 
 -- the number that a text spells, where it lies in the range
 abbrev pub number_in : ℕ → ℕ → List ℕ → Option ℕ
-number_in low high text = if is_plain_decimal text && (nat_le low (value_of text) && nat_le (value_of text) high) then Some (value_of text) else None
+number_in low high text =
+    if is_plain_decimal text && (nat_le low (value_of text) && nat_le (value_of text) high)
+    then Some (value_of text) else None
 
 -- the number of an option, or its default where it isn't given
 abbrev pub number_or : ℕ → ℕ → ℕ → Option (List ℕ) → Option ℕ

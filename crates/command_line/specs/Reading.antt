@@ -15,8 +15,8 @@ prove_app = with_options
 
 -- ---- the reading
 
--- what `prove` is asked for: a script's name, that of a certificate, if one is to be written, the height of derivations, how often boxes
--- are halved, how many there may be, and workers
+-- what `prove` is asked for: a script's name, that of a certificate, if one is to be written, the
+-- height of derivations, how often boxes are halved, how many there may be, and workers
 pub record Asked : Type 0 where
   pub script : Text
   pub cert : Option Text

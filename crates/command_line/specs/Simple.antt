@@ -16,7 +16,10 @@ name_rule name = record (new_rule name) { required = true; action = Some Set }
 
 -- a command without options: its words are all the words, and it has no help
 abbrev pub bare_app : Text → App
-bare_app name = record { top = record (new_app name).top { no_binary_name = true; disable_help_flag = true }; subs = [] }
+bare_app name = record {
+  top = record (new_app name).top { no_binary_name = true; disable_help_flag = true };
+  subs = [];
+}
 
 -- ---- names of files
 
@@ -24,7 +27,8 @@ bare_app name = record { top = record (new_app name).top { no_binary_name = true
 -- empty, and they aren't equal
 abbrev pub are_names : Text → Option Text → Bool
 are_names script None = not (length script == 0)
-are_names script (Some cert) = not (length script == 0) && (not (length cert == 0) && not (bytes_eq script cert))
+are_names script (Some cert) =
+    not (length script == 0) && (not (length cert == 0) && not (bytes_eq script cert))
 
 -- ---- the reading
 

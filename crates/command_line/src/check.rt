@@ -15,12 +15,15 @@ pub struct CheckRequest<'a> {
     pub cert: &'a str,
 }
 
-/// Reads the words after `check`, by what clap states of a simple command: two names, of a script and of a certificate, of which
-/// none is empty and which aren't equal. `Usage` comes exactly where they ask for nothing.
+/// Reads the words after `check`, by what clap states of a simple command: two names, of a script
+/// and of a certificate, of which none is empty and which aren't equal. `Usage` comes exactly where
+/// they ask for nothing.
 #[tactic(auto, unfolding(crate::specs::Check::asked_check))]
 pub fn read_check<'a>(alloc: Global, words: &'a [String]) -> Result<CheckRequest<'a>, WordsError>
-    ensures ok { IfOk result (λ r. asked_check (map string_bytes words.entry.now) ≡ Some (check_of r)) }
-    ensures usage { IfErr result (λ e. e ≡ WordsError.Usage → asked_check (map string_bytes words.entry.now) ≡ None) }
+    ensures ok { IfOk result
+        (λ r. asked_check (map string_bytes words.entry.now) ≡ Some (check_of r)) }
+    ensures usage { IfErr result (λ e. e ≡ WordsError.Usage
+        → asked_check (map string_bytes words.entry.now) ≡ None) }
 {
     let names = two_names(alloc, "check", "script", "cert", words)?;
     Ok(CheckRequest {

@@ -24,12 +24,13 @@ fn degree_in(matches: &ArgMatches<'_>) -> Option<u8>
     Some(degree as u8)
 }
 
-/// Reads the words after `gen`, by what clap states of a simple command: one name, which is a number from 1 to 12 in plain
-/// decimal. `Usage` comes exactly where they ask for nothing.
+/// Reads the words after `gen`, by what clap states of a simple command: one name, which is a
+/// number from 1 to 12 in plain decimal. `Usage` comes exactly where they ask for nothing.
 #[tactic(auto, unfolding(crate::specs::Made::asked_gen))]
 pub fn read_gen(alloc: Global, words: &[String]) -> Result<u8, WordsError>
     ensures ok { IfOk result (λ n. asked_gen (map string_bytes words.now) ≡ Some n) }
-    ensures usage { IfErr result (λ e. e ≡ WordsError.Usage → asked_gen (map string_bytes words.now) ≡ None) }
+    ensures usage { IfErr result (λ e. e ≡ WordsError.Usage
+        → asked_gen (map string_bytes words.now) ≡ None) }
     ensures range { IfOk result (λ n. (1 ≤ n) × (n ≤ 12)) }
 {
     let Ok(command) = gen_command(alloc) else {

@@ -56,13 +56,15 @@ fn request_from<'a>(matches: &ArgMatches<'a>) -> Option<Request<'a>>
     })
 }
 
-/// Reads the words after `prove`, by what clap states of a simple command: one name, and options `--cert`, `--rounds`,
-/// `--depth`, `--boxes`, `--workers`, each at most once, as `--name value` or `--name=value`, anywhere before `--`. The
-/// value of `--cert` isn't empty and isn't the name. `Usage` comes exactly where they ask for nothing.
+/// Reads the words after `prove`, by what clap states of a simple command: one name, and options
+/// `--cert`, `--rounds`, `--depth`, `--boxes`, `--workers`, each at most once, as `--name value` or
+/// `--name=value`, anywhere before `--`. The value of `--cert` isn't empty and isn't the name.
+/// `Usage` comes exactly where they ask for nothing.
 #[tactic(auto, unfolding(crate::specs::Reading::asked))]
 pub fn read_prove<'a>(alloc: Global, words: &'a [String]) -> Result<Request<'a>, WordsError>
     ensures ok { IfOk result (λ r. asked (map string_bytes words.entry.now) ≡ Some (asked_of r)) }
-    ensures usage { IfErr result (λ e. e ≡ WordsError.Usage → asked (map string_bytes words.entry.now) ≡ None) }
+    ensures usage { IfErr result (λ e. e ≡ WordsError.Usage
+        → asked (map string_bytes words.entry.now) ≡ None) }
     ensures range { IfOk result AreInRange }
 {
     let Ok(command) = prove_command(alloc) else {

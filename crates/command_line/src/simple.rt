@@ -59,9 +59,12 @@ pub fn matches_by<'a>(
     words: &'a [String],
 ) -> Result<ArgMatches<'a>, WordsError>
     requires { is_simple_and_free (app_of command) ≡ true }
-    ensures fits { IfOk result (λ m. fault_of (app_of command.entry) (map string_bytes words.entry.now) ≡ []) }
-    ensures rows { IfOk result (λ m. rows_of (found_of m) ≡ matches_of (app_of command.entry) (map string_bytes words.entry.now)) }
-    ensures usage { IfErr result (λ e. e ≡ WordsError.Usage → fault_of (app_of command.entry) (map string_bytes words.entry.now) ≢ []) }
+    ensures fits { IfOk result
+        (λ m. fault_of (app_of command.entry) (map string_bytes words.entry.now) ≡ []) }
+    ensures rows { IfOk result (λ m. rows_of (found_of m)
+        ≡ matches_of (app_of command.entry) (map string_bytes words.entry.now)) }
+    ensures usage { IfErr result (λ e. e ≡ WordsError.Usage
+        → fault_of (app_of command.entry) (map string_bytes words.entry.now) ≢ []) }
 {
     match command.try_get_matches_from(words) {
         Ok(matches) => Ok(matches),

@@ -14,14 +14,17 @@ use Rattle.derivation.specs.Parts.{some_same, none_some, slot_cases}
 use Rattle.derivation.specs.Steps.{kept_cases, improved_proper, improved_beats, improved_grows, old_no_void}
 
 -- A round begins with the table of the round before.
-pub ahead_begin : (u : Setting) (at new : At) (Seen : ℕ → Type 0) → IsProper at → IsSame at new → ((k : ℕ) → ¬ Seen k) → IsAhead u at new Seen
+pub ahead_begin : (u : Setting) (at new : At) (Seen : ℕ → Type 0) → IsProper at → IsSame at new
+    → ((k : ℕ) → ¬ Seen k) → IsAhead u at new Seen
 ahead_begin u at new Seen p same unseen = record {
   made = λ s f e. let g = sym (same s) ∙ e in (p s f g, old s g);
   grows = λ n s f e. (f, same s ∙ e, IsStronger-refl f);
   beats = λ n k i c e l. absurd (unseen k l);
 }
 
-pub ahead_fewer : (u : Setting) (at new : At) (Seen Fewer : ℕ → Type 0) → IsAhead u at new Seen → ((k : ℕ) (i : Instance) → slice_get u.instances k ≡ Some i → Fewer k → Seen k) → IsAhead u at new Fewer
+pub ahead_fewer : (u : Setting) (at new : At) (Seen Fewer : ℕ → Type 0) → IsAhead u at new Seen
+    → ((k : ℕ) (i : Instance) → slice_get u.instances k ≡ Some i → Fewer k → Seen k)
+    → IsAhead u at new Fewer
 ahead_fewer u at new Seen Fewer a f = record {
   made = a.made;
   grows = a.grows;
@@ -29,7 +32,8 @@ ahead_fewer u at new Seen Fewer a f = record {
 }
 
 -- Where VOID was found the round may end.
-pub ahead_void : (u : Setting) (at new : At) (Seen Any : ℕ → Type 0) (f : Fact) → IsAhead u at new Seen → new slot.Void ≡ Some f → IsAhead u at new Any
+pub ahead_void : (u : Setting) (at new : At) (Seen Any : ℕ → Type 0) (f : Fact)
+    → IsAhead u at new Seen → new slot.Void ≡ Some f → IsAhead u at new Any
 ahead_void u at new Seen Any f a e = record {
   made = a.made;
   grows = λ v. absurd (none_some f (new slot.Void) v e);
@@ -41,20 +45,24 @@ ahead_void u at new Seen Any f a e = record {
 abbrev pub SeenAlso : (ℕ → Type 0) → ℕ → ℕ → Type 0
 SeenAlso Seen n k = Seen k ⊎ (n ≡ k)
 
-module _ (u : Setting) (at new : At) (Seen : ℕ → Type 0) (n : ℕ) (i : Instance) (a : IsAhead u at new Seen) (there : slice_get u.instances n ≡ Some i) where
+module _ (u : Setting) (at new : At) (Seen : ℕ → Type 0) (n : ℕ) (i : Instance)
+    (a : IsAhead u at new Seen) (there : slice_get u.instances n ≡ Some i) where
   -- what instance n concludes is what i does
   by_number : (k : ℕ) (j : Instance) → n ≡ k → slice_get u.instances k ≡ Some j → i ≡ j
-  by_number k j d f = some_same i j (slice_get u.instances n) there (subst (λ m. slice_get u.instances m ≡ Some j) (sym d) f)
+  by_number k j d f = some_same i j (slice_get u.instances n) there
+      (subst (λ m. slice_get u.instances m ≡ Some j) (sym d) f)
 
   -- It is passed over, where each fact that it concludes is beaten already.
-  pub ahead_pass : (new slot.Void ≡ None → (c : Fact) → conclusion u.rules at i ≡ Some c → Beats new c) → IsAhead u at new (SeenAlso Seen n)
+  pub ahead_pass : (new slot.Void ≡ None → (c : Fact) → conclusion u.rules at i ≡ Some c
+      → Beats new c) → IsAhead u at new (SeenAlso Seen n)
   ahead_pass beaten = record {
     made = a.made;
     grows = a.grows;
     beats = λ v k j c f l q.
         elim l [
           | inl h ↦ a.beats v k j c f h q
-          | inr d ↦ beaten v c (subst (λ x. conclusion u.rules at x ≡ Some c) (sym (by_number k j d f)) q)
+          | inr d ↦ beaten v c (subst (λ x. conclusion u.rules at x ≡ Some c)
+              (sym (by_number k j d f)) q)
         ];
   }
 
@@ -63,7 +71,8 @@ module _ (u : Setting) (at new : At) (Seen : ℕ → Type 0) (n : ℕ) (i : Inst
   ahead_skip z = ahead_pass (λ v c q. absurd (none_some c (conclusion u.rules at i) z q))
 
   -- What it concludes was beaten by the old table.
-  pub ahead_quiet : ((c : Fact) → conclusion u.rules at i ≡ Some c → Beats at c) → IsAhead u at new (SeenAlso Seen n)
+  pub ahead_quiet : ((c : Fact) → conclusion u.rules at i ≡ Some c → Beats at c)
+      → IsAhead u at new (SeenAlso Seen n)
   ahead_quiet beaten = ahead_pass (λ v c q.
       let b = beaten c q in
       let g = a.grows v (slot_of c) b.0 b.1 in
@@ -73,7 +82,8 @@ module _ (u : Setting) (at new : At) (Seen : ℕ → Type 0) (n : ℕ) (i : Inst
   new_proper s f e = (a.made s f e).0
 
   -- Its conclusion came to the table.
-  module _ (c : Fact) (z : conclusion u.rules at i ≡ Some c) (after : At) (k : Fact) (w : Improves new after c k) where
+  module _ (c : Fact) (z : conclusion u.rules at i ≡ Some c) (after : At) (k : Fact)
+      (w : Improves new after c k) where
     made_kept : Made u at k
     made_kept =
         elim (kept_cases new c k w.kept) [
@@ -90,11 +100,13 @@ module _ (u : Setting) (at new : At) (Seen : ℕ → Type 0) (n : ℕ) (i : Inst
     after_made s f e =
         elim (slot_cases s (slot_of k)) [
           | inr d ↦ (a.made s f (sym (w.written.others s d) ∙ e)).1
-          | inl d ↦ subst (Made u at) (some_same k f (after s) (ap after d ∙ w.written.here) e) made_kept
+          | inl d ↦ subst (Made u at)
+              (some_same k f (after s) (ap after d ∙ w.written.here) e) made_kept
         ]
 
     later : after slot.Void ≡ None → (f : Fact) → Beats new f → Beats after f
-    later v f b = let g = improved_grows new after c k w v (slot_of f) b.0 b.1 in (g.0, g.1, IsStronger-trans g.0 b.0 f g.2 b.2)
+    later v f b = let g = improved_grows new after c k w v (slot_of f) b.0 b.1 in
+        (g.0, g.1, IsStronger-trans g.0 b.0 f g.2 b.2)
 
     pub ahead_step : IsAhead u at after (SeenAlso Seen n)
     ahead_step = record {
@@ -107,7 +119,8 @@ module _ (u : Setting) (at new : At) (Seen : ℕ → Type 0) (n : ℕ) (i : Inst
           elim l [
             | inl h ↦ later v f (a.beats (old_no_void new after c k w v) m j f q h x)
             | inr d ↦
-                let same : c ≡ f = some_same c f (conclusion u.rules at i) z (subst (λ y. conclusion u.rules at y ≡ Some f) (sym (by_number m j d q)) x) in
+                let same : c ≡ f = some_same c f (conclusion u.rules at i) z
+                (subst (λ y. conclusion u.rules at y ≡ Some f) (sym (by_number m j d q)) x) in
                 subst (Beats after) same (improved_beats new after c k w v)
           ];
     }
@@ -117,5 +130,7 @@ module _ (u : Setting) (at new : At) (Seen : ℕ → Type 0) (n : ℕ) (i : Inst
 pub below_next : (n k : ℕ) → k < n + 1 → SeenAlso (λ j. j < n) n k
 below_next n k l = elim (cases_lt k n) [ inl h ↦ inl h | inr h ↦ inr (omega arith) ]
 
-pub ahead_next : (u : Setting) (at new : At) (n : ℕ) → IsAhead u at new (SeenAlso (λ j. j < n) n) → IsAhead u at new (λ j. j < n + 1)
-ahead_next u at new n a = ahead_fewer u at new (SeenAlso (λ j. j < n) n) (λ j. j < n + 1) a (λ k i e l. below_next n k l)
+pub ahead_next : (u : Setting) (at new : At) (n : ℕ) → IsAhead u at new (SeenAlso (λ j. j < n) n)
+    → IsAhead u at new (λ j. j < n + 1)
+ahead_next u at new n a =
+    ahead_fewer u at new (SeenAlso (λ j. j < n) n) (λ j. j < n + 1) a (λ k i e l. below_next n k l)

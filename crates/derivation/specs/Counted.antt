@@ -50,20 +50,25 @@ touched instances at new = count_by (λ (i : Instance). is_touched at new i.prem
 -- the same of the tables of heights 0 and 1, of 1 and 2, and so on, n times
 abbrev pub touched_by : List Instance → (ℕ → At) → ℕ → ℕ
 touched_by instances best zero = 0
-touched_by instances best (suc r) = touched_by instances best r + touched instances (best r) (best (suc r))
+touched_by instances best (suc r) =
+    touched_by instances best r + touched instances (best r) (best (suc r))
 
--- From so many steps to so many no more are taken than a box may take: each instance once, and in each round from the second on those
--- with a premise slot whose best fact in the height before differs from that in the height before it. The heights' best tables are any.
+-- From so many steps to so many no more are taken than a box may take: each instance once, and in
+-- each round from the second on those with a premise slot whose best fact in the height before
+-- differs from that in the height before it. The heights' best tables are any.
 abbrev pub IsWithinSteps : Setting → ℕ → List Piece → ℕ → ℕ → Type 0
-IsWithinSteps u height pieces before after = (best : ℕ → Slot → Option Fact) → ((r : ℕ) → r < height → IsBest u (GivenAt u height pieces) r (best r)) →
-    after ≤ before + (length u.instances + touched_by u.instances best (height - 1))
+IsWithinSteps u height pieces before after = (best : ℕ → Slot → Option Fact)
+    → ((r : ℕ) → r < height → IsBest u (GivenAt u height pieces) r (best r))
+    → after ≤ before + (length u.instances + touched_by u.instances best (height - 1))
 
 -- ---- the same over the facts of a table with which the rounds begin
 -- best r has the facts of each best table of height r without VOID
 abbrev pub AreHeights : Setting → At → ℕ → (ℕ → At) → Type 0
-AreHeights u start height best = (r : ℕ) (at : At) → r < height → IsBestFrom u start r at → at slot.Void ≡ None → IsSame at (best r)
+AreHeights u start height best = (r : ℕ) (at : At) → r < height → IsBestFrom u start r at
+    → at slot.Void ≡ None → IsSame at (best r)
 
 -- The same bound over the table with which the rounds begin.
 abbrev pub IsWithinStepsFrom : Setting → At → ℕ → ℕ → ℕ → Type 0
-IsWithinStepsFrom u start height before after = (best : ℕ → Slot → Option Fact) → AreHeights u start height best →
-    after ≤ before + (length u.instances + touched_by u.instances best (height - 1))
+IsWithinStepsFrom u start height before after = (best : ℕ → Slot → Option Fact)
+    → AreHeights u start height best
+    → after ≤ before + (length u.instances + touched_by u.instances best (height - 1))

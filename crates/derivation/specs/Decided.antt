@@ -23,7 +23,8 @@ is_finite i = is_number (range_of i).low && is_number (range_of i).high
 
 -- whether the first interval lies within the second
 abbrev pub is_within : Interval → Interval → Bool
-is_within i j = le_bound (range_of j).low (range_of i).low && le_bound (range_of i).high (range_of j).high
+is_within i j =
+    le_bound (range_of j).low (range_of i).low && le_bound (range_of i).high (range_of j).high
 
 -- whether the interval is what is wanted
 abbrev pub meets : Want → Interval → Bool
@@ -49,7 +50,8 @@ one_later (Some k) = Some (suc k)
 -- the least goal that isn't met
 abbrev pub first_unmet : (Slot → Option Fact) → List Goal → Option ℕ
 first_unmet at [] = None
-first_unmet at (goal ∷ goals) = if is_met at goal then one_later (first_unmet at goals) else Some zero
+first_unmet at (goal ∷ goals) =
+    if is_met at goal then one_later (first_unmet at goals) else Some zero
 
 abbrev pub state_by : Option Fact → Option ℕ → State
 state_by (Some f) o = void

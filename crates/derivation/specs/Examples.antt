@@ -30,9 +30,15 @@ carry number arg (fact.Bnd x i ∷ []) (slot.Bnd y) = Some (fact.Bnd y i)
 carry _ _ _ _ = None
 
 abbrev from_to : ℕ → ℕ → Instance
-from_to x y = record { rule = 1; arg = 0; target = slot.Bnd (numbered y); premises = slot.Bnd (numbered x) ∷ [] }
+from_to x y = record {
+  rule = 1;
+  arg = 0;
+  target = slot.Bnd (numbered y);
+  premises = slot.Bnd (numbered x) ∷ [];
+}
 
--- the interval of 0 goes to 1, and from there to 2; the list has it the other way round; 3 is a variable
+-- the interval of 0 goes to 1, and from there to 2; the list has it the other way round; 3 is a
+-- variable
 abbrev carried : Interval → Setting
 carried i = record {
   rules = carry;
@@ -50,28 +56,36 @@ variable_known i = given (inr (numbered 3, 0, refl, refl))
 
 -- each rule is a round
 one_step : (i : Interval) → Known (carried i) 1 [] (fact.Bnd (numbered 1) i)
-one_step i = drawn 1 (from_to 0 1) refl (next (slot.Bnd (numbered 0)) (fact.Bnd (numbered 0) i) refl (given (inl (0, omega arith, refl))) none) refl
+one_step i = drawn 1 (from_to 0 1) refl (next (slot.Bnd (numbered 0))
+    (fact.Bnd (numbered 0) i) refl (given (inl (0, omega arith, refl))) none) refl
 
 two_steps : (i : Interval) → Known (carried i) 2 [] (fact.Bnd (numbered 2) i)
 two_steps i =
-    let first = drawn 1 (from_to 0 1) refl (next (slot.Bnd (numbered 0)) (fact.Bnd (numbered 0) i) refl (given (inl (0, omega arith, refl))) none) refl in
-    drawn 0 (from_to 1 2) refl (next (slot.Bnd (numbered 1)) (fact.Bnd (numbered 1) i) refl first none) refl
+    let first = drawn 1 (from_to 0 1) refl (next (slot.Bnd (numbered 0))
+    (fact.Bnd (numbered 0) i) refl (given (inl (0, omega arith, refl))) none) refl in
+    drawn 0 (from_to 1 2) refl
+    (next (slot.Bnd (numbered 1)) (fact.Bnd (numbered 1) i) refl first none) refl
 
 -- A child has its piece with no round, and goes on from what is known at its parent.
-piece_known : (i j : Interval) → Known (carried i) 0 ((numbered 3, j) ∷ []) (fact.Bnd (numbered 3) j)
+piece_known : (i j : Interval)
+    → Known (carried i) 0 ((numbered 3, j) ∷ []) (fact.Bnd (numbered 3) j)
 piece_known i j = given (inr (inl refl))
 
-child_goes_on : (i j : Interval) → Known (carried i) 1 ((numbered 3, j) ∷ []) (fact.Bnd (numbered 2) i)
-child_goes_on i j = drawn 0 (from_to 1 2) refl (next (slot.Bnd (numbered 1)) (fact.Bnd (numbered 1) i) refl (given (inr (inr (one_step i)))) none) refl
+child_goes_on : (i j : Interval)
+    → Known (carried i) 1 ((numbered 3, j) ∷ []) (fact.Bnd (numbered 2) i)
+child_goes_on i j = drawn 0 (from_to 1 2) refl (next (slot.Bnd (numbered 1))
+    (fact.Bnd (numbered 1) i) refl (given (inr (inr (one_step i)))) none) refl
 
 -- ---- what settles a goal
 line_is_no_answer : (x : ExprId) → answers Ask (Some (fact.Bnd x whole_interval)) ≡ false
 line_is_no_answer x = refl
 
-line_is_inside_the_line : (x : ExprId) → answers (Inside (Some whole_interval)) (Some (fact.Bnd x whole_interval)) ≡ true
+line_is_inside_the_line : (x : ExprId)
+    → answers (Inside (Some whole_interval)) (Some (fact.Bnd x whole_interval)) ≡ true
 line_is_inside_the_line x = refl
 
-crossing_bounds_hold_nothing : (x : ExprId) (i : Interval) → answers (Inside None) (Some (fact.Bnd x i)) ≡ false
+crossing_bounds_hold_nothing : (x : ExprId) (i : Interval)
+    → answers (Inside None) (Some (fact.Bnd x i)) ≡ false
 crossing_bounds_hold_nothing x i = refl
 
 zeros_settle_all : (x y : ExprId) → answers (Inside None) (Some (fact.Rel x y None)) ≡ true
@@ -108,10 +122,12 @@ void_goes_first goals = refl
 abbrev blank : At
 blank s = None
 
-one_premise_is_enough : is_touched blank zeros (slot.Void ∷ slot.Rel (numbered 1) (numbered 2) ∷ []) ≡ true
+one_premise_is_enough : is_touched blank zeros
+    (slot.Void ∷ slot.Rel (numbered 1) (numbered 2) ∷ []) ≡ true
 one_premise_is_enough = refl
 
-others_are_not : is_touched blank zeros (slot.Void ∷ slot.Rel (numbered 2) (numbered 1) ∷ []) ≡ false
+others_are_not : is_touched blank zeros
+    (slot.Void ∷ slot.Rel (numbered 2) (numbered 1) ∷ []) ≡ false
 others_are_not = refl
 
 no_premises_are_not : is_touched blank zeros [] ≡ false

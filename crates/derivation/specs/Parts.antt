@@ -24,13 +24,20 @@ none_some a o e f = let h : None ≡ Some a = sym e ∙ f in cc
 
 -- ---- slots
 expr_cases : (x y : ExprId) → (x ≡ y) ⊎ (x ≢ y)
-expr_cases x y = elim (eqb_tells x.0 y.0) [ inl e ↦ inl (ap (λ n. record { 0 = n }) e.1) | inr e ↦ inr (λ q. e.1 (ap (λ (z : ExprId). z.0) q)) ]
+expr_cases x y = elim (eqb_tells x.0 y.0) [
+  | inl e ↦ inl (ap (λ n. record { 0 = n }) e.1)
+  | inr e ↦ inr (λ q. e.1 (ap (λ (z : ExprId). z.0) q))
+]
 
 pub slot_cases : (s t : Slot) → (s ≡ t) ⊎ (s ≢ t)
-slot_cases (slot.Bnd x) (slot.Bnd y) = elim (expr_cases x y) [ inl e ↦ inl (ap slot.Bnd e) | inr e ↦ inr (λ q. e (let d : x ≡ y = cc in d)) ]
-slot_cases (slot.Abs x) (slot.Abs y) = elim (expr_cases x y) [ inl e ↦ inl (ap slot.Abs e) | inr e ↦ inr (λ q. e (let d : x ≡ y = cc in d)) ]
-slot_cases (slot.Fix x) (slot.Fix y) = elim (expr_cases x y) [ inl e ↦ inl (ap slot.Fix e) | inr e ↦ inr (λ q. e (let d : x ≡ y = cc in d)) ]
-slot_cases (slot.Nzr x) (slot.Nzr y) = elim (expr_cases x y) [ inl e ↦ inl (ap slot.Nzr e) | inr e ↦ inr (λ q. e (let d : x ≡ y = cc in d)) ]
+slot_cases (slot.Bnd x) (slot.Bnd y) = elim (expr_cases x y)
+    [ inl e ↦ inl (ap slot.Bnd e) | inr e ↦ inr (λ q. e (let d : x ≡ y = cc in d)) ]
+slot_cases (slot.Abs x) (slot.Abs y) = elim (expr_cases x y)
+    [ inl e ↦ inl (ap slot.Abs e) | inr e ↦ inr (λ q. e (let d : x ≡ y = cc in d)) ]
+slot_cases (slot.Fix x) (slot.Fix y) = elim (expr_cases x y)
+    [ inl e ↦ inl (ap slot.Fix e) | inr e ↦ inr (λ q. e (let d : x ≡ y = cc in d)) ]
+slot_cases (slot.Nzr x) (slot.Nzr y) = elim (expr_cases x y)
+    [ inl e ↦ inl (ap slot.Nzr e) | inr e ↦ inr (λ q. e (let d : x ≡ y = cc in d)) ]
 slot_cases (slot.Rel x p) (slot.Rel y q) =
     elim (expr_cases x y) [
       | inl e ↦ elim (expr_cases p q) [
@@ -57,7 +64,8 @@ stronger_slot g f s n = elim (IsStronger-slot g f s) [ inl e ↦ absurd (n e) | 
 
 module _ (at : At) (proper : IsProper at) (no_void : at slot.Void ≡ None) where
   pub not_void : (s : Slot) (g : Fact) → at s ≡ Some g → ¬ (g ≡ fact.Void)
-  not_void s g e v = none_some g (at slot.Void) no_void (ap at (sym (ap slot_of v) ∙ proper s g e) ∙ e)
+  not_void s g e v =
+      none_some g (at slot.Void) no_void (ap at (sym (ap slot_of v) ∙ proper s g e) ∙ e)
 
   -- what is as strong as a fact, or stronger, stands on its slot
   pub beats_by : (s : Slot) (g f : Fact) → at s ≡ Some g → IsStronger g f → Beats at f
@@ -74,10 +82,12 @@ module _ (at : At) (proper : IsProper at) (no_void : at slot.Void ≡ None) wher
   pub beats_meet : (a b f : Fact) → Beats at a → Beats at b → meet_of a b ≡ Some f → Beats at f
   beats_meet a b f x y m =
       elim (slot_cases (slot_of a) (slot_of b)) [
-        | inr d ↦ absurd (none_some f (meet_of a b) ((meet-none a b).1 (beaten_not_void a x, beaten_not_void b y, d)) m)
+        | inr d ↦ absurd (none_some f (meet_of a b)
+            ((meet-none a b).1 (beaten_not_void a x, beaten_not_void b y, d)) m)
         | inl e ↦
             let same : x.0 ≡ y.0 = some_same x.0 y.0 (at (slot_of a)) x.1 (ap at e ∙ y.1) in
-            beats_by (slot_of a) x.0 f x.1 (IsStronger-meet x.0 a b f x.2 (subst (λ g. IsStronger g b) (sym same) y.2) m)
+            beats_by (slot_of a) x.0 f x.1
+            (IsStronger-meet x.0 a b f x.2 (subst (λ g. IsStronger g b) (sym same) y.2) m)
       ]
 
 -- ---- what an instance reads
@@ -87,28 +97,34 @@ all_reads at [] (p ∷ ps) e = cc
 all_reads at (s ∷ ss) ps e =
     at_option (at s) (λ o. at s ≡ o → with_first o (all_at at ss) ≡ Some ps → Reads at (s ∷ ss) ps)
     (λ n q w. cc)
-    (λ p n q w. at_option (all_at at ss) (λ o. all_at at ss ≡ o → with_first (Some p) o ≡ Some ps → Reads at (s ∷ ss) ps)
+    (λ p n q w. at_option (all_at at ss) (λ o. all_at at ss ≡ o
+    → with_first (Some p) o ≡ Some ps → Reads at (s ∷ ss) ps)
     (λ m r v. cc)
-    (λ qs m r v. let d : p ∷ qs ≡ ps = cc in let P : List Fact → Type 0 = λ l. Reads at (s ∷ ss) l in subst P d (q, all_reads at ss qs r))
+    (λ qs m r v. let d : p ∷ qs ≡ ps = cc in
+    let P : List Fact → Type 0 = λ l. Reads at (s ∷ ss) l in subst P d (q, all_reads at ss qs r))
     refl w)
     refl e
 
-pub reads_all : (at : At) (ss : List Slot) (ps : List Fact) → Reads at ss ps → all_at at ss ≡ Some ps
+pub reads_all : (at : At) (ss : List Slot) (ps : List Fact) → Reads at ss ps
+    → all_at at ss ≡ Some ps
 reads_all at [] [] r = refl
 reads_all at (s ∷ ss) (p ∷ ps) r = rw (r.0, reads_all at ss ps r.1)
 reads_all at [] (p ∷ ps) r = absurd r
 reads_all at (s ∷ ss) [] r = absurd r
 
 -- a conclusion has its premises
-pub conclusion_reads : (rules : RuleList) (at : At) (i : Instance) (c : Fact) → conclusion rules at i ≡ Some c →
-    (ps : List Fact) × Reads at i.premises ps × (rules i.rule i.arg ps i.target ≡ Some c)
+pub conclusion_reads : (rules : RuleList) (at : At) (i : Instance) (c : Fact)
+    → conclusion rules at i ≡ Some c
+    → (ps : List Fact) × Reads at i.premises ps × (rules i.rule i.arg ps i.target ≡ Some c)
 conclusion_reads rules at i c e =
     at_option (all_at at i.premises)
-    (λ o. all_at at i.premises ≡ o → concluded rules i o ≡ Some c → (ps : List Fact) × Reads at i.premises ps × (rules i.rule i.arg ps i.target ≡ Some c))
+    (λ o. all_at at i.premises ≡ o → concluded rules i o ≡ Some c
+    → (ps : List Fact) × Reads at i.premises ps × (rules i.rule i.arg ps i.target ≡ Some c))
     (λ n q w. cc)
     (λ ps n q w. (ps, all_reads at i.premises ps q, w))
     refl e
 
-pub reads_conclusion : (rules : RuleList) (at : At) (i : Instance) (ps : List Fact) (c : Fact) → Reads at i.premises ps →
-    rules i.rule i.arg ps i.target ≡ Some c → conclusion rules at i ≡ Some c
+pub reads_conclusion : (rules : RuleList) (at : At) (i : Instance) (ps : List Fact) (c : Fact)
+    → Reads at i.premises ps
+    → rules i.rule i.arg ps i.target ≡ Some c → conclusion rules at i ≡ Some c
 reads_conclusion rules at i ps c r e = ap (concluded rules i) (reads_all at i.premises ps r) ∙ e

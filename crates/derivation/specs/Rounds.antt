@@ -61,19 +61,23 @@ pub record Improves (at new : At) (c k : Fact) : Type 0 where
 -- a fact of the table, a conclusion from it, or a meet of such
 pub data Made (u : Setting) (at : At) : Fact → Type 0 where
   old : {f : Fact} (s : Slot) → at s ≡ Some f → Made u at f
-  concluded_by : {f : Fact} (k : ℕ) (i : Instance) → slice_get u.instances k ≡ Some i → conclusion u.rules at i ≡ Some f → Made u at f
+  concluded_by : {f : Fact} (k : ℕ) (i : Instance) → slice_get u.instances k ≡ Some i
+      → conclusion u.rules at i ≡ Some f → Made u at f
   meets : {f : Fact} (a b : Fact) → Made u at a → Made u at b → meet_of a b ≡ Some f → Made u at f
 
 -- no slot has lost strength
 abbrev pub Grows : At → At → Type 0
-Grows at new = (s : Slot) (f : Fact) → at s ≡ Some f → (g : Fact) × (new s ≡ Some g) × IsStronger g f
+Grows at new = (s : Slot) (f : Fact) → at s ≡ Some f
+    → (g : Fact) × (new s ≡ Some g) × IsStronger g f
 
--- The new table during a round over the old one: what it has was made, and it beats what the instances that were seen conclude.
+-- The new table during a round over the old one: what it has was made, and it beats what the
+-- instances that were seen conclude.
 pub record IsAhead (u : Setting) (at new : At) (Seen : ℕ → Type 0) : Type 0 where
   pub made : (s : Slot) (f : Fact) → new s ≡ Some f → (slot_of f ≡ s) × Made u at f
   pub grows : new slot.Void ≡ None → Grows at new
-  pub beats : new slot.Void ≡ None → (k : ℕ) (i : Instance) (c : Fact) → slice_get u.instances k ≡ Some i → Seen k →
-      conclusion u.rules at i ≡ Some c → Beats new c
+  pub beats : new slot.Void ≡ None → (k : ℕ) (i : Instance) (c : Fact)
+      → slice_get u.instances k ≡ Some i → Seen k
+      → conclusion u.rules at i ≡ Some c → Beats new c
 
 -- each instance was seen
 abbrev pub AllSeen : ℕ → Type 0

@@ -18,14 +18,19 @@ pub data State : Type 0 where
   unsettled : ℕ → State
 
 -- goal k is there and isn't met, and each goal before it is
-pub record IsFirstUnmet (u : Setting) (goals : List Goal) (height : ℕ) (pieces : List Piece) (k : ℕ) : Type 0 where
+pub record IsFirstUnmet (u : Setting) (goals : List Goal) (height : ℕ)
+    (pieces : List Piece) (k : ℕ) : Type 0 where
   pub goal : Goal
   pub there : slice_get goals k ≡ Some goal
   pub unmet : ¬ IsMet u height pieces goal
-  pub before : (j : ℕ) (earlier : Goal) → j < k → slice_get goals j ≡ Some earlier → IsMet u height pieces earlier
+  pub before : (j : ℕ) (earlier : Goal) → j < k → slice_get goals j ≡ Some earlier
+      → IsMet u height pieces earlier
 
--- The box comes to this: VOID is known; or it isn't and each goal is met; or it isn't and k is the least goal that isn't met.
+-- The box comes to this: VOID is known; or it isn't and each goal is met; or it isn't and k is the
+-- least goal that isn't met.
 abbrev pub IsState : Setting → List Goal → ℕ → List Piece → State → Type 0
 IsState u goals height pieces void = Known u height pieces fact.Void
-IsState u goals height pieces settled = (¬ Known u height pieces fact.Void) × ((k : ℕ) (goal : Goal) → slice_get goals k ≡ Some goal → IsMet u height pieces goal)
-IsState u goals height pieces (unsettled k) = (¬ Known u height pieces fact.Void) × IsFirstUnmet u goals height pieces k
+IsState u goals height pieces settled = (¬ Known u height pieces fact.Void)
+    × ((k : ℕ) (goal : Goal) → slice_get goals k ≡ Some goal → IsMet u height pieces goal)
+IsState u goals height pieces (unsettled k) = (¬ Known u height pieces fact.Void)
+    × IsFirstUnmet u goals height pieces k

@@ -29,25 +29,31 @@ use Rattle.derivation.specs.Best.{best_proper}
 use Rattle.goals.specs.facts.CommonParts.{at_option, void_is}
 
 -- ---- best tables agree
-best_below : (u : Setting) (G : Fact → Type 0) (h : ℕ) (at new : Slot → Option Fact) → IsBest u G h at → IsBest u G h new → new slot.Void ≡ None → (s : Slot) (f : Fact) → at s ≡ Some f →
-    (g : Fact) × (new s ≡ Some g) × IsStronger g f
+best_below : (u : Setting) (G : Fact → Type 0) (h : ℕ) (at new : Slot → Option Fact)
+    → IsBest u G h at → IsBest u G h new → new slot.Void ≡ None
+    → (s : Slot) (f : Fact) → at s ≡ Some f
+    → (g : Fact) × (new s ≡ Some g) × IsStronger g f
 best_below u G h at new b c v s f e =
     let r = b.reached s f e in
     let y = c.least v f r.1 in
     (y.0, ap new (sym r.0) ∙ y.1, y.2)
 
 -- VOID is in both of two best tables, or in none
-void_agrees : (u : Setting) (G : Fact → Type 0) (h : ℕ) (at new : Slot → Option Fact) → IsBest u G h at → IsBest u G h new → at slot.Void ≡ None → new slot.Void ≡ None
+void_agrees : (u : Setting) (G : Fact → Type 0) (h : ℕ) (at new : Slot → Option Fact)
+    → IsBest u G h at → IsBest u G h new → at slot.Void ≡ None → new slot.Void ≡ None
 void_agrees u G h at new b c v =
     at_option (new slot.Void) (λ o. new slot.Void ≡ o → new slot.Void ≡ None) (λ n q. q)
-    (λ f n q. let y = best_below u G h new at c b v slot.Void f q in absurd (none_some y.0 (at slot.Void) v y.1)) refl
+    (λ f n q. let y = best_below u G h new at c b v slot.Void f q in
+    absurd (none_some y.0 (at slot.Void) v y.1)) refl
 
 -- Where VOID isn't, two best tables have the same facts.
-pub best_once : (u : Setting) (G : Fact → Type 0) (h : ℕ) (at new : Slot → Option Fact) → IsBest u G h at → IsBest u G h new → at slot.Void ≡ None → IsSame at new
+pub best_once : (u : Setting) (G : Fact → Type 0) (h : ℕ) (at new : Slot → Option Fact)
+    → IsBest u G h at → IsBest u G h new → at slot.Void ≡ None → IsSame at new
 best_once u G h at new b c v s =
     at_option (at s) (λ o. at s ≡ o → new s ≡ at s)
     (λ n q. at_option (new s) (λ o. new s ≡ o → new s ≡ at s) (λ m w. w ∙ sym q)
-    (λ g m w. let y = best_below u G h new at c b v s g w in absurd (none_some y.0 (at s) q y.1)) refl)
+    (λ g m w. let y = best_below u G h new at c b v s g w in
+    absurd (none_some y.0 (at s) q y.1)) refl)
     (λ f n q.
     let x = best_below u G h at new b c (void_agrees u G h at new b c v) s f q in
     let y = best_below u G h new at c b v s x.0 x.1 in
@@ -68,19 +74,27 @@ meets_in Ask i e =
     let h = number_in (range_of i).high t.1 in
     (l.0, h.0, l.1, h.1)
 meets_in (Inside (Some b)) i e =
-    let t = and_parts (le_bound (range_of b).low (range_of i).low) (le_bound (range_of i).high (range_of b).high) e in
-    (BoundLe_in (range_of b).low (range_of i).low t.0, BoundLe_in (range_of i).high (range_of b).high t.1)
+    let t = and_parts (le_bound (range_of b).low (range_of i).low)
+    (le_bound (range_of i).high (range_of b).high) e in (
+      BoundLe_in (range_of b).low (range_of i).low t.0,
+      BoundLe_in (range_of i).high (range_of b).high t.1,
+    )
 meets_in (Inside None) i e = cc
 
 meets_out : (want : Want) (i : Interval) → IsWanted want i → meets want i ≡ true
-meets_out Ask i m = and_from (is_number (range_of i).low) (is_number (range_of i).high) (ap is_number m.2) (ap is_number m.3)
-meets_out (Inside (Some b)) i m = and_from (le_bound (range_of b).low (range_of i).low) (le_bound (range_of i).high (range_of b).high)
-    (BoundLe_out (range_of b).low (range_of i).low m.0) (BoundLe_out (range_of i).high (range_of b).high m.1)
+meets_out Ask i m = and_from (is_number (range_of i).low) (is_number (range_of i).high)
+    (ap is_number m.2) (ap is_number m.3)
+meets_out (Inside (Some b)) i m = and_from (le_bound (range_of b).low (range_of i).low)
+    (le_bound (range_of i).high (range_of b).high)
+    (BoundLe_out (range_of b).low (range_of i).low m.0)
+    (BoundLe_out (range_of i).high (range_of b).high m.1)
 meets_out (Inside None) i m = absurd m
 
-answers_in : (want : Want) (o : Option Fact) → answers want o ≡ true → (f : Fact) × (o ≡ Some f) × Answers want f
+answers_in : (want : Want) (o : Option Fact) → answers want o ≡ true
+    → (f : Fact) × (o ≡ Some f) × Answers want f
 answers_in want (Some (fact.Bnd x i)) e = (fact.Bnd x i, refl, meets_in want i e)
-answers_in want (Some (fact.Rel x y (Some d))) e = (fact.Rel x y (Some d), refl, meets_in want d.interval e)
+answers_in want (Some (fact.Rel x y (Some d))) e =
+    (fact.Rel x y (Some d), refl, meets_in want d.interval e)
 answers_in want (Some (fact.Rel x y None)) e = (fact.Rel x y None, refl, tt)
 answers_in want (Some (fact.Abs x i)) e = cc
 answers_in want (Some (fact.Fix x k)) e = cc
@@ -98,7 +112,8 @@ answers_out want (fact.Nzr x) a = absurd a
 answers_out want fact.Void a = absurd a
 
 -- a test of what answers a want
-pub answers_test : (want : Want) (f : Fact) (b : Bool) → (IsTrue b ↔ Answers want f) → b ≡ answers want (Some f)
+pub answers_test : (want : Want) (f : Fact) (b : Bool) → (IsTrue b ↔ Answers want f)
+    → b ≡ answers want (Some f)
 answers_test want f true t = sym (answers_out want f (t.0 refl))
 answers_test want f false t = at_test (answers want (Some f)) refl
   where
@@ -111,7 +126,8 @@ answers_test want f false t = at_test (answers want (Some f)) refl
         cc
 
 -- ---- goals
-module _ (stronger : StrongerSettles) (u : Setting) (height : ℕ) (pieces : List Piece) (at : Slot → Option Fact) (b : IsTableAt u height pieces at) where
+module _ (stronger : StrongerSettles) (u : Setting) (height : ℕ) (pieces : List Piece)
+    (at : Slot → Option Fact) (b : IsTableAt u height pieces at) where
   met_in : (goal : Goal) → is_met at goal ≡ true → IsMet u height pieces goal
   met_in goal e =
       let t = answers_in goal.want (at goal.of) e in
@@ -121,8 +137,10 @@ module _ (stronger : StrongerSettles) (u : Setting) (height : ℕ) (pieces : Lis
   met_out : at slot.Void ≡ None → (goal : Goal) → IsMet u height pieces goal → is_met at goal ≡ true
   met_out v goal m =
       let y = b.least v m.0 m.1 in
-      let n = not_void at (best_proper u (GivenAt u height pieces) height at b) v (slot_of m.0) y.0 y.1 in
-      let s : Settles goal y.0 = elim (stronger goal m.0 y.0 m.2 y.2) [ inl e ↦ absurd (n e) | inr r ↦ r ] in
+      let n = not_void at (best_proper u (GivenAt u height pieces) height at b) v
+      (slot_of m.0) y.0 y.1 in
+      let s : Settles goal y.0 =
+      elim (stronger goal m.0 y.0 m.2 y.2) [ inl e ↦ absurd (n e) | inr r ↦ r ] in
       ap (answers goal.want) (ap at (sym m.2.0) ∙ y.1) ∙ answers_out goal.want y.0 s.1
 
   void_out : Known u height pieces fact.Void → at slot.Void ≡ None → ⊥
@@ -130,14 +148,17 @@ module _ (stronger : StrongerSettles) (u : Setting) (height : ℕ) (pieces : Lis
 
   -- what the search for the least goal finds
   abbrev Found : List Goal → Option ℕ → Type 0
-  Found goals None = (k : ℕ) (goal : Goal) → slice_get goals k ≡ Some goal → IsMet u height pieces goal
+  Found goals None = (k : ℕ) (goal : Goal) → slice_get goals k ≡ Some goal
+      → IsMet u height pieces goal
   Found goals (Some k) = IsFirstUnmet u goals height pieces k
 
-  all_later : (goal : Goal) (goals : List Goal) → IsMet u height pieces goal → Found goals None → (k : ℕ) (g : Goal) → slice_get (goal ∷ goals) k ≡ Some g → IsMet u height pieces g
+  all_later : (goal : Goal) (goals : List Goal) → IsMet u height pieces goal → Found goals None
+      → (k : ℕ) (g : Goal) → slice_get (goal ∷ goals) k ≡ Some g → IsMet u height pieces g
   all_later goal goals m f zero g e = subst (IsMet u height pieces) (let h : goal ≡ g = cc in h) m
   all_later goal goals m f (suc k) g e = f k g e
 
-  found_later : (goal : Goal) (goals : List Goal) (o : Option ℕ) → IsMet u height pieces goal → Found goals o → Found (goal ∷ goals) (one_later o)
+  found_later : (goal : Goal) (goals : List Goal) (o : Option ℕ) → IsMet u height pieces goal
+      → Found goals o → Found (goal ∷ goals) (one_later o)
   found_later goal goals None m f = all_later goal goals m f
   found_later goal goals (Some k) m f = record {
     goal = f.goal;
@@ -146,7 +167,8 @@ module _ (stronger : StrongerSettles) (u : Setting) (height : ℕ) (pieces : Lis
     before = earlier;
   }
     where
-      earlier : (j : ℕ) (g : Goal) → j < suc k → slice_get (goal ∷ goals) j ≡ Some g → IsMet u height pieces g
+      earlier : (j : ℕ) (g : Goal) → j < suc k → slice_get (goal ∷ goals) j ≡ Some g
+          → IsMet u height pieces g
       earlier zero g l e = subst (IsMet u height pieces) (let h : goal ≡ g = cc in h) m
       earlier (suc j) g l e = f.before j g (omega arith) e
 
@@ -154,7 +176,8 @@ module _ (stronger : StrongerSettles) (u : Setting) (height : ℕ) (pieces : Lis
   found v [] = λ k goal e. cc
   found v (goal ∷ goals) = at_test (is_met at goal) refl (found v goals)
     where
-      at_test : (t : Bool) → is_met at goal ≡ t → Found goals (first_unmet at goals) → Found (goal ∷ goals) (if t then one_later (first_unmet at goals) else Some zero)
+      at_test : (t : Bool) → is_met at goal ≡ t → Found goals (first_unmet at goals)
+          → Found (goal ∷ goals) (if t then one_later (first_unmet at goals) else Some zero)
       at_test true e f = found_later goal goals (first_unmet at goals) (met_in goal e) f
       at_test false e f = record {
         goal = goal;
@@ -166,31 +189,41 @@ module _ (stronger : StrongerSettles) (u : Setting) (height : ℕ) (pieces : Lis
   -- The best table decides what the box comes to.
   pub state_in-is : (goals : List Goal) → IsState u goals height pieces (state_in at goals)
   state_in-is goals =
-      at_option (at slot.Void) (λ o. at slot.Void ≡ o → IsState u goals height pieces (state_by o (first_unmet at goals)))
+      at_option (at slot.Void) (λ o. at slot.Void ≡ o
+      → IsState u goals height pieces (state_by o (first_unmet at goals)))
       (λ n e. by_goals e (first_unmet at goals) (found e goals))
-      (λ f n e. let r = b.reached slot.Void f e in subst (Known u height pieces) (void_is f r.0) r.1)
+      (λ f n e. let r = b.reached slot.Void f e in
+      subst (Known u height pieces) (void_is f r.0) r.1)
       refl
     where
-      by_goals : at slot.Void ≡ None → (o : Option ℕ) → Found goals o → IsState u goals height pieces (state_by None o)
+      by_goals : at slot.Void ≡ None → (o : Option ℕ) → Found goals o
+          → IsState u goals height pieces (state_by None o)
       by_goals e None f = (λ k. void_out k e, f)
       by_goals e (Some k) f = (λ w. void_out w e, f)
 
 -- ---- one thing alone
-unmet_once : (u : Setting) (goals : List Goal) (height : ℕ) (pieces : List Piece) (j k : ℕ) → IsFirstUnmet u goals height pieces j → IsFirstUnmet u goals height pieces k → ¬ (j < k)
+unmet_once : (u : Setting) (goals : List Goal) (height : ℕ) (pieces : List Piece) (j k : ℕ)
+    → IsFirstUnmet u goals height pieces j → IsFirstUnmet u goals height pieces k → ¬ (j < k)
 unmet_once u goals height pieces j k f g l = f.unmet (g.before j f.goal l f.there)
 
 -- A box comes to one thing alone.
-pub state_once : (u : Setting) (goals : List Goal) (height : ℕ) (pieces : List Piece) (s t : State) → IsState u goals height pieces s → IsState u goals height pieces t → s ≡ t
+pub state_once : (u : Setting) (goals : List Goal) (height : ℕ) (pieces : List Piece) (s t : State)
+    → IsState u goals height pieces s → IsState u goals height pieces t → s ≡ t
 state_once u goals height pieces void void p q = refl
 state_once u goals height pieces settled settled p q = refl
 state_once u goals height pieces (unsettled j) (unsettled k) p q =
     elim (cases_lt j k) [
       | inl l ↦ absurd (unmet_once u goals height pieces j k p.1 q.1 l)
-      | inr l ↦ elim (cases_lt k j) [ inl m ↦ absurd (unmet_once u goals height pieces k j q.1 p.1 m) | inr m ↦ ap unsettled (let h : j ≡ k = omega arith in h) ]
+      | inr l ↦ elim (cases_lt k j) [
+        | inl m ↦ absurd (unmet_once u goals height pieces k j q.1 p.1 m)
+        | inr m ↦ ap unsettled (let h : j ≡ k = omega arith in h)
+      ]
     ]
 state_once u goals height pieces void settled p q = absurd (q.0 p)
 state_once u goals height pieces void (unsettled k) p q = absurd (q.0 p)
 state_once u goals height pieces settled void p q = absurd (p.0 q)
 state_once u goals height pieces (unsettled k) void p q = absurd (p.0 q)
-state_once u goals height pieces settled (unsettled k) p q = absurd (q.1.unmet (p.1 k q.1.goal q.1.there))
-state_once u goals height pieces (unsettled k) settled p q = absurd (p.1.unmet (q.1 k p.1.goal p.1.there))
+state_once u goals height pieces settled (unsettled k) p q =
+    absurd (q.1.unmet (p.1 k q.1.goal q.1.there))
+state_once u goals height pieces (unsettled k) settled p q =
+    absurd (p.1.unmet (q.1 k p.1.goal p.1.there))

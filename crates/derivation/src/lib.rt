@@ -1,4 +1,5 @@
-//! Derivations of facts from rules, what is known at a box, and what the box comes to: definitions and laws.
+//! Derivations of facts from rules, what is known at a box, and what the box comes to: definitions
+//! and laws.
 #![tactic(auto)]
 
 // What callers name of the crates below.

@@ -17,13 +17,15 @@ use Rattle.dyadic.specs.Odd.{above, odd_lowest}
 abbrev pub IsReduced : ℤ → ℤ → Type 0
 IsReduced m e = ((m ≡ pos 0) × (e ≡ pos 0)) ⊎ (unsigned_abs m % 2 ≡ 1)
 
--- m is odd or the number is 0 * 2^0, |m| < 2^60, and the number is on the grid: where its place is above 512, m has fewer digits.
+-- m is odd or the number is 0 * 2^0, |m| < 2^60, and the number is on the grid: where its place is
+-- above 512, m has fewer digits.
 pub record IsCanonical (mantissa exponent : ℤ) : Type 0 where
   pub form : IsReduced mantissa exponent
   pub size : unsigned_abs mantissa < 1152921504606846976
   pub lowest : negsuc 511 ≤ℤ exponent
   pub highest : exponent ≤ℤ pos 571
-  pub room : (k : ℕ) → exponent ≡ pos (512 + k) → unsigned_abs mantissa * 2 ^ k < 1152921504606846976
+  pub room : (k : ℕ) → exponent ≡ pos (512 + k)
+      → unsigned_abs mantissa * 2 ^ k < 1152921504606846976
 
 -- ---- a number has it in one way
 exclusive : {A B : Type 0} → IsProp A → IsProp B → (A → B → ⊥) → IsProp (A ⊎ B)
@@ -33,7 +35,8 @@ exclusive p q n (inr a) (inl b) = absurd (n b a)
 exclusive p q n (inr a) (inr b) = ap inr (q a b)
 
 IsReduced-prop : (m e : ℤ) → IsProp (IsReduced m e)
-IsReduced-prop m e = exclusive (hlevel ℤ_set) (hlevel ℕ_set) (λ z o. let a : unsigned_abs m ≡ 0 = ap unsigned_abs z.0 in absurd (omega arith))
+IsReduced-prop m e = exclusive (hlevel ℤ_set) (hlevel ℕ_set)
+    (λ z o. let a : unsigned_abs m ≡ 0 = ap unsigned_abs z.0 in absurd (omega arith))
 
 pub IsCanonical-prop : (m e : ℤ) → IsProp (IsCanonical m e)
 IsCanonical-prop m e = hlevel (IsReduced-prop, le_prop, T_prop)
@@ -53,7 +56,8 @@ canonical_on_grid m e c = by_lt_z e (pos 513)
     (λ l. let g = above e (pos 512) (omega (arith, ints)) in
     let s = c.room g.0 (let q = g.1 in omega (arith, ints)) in
     let t = unsigned_abs-mul m (pos (2 ^ g.0)) in
-    let size : unsigned_abs (m *ℤ pos (2 ^ g.0)) < 1152921504606846976 = omega (arith, ints) in record {
+    let size : unsigned_abs (m *ℤ pos (2 ^ g.0)) < 1152921504606846976 =
+    omega (arith, ints) in record {
       mantissa = m *ℤ pos (2 ^ g.0);
       exponent = pos 512;
       above = omega (arith, ints);
@@ -70,37 +74,57 @@ module _ (m e : ℤ) (is_odd : unsigned_abs m % 2 ≡ 1) (g : IsOnGrid (scaled m
 
   within : unsigned_abs m * 2 ^ parts.0 < 1152921504606846976
   within = let p = parts in let a = g.above in let b = g.below in
-      let s : unsigned_abs g.mantissa ≡ unsigned_abs m * 2 ^ p.0 = ap unsigned_abs p.2 ∙ unsigned_abs-mul m (pos (2 ^ p.0)) in omega (arith, ints)
+      let s : unsigned_abs g.mantissa ≡ unsigned_abs m * 2 ^ p.0 =
+      ap unsigned_abs p.2 ∙ unsigned_abs-mul m (pos (2 ^ p.0)) in omega (arith, ints)
 
   few : parts.0 < 60
-  few = ⊎_elim (λ l. l) (λ l. let p : 2 ^ 60 ≤ 2 ^ parts.0 = pow-le-pow_right {n = 2} (lit≤ tt) {i = 60} {j = parts.0} l in
-      let q : 1 * 2 ^ parts.0 ≤ unsigned_abs m * 2 ^ parts.0 = mul-le-mul_right (2 ^ parts.0) (omega arith) in let w = within in absurd (omega arith)) (cases_lt parts.0 60)
+  few = ⊎_elim (λ l. l) (λ l. let p : 2 ^ 60 ≤ 2 ^ parts.0 =
+      pow-le-pow_right {n = 2} (lit≤ tt) {i = 60} {j = parts.0} l in
+      let q : 1 * 2 ^ parts.0 ≤ unsigned_abs m * 2 ^ parts.0 = mul-le-mul_right (2 ^ parts.0)
+      (omega arith) in let w = within in absurd (omega arith)) (cases_lt parts.0 60)
 
   small : unsigned_abs m < 1152921504606846976
-  small = let p : unsigned_abs m * 1 ≤ unsigned_abs m * 2 ^ parts.0 = mul-le-mul_left (unsigned_abs m) (pow_pos parts.0) in let w = within in omega arith
+  small = let p : unsigned_abs m * 1 ≤ unsigned_abs m * 2 ^ parts.0 =
+      mul-le-mul_left (unsigned_abs m) (pow_pos parts.0) in let w = within in omega arith
 
   fits : (k : ℕ) → e ≡ pos (512 + k) → unsigned_abs m * 2 ^ k < 1152921504606846976
   fits k h = let p = parts in let l = g.highest in let w = within in
       let j : k ≤ p.0 = omega (arith, ints) in
-      let q : unsigned_abs m * 2 ^ k ≤ unsigned_abs m * 2 ^ p.0 = mul-le-mul_left (unsigned_abs m) (pow-le-pow_right {n = 2} (lit≤ tt) {i = k} {j = p.0} j) in omega arith
+      let q : unsigned_abs m * 2 ^ k ≤ unsigned_abs m * 2 ^ p.0 = mul-le-mul_left (unsigned_abs m)
+      (pow-le-pow_right {n = 2} (lit≤ tt) {i = k} {j = p.0} j) in omega arith
 
   pub odd_canonical : IsCanonical m e
   odd_canonical = let p = parts in let l = g.lowest in let h = g.highest in let f = few in
-      record { form = inr is_odd; size = small; lowest = omega (arith, ints); highest = omega (arith, ints); room = fits }
+      record {
+        form = inr is_odd;
+        size = small;
+        lowest = omega (arith, ints);
+        highest = omega (arith, ints);
+        room = fits;
+      }
 
 pub zero_canonical : IsCanonical (pos 0) (pos 0)
-zero_canonical = record { form = inl (refl, refl); size = omega arith; lowest = omega (arith, ints); highest = omega (arith, ints); room = λ k h. absurd (omega (arith, ints)) }
+zero_canonical = record {
+  form = inl (refl, refl);
+  size = omega arith;
+  lowest = omega (arith, ints);
+  highest = omega (arith, ints);
+  room = λ k h. absurd (omega (arith, ints));
+}
 
 -- ---- a number in this form is determined by its value
-pub canonical_same : (m e n f : ℤ) → IsCanonical m e → IsCanonical n f → scaled m e ≡ scaled n f → (m ≡ n) × (e ≡ f)
+pub canonical_same : (m e n f : ℤ) → IsCanonical m e → IsCanonical n f
+    → scaled m e ≡ scaled n f → (m ≡ n) × (e ≡ f)
 canonical_same m e n f c d p = ⊎_elim
-    (λ z. ⊎_elim (λ y. (z.0 ∙ sym y.0, z.1 ∙ sym y.1)) (λ o. absurd (zero_not_odd n f m e o z.0 (sym p))) d.form)
+    (λ z. ⊎_elim (λ y. (z.0 ∙ sym y.0, z.1 ∙ sym y.1))
+    (λ o. absurd (zero_not_odd n f m e o z.0 (sym p))) d.form)
     (λ o. ⊎_elim (λ y. absurd (zero_not_odd m e n f o y.0 p)) (λ q. both o q) d.form)
     c.form
   where
     zero_not_odd : (m e n f : ℤ) → unsigned_abs m % 2 ≡ 1 → n ≡ pos 0 → scaled m e ≡ scaled n f → ⊥
     zero_not_odd m e n f o z p =
-        let s : m ≡ pos 0 = scaled-same m (pos 0) e (p ∙ ap (λ n. scaled n f) z ∙ scaled-zero f ∙ sym (scaled-zero e)) in
+        let s : m ≡ pos 0 = scaled-same m (pos 0) e (p ∙ ap (λ n. scaled n f) z ∙ scaled-zero f
+        ∙ sym (scaled-zero e)) in
         let a : unsigned_abs m ≡ 0 = ap unsigned_abs s in omega arith
 
     both : unsigned_abs m % 2 ≡ 1 → unsigned_abs n % 2 ≡ 1 → (m ≡ n) × (e ≡ f)

@@ -16,7 +16,8 @@ pub record IsBetween (a b g : Fraction) : Type 0 where
 
 -- m is (a + b) / 2 rounded down, where that is above a; else, where that is a, rounded up
 abbrev pub IsMiddle : Fraction → Fraction → Fraction → Type 0
-IsMiddle a b m = (IsDown (halfway a b) (At m) × (a <ℚ m)) ⊎ (IsDown (halfway a b) (At a) × IsUp (halfway a b) (At m))
+IsMiddle a b m = (IsDown (halfway a b) (At m) × (a <ℚ m))
+    ⊎ (IsDown (halfway a b) (At a) × IsUp (halfway a b) (At m))
 
 -- ((n - i) * a + i * b) / n
 abbrev pub part_of : Fraction → Fraction → ℕ → ℕ → Fraction

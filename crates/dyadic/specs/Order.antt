@@ -35,7 +35,8 @@ abbrev pub end_cmp : End → End → Ordering
 end_cmp a b = cmp_by le_bound (bound_of a) (bound_of b)
 
 -- ---- a test that is total and transitive gives a total order
-turned : (s t : Bool) → (s ≡ false → t ≡ true) → cond s (cond t Equal Less) Greater ≡ ordering_reverse (cond t (cond s Equal Less) Greater)
+turned : (s t : Bool) → (s ≡ false → t ≡ true)
+    → cond s (cond t Equal Less) Greater ≡ ordering_reverse (cond t (cond s Equal Less) Greater)
 turned true true f = refl
 turned true false f = refl
 turned false true f = refl
@@ -55,24 +56,31 @@ not_true : (s : Bool) → ¬ (s ≡ true) → s ≡ false
 not_true true n = absurd (n refl)
 not_true false n = refl
 
-module _ {K : Type 0} (le : K → K → Bool) (total : (x y : K) → le x y ≡ false → le y x ≡ true) (trans : (x y z : K) → le x y ≡ true → le y z ≡ true → le x z ≡ true) where
+module _ {K : Type 0} (le : K → K → Bool) (total : (x y : K) → le x y ≡ false → le y x ≡ true)
+    (trans : (x y z : K) → le x y ≡ true → le y z ≡ true → le x z ≡ true) where
   chain : (x y z : K) → cmp_by le x y ≡ Less → cmp_by le y z ≡ Less → cmp_by le x z ≡ Less
   chain x y z p q =
       let a = less_out (le x y) (le y x) p in
       let b = less_out (le y z) (le z y) q in
       let h : le x z ≡ true = trans x y z a.0 b.0 in
-      let n : le z x ≡ false = not_true (le z x) (λ t. let e : le z y ≡ true = trans z x y t a.0 in let f : le z y ≡ false = b.1 in absurd (let g : true ≡ false = sym e ∙ f in cc)) in
+      let n : le z x ≡ false = not_true (le z x) (λ t. let e : le z y ≡ true = trans z x y t a.0 in
+      let f : le z y ≡ false = b.1 in absurd (let g : true ≡ false = sym e ∙ f in cc)) in
       cc
 
   alike : (x y z : K) → cmp_by le x y ≡ Equal → cmp_by le x z ≡ cmp_by le y z
   alike x y z p =
       let a = equal_out (le x y) (le y x) p in
       let h : le x z ≡ le y z = both_ways (le x z) (le y z) (trans y x z a.1) (trans x y z a.0) in
-      let k : le z x ≡ le z y = both_ways (le z x) (le z y) (λ t. trans z x y t a.0) (λ t. trans z y x t a.1) in
+      let k : le z x ≡ le z y =
+      both_ways (le z x) (le z y) (λ t. trans z x y t a.0) (λ t. trans z y x t a.1) in
       cc
 
   pub cmp_by_total : IsTotalOrder (cmp_by le)
-  cmp_by_total = record { antisymm = λ x y. turned (le x y) (le y x) (total x y); trans = chain; congr = alike }
+  cmp_by_total = record {
+    antisymm = λ x y. turned (le x y) (le y x) (total x y);
+    trans = chain;
+    congr = alike;
+  }
 
 -- ---- numbers
 fraction_total : (x y : Fraction) → le_ℚ x y ≡ false → le_ℚ y x ≡ true

@@ -7,7 +7,8 @@ use Rattle.dyadic.specs.declared.number.End.{End}
 use Rattle.dyadic.specs.declared.number.End.TheVariants.{Low, At, High}
 
 abbrev pub number_text : Dyadic → List ℕ
-number_text d = if int_eq d.exponent (pos 0) then signed_decimal d.mantissa else signed_decimal d.mantissa ++ codes "b" ++ signed_decimal d.exponent
+number_text d = if int_eq d.exponent (pos 0) then signed_decimal d.mantissa
+    else signed_decimal d.mantissa ++ codes "b" ++ signed_decimal d.exponent
 
 abbrev pub end_text : End → List ℕ
 end_text Low = codes "-inf"

@@ -17,11 +17,18 @@ on_grid d = canonical_on_grid d.mantissa d.exponent d.canonical
 
 -- equal parts make one number
 pub same_parts : (a b : Dyadic) → a.mantissa ≡ b.mantissa → a.exponent ≡ b.exponent → a ≡ b
-same_parts a b p q = λ i. record { mantissa = p i; exponent = q i; canonical = is_prop→PathP (λ i. IsCanonical (p i) (q i)) (λ i. IsCanonical-prop (p i) (q i)) a.canonical b.canonical i }
+same_parts a b p q = λ i. record {
+  mantissa = p i;
+  exponent = q i;
+  canonical = is_prop→PathP (λ i. IsCanonical (p i) (q i))
+      (λ i. IsCanonical-prop (p i) (q i)) a.canonical b.canonical i;
+}
 
 -- equal values are of one and the same number
 pub same_value : (a b : Dyadic) → value_of a ≡ value_of b → a ≡ b
-same_value a b p = let s = canonical_same a.mantissa a.exponent b.mantissa b.exponent a.canonical b.canonical p in same_parts a b s.0 s.1
+same_value a b p =
+    let s = canonical_same a.mantissa a.exponent b.mantissa b.exponent a.canonical b.canonical p in
+    same_parts a b s.0 s.1
 
 -- the number 0
 abbrev pub zero_number : Dyadic

@@ -1,4 +1,5 @@
-// Values rounded down to whole numbers of 64 bits, at places that aren't near the upper end of the grid.
+// Values rounded down to whole numbers of 64 bits, at places that aren't near the upper end of the
+// grid.
 ghost use Rattle.std.specs.Prelude.{◌≡◌, ◌≢◌, ◌⊎◌, ◌≤◌, ◌<◌, ◌*◌, ◌^◌, ◌≤ℤ◌, ◌+ℤ◌, ◌*ℤ◌, pos, negsuc, IfSome};
 ghost use Rattle.std.specs.Int.RustNames.{unsigned_abs};
 ghost use Rattle.std.specs.Int.Signed.{shr_z};
@@ -14,7 +15,8 @@ use crate::products::is_negative;
 use crate::reciprocal::{Lifted, divided};
 use crate::shift::{lowered, raised};
 
-// digits * 2^two, or something between that and the next, where there are more digits than the grid has.
+// digits * 2^two, or something between that and the next, where there are more digits than the grid
+// has.
 #[derive(Clone, Copy)]
 pub struct Floor {
     pub digits: i64,
@@ -204,7 +206,8 @@ impl Floor {
         requires not_zero { 0 < d }
         requires low { negsuc 2999 ≤ℤ two }
         requires high { two ≤ℤ pos 3000 }
-        ensures floor { (x : Fraction) → whole (pos d) *ℚ x ≡ scaled n two → IfSome result (IsFloor x) }
+        ensures floor { (x : Fraction) → whole (pos d) *ℚ x ≡ scaled n two
+            → IfSome result (IsFloor x) }
         ensures long { IfSome result (λ f. IsLong f.digits) }
     {
         let size = n.unsigned_abs();
@@ -220,7 +223,8 @@ impl Floor {
         requires not_zero { 0 < d }
         requires low { negsuc 2999 ≤ℤ two }
         requires high { two ≤ℤ pos 3000 }
-        ensures floor { (x : Fraction) → whole (pos d) *ℚ signed negative x ≡ scaled (pos n) two → IfSome result (IsFloor x) }
+        ensures floor { (x : Fraction) → whole (pos d) *ℚ signed negative x ≡ scaled (pos n) two
+            → IfSome result (IsFloor x) }
         ensures long { IfSome result (λ f. IsLong f.digits) }
     {
         if n == 0 {

@@ -19,7 +19,8 @@ fn down_from(low: Dyadic, value: Signed) -> Dyadic
     requires long { IsLong value.size }
     requires least { negsuc 2999 ≤ℤ value.size.two }
     requires most { value.size.two ≤ℤ pos 3000 }
-    ensures { (x : Fraction) → IsSigned value x → value_of low ≤ℚ x → IsDown x (grid.At (value_of result)) }
+    ensures { (x : Fraction) → IsSigned value x → value_of low ≤ℚ x
+        → IsDown x (grid.At (value_of result)) }
 {
     match round_down(value.negative, value.size) {
         End::At(number) => number,
@@ -33,7 +34,8 @@ fn up_to(high: Dyadic, value: Signed) -> Dyadic
     requires long { IsLong value.size }
     requires least { negsuc 2999 ≤ℤ value.size.two }
     requires most { value.size.two ≤ℤ pos 3000 }
-    ensures { (x : Fraction) → IsSigned value x → x ≤ℚ value_of high → IsUp x (grid.At (value_of result)) }
+    ensures { (x : Fraction) → IsSigned value x → x ≤ℚ value_of high
+        → IsUp x (grid.At (value_of result)) }
 {
     match round_up(value.negative, value.size) {
         End::At(number) => number,
@@ -56,12 +58,13 @@ fn half_sum(a: Dyadic, b: Dyadic) -> Signed
     }
 }
 
-/// The point at which the range from a to b is halved: (a + b) / 2 rounded down where that is above a, else rounded up.
-/// None exactly where no number of the grid lies strictly between a and b.
+/// The point at which the range from a to b is halved: (a + b) / 2 rounded down where that is above
+/// a, else rounded up. None exactly where no number of the grid lies strictly between a and b.
 pub fn halve_between(a: Dyadic, b: Dyadic) -> Option<Dyadic>
     requires { value_of a ≤ℚ value_of b }
     ensures { MatchOption result ((g : Fraction) → ¬ (IsBetween (value_of a) (value_of b) g))
-        (λ m. (IsBetween (value_of a) (value_of b) (value_of m) × IsMiddle (value_of a) (value_of b) (value_of m))) }
+        (λ m. (IsBetween (value_of a) (value_of b) (value_of m)
+        × IsMiddle (value_of a) (value_of b) (value_of m))) }
 {
     let half = half_sum(a, b);
     let lower = down_from(a, half);
@@ -87,7 +90,8 @@ fn times(a: Dyadic, count: u8) -> Term
     }
 }
 
-/// The i-th of the points that cut the range from a to b into n parts: ((n - i) * a + i * b) / n, rounded down.
+/// The i-th of the points that cut the range from a to b into n parts: ((n - i) * a + i * b) / n,
+/// rounded down.
 pub fn part_down(a: Dyadic, b: Dyadic, i: u8, n: u8) -> Dyadic
     requires ordered { value_of a ≤ℚ value_of b }
     requires inside { 0 < i }

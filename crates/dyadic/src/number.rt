@@ -13,7 +13,8 @@ pub use form::{canonical, reduced};
 pub struct Dyadic {
     mantissa: i64,
     exponent: i32,
-    pub ghost canonical: { IsCanonical mantissa exponent } by { IsCanonical-prop mantissa exponent },
+    pub ghost canonical: { IsCanonical mantissa
+        exponent } by { IsCanonical-prop mantissa exponent },
 }
 
 /// An end of an interval: minus infinity, a number of the grid, or plus infinity.
@@ -24,7 +25,8 @@ pub enum End {
     High,
 }
 
-// The same end, taken apart and made anew: one that a call returned by memory then lies in registers, as one that was made here.
+// The same end, taken apart and made anew: one that a call returned by memory then lies in
+// registers, as one that was made here.
 #[inline(always)]
 pub fn again(end: End) -> End
     ensures { result ≡ end }
@@ -63,7 +65,8 @@ fn odd_part(size: u64) -> OddPart
 }
 
 impl OddPart {
-    // Whether odd * 2^(two + shift) is on the grid. Where its place is above 512, it has fewer than 60 digits.
+    // Whether odd * 2^(two + shift) is on the grid. Where its place is above 512, it has fewer than
+    // 60 digits.
     fn is_on_grid(self, two: i32) -> bool
         requires odd { self.odd % 2 ≡ 1 }
         requires shift { self.shift < 64 }
@@ -156,7 +159,8 @@ impl Dyadic {
 
     // The number size * 2^e, unless that is off the grid.
     fn from_size(size: u64, e: i32) -> Option<Dyadic>
-        ensures { MatchOption result (¬ (IsOnGrid (scaled (pos size) e))) (λ d. value_of d ≡ scaled (pos size) e) }
+        ensures { MatchOption result (¬ (IsOnGrid (scaled (pos size) e)))
+            (λ d. value_of d ≡ scaled (pos size) e) }
     {
         if size == 0 {
             return Some(canonical(0, e));

@@ -61,7 +61,8 @@ fn quotient(a: Dyadic, b: Dyadic) -> Signed
     }
 }
 
-// The product rounded down, whatever its place is. It stands apart, as it is long and seldom needed.
+// The product rounded down, whatever its place is. It stands apart, as it is long and seldom
+// needed.
 #[inline(never)]
 fn long_product_down(a: Dyadic, b: Dyadic) -> End
     ensures { IsDown (value_of a *ℚ value_of b) (bound_of result) }

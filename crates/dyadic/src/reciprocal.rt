@@ -1,5 +1,5 @@
-// Quotients of numbers of 64 bits. A division of 128 bits takes the processor 90 cycles; a few multiplications guess what it
-// gives, nearly always rightly, and the guess is checked.
+// Quotients of numbers of 64 bits. A division of 128 bits takes the processor 90 cycles; a few
+// multiplications guess what it gives, nearly always rightly, and the guess is checked.
 ghost use Rattle.std.specs.Prelude.{◌≡◌, ◌≤◌, ◌<◌, ◌*◌, ◌+◌, ◌^◌, pos, true, false};
 ghost use lib.IntN.{neg_ℤ};
 
@@ -77,9 +77,10 @@ pub fn divided(n: u64, d: u64) -> Quotient
     }
 }
 
-// About n * 2^61 / d, of which nothing is claimed. The table has 2^80 / d to 9 digits, by the first 9 of the divisor. With l for
-// what that lacks of 1 when it is multiplied by the divisor, (1 + l) * (1 + l^2) times it has 36 digits of 2^126 / d; so has the
-// quotient that follows, and what that leaves gives the others.
+// About n * 2^61 / d, of which nothing is claimed. The table has 2^80 / d to 9 digits, by the first
+// 9 of the divisor. With l for what that lacks of 1 when it is multiplied by the divisor, (1 + l) *
+// (1 + l^2) times it has 36 digits of 2^126 / d; so has the quotient that follows, and what that
+// leaves gives the others.
 #[inline(always)]
 fn guessed(n: u64, d: u64) -> u64 {
     let first = FIRST[(d >> 55) as usize % 256] as u64;
@@ -106,7 +107,8 @@ fn low_half(number: u128) -> u64 {
     (number & 0xffff_ffff_ffff_ffff) as u64
 }
 
-// 2^80 / d, rounded down, for the d in the middle of those that begin with the digits 256 + place of 9.
+// 2^80 / d, rounded down, for the d in the middle of those that begin with the digits 256 + place
+// of 9.
 static FIRST: [u32; 256] = [
     130816, 130308, 129804, 129304, 128807, 128315, 127826, 127341, 126859, 126382, 125907, 125437,
     124969, 124506, 124045, 123589, 123135, 122685, 122238, 121794, 121354, 120916, 120482, 120051,

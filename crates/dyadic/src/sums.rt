@@ -74,7 +74,8 @@ pub fn sum(a: Term, b: Term) -> Signed
 
 // A term as its sign and size.
 fn alone(a: Term) -> Signed
-    ensures size { signed result.negative (term_value a) ≡ scaled (pos result.size.digits) result.size.two }
+    ensures size { signed result.negative (term_value a)
+        ≡ scaled (pos result.size.digits) result.size.two }
     ensures exact { result.size.inexact ≡ false }
     ensures two { result.size.two ≡ a.exponent }
 {
@@ -149,7 +150,8 @@ fn room_above(size: u128) -> u32
 fn near_sum(negative: bool, minus: bool, high: u128, low: u128, base: i32) -> Signed
     requires high_small { high < 85070591730234615865843651857942052864 }
     requires low_small { low < 73786976294838206464 }
-    ensures plus { minus ≡ false → (result.negative ≡ negative) × (result.size.digits ≡ high + low) }
+    ensures plus { minus ≡ false
+        → (result.negative ≡ negative) × (result.size.digits ≡ high + low) }
     ensures minus { minus ≡ true → low ≤ high
         → (result.negative ≡ negative) × (result.size.digits ≡ high - low) }
     ensures swapped { minus ≡ true → high < low

@@ -34,7 +34,8 @@ pub(crate) fn numbered(number: u8) -> Job {
     }
 }
 
-// What came back from four pushes of the jobs 1 to 4, each as its number or 0, and then from four pops.
+// What came back from four pushes of the jobs 1 to 4, each as its number or 0, and then from four
+// pops.
 fn pushes_and_pops<Q: Naming<u8>>(alloc: Global) -> Result<([u8; 4], [u8; 4]), AllocError>
     requires { Q.capacity ≡ 3 }
 {

@@ -79,7 +79,8 @@ const ROWS: [(&[&str], Option<Numbers>); 39] = [
     (&["a", "--rounds", "3", "--rounds=3"], None),
 ];
 
-// Words after `prove`, and the names of the script and the certificate that they ask for, if they do.
+// Words after `prove`, and the names of the script and the certificate that they ask for, if they
+// do.
 const CERTS: [(&[&str], Option<(&str, Option<&str>)>); 26] = [
     (&["a"], Some(("a", None))),
     // in both forms and anywhere among the names

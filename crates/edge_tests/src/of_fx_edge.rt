@@ -98,7 +98,8 @@ fn a_disk_keeps_what_is_written(rt: HostRuntime) -> Result<(), Fail> {
     Ok(())
 }
 
-// A writer that takes two bytes in a call, is interrupted in its second, and breaks after four bytes.
+// A writer that takes two bytes in a call, is interrupted in its second, and breaks after four
+// bytes.
 #[derive(Drop)]
 struct Breaking {
     taken: Vec<u8>,

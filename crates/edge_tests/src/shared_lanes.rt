@@ -124,17 +124,20 @@ fn closed<Q: Naming<u8>>(
     }
 }
 
-// The hands of the lanes. Where memory was refused, the lanes are as they were, and they get their hands then.
+// The hands of the lanes. Where memory was refused, the lanes are as they were, and they get their
+// hands then.
 fn handed<Q: Naming<u8>>(
     alloc: Global,
     lanes: &mut [Lane<Job, Q>],
 ) -> Result<Vec<Hand<Job>>, AllocError>
     requires some { (0 < length lanes.old) × (length lanes.old ≤ 16) }
-    requires new { Each (λ (k : ℕ) (lane : seen.Lane). lane.hands ≡ 0) (length lanes.old) lanes.old }
+    requires new { Each (λ (k : ℕ) (lane : seen.Lane). lane.hands ≡ 0)
+        (length lanes.old) lanes.old }
     ensures lanes { OnOk result (Lent (length lanes.old) lanes.old lanes.new) }
     ensures many { IfOk result (λ hands. vec_len hands ≡ length lanes.old) }
     ensures hands { IfOk result (λ hands.
-        Each (λ (k : ℕ) (hand : seen.Hand). IsSeated k Q.capacity lanes.old hand) (length lanes.old) hands.items) }
+        Each (λ (k : ℕ) (hand : seen.Hand). IsSeated k Q.capacity lanes.old hand)
+        (length lanes.old) hands.items) }
 {
     match hands(alloc, lanes) {
         Ok(all) => Ok(all),

@@ -1,4 +1,5 @@
-//! The time in which the boxes of the made script of degree 12 are settled: its root, and the 64 boxes below it.
+//! The time in which the boxes of the made script of degree 12 are settled: its root, and the 64
+//! boxes below it.
 ghost use Rattle.std.specs.Prelude.{◌≡◌, ◌<◌, length, IfSome};
 ghost use Rattle.saturate.specs.Boxes.{table_of};
 
@@ -19,8 +20,9 @@ const ROUNDS: u8 = 64;
 /// How often the root is settled, and how often all boxes are. The least time counts.
 const TURNS: (u32, u32) = (500, 20);
 
-/// How many instances are due in all rounds of the root, and how many of these have all their premises, so that the rule is asked.
-/// Another program counted them, as a count of steps leaves nothing at run time.
+/// How many instances are due in all rounds of the root, and how many of these have all their
+/// premises, so that the rule is asked. Another program counted them, as a count of steps leaves
+/// nothing at run time.
 const ROOT: (u128, u128) = (7_956, 2_702);
 
 /// The same of all 65 boxes.
@@ -54,7 +56,8 @@ fn piece(k: u8) -> Option<Interval> {
     Interval::new(End::At(lo), End::At(hi))
 }
 
-// Settles the root and the box of each piece of the variable, and says in how many of these a goal isn't met.
+// Settles the root and the box of each piece of the variable, and says in how many of these a goal
+// isn't met.
 fn settle_all(alloc: Global, uni: &Universe, x: ExprId, area: &mut Area) -> Result<u32, AllocError>
     requires { x.0 < length uni.now.nodes }
 {
@@ -84,7 +87,8 @@ fn least_root(rt: &(impl Clock + AllocGlobal), uni: &Universe) -> Result<u128> {
     Ok(least)
 }
 
-// The least time in which all boxes are settled, in nanoseconds, all in one area, and in how many a goal isn't met.
+// The least time in which all boxes are settled, in nanoseconds, all in one area, and in how many a
+// goal isn't met.
 fn least_all(rt: &(impl Clock + AllocGlobal), uni: &Universe, x: ExprId) -> Result<(u128, u32)>
     requires { x.0 < length uni.now.nodes }
 {

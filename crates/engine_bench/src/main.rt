@@ -1,4 +1,5 @@
-//! Measures by the clock: how long the universe of a script takes to build, and how long boxes take to settle.
+//! Measures by the clock: how long the universe of a script takes to build, and how long boxes take
+//! to settle.
 //!
 //! The one argument names the measure. Nothing is asserted of a figure.
 #![tactic(auto)]

@@ -26,7 +26,8 @@ fn assumed_universe(alloc: Global, script: &Script<'_>) -> Option<Universe> {
     }
 }
 
-/// The universe of the made script of this degree. None where memory runs out, or where it is too large.
+/// The universe of the made script of this degree. None where memory runs out, or where it is too
+/// large.
 pub fn made_universe(alloc: Global, degree: u8) -> Option<Universe> {
     let text = made_script(alloc, degree).ok()?;
     let script = parse(alloc, text.as_slice()).ok()?;

@@ -6,4 +6,5 @@ use Rattle.literal.specs.fx_model.declared.Node.{Node}
 
 -- The values of its nodes are what they were.
 abbrev pub ValuesStay : Type 0
-ValuesStay = (nodes more : List Node) (a : Assignment) → IsOrdered nodes → IsOrdered (nodes ++ more) → (x : ExprId) → x.0 < length nodes → value (nodes ++ more) a x ≡ value nodes a x
+ValuesStay = (nodes more : List Node) (a : Assignment) → IsOrdered nodes → IsOrdered (nodes ++ more)
+    → (x : ExprId) → x.0 < length nodes → value (nodes ++ more) a x ≡ value nodes a x

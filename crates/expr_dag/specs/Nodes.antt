@@ -35,8 +35,8 @@ IsAt nodes x n = slice_get nodes x.0 ≡ Some n
 abbrev pub IsAbsent : List Node → Node → Type 0
 IsAbsent nodes n = (x : ExprId) → ¬ IsAt nodes x n
 
--- What a list of shared nodes keeps: each node is lawful at its place and stands at one place alone,
--- and there are at most 1,024.
+-- What a list of shared nodes keeps: each node is lawful at its place and stands at one place
+-- alone, and there are at most 1,024.
 pub record IsShared (nodes : List Node) : Type 0 where
   pub lawful : (x : ExprId) (n : Node) → IsAt nodes x n → IsLawful x.0 n
   pub distinct : (x y : ExprId) (n : Node) → IsAt nodes x n → IsAt nodes y n → x ≡ y
@@ -96,5 +96,6 @@ placed nodes n None = (nodes ++ n ∷ [], record { 0 = length nodes })
 abbrev pub with_node : List Node → Node → List Node × ExprId
 with_node nodes n = placed nodes n (place_of nodes n)
 
-pub one_node : (nodes : List Node) (x : ExprId) (m n : Node) → IsAt nodes x m → IsAt nodes x n → m ≡ n
+pub one_node : (nodes : List Node) (x : ExprId) (m n : Node) → IsAt nodes x m
+    → IsAt nodes x n → m ≡ n
 one_node nodes x m n a b = let e = sym a ∙ b in cc

@@ -50,7 +50,8 @@ same_rounding x y h =
     let dir = same_direction x.dir y.dir f.1 in
     (λ i. record { lsb = lsb i; dir = dir i })
 
-same_pair : (op : ExprId → ExprId → Node) (x y u v : ExprId) → ((id_eq.ghosts).eq x u && (id_eq.ghosts).eq y v) ≡ true → op x y ≡ op u v
+same_pair : (op : ExprId → ExprId → Node) (x y u v : ExprId)
+    → ((id_eq.ghosts).eq x u && (id_eq.ghosts).eq y v) ≡ true → op x y ≡ op u v
 same_pair op x y u v h =
     let f = and_parts ((id_eq.ghosts).eq x u) ((id_eq.ghosts).eq y v) h in
     let e = same_id x u f.0 in

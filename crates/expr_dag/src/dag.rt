@@ -62,9 +62,11 @@ impl Dag {
         // A node that is there keeps its number, and a new one goes last.
         ensures placed { IfOk result (IsPlaced self.old node self.new) }
         ensures computes { IfOk result (λ x. (self.new, x) ≡ with_node self.old node) }
-        // It is full exactly where the node isn't there and 1,024 nodes are, and memory is asked for new nodes alone.
+        // It is full exactly where the node isn't there and 1,024 nodes are, and memory is asked
+        // for new nodes alone.
         ensures full { (result ≡ Err DagFault.Full) ↔ IsFull self.old node }
-        ensures memory { result ≡ Err DagFault.OutOfMemory → IsAbsent self.old node × (length self.old < 1024) }
+        ensures memory { result ≡ Err DagFault.OutOfMemory
+            → IsAbsent self.old node × (length self.old < 1024) }
         ensures refused { OnErr result (self.new ≡ self.old) }
         // Nodes that are there keep their numbers and their values.
         ensures kept { IsKept self.old self.new }
@@ -156,8 +158,10 @@ impl Dag {
     pub fn laws(&self)
         ensures lawful { (x : ExprId) (n : Node) → IsAt self.now x n → IsLawful x.0 n }
         ensures ordered { IsOrdered self.now }
-        ensures distinct { (x y : ExprId) (n : Node) → IsAt self.now x n → IsAt self.now y n → x ≡ y }
-        ensures number { (x : ExprId) (n : Node) → (place_of self.now n ≡ Some x) ↔ IsAt self.now x n }
+        ensures distinct { (x y : ExprId) (n : Node) → IsAt self.now x n
+            → IsAt self.now y n → x ≡ y }
+        ensures number { (x : ExprId) (n : Node)
+            → (place_of self.now n ≡ Some x) ↔ IsAt self.now x n }
         ensures short { length self.now ≤ 1024 }
     {
         let _set = &self.set;

@@ -33,7 +33,8 @@ impl Key {
         Key { node }
     }
 
-    // Whether it is of this node. Where the kind is known when the program is built, that is three comparisons.
+    // Whether it is of this node. Where the kind is known when the program is built, that is three
+    // comparisons.
     #[inline(always)]
     pub fn is(&self, node: &Node) -> bool
         ensures { result ≡ same_node self.now node.now }

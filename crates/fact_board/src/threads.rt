@@ -1,4 +1,5 @@
-//! Which types go to other threads, and which are shared there, for every entry type. Each function is the proof of its line.
+//! Which types go to other threads, and which are shared there, for every entry type. Each function
+//! is the proof of its line.
 use crate::{Board, Token};
 
 fn sends<X: Send>(value: &X) {

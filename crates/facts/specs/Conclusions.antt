@@ -36,7 +36,8 @@ fix_of x None = None
 fix_of x (Some k) = Some (fact.Fix x k)
 
 -- ---- what is given behind a test
-pub given : {X : Type 0} (b : Bool) (o : Option X) (f : X) → (if b then o else None) ≡ Some f → (b ≡ true) × (o ≡ Some f)
+pub given : {X : Type 0} (b : Bool) (o : Option X) (f : X) → (if b then o else None) ≡ Some f
+    → (b ≡ true) × (o ≡ Some f)
 given true o f e = (refl, e)
 given false o f e = cc
 
@@ -50,7 +51,8 @@ abbrev pub IsRising : (Interval → Interval → Interval) → Type 0
 IsRising op = (i j k l : Interval) → IsWithin i k → IsWithin j l → IsWithin (op i j) (op k l)
 
 -- behind a test that holds where the other does
-pub improves_if : (b d : Bool) (f g : Fact) → (b ≡ true → d ≡ true) → IsStronger g f → Improves (only_if b f) (only_if d g)
+pub improves_if : (b d : Bool) (f g : Fact) → (b ≡ true → d ≡ true) → IsStronger g f
+    → Improves (only_if b f) (only_if d g)
 improves_if true true f g t s c e = (g, refl, subst (IsStronger g) (let h : f ≡ c = cc in h) s)
 improves_if true false f g t s c e = let h : false ≡ true = t refl in cc
 improves_if false d f g t s c e = cc
@@ -58,24 +60,39 @@ improves_if false d f g t s c e = cc
 pub improves_only : (b : Bool) (f g : Fact) → IsStronger g f → Improves (only_if b f) (only_if b g)
 improves_only b f g s = improves_if b b f g (λ t. t) s
 
-pub improves_given : (b : Bool) (u v : Option Fact) → Improves u v → Improves (given_if b u) (given_if b v)
+pub improves_given : (b : Bool) (u v : Option Fact) → Improves u v
+    → Improves (given_if b u) (given_if b v)
 improves_given true u v h c e = h c e
 improves_given false u v h c e = cc
 
-pub improves_bnd : (x : ExprId) (u v : Option Interval) → ((i : Interval) → u ≡ Some i → (j : Interval) × (v ≡ Some j) × IsWithin j i) → Improves (bnd_of x u) (bnd_of x v)
+pub improves_bnd : (x : ExprId) (u v : Option Interval) → ((i : Interval) → u ≡ Some i
+    → (j : Interval) × (v ≡ Some j) × IsWithin j i) → Improves (bnd_of x u) (bnd_of x v)
 improves_bnd x None v h c e = cc
-improves_bnd x (Some i) v h c e = let j = h i refl in
-    (fact.Bnd x j.0, ap (bnd_of x) j.1, subst (IsStronger (fact.Bnd x j.0)) (let g : fact.Bnd x i ≡ c = cc in g) (refl, j.2))
+improves_bnd x (Some i) v h c e = let j = h i refl in (
+  fact.Bnd x j.0,
+  ap (bnd_of x) j.1,
+  subst (IsStronger (fact.Bnd x j.0)) (let g : fact.Bnd x i ≡ c = cc in g) (refl, j.2),
+)
 
-pub improves_abs : (x : ExprId) (u v : Option Size) → ((s : Size) → u ≡ Some s → (t : Size) × (v ≡ Some t) × IsWithin t.interval s.interval) → Improves (abs_of x u) (abs_of x v)
+pub improves_abs : (x : ExprId) (u v : Option Size)
+    → ((s : Size) → u ≡ Some s → (t : Size) × (v ≡ Some t) × IsWithin t.interval s.interval)
+    → Improves (abs_of x u) (abs_of x v)
 improves_abs x None v h c e = cc
-improves_abs x (Some s) v h c e = let t = h s refl in
-    (fact.Abs x t.0, ap (abs_of x) t.1, subst (IsStronger (fact.Abs x t.0)) (let g : fact.Abs x s ≡ c = cc in g) (refl, t.2))
+improves_abs x (Some s) v h c e = let t = h s refl in (
+  fact.Abs x t.0,
+  ap (abs_of x) t.1,
+  subst (IsStronger (fact.Abs x t.0)) (let g : fact.Abs x s ≡ c = cc in g) (refl, t.2),
+)
 
-pub improves_fix : (x : ExprId) (u v : Option Place) → ((k : Place) → u ≡ Some k → (n : Place) × (v ≡ Some n) × (k.exponent ≤ℤ n.exponent)) → Improves (fix_of x u) (fix_of x v)
+pub improves_fix : (x : ExprId) (u v : Option Place)
+    → ((k : Place) → u ≡ Some k → (n : Place) × (v ≡ Some n) × (k.exponent ≤ℤ n.exponent))
+    → Improves (fix_of x u) (fix_of x v)
 improves_fix x None v h c e = cc
-improves_fix x (Some k) v h c e = let n = h k refl in
-    (fact.Fix x n.0, ap (fix_of x) n.1, subst (IsStronger (fact.Fix x n.0)) (let g : fact.Fix x k ≡ c = cc in g) (refl, n.2))
+improves_fix x (Some k) v h c e = let n = h k refl in (
+  fact.Fix x n.0,
+  ap (fix_of x) n.1,
+  subst (IsStronger (fact.Fix x n.0)) (let g : fact.Fix x k ≡ c = cc in g) (refl, n.2),
+)
 
 -- ---- where they stand
 -- what is given, if anything, stands on the target or is VOID
@@ -85,11 +102,13 @@ StandsOn t o = (f : Fact) → o ≡ Some f → (slot_of f ≡ t) ⊎ (f ≡ fact
 pub fact_stands : (t : Slot) (g : Fact) → (slot_of g ≡ t) ⊎ (g ≡ fact.Void) → StandsOn t (Some g)
 fact_stands t g s f e = subst (λ h. (slot_of h ≡ t) ⊎ (h ≡ fact.Void)) (let d : g ≡ f = cc in d) s
 
-pub only_stands : (t : Slot) (b : Bool) (g : Fact) → (slot_of g ≡ t) ⊎ (g ≡ fact.Void) → StandsOn t (only_if b g)
+pub only_stands : (t : Slot) (b : Bool) (g : Fact) → (slot_of g ≡ t) ⊎ (g ≡ fact.Void)
+    → StandsOn t (only_if b g)
 only_stands t true g s f e = fact_stands t g s f e
 only_stands t false g s f e = cc
 
-pub given_stands : (t : Slot) (b : Bool) (o : Option Fact) → StandsOn t o → StandsOn t (given_if b o)
+pub given_stands : (t : Slot) (b : Bool) (o : Option Fact) → StandsOn t o
+    → StandsOn t (given_if b o)
 given_stands t true o s f e = s f e
 given_stands t false o s f e = cc
 

@@ -31,7 +31,8 @@ Holds nodes a (Bnd x i) = IsSomeAnd (value nodes a x) (Lies (range_of i))
 -- ABS: it has one, and its absolute value lies in the interval
 Holds nodes a (Abs x s) = IsSomeAnd (value nodes a x) (λ v. Lies (range_of s.interval) (abs_ℚ v))
 -- REL: both have values, which are related
-Holds nodes a (Rel x y e) = IsSomeAnd (value nodes a x) (λ v. IsSomeAnd (value nodes a y) (IsRelatedBy e v))
+Holds nodes a (Rel x y e) =
+    IsSomeAnd (value nodes a x) (λ v. IsSomeAnd (value nodes a y) (IsRelatedBy e v))
 -- FIX: it has one, a whole multiple of 2^k
 Holds nodes a (Fix x k) = IsSomeAnd (value nodes a x) (IsMultiple k.exponent)
 -- NZR: it has one, and it isn't 0

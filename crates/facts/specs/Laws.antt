@@ -18,7 +18,10 @@ pub IsWithin-refl : (i : Interval) → IsWithin i i
 IsWithin-refl i = (BoundLe-refl (range_of i).low, BoundLe-refl (range_of i).high)
 
 pub IsWithin-trans : (i j k : Interval) → IsWithin i j → IsWithin j k → IsWithin i k
-IsWithin-trans i j k p q = (BoundLe-trans (range_of k).low (range_of j).low (range_of i).low q.0 p.0, BoundLe-trans (range_of i).high (range_of j).high (range_of k).high p.1 q.1)
+IsWithin-trans i j k p q = (
+  BoundLe-trans (range_of k).low (range_of j).low (range_of i).low q.0 p.0,
+  BoundLe-trans (range_of i).high (range_of j).high (range_of k).high p.1 q.1,
+)
 
 pub IsStronger-refl : (f : Fact) → IsStronger f f
 IsStronger-refl (fact.Bnd x i) = (refl, IsWithin-refl i)
@@ -29,18 +32,24 @@ IsStronger-refl (fact.Fix x k) = (refl, omega (arith, ints))
 IsStronger-refl (fact.Nzr x) = refl
 IsStronger-refl fact.Void = tt
 
-IsWithinError-trans : (c d e : Option RelativeError) → IsWithinError c d → IsWithinError d e → IsWithinError c e
+IsWithinError-trans : (c d e : Option RelativeError) → IsWithinError c d
+    → IsWithinError d e → IsWithinError c e
 IsWithinError-trans None d e p q = tt
 IsWithinError-trans (Some c) None e p q = absurd p
 IsWithinError-trans (Some c) (Some d) None p q = absurd q
-IsWithinError-trans (Some c) (Some d) (Some e) p q = IsWithin-trans c.interval d.interval e.interval p q
+IsWithinError-trans (Some c) (Some d) (Some e) p q =
+    IsWithin-trans c.interval d.interval e.interval p q
 
 pub IsStronger-trans : (f g h : Fact) → IsStronger f g → IsStronger g h → IsStronger f h
 IsStronger-trans fact.Void g h p q = tt
-IsStronger-trans (fact.Bnd x i) (fact.Bnd y j) (fact.Bnd z k) p q = (p.0 ∙ q.0, IsWithin-trans i j k p.1 q.1)
-IsStronger-trans (fact.Abs x i) (fact.Abs y j) (fact.Abs z k) p q = (p.0 ∙ q.0, IsWithin-trans i.interval j.interval k.interval p.1 q.1)
-IsStronger-trans (fact.Rel x p c) (fact.Rel y q d) (fact.Rel z r e) a b = (a.0 ∙ b.0, a.1 ∙ b.1, IsWithinError-trans c d e a.2 b.2)
-IsStronger-trans (fact.Fix x k) (fact.Fix y n) (fact.Fix z m) p q = (p.0 ∙ q.0, let a = p.1 in let b = q.1 in omega (arith, ints))
+IsStronger-trans (fact.Bnd x i) (fact.Bnd y j) (fact.Bnd z k) p q =
+    (p.0 ∙ q.0, IsWithin-trans i j k p.1 q.1)
+IsStronger-trans (fact.Abs x i) (fact.Abs y j) (fact.Abs z k) p q =
+    (p.0 ∙ q.0, IsWithin-trans i.interval j.interval k.interval p.1 q.1)
+IsStronger-trans (fact.Rel x p c) (fact.Rel y q d) (fact.Rel z r e) a b =
+    (a.0 ∙ b.0, a.1 ∙ b.1, IsWithinError-trans c d e a.2 b.2)
+IsStronger-trans (fact.Fix x k) (fact.Fix y n) (fact.Fix z m) p q =
+    (p.0 ∙ q.0, let a = p.1 in let b = q.1 in omega (arith, ints))
 IsStronger-trans (fact.Nzr x) (fact.Nzr y) (fact.Nzr z) p q = p ∙ q
 IsStronger-trans _ _ _ p q = search rules
 
@@ -56,7 +65,8 @@ IsStronger-slot _ _ a = absurd a
 
 -- ---- the meet
 -- what is stronger than two facts is stronger than their meet
-pub IsStronger-meet : (g a b f : Fact) → IsStronger g a → IsStronger g b → meet_of a b ≡ Some f → IsStronger g f
+pub IsStronger-meet : (g a b f : Fact) → IsStronger g a → IsStronger g b
+    → meet_of a b ≡ Some f → IsStronger g f
 IsStronger-meet fact.Void a b f p q e = tt
 IsStronger-meet (fact.Bnd x i) (fact.Bnd y j) (fact.Bnd z k) f p q e =
     let h : is_same y z ≡ true = same_expr y z (sym p.0 ∙ q.0) in
@@ -94,25 +104,37 @@ meet_exists fact.Void fact.Void e = (fact.Void, record { is = refl; left = tt; r
 meet_exists (fact.Bnd x i) (fact.Bnd y j) e =
     let d : x ≡ y = cc in
     let h : is_same x y ≡ true = same_expr x y d in
-    at_option (common_of i j) (λ t. common_of i j ≡ t → (f : Fact) × IsMeet (fact.Bnd x i) (fact.Bnd y j) f)
+    at_option (common_of i j) (λ t. common_of i j ≡ t
+    → (f : Fact) × IsMeet (fact.Bnd x i) (fact.Bnd y j) f)
     (λ _ m. (fact.Void, record { is = rw (h, m) refl; left = tt; right = tt }))
-    (λ c s m. let w = common-within i j c s in (fact.Bnd x c, record { is = rw (h, s) refl; left = (refl, w.0); right = (d, w.1) })) refl
+    (λ c s m. let w = common-within i j c s in
+    (fact.Bnd x c, record { is = rw (h, s) refl; left = (refl, w.0); right = (d, w.1) })) refl
 meet_exists (fact.Abs x i) (fact.Abs y j) e =
     let d : x ≡ y = cc in
     let h : is_same x y ≡ true = same_expr x y d in
-    at_option (common_size i j) (λ t. common_size i j ≡ t → (f : Fact) × IsMeet (fact.Abs x i) (fact.Abs y j) f)
+    at_option (common_size i j) (λ t. common_size i j ≡ t
+    → (f : Fact) × IsMeet (fact.Abs x i) (fact.Abs y j) f)
     (λ _ m. (fact.Void, record { is = rw (h, m) refl; left = tt; right = tt }))
-    (λ c s m. let w = common_size-within i j c s in (fact.Abs x c, record { is = rw (h, s) refl; left = (refl, w.0); right = (d, w.1) })) refl
+    (λ c s m. let w = common_size-within i j c s in
+    (fact.Abs x c, record { is = rw (h, s) refl; left = (refl, w.0); right = (d, w.1) })) refl
 meet_exists (fact.Rel x z t) (fact.Rel y w o) e =
     let d : x ≡ y = cc in
     let d2 : z ≡ w = cc in
     let h : is_same x y ≡ true = same_expr x y d in
-    let k : is_same z w ≡ true = same_expr z w d2 in
-    (fact.Rel x z (common_error t o), record { is = rw (h, k) refl; left = (refl, refl, error_meet_left t o); right = (d, d2, error_meet_right t o) })
+    let k : is_same z w ≡ true = same_expr z w d2 in (
+      fact.Rel x z (common_error t o),
+      record {
+        is = rw (h, k) refl;
+        left = (refl, refl, error_meet_left t o);
+        right = (d, d2, error_meet_right t o);
+      },
+    )
 meet_exists (fact.Fix x k) (fact.Fix y n) e =
     let d : x ≡ y = cc in
-    let h : is_same x y ≡ true = same_expr x y d in
-    (fact.Fix x (greater_place k n), record { is = rw h refl; left = (refl, place_left k n); right = (d, place_right k n) })
+    let h : is_same x y ≡ true = same_expr x y d in (
+      fact.Fix x (greater_place k n),
+      record { is = rw h refl; left = (refl, place_left k n); right = (d, place_right k n) },
+    )
 meet_exists (fact.Nzr x) (fact.Nzr y) e =
     let d : x ≡ y = cc in
     let h : is_same x y ≡ true = same_expr x y d in

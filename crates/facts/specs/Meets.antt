@@ -25,16 +25,21 @@ use Rattle.interval.specs.dyadic.Extremes.{BoundLe-antisymm}
 
 -- ---- one fact only is as strong as another both ways
 intervals_same : (i j : Interval) → IsWithin i j → IsWithin j i → i ≡ j
-intervals_same i j p q = same_range i j (λ k. record { low = BoundLe-antisymm (range_of i).low (range_of j).low q.0 p.0 k; high = BoundLe-antisymm (range_of i).high (range_of j).high p.1 q.1 k })
+intervals_same i j p q = same_range i j (λ k. record {
+  low = BoundLe-antisymm (range_of i).low (range_of j).low q.0 p.0 k;
+  high = BoundLe-antisymm (range_of i).high (range_of j).high p.1 q.1 k;
+})
 
 sizes_same : (s t : Size) → IsWithin s.interval t.interval → IsWithin t.interval s.interval → s ≡ t
-sizes_same s t p q = some-inj s t (size_from_self s ∙ rw (intervals_same s.interval t.interval p q) (sym (size_from_self t)))
+sizes_same s t p q = some-inj s t (size_from_self s
+    ∙ rw (intervals_same s.interval t.interval p q) (sym (size_from_self t)))
 
 errors_same : (d e : Option RelativeError) → IsWithinError d e → IsWithinError e d → d ≡ e
 errors_same None None p q = refl
 errors_same None (Some e) p q = absurd q
 errors_same (Some d) None p q = absurd p
-errors_same (Some d) (Some e) p q = error_from_self d ∙ rw (intervals_same d.interval e.interval p q) (sym (error_from_self e))
+errors_same (Some d) (Some e) p q =
+    error_from_self d ∙ rw (intervals_same d.interval e.interval p q) (sym (error_from_self e))
 
 le_prop_ℤ : (m n : ℤ) → IsProp (m ≤ℤ n)
 le_prop_ℤ m n = hlevel T_prop
@@ -42,8 +47,10 @@ le_prop_ℤ m n = hlevel T_prop
 places_same : (k n : Place) → n.exponent ≤ℤ k.exponent → k.exponent ≤ℤ n.exponent → k ≡ n
 places_same k n p q = λ i. record {
   exponent = same i;
-  lowest = is_prop→PathP (λ i. negsuc 1023 ≤ℤ same i) (λ i. le_prop_ℤ (negsuc 1023) (same i)) k.lowest n.lowest i;
-  highest = is_prop→PathP (λ i. same i ≤ℤ pos 512) (λ i. le_prop_ℤ (same i) (pos 512)) k.highest n.highest i;
+  lowest = is_prop→PathP (λ i. negsuc 1023 ≤ℤ same i)
+      (λ i. le_prop_ℤ (negsuc 1023) (same i)) k.lowest n.lowest i;
+  highest = is_prop→PathP (λ i. same i ≤ℤ pos 512)
+      (λ i. le_prop_ℤ (same i) (pos 512)) k.highest n.highest i;
 }
   where
     same : k.exponent ≡ n.exponent
@@ -52,10 +59,14 @@ places_same k n p q = λ i. record {
 -- Facts that are each stronger than the other are the same.
 pub IsStronger-antisymm : (f g : Fact) → IsStronger f g → IsStronger g f → f ≡ g
 IsStronger-antisymm fact.Void fact.Void p q = refl
-IsStronger-antisymm (fact.Bnd x i) (fact.Bnd y j) p q = λ k. fact.Bnd (p.0 k) (intervals_same i j p.1 q.1 k)
-IsStronger-antisymm (fact.Abs x s) (fact.Abs y t) p q = λ k. fact.Abs (p.0 k) (sizes_same s t p.1 q.1 k)
-IsStronger-antisymm (fact.Rel x z d) (fact.Rel y w e) p q = λ k. fact.Rel (p.0 k) (p.1 k) (errors_same d e p.2 q.2 k)
-IsStronger-antisymm (fact.Fix x k) (fact.Fix y n) p q = λ i. fact.Fix (p.0 i) (places_same k n p.1 q.1 i)
+IsStronger-antisymm (fact.Bnd x i) (fact.Bnd y j) p q =
+    λ k. fact.Bnd (p.0 k) (intervals_same i j p.1 q.1 k)
+IsStronger-antisymm (fact.Abs x s) (fact.Abs y t) p q =
+    λ k. fact.Abs (p.0 k) (sizes_same s t p.1 q.1 k)
+IsStronger-antisymm (fact.Rel x z d) (fact.Rel y w e) p q =
+    λ k. fact.Rel (p.0 k) (p.1 k) (errors_same d e p.2 q.2 k)
+IsStronger-antisymm (fact.Fix x k) (fact.Fix y n) p q =
+    λ i. fact.Fix (p.0 i) (places_same k n p.1 q.1 i)
 IsStronger-antisymm (fact.Nzr x) (fact.Nzr y) p q = ap fact.Nzr p
 IsStronger-antisymm _ _ p q = search rules
 
@@ -69,16 +80,22 @@ void_meet (fact.Fix x k) = refl
 void_meet (fact.Nzr x) = refl
 
 -- where there is a meet, one fact is VOID or both stand on one slot
-meet-slots : (a b f : Fact) → meet_of a b ≡ Some f → (a ≡ fact.Void) ⊎ ((b ≡ fact.Void) ⊎ (slot_of a ≡ slot_of b))
+meet-slots : (a b f : Fact) → meet_of a b ≡ Some f
+    → (a ≡ fact.Void) ⊎ ((b ≡ fact.Void) ⊎ (slot_of a ≡ slot_of b))
 meet-slots fact.Void b f e = inl refl
 meet-slots a fact.Void f e = inr (inl refl)
-meet-slots (fact.Bnd x i) (fact.Bnd y j) f e = inr (inr (ap slot.Bnd (expr_same x y (if-some (is_same x y) (bounded x (common_of i j)) f e).0)))
-meet-slots (fact.Abs x s) (fact.Abs y t) f e = inr (inr (ap slot.Abs (expr_same x y (if-some (is_same x y) (sized x (common_size s t)) f e).0)))
+meet-slots (fact.Bnd x i) (fact.Bnd y j) f e = inr
+    (inr (ap slot.Bnd (expr_same x y (if-some (is_same x y) (bounded x (common_of i j)) f e).0)))
+meet-slots (fact.Abs x s) (fact.Abs y t) f e = inr
+    (inr (ap slot.Abs (expr_same x y (if-some (is_same x y) (sized x (common_size s t)) f e).0)))
 meet-slots (fact.Rel x z d) (fact.Rel y w o) f e =
-    let b = and_parts (is_same x y) (is_same z w) (if-some (is_same x y && is_same z w) (fact.Rel x z (common_error d o)) f e).0 in
+    let b = and_parts (is_same x y) (is_same z w)
+    (if-some (is_same x y && is_same z w) (fact.Rel x z (common_error d o)) f e).0 in
     inr (inr (λ k. slot.Rel (expr_same x y b.0 k) (expr_same z w b.1 k)))
-meet-slots (fact.Fix x k) (fact.Fix y n) f e = inr (inr (ap slot.Fix (expr_same x y (if-some (is_same x y) (fact.Fix x (greater_place k n)) f e).0)))
-meet-slots (fact.Nzr x) (fact.Nzr y) f e = inr (inr (ap slot.Nzr (expr_same x y (if-some (is_same x y) (fact.Nzr x) f e).0)))
+meet-slots (fact.Fix x k) (fact.Fix y n) f e = inr (inr
+    (ap slot.Fix (expr_same x y (if-some (is_same x y) (fact.Fix x (greater_place k n)) f e).0)))
+meet-slots (fact.Nzr x) (fact.Nzr y) f e =
+    inr (inr (ap slot.Nzr (expr_same x y (if-some (is_same x y) (fact.Nzr x) f e).0)))
 meet-slots _ _ f e = cc
 
 -- A meet is as strong as both facts.
@@ -86,7 +103,11 @@ pub meet-IsMeet : (a b f : Fact) → meet_of a b ≡ Some f → IsMeet a b f
 meet-IsMeet a b f e = ⊎_elim first (λ r. ⊎_elim second third r) (meet-slots a b f e)
   where
     of_void : f ≡ fact.Void → IsMeet a b f
-    of_void v = record { is = e; left = subst (λ g. IsStronger g a) (sym v) tt; right = subst (λ g. IsStronger g b) (sym v) tt }
+    of_void v = record {
+      is = e;
+      left = subst (λ g. IsStronger g a) (sym v) tt;
+      right = subst (λ g. IsStronger g b) (sym v) tt;
+    }
 
     first : a ≡ fact.Void → IsMeet a b f
     first v = of_void (some-inj f fact.Void (sym e ∙ ap (λ g. meet_of g b) v))
@@ -112,21 +133,24 @@ meet-none a b = (apart, empty)
     )
 
     empty : AreUnlike a b → meet_of a b ≡ None
-    empty u = at_option (meet_of a b) (λ o. o ≡ None) (λ e. refl) (λ f e. absurd (⊎_elim u.0 (λ r. ⊎_elim u.1 u.2 r) (meet-slots a b f e)))
+    empty u = at_option (meet_of a b) (λ o. o ≡ None) (λ e. refl)
+        (λ f e. absurd (⊎_elim u.0 (λ r. ⊎_elim u.1 u.2 r) (meet-slots a b f e)))
 
 -- Of two facts in either order the meet is the same.
 pub meet-exchanged : (a b : Fact) → meet_of a b ≡ meet_of b a
 meet-exchanged a b = at_option (meet_of a b) (λ o. o ≡ meet_of b a)
     (λ e. let u = (meet-none a b).0 e in sym ((meet-none b a).1 (u.1, u.0, λ s. u.2 (sym s))))
     (λ f e. at_option (meet_of b a) (λ o. Some f ≡ o)
-    (λ n. let u = (meet-none b a).0 n in absurd (none_or_some a b f ((meet-none a b).1 (u.1, u.0, λ s. u.2 (sym s))) e))
+    (λ n. let u = (meet-none b a).0 n in
+    absurd (none_or_some a b f ((meet-none a b).1 (u.1, u.0, λ s. u.2 (sym s))) e))
     (λ g h. ap Some (one_meet f g e h)))
   where
     one_meet : (f g : Fact) → meet_of a b ≡ Some f → meet_of b a ≡ Some g → f ≡ g
     one_meet f g e h =
         let m = meet-IsMeet a b f e in
         let n = meet-IsMeet b a g h in
-        IsStronger-antisymm f g (IsStronger-meet f b a g m.right m.left h) (IsStronger-meet g a b f n.right n.left e)
+        IsStronger-antisymm f g (IsStronger-meet f b a g m.right m.left h)
+        (IsStronger-meet g a b f n.right n.left e)
 
 -- A fact that is stronger than another is their meet.
 pub meet-stronger : (a b : Fact) → IsStronger a b → meet_of a b ≡ Some a
@@ -138,4 +162,5 @@ meet-stronger a b s = ⊎_elim of_void on_one_slot (IsStronger-slot a b s)
     on_one_slot : slot_of a ≡ slot_of b → meet_of a b ≡ Some a
     on_one_slot e =
         let m = meet_exists a b e in
-        m.1.is ∙ ap Some (IsStronger-antisymm m.0 a m.1.left (IsStronger-meet a a b m.0 (IsStronger-refl a) s m.1.is))
+        m.1.is ∙ ap Some (IsStronger-antisymm m.0 a m.1.left
+        (IsStronger-meet a a b m.0 (IsStronger-refl a) s m.1.is))

@@ -32,8 +32,8 @@ IsWithinError None e = Unit {0}
 IsWithinError (Some d) None = ⊥
 IsWithinError (Some d) (Some e) = IsWithin d.interval e.interval
 
--- The first fact is stronger than the second, or they are equal: on one slot a smaller or equal interval, a greater or equal k.
--- VOID is stronger than everything.
+-- The first fact is stronger than the second, or they are equal: on one slot a smaller or equal
+-- interval, a greater or equal k. VOID is stronger than everything.
 abbrev pub IsStronger : Fact → Fact → Type 0
 IsStronger fact.Void f = Unit {0}
 IsStronger (fact.Bnd x i) (fact.Bnd y j) = (x ≡ y) × IsWithin i j
@@ -56,15 +56,20 @@ abbrev pub sized : ExprId → Option Size → Fact
 sized x (Some s) = fact.Abs x s
 sized x None = fact.Void
 
--- The meet of two facts on one slot: the common interval, or the greater k. Where BND or ABS intervals have none it is VOID,
--- where relative errors have none that both sides are 0. With VOID it is VOID. Facts of two slots have none.
+-- The meet of two facts on one slot: the common interval, or the greater k. Where BND or ABS
+-- intervals have none it is VOID, where relative errors have none that both sides are 0. With VOID
+-- it is VOID. Facts of two slots have none.
 abbrev pub meet_of : Fact → Fact → Option Fact
 meet_of fact.Void g = Some fact.Void
 meet_of f fact.Void = Some fact.Void
-meet_of (fact.Bnd x i) (fact.Bnd y j) = if is_same x y then Some (bounded x (common_of i j)) else None
-meet_of (fact.Abs x s) (fact.Abs y t) = if is_same x y then Some (sized x (common_size s t)) else None
-meet_of (fact.Rel x z d) (fact.Rel y w e) = if is_same x y && is_same z w then Some (fact.Rel x z (common_error d e)) else None
-meet_of (fact.Fix x k) (fact.Fix y n) = if is_same x y then Some (fact.Fix x (greater_place k n)) else None
+meet_of (fact.Bnd x i) (fact.Bnd y j) =
+    if is_same x y then Some (bounded x (common_of i j)) else None
+meet_of (fact.Abs x s) (fact.Abs y t) =
+    if is_same x y then Some (sized x (common_size s t)) else None
+meet_of (fact.Rel x z d) (fact.Rel y w e) =
+    if is_same x y && is_same z w then Some (fact.Rel x z (common_error d e)) else None
+meet_of (fact.Fix x k) (fact.Fix y n) =
+    if is_same x y then Some (fact.Fix x (greater_place k n)) else None
 meet_of (fact.Nzr x) (fact.Nzr y) = if is_same x y then Some (fact.Nzr x) else None
 meet_of _ _ = None
 

@@ -22,26 +22,35 @@ sized i z = record { interval = i; from_zero = z }
 
 -- the interval as one of absolute values; none where its lower end is below 0
 pub size_from : Interval → Option Size
-size_from i = made (λ i. IsFromZero (range_of i)) (λ i. IsFromZero-prop (range_of i)) (λ i. le_bound (At zero_ℚ) (range_of i).low)
-    (λ i e. BoundLe_in (At zero_ℚ) (range_of i).low e) (λ i z. BoundLe_out (At zero_ℚ) (range_of i).low z) sized i
+size_from i = made (λ i. IsFromZero (range_of i)) (λ i. IsFromZero-prop (range_of i))
+    (λ i. le_bound (At zero_ℚ) (range_of i).low)
+    (λ i e. BoundLe_in (At zero_ℚ) (range_of i).low e)
+    (λ i z. BoundLe_out (At zero_ℚ) (range_of i).low z) sized i
 
-pub size_from-some : (i : Interval) (z : IsFromZero (range_of i)) → size_from i ≡ Some (record { interval = i; from_zero = z })
+pub size_from-some : (i : Interval) (z : IsFromZero (range_of i))
+    → size_from i ≡ Some (record { interval = i; from_zero = z })
 unfolding size_from
-size_from-some i z = made-some (λ i. IsFromZero (range_of i)) (λ i. IsFromZero-prop (range_of i)) (λ i. le_bound (At zero_ℚ) (range_of i).low)
-    (λ i e. BoundLe_in (At zero_ℚ) (range_of i).low e) (λ i z. BoundLe_out (At zero_ℚ) (range_of i).low z) sized i z
+size_from-some i z = made-some (λ i. IsFromZero (range_of i)) (λ i. IsFromZero-prop (range_of i))
+    (λ i. le_bound (At zero_ℚ) (range_of i).low)
+    (λ i e. BoundLe_in (At zero_ℚ) (range_of i).low e)
+    (λ i z. BoundLe_out (At zero_ℚ) (range_of i).low z) sized i z
 
 pub size_from_self : (s : Size) → Some s ≡ size_from s.interval
 size_from_self s = sym (size_from-some s.interval s.from_zero)
 
 pub size_from-none : (i : Interval) → ¬ IsFromZero (range_of i) → size_from i ≡ None
 unfolding size_from
-size_from-none i n = made-none (λ i. IsFromZero (range_of i)) (λ i. IsFromZero-prop (range_of i)) (λ i. le_bound (At zero_ℚ) (range_of i).low)
-    (λ i e. BoundLe_in (At zero_ℚ) (range_of i).low e) (λ i z. BoundLe_out (At zero_ℚ) (range_of i).low z) sized i n
+size_from-none i n = made-none (λ i. IsFromZero (range_of i)) (λ i. IsFromZero-prop (range_of i))
+    (λ i. le_bound (At zero_ℚ) (range_of i).low)
+    (λ i e. BoundLe_in (At zero_ℚ) (range_of i).low e)
+    (λ i z. BoundLe_out (At zero_ℚ) (range_of i).low z) sized i n
 
 pub size_from_out : (i : Interval) (s : Size) → size_from i ≡ Some s → s.interval ≡ i
 unfolding size_from
-size_from_out i s q = sym (ap (λ (t : Size). t.interval) (made_out (λ i. IsFromZero (range_of i)) (λ i. IsFromZero-prop (range_of i)) (λ i. le_bound (At zero_ℚ) (range_of i).low)
-    (λ i e. BoundLe_in (At zero_ℚ) (range_of i).low e) (λ i z. BoundLe_out (At zero_ℚ) (range_of i).low z) sized i s q).1)
+size_from_out i s q = sym (ap (λ (t : Size). t.interval) (made_out (λ i. IsFromZero (range_of i))
+    (λ i. IsFromZero-prop (range_of i)) (λ i. le_bound (At zero_ℚ) (range_of i).low)
+    (λ i e. BoundLe_in (At zero_ℚ) (range_of i).low e)
+    (λ i z. BoundLe_out (At zero_ℚ) (range_of i).low z) sized i s q).1)
 
 -- ---- relative errors
 abbrev erring : (i : Interval) → IsAboveMinusOne (range_of i) → RelativeError
@@ -49,26 +58,36 @@ erring i z = record { interval = i; above_minus_one = z }
 
 -- the interval as one of relative errors; none where its lower end isn't above -1
 pub error_from : Interval → Option RelativeError
-error_from i = made (λ i. IsAboveMinusOne (range_of i)) (λ i. IsAboveMinusOne-prop (range_of i)) (λ i. is_below (neg_ℚ one_ℚ) (range_of i).low)
-    (λ i e. is_below_in (neg_ℚ one_ℚ) (range_of i).low e) (λ i z. is_below_out (neg_ℚ one_ℚ) (range_of i).low z) erring i
+error_from i = made (λ i. IsAboveMinusOne (range_of i)) (λ i. IsAboveMinusOne-prop (range_of i))
+    (λ i. is_below (neg_ℚ one_ℚ) (range_of i).low)
+    (λ i e. is_below_in (neg_ℚ one_ℚ) (range_of i).low e)
+    (λ i z. is_below_out (neg_ℚ one_ℚ) (range_of i).low z) erring i
 
-pub error_from-some : (i : Interval) (z : IsAboveMinusOne (range_of i)) → error_from i ≡ Some (record { interval = i; above_minus_one = z })
+pub error_from-some : (i : Interval) (z : IsAboveMinusOne (range_of i))
+    → error_from i ≡ Some (record { interval = i; above_minus_one = z })
 unfolding error_from
-error_from-some i z = made-some (λ i. IsAboveMinusOne (range_of i)) (λ i. IsAboveMinusOne-prop (range_of i)) (λ i. is_below (neg_ℚ one_ℚ) (range_of i).low)
-    (λ i e. is_below_in (neg_ℚ one_ℚ) (range_of i).low e) (λ i z. is_below_out (neg_ℚ one_ℚ) (range_of i).low z) erring i z
+error_from-some i z = made-some (λ i. IsAboveMinusOne (range_of i))
+    (λ i. IsAboveMinusOne-prop (range_of i)) (λ i. is_below (neg_ℚ one_ℚ) (range_of i).low)
+    (λ i e. is_below_in (neg_ℚ one_ℚ) (range_of i).low e)
+    (λ i z. is_below_out (neg_ℚ one_ℚ) (range_of i).low z) erring i z
 
 pub error_from_self : (e : RelativeError) → Some e ≡ error_from e.interval
 error_from_self e = sym (error_from-some e.interval e.above_minus_one)
 
 pub error_from-none : (i : Interval) → ¬ IsAboveMinusOne (range_of i) → error_from i ≡ None
 unfolding error_from
-error_from-none i n = made-none (λ i. IsAboveMinusOne (range_of i)) (λ i. IsAboveMinusOne-prop (range_of i)) (λ i. is_below (neg_ℚ one_ℚ) (range_of i).low)
-    (λ i e. is_below_in (neg_ℚ one_ℚ) (range_of i).low e) (λ i z. is_below_out (neg_ℚ one_ℚ) (range_of i).low z) erring i n
+error_from-none i n = made-none (λ i. IsAboveMinusOne (range_of i))
+    (λ i. IsAboveMinusOne-prop (range_of i)) (λ i. is_below (neg_ℚ one_ℚ) (range_of i).low)
+    (λ i e. is_below_in (neg_ℚ one_ℚ) (range_of i).low e)
+    (λ i z. is_below_out (neg_ℚ one_ℚ) (range_of i).low z) erring i n
 
 pub error_from_out : (i : Interval) (s : RelativeError) → error_from i ≡ Some s → s.interval ≡ i
 unfolding error_from
-error_from_out i s q = sym (ap (λ (t : RelativeError). t.interval) (made_out (λ i. IsAboveMinusOne (range_of i)) (λ i. IsAboveMinusOne-prop (range_of i)) (λ i. is_below (neg_ℚ one_ℚ) (range_of i).low)
-    (λ i e. is_below_in (neg_ℚ one_ℚ) (range_of i).low e) (λ i z. is_below_out (neg_ℚ one_ℚ) (range_of i).low z) erring i s q).1)
+error_from_out i s q =
+    sym (ap (λ (t : RelativeError). t.interval) (made_out (λ i. IsAboveMinusOne (range_of i))
+    (λ i. IsAboveMinusOne-prop (range_of i)) (λ i. is_below (neg_ℚ one_ℚ) (range_of i).low)
+    (λ i e. is_below_in (neg_ℚ one_ℚ) (range_of i).low e)
+    (λ i z. is_below_out (neg_ℚ one_ℚ) (range_of i).low z) erring i s q).1)
 
 -- ---- common parts
 abbrev pub size_of_part : Option Interval → Option Size
@@ -83,7 +102,8 @@ error_of_part (Some i) = error_from i
 abbrev pub common_size : Size → Size → Option Size
 common_size s t = size_of_part (common_of s.interval t.interval)
 
--- the common relative errors of two; where one is that both sides are 0, or there are none, that is left
+-- the common relative errors of two; where one is that both sides are 0, or there are none, that is
+-- left
 abbrev pub common_error : Option RelativeError → Option RelativeError → Option RelativeError
 common_error (Some d) (Some e) = error_of_part (common_of d.interval e.interval)
 common_error _ _ = None

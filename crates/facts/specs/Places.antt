@@ -34,7 +34,8 @@ placed k p = record { exponent = k; lowest = p.lowest; highest = p.highest }
 pub place_from : ℤ → Option Place
 place_from k = made IsPlace IsPlace-prop place_test place_in place_out placed k
 
-pub place_from-some : (k : ℤ) (p : IsPlace k) → place_from k ≡ Some (record { exponent = k; lowest = p.lowest; highest = p.highest })
+pub place_from-some : (k : ℤ) (p : IsPlace k)
+    → place_from k ≡ Some (record { exponent = k; lowest = p.lowest; highest = p.highest })
 unfolding place_from placed
 place_from-some k p = made-some IsPlace IsPlace-prop place_test place_in place_out placed k p
 
@@ -44,10 +45,12 @@ place_from-none k n = made-none IsPlace IsPlace-prop place_test place_in place_o
 
 pub place_from_out : (k : ℤ) (p : Place) → place_from k ≡ Some p → p.exponent ≡ k
 unfolding place_from placed
-place_from_out k p e = sym (ap (λ (q : Place). q.exponent) (made_out IsPlace IsPlace-prop place_test place_in place_out placed k p e).1)
+place_from_out k p e = sym (ap (λ (q : Place). q.exponent)
+    (made_out IsPlace IsPlace-prop place_test place_in place_out placed k p e).1)
 
 pub place_from_self : (p : Place) → Some p ≡ place_from p.exponent
-place_from_self p = sym (place_from-some p.exponent (record { lowest = p.lowest; highest = p.highest }))
+place_from_self p =
+    sym (place_from-some p.exponent (record { lowest = p.lowest; highest = p.highest }))
 
 -- the exponent, or 512 where it is above; none below -1024
 abbrev pub kept : ℤ → Option Place

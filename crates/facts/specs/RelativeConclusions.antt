@@ -1,4 +1,5 @@
--- Conclusions on relative errors: how they are written, when one improves another, and where they stand.
+-- Conclusions on relative errors: how they are written, when one improves another, and where they
+-- stand.
 use Rattle.std.specs.Prelude.{◌≡◌, Option, Some, None, refl}
 use Rattle.std.proofs.Common.{sym, ap, subst, ◌∙◌, inl, inr}
 use Rattle.interval.specs.fx_model.Fraction.{neg_ℚ, one_ℚ}
@@ -31,40 +32,61 @@ void_only_out (Some fact.Void) f e = e
 void_only_out (Some _) f e = cc
 
 -- a REL fact isn't VOID
-pub no_void_rel : (x y : ExprId) (o : Option RelativeError) (f : Fact) → void_only (rel_of x y o) ≡ Some f → ⊥
+pub no_void_rel : (x y : ExprId) (o : Option RelativeError) (f : Fact)
+    → void_only (rel_of x y o) ≡ Some f → ⊥
 no_void_rel x y None f e = cc
 no_void_rel x y (Some d) f e = cc
 
 -- ---- one improves another
 -- of a smaller interval there are relative errors where there are of a greater
-pub error_from-within : (i j : Interval) (e : RelativeError) → IsWithin j i → error_from i ≡ Some e → (d : RelativeError) × (error_from j ≡ Some d) × IsWithin d.interval e.interval
+pub error_from-within : (i j : Interval) (e : RelativeError) → IsWithin j i → error_from i ≡ Some e
+    → (d : RelativeError) × (error_from j ≡ Some d) × IsWithin d.interval e.interval
 error_from-within i j e w q =
     let k = error_from_out i e q in
-    let z : IsAboveMinusOne (range_of j) = IsBelow-mono (neg_ℚ one_ℚ) (range_of i).low (range_of j).low (subst (λ k. IsAboveMinusOne (range_of k)) k e.above_minus_one) w.0 in
-    (record { interval = j; above_minus_one = z }, error_from-some j z, subst (IsWithin j) (sym k) w)
+    let z : IsAboveMinusOne (range_of j) = IsBelow-mono (neg_ℚ one_ℚ) (range_of i).low
+    (range_of j).low (subst (λ k. IsAboveMinusOne (range_of k)) k e.above_minus_one) w.0 in (
+      record { interval = j; above_minus_one = z },
+      error_from-some j z,
+      subst (IsWithin j) (sym k) w,
+    )
 
-pub improves_rel : (x y : ExprId) (u v : Option RelativeError) → ((e : RelativeError) → u ≡ Some e → (d : RelativeError) × (v ≡ Some d) × IsWithin d.interval e.interval) → Improves (rel_of x y u) (rel_of x y v)
+pub improves_rel : (x y : ExprId) (u v : Option RelativeError) → ((e : RelativeError)
+    → u ≡ Some e → (d : RelativeError) × (v ≡ Some d) × IsWithin d.interval e.interval)
+    → Improves (rel_of x y u) (rel_of x y v)
 improves_rel x y None v h c q = cc
-improves_rel x y (Some e) v h c q = let d = h e refl in
-    (fact.Rel x y (Some d.0), ap (rel_of x y) d.1, subst (IsStronger (fact.Rel x y (Some d.0))) (let g : fact.Rel x y (Some e) ≡ c = cc in g) (refl, refl, d.2))
+improves_rel x y (Some e) v h c q = let d = h e refl in (
+  fact.Rel x y (Some d.0),
+  ap (rel_of x y) d.1,
+  subst (IsStronger (fact.Rel x y (Some d.0)))
+      (let g : fact.Rel x y (Some e) ≡ c = cc in g) (refl, refl, d.2),
+)
 
-pub improves_error : (x y : ExprId) (i j : Interval) → IsWithin j i → Improves (rel_of x y (error_from i)) (rel_of x y (error_from j))
-improves_error x y i j w = improves_rel x y (error_from i) (error_from j) (λ e q. error_from-within i j e w q)
+pub improves_error : (x y : ExprId) (i j : Interval) → IsWithin j i
+    → Improves (rel_of x y (error_from i)) (rel_of x y (error_from j))
+improves_error x y i j w =
+    improves_rel x y (error_from i) (error_from j) (λ e q. error_from-within i j e w q)
 
-pub improves_part : (x y : ExprId) (u v : Option Interval) → ((i : Interval) → u ≡ Some i → (j : Interval) × (v ≡ Some j) × IsWithin j i) → Improves (rel_of x y (error_of_part u)) (rel_of x y (error_of_part v))
+pub improves_part : (x y : ExprId) (u v : Option Interval)
+    → ((i : Interval) → u ≡ Some i → (j : Interval) × (v ≡ Some j) × IsWithin j i)
+    → Improves (rel_of x y (error_of_part u)) (rel_of x y (error_of_part v))
 improves_part x y None v h c q = cc
-improves_part x y (Some i) v h c q = let j = h i refl in subst (λ o. Improves (rel_of x y (error_from i)) (rel_of x y (error_of_part o))) (sym j.1) (improves_error x y i j.0 j.2) c q
+improves_part x y (Some i) v h c q = let j = h i refl in
+    subst (λ o. Improves (rel_of x y (error_from i)) (rel_of x y (error_of_part o))) (sym j.1)
+    (improves_error x y i j.0 j.2) c q
 
 -- VOID improves everything
 pub improves_void : (u : Option Fact) → Improves u (Some fact.Void)
 improves_void u c q = (fact.Void, refl, tt)
 
 -- a fact that is as strong as each relative error that may be given
-pub improves_to : (x y : ExprId) (u : Option RelativeError) (g : Fact) → ((e : RelativeError) → u ≡ Some e → IsStronger g (fact.Rel x y (Some e))) → Improves (rel_of x y u) (Some g)
+pub improves_to : (x y : ExprId) (u : Option RelativeError) (g : Fact) → ((e : RelativeError)
+    → u ≡ Some e → IsStronger g (fact.Rel x y (Some e))) → Improves (rel_of x y u) (Some g)
 improves_to x y None g h c q = cc
-improves_to x y (Some e) g h c q = (g, refl, subst (IsStronger g) (let k : fact.Rel x y (Some e) ≡ c = cc in k) (h e refl))
+improves_to x y (Some e) g h c q =
+    (g, refl, subst (IsStronger g) (let k : fact.Rel x y (Some e) ≡ c = cc in k) (h e refl))
 
-pub improves_to_none : (x y : ExprId) (u : Option RelativeError) → Improves (rel_of x y u) (Some (fact.Rel x y None))
+pub improves_to_none : (x y : ExprId) (u : Option RelativeError)
+    → Improves (rel_of x y u) (Some (fact.Rel x y None))
 improves_to_none x y u = improves_to x y u (fact.Rel x y None) (λ e q. (refl, refl, tt))
 
 pub improves_fact : (f g : Fact) → IsStronger g f → Improves (Some f) (Some g)
@@ -76,7 +98,8 @@ improves_void_only None v h c q = cc
 improves_void_only (Some fact.Void) v h c q =
     let d = h fact.Void refl in
     let e : c ≡ fact.Void = cc in
-    subst (λ o. (k : Fact) × (void_only o ≡ Some k) × IsStronger k c) (sym (d.1 ∙ ap Some (alone d.0 d.2))) (fact.Void, refl, tt)
+    subst (λ o. (k : Fact) × (void_only o ≡ Some k) × IsStronger k c)
+    (sym (d.1 ∙ ap Some (alone d.0 d.2))) (fact.Void, refl, tt)
   where
     alone : (k : Fact) → IsStronger k fact.Void → k ≡ fact.Void
     alone fact.Void s = refl

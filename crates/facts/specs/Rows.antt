@@ -42,10 +42,16 @@ AreNonzero nodes a row = AllByRecursion (λ d. Holds nodes a (fact.Nzr d)) row.d
 abbrev pub AreMet : List Node → Assignment → HintRow → Type 0
 AreMet nodes a row = AllByRecursion (IsMet nodes a) row.needs
 
--- Where the divisors have values other than 0, the constraints hold and the right side has a value, the left side has that value.
+-- Where the divisors have values other than 0, the constraints hold and the right side has a value,
+-- the left side has that value.
 abbrev pub RowIsTrue : List Node → Assignment → HintRow → Type 0
-RowIsTrue nodes a row = AreNonzero nodes a row → AreMet nodes a row → (v : Fraction) → value nodes a row.right ≡ Some v → value nodes a row.left ≡ Some v
+RowIsTrue nodes a row = AreNonzero nodes a row → AreMet nodes a row → (v : Fraction)
+    → value nodes a row.right ≡ Some v → value nodes a row.left ≡ Some v
 
--- It is true where the divisors give the left side a value, and both sides, where they have values and the constraints hold, the same.
-pub row_by_values : (nodes : List Node) (a : Assignment) (row : HintRow) → (AreNonzero nodes a row → (u : Fraction) × (value nodes a row.left ≡ Some u)) → (AreMet nodes a row → (u v : Fraction) → value nodes a row.left ≡ Some u → value nodes a row.right ≡ Some v → u ≡ v) → RowIsTrue nodes a row
+-- It is true where the divisors give the left side a value, and both sides, where they have values
+-- and the constraints hold, the same.
+pub row_by_values : (nodes : List Node) (a : Assignment) (row : HintRow)
+    → (AreNonzero nodes a row → (u : Fraction) × (value nodes a row.left ≡ Some u))
+    → (AreMet nodes a row → (u v : Fraction) → value nodes a row.left ≡ Some u
+    → value nodes a row.right ≡ Some v → u ≡ v) → RowIsTrue nodes a row
 row_by_values nodes a row left same n m v r = let u = left n in u.1 ∙ ap Some (same m u.0 v u.1 r)

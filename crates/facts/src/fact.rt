@@ -10,7 +10,8 @@ pub enum Fact {
     Bnd(ExprId, Interval),
     /// The expression has a value, whose absolute value lies in the interval.
     Abs(ExprId, Size),
-    /// Both have values, and the first is the second times 1 + t for a t in the interval; without an interval both are 0.
+    /// Both have values, and the first is the second times 1 + t for a t in the interval; without
+    /// an interval both are 0.
     Rel(ExprId, ExprId, Option<RelativeError>),
     /// The expression has a value, a whole multiple of 2^k.
     Fix(ExprId, Place),

@@ -1,7 +1,8 @@
 use fx_edge::Items;
 use interval::{End, ExprId};
 
-/// A constraint of a hint on an expression. A bound is a number rounded so that what meets it meets the written one.
+/// A constraint of a hint on an expression. A bound is a number rounded so that what meets it meets
+/// the written one.
 #[derive(Clone, Copy, PartialEq, Eq, Debug)]
 pub enum Need {
     /// The value isn't 0.

@@ -11,7 +11,8 @@ use interval::{End, Interval};
 #[derive(Clone, Copy, PartialEq, Eq, Debug)]
 pub struct RelativeError {
     interval: Interval,
-    pub ghost above_minus_one: { IsAboveMinusOne (range_of interval) } by { IsAboveMinusOne-prop (range_of interval) },
+    pub ghost above_minus_one: { IsAboveMinusOne (range_of interval) } by { IsAboveMinusOne-prop
+        (range_of interval) },
 }
 
 impl RelativeError {

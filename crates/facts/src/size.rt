@@ -8,7 +8,8 @@ use interval::Interval;
 #[derive(Clone, Copy, PartialEq, Eq, Debug)]
 pub struct Size {
     interval: Interval,
-    pub ghost from_zero: { IsFromZero (range_of interval) } by { IsFromZero-prop (range_of interval) },
+    pub ghost from_zero: { IsFromZero
+        (range_of interval) } by { IsFromZero-prop (range_of interval) },
 }
 
 impl Size {

@@ -42,7 +42,8 @@ fn name(answer: &Sameness) -> &'static str {
     }
 }
 
-/// Prints the time of one comparison of a product of 256 terms with itself, whose square forms 65,536 terms.
+/// Prints the time of one comparison of a product of 256 terms with itself, whose square forms
+/// 65,536 terms.
 pub fn measure(rt: &(impl Clock + Print + AllocGlobal)) -> Result<()> {
     let mut dag = Dag::new(rt.alloc());
     let product = all_factors(&mut dag)?;

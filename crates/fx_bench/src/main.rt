@@ -1,4 +1,5 @@
-//! Measures by the clock: the time of one operation, of one rule, of the reading of a text, of a hint, and of whole runs.
+//! Measures by the clock: the time of one operation, of one rule, of the reading of a text, of a
+//! hint, and of whole runs.
 //!
 //! The one argument names the measure. Nothing is asserted of a figure.
 #![tactic(auto)]
@@ -20,7 +21,8 @@ use std::rt::{Clock, Env};
 use std::sync::Wait;
 use std::thread::Threads;
 
-// Prints the figures of one measure, or the names of all where none is named so. Of `parse` a second word names one text.
+// Prints the figures of one measure, or the names of all where none is named so. Of `parse` a
+// second word names one text.
 fn measure<R: Clock + Print + AllocGlobal + Threads + Wait + Sync>(
     rt: &R,
     name: &str,

@@ -16,7 +16,8 @@ const TURNS: u32 = 5;
 const SMALL: &str =
     "@q = fixed<-15,dn>; d q= b - a; p q= d * t; r q= a + p; Mr = a + (b - a) * t; { @FIX(a,-15) /\\ @FIX(b,-15) /\\ @FIX(t,-15) /\\ a in [0,1] /\\ b in [0,1] /\\ t in [0,1] -> r in ? /\\ r - Mr in ? }";
 
-/// A polynomial of degree 12 whose operations are rounded, against exact arithmetic, over 64 pieces: 65 boxes of 3,471 instances.
+/// A polynomial of degree 12 whose operations are rounded, against exact arithmetic, over 64
+/// pieces: 65 boxes of 3,471 instances.
 const LARGE: &str =
     "@q = fixed<-12,dn>;\ny q= (((((((((((7b-6 * x + 34b-6) * x + 61b-6) * x + 24b-6) * x + 51b-6) * x + 14b-6) * x + 41b-6) * x + 4b-6) * x + 31b-6) * x + 58b-6) * x + 21b-6) * x + 48b-6) * x + 11b-6;\nMy = (((((((((((7b-6 * x + 34b-6) * x + 61b-6) * x + 24b-6) * x + 51b-6) * x + 14b-6) * x + 41b-6) * x + 4b-6) * x + 31b-6) * x + 58b-6) * x + 21b-6) * x + 48b-6) * x + 11b-6;\n{ x in [0,1] -> y - My in ? }\n$ x in 64;";
 
@@ -56,7 +57,8 @@ fn least_time<R: Clock + AllocGlobal + Threads + Wait + Sync>(
     Ok((least, last))
 }
 
-/// Prints the time of a run of `prove` on a script of a few lines and on one of 65 boxes, with 64 rounds.
+/// Prints the time of a run of `prove` on a script of a few lines and on one of 65 boxes, with 64
+/// rounds.
 pub fn measure<R: Clock + Print + AllocGlobal + Threads + Wait + Sync>(rt: &R) -> Result<()> {
     for (name, text) in [("small", SMALL), ("65 boxes", LARGE)] {
         let (least, last) = least_time(rt, text)?;

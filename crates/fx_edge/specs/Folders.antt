@@ -31,11 +31,13 @@ calls_of d = d.calls
 
 -- the tally of a folder
 abbrev pub tally : MemFolder → Tally
-tally d = record { numbered = calls_of d; read_faults = d.read_faults; write_faults = d.write_faults }
+tally d =
+    record { numbered = calls_of d; read_faults = d.read_faults; write_faults = d.write_faults }
 
 -- before the first call
 abbrev pub new_tally : List ℕ → ℕ → Tally
-new_tally failing most = record { numbered = no_calls failing most; read_faults = 0; write_faults = 0 }
+new_tally failing most =
+    record { numbered = no_calls failing most; read_faults = 0; write_faults = 0 }
 
 -- after a read with this result
 abbrev pub after_read : {T E : Type 0} → Result T E → Tally → Tally

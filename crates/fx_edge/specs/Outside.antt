@@ -1,4 +1,5 @@
--- What a call of a folder or of a sink may do. A count of faults never falls, and stands still at 2^64 - 1.
+-- What a call of a folder or of a sink may do. A count of faults never falls, and stands still at
+-- 2^64 - 1.
 use Rattle.std.specs.Prelude.{◌≡◌, ◌<◌, ◌≤◌, ◌+◌, ◌-◌, ◌^◌, ℕ, List, [], length, take, drop, min}
 use Rattle.std.specs.Prelude.{⊤, Option, Some, None, Result, Ok, Err, MatchResult, OnErr}
 use Rattle.std.proofs.Common.{arith}

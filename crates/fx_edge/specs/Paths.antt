@@ -16,7 +16,8 @@ pub record IsPadded (p : Inside) : Type 0 where
 
 -- the fields of a path with these numbers
 abbrev pub fields_of : List ℕ → Inside
-fields_of numbers = record { numbers = numbers ++ replicate (36 - length numbers) 0; len = length numbers }
+fields_of numbers =
+    record { numbers = numbers ++ replicate (36 - length numbers) 0; len = length numbers }
 
 abbrev made : List ℕ → ℕ → Inside
 made numbers len = record { numbers = numbers; len = len }
@@ -26,5 +27,7 @@ pub fields_of_numbers : (p : Inside) → IsPadded p → fields_of (numbers_of p)
 fields_of_numbers p ok =
     let le : p.len ≤ length p.numbers = omega (arith, ok.size, ok.short) in
     let e : length (take p.len p.numbers) ≡ p.len = length-take-le p.len p.numbers le in
-    let n : take p.len p.numbers ++ replicate (36 - length (take p.len p.numbers)) 0 ≡ p.numbers = rw e (sym ok.rest) in
-    ap (λ (a : List ℕ). made a (length (take p.len p.numbers))) n ∙ ap (λ (m : ℕ). made p.numbers m) e
+    let n : take p.len p.numbers ++ replicate (36 - length (take p.len p.numbers)) 0
+    ≡ p.numbers = rw e (sym ok.rest) in
+    ap (λ (a : List ℕ). made a (length (take p.len p.numbers))) n
+    ∙ ap (λ (m : ℕ). made p.numbers m) e

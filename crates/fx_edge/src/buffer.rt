@@ -41,7 +41,8 @@ impl Buffer {
         &self.bytes
     }
 
-    /// Adds what fits of the piece, and says how much; `None` where nothing of a piece fits that isn't empty.
+    /// Adds what fits of the piece, and says how much; `None` where nothing of a piece fits that
+    /// isn't empty.
     pub fn add(&mut self, piece: &[u8]) -> Option<usize>
         ensures full { IsNone result ↔ IsFullFor self.old piece.now }
         ensures kept { IsNone result → self.new ≡ self.old }

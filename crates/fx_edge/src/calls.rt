@@ -4,7 +4,8 @@ ghost use Rattle.fx_edge.specs.Calls.{no_calls, next_call, FailsNext};
 
 use std::marker::Model;
 
-/// The numbers of the calls that fail, how many calls there were, and how many bytes one moves at most.
+/// The numbers of the calls that fail, how many calls there were, and how many bytes one moves at
+/// most.
 #[derive(Drop)]
 pub struct Calls {
     failing: Vec<u64>,

@@ -129,7 +129,8 @@ fn empty_new<R: Files>(rt: &R, name: &str, read: LastRead) -> io::Result<()> {
 }
 
 /// The files of the folder that the program runs in. Each call opens its file. A file that was read
-/// isn't made new under any of its names (the last two are known by device and number): that call fails.
+/// isn't made new under any of its names (the last two are known by device and number): that call
+/// fails.
 #[derive(Drop)]
 pub struct DiskFolder<R: Files + Clone + Drop> {
     rt: R,

@@ -1,5 +1,5 @@
-// Files in memory, by name. A name that is to be written stands among them from the start, so that no call
-// takes memory.
+// Files in memory, by name. A name that is to be written stands among them from the start, so that
+// no call takes memory.
 ghost use Rattle.std.specs.Prelude.{◌≡◌, ◌↔◌, ℕ, List, Some, length, min, IsNone, IsSome, IsTrue, IfOk, IfSome};
 ghost use Rattle.std.specs.Option.{option_map};
 ghost use Rattle.fx_edge.specs.Held.{emptied, readable, filled};
@@ -47,7 +47,8 @@ impl Files {
     pub fn read(&self, name: &str, at: u64, buf: &mut [u8], most: usize) -> Option<usize>
         ensures absent { IsNone result ↔ IsNone (file_at self.now name.now) }
         ensures count { IfSome result (λ n.
-            n ≡ min (readable (bytes_or_none (file_at self.now name.now)) at (length buf.old)) most) }
+            n ≡ min (readable (bytes_or_none (file_at self.now name.now)) at
+            (length buf.old)) most) }
         ensures bytes { IfSome result (λ n.
             buf.new ≡ filled (bytes_or_none (file_at self.now name.now)) at n buf.old) }
         ensures kept { IsNone result → buf.new ≡ buf.old }
@@ -62,7 +63,8 @@ impl Files {
     #[tactic(auto, using(std::proofs::lemmas::Map::Text::text_keys))]
     pub fn clear(&mut self, name: &str) -> bool
         ensures there { IsTrue result ↔ IsSome (file_at self.old name.now) }
-        ensures cleared { file_at self.new name.now ≡ option_map emptied (file_at self.old name.now) }
+        ensures cleared { file_at self.new name.now
+            ≡ option_map emptied (file_at self.old name.now) }
         ensures others { SameElsewhere name.now (file_at self.old) (file_at self.new) }
     {
         if let Some(file) = self.by_name.get_mut(name) {
@@ -72,13 +74,14 @@ impl Files {
         false
     }
 
-    /// Adds what fits of the piece; `None` where the name isn't there, or nothing of a piece fits that isn't
-    /// empty.
+    /// Adds what fits of the piece; `None` where the name isn't there, or nothing of a piece fits
+    /// that isn't empty.
     #[tactic(auto, using(std::proofs::lemmas::Map::Text::text_keys))]
     pub fn add(&mut self, name: &str, piece: &[u8]) -> Option<usize>
         ensures refused { IsNone result ↔ CannotAdd (file_at self.old name.now) piece.now }
         ensures kept { IsNone result → file_at self.new name.now ≡ file_at self.old name.now }
-        ensures count { IfSome result (λ n. n ≡ fitting_into (file_at self.old name.now) piece.now) }
+        ensures count { IfSome result
+            (λ n. n ≡ fitting_into (file_at self.old name.now) piece.now) }
         ensures added { IfSome result (λ n.
             file_at self.new name.now ≡ grown (file_at self.old name.now) n piece.now) }
         ensures others { SameElsewhere name.now (file_at self.old) (file_at self.new) }

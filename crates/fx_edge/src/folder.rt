@@ -14,8 +14,8 @@ use crate::outside::count_failure;
 use crate::{Failed, Folder};
 use std::alloc::{AllocError, Global};
 
-/// A folder in memory, whose reads never fail. A write fails only where nothing of the piece fits, or the
-/// name isn't among the files.
+/// A folder in memory, whose reads never fail. A write fails only where nothing of the piece fits,
+/// or the name isn't among the files.
 #[derive(Drop)]
 pub struct SureFolder {
     files: Files,
@@ -25,8 +25,8 @@ pub struct SureFolder {
 impl SureFolder {
     ghost use Rattle.fx_edge.specs.Folders.{sure_file, sure_faults};
 
-    /// A folder of these files, each with room for `room` bytes, or for its own if these are more. Of two
-    /// files of one name the last is there.
+    /// A folder of these files, each with room for `room` bytes, or for its own if these are more.
+    /// Of two files of one name the last is there.
     pub fn new(
         alloc: Global,
         files: Vec<(String, Vec<u8>)>,
@@ -45,7 +45,8 @@ impl SureFolder {
     /// The bytes of a name, where it is there.
     pub fn bytes(&self, name: &str) -> Option<&[u8]>
         ensures absent { IsNone result ↔ IsNone (sure_file self.now name.now) }
-        ensures bytes { IfSome result (λ b. bytes_there (sure_file self.now name.now) ≡ Some b.now) }
+        ensures bytes { IfSome result
+            (λ b. bytes_there (sure_file self.now name.now) ≡ Some b.now) }
     {
         self.files.bytes(name)
     }
@@ -76,7 +77,8 @@ impl Folder for SureFolder {
 
     fn fresh(&mut self, name: &str) -> Result<(), Failed>
         ensures there { IsOk result ↔ IsSome (sure_file self.old name.now) }
-        ensures emptied { sure_file self.new name.now ≡ option_map emptied (sure_file self.old name.now) }
+        ensures emptied { sure_file self.new name.now
+            ≡ option_map emptied (sure_file self.old name.now) }
         ensures others { SameElsewhere name.now (sure_file self.old) (sure_file self.new) }
         ensures counts { sure_faults self.new ≡ count_after result (sure_faults self.old) }
         ensures cause { HasCause (sure_faults self.old) (sure_faults self.new) result }
@@ -89,7 +91,8 @@ impl Folder for SureFolder {
 
     fn append(&mut self, name: &str, piece: &[u8]) -> Result<usize, Failed>
         ensures fails { IsErr result ↔ CannotAdd (sure_file self.old name.now) piece.now }
-        ensures count { IfOk result (λ n. n ≡ fitting_into (sure_file self.old name.now) piece.now) }
+        ensures count { IfOk result
+            (λ n. n ≡ fitting_into (sure_file self.old name.now) piece.now) }
         ensures added { IfOk result (λ n.
             sure_file self.new name.now ≡ grown (sure_file self.old name.now) n piece.now) }
         ensures kept { OnErr result (sure_file self.new name.now ≡ sure_file self.old name.now) }
@@ -104,8 +107,9 @@ impl Folder for SureFolder {
     }
 }
 
-/// A folder in memory that moves at most `most` bytes in a call, and whose calls with the numbers in
-/// `failing` fail. The calls are numbered from 1 over all methods. A read of a name that isn't there fails.
+/// A folder in memory that moves at most `most` bytes in a call, and whose calls with the numbers
+/// in `failing` fail. The calls are numbered from 1 over all methods. A read of a name that isn't
+/// there fails.
 #[derive(Drop)]
 pub struct MemFolder {
     files: Files,
@@ -117,8 +121,8 @@ pub struct MemFolder {
 impl MemFolder {
     ghost use Rattle.fx_edge.specs.Folders.{mem_file, tally, new_tally};
 
-    /// A folder of these files, each with room for `room` bytes, or for its own if these are more. Of two
-    /// files of one name the last is there.
+    /// A folder of these files, each with room for `room` bytes, or for its own if these are more.
+    /// Of two files of one name the last is there.
     pub fn new(
         alloc: Global,
         files: Vec<(String, Vec<u8>)>,
@@ -188,7 +192,8 @@ impl Folder for MemFolder {
         ensures kept { OnErr result (mem_file self.new name.now ≡ mem_file self.old name.now) }
         ensures others { SameElsewhere name.now (mem_file self.old) (mem_file self.new) }
         ensures counts { tally self.new ≡ after_write result (tally self.old) }
-        ensures cause { HasCause (tally self.old).write_faults (tally self.new).write_faults result }
+        ensures cause { HasCause (tally self.old).write_faults
+            (tally self.new).write_faults result }
     {
         if !self.calls.next_fails() && self.files.clear(name) {
             return Ok(());
@@ -200,14 +205,16 @@ impl Folder for MemFolder {
         ensures fails { IsErr result
             ↔ (FailsNext (calls_of self.old) ⊎ CannotAdd (mem_file self.old name.now) piece.now) }
         ensures count { IfOk result (λ n.
-            n ≡ min (fitting_into (mem_file self.old name.now) piece.now) (calls_of self.old).most) }
+            n ≡ min (fitting_into (mem_file self.old name.now) piece.now)
+            (calls_of self.old).most) }
         ensures some { IfOk result (λ n. 0 < length piece.now → 0 < n) }
         ensures added { IfOk result (λ n.
             mem_file self.new name.now ≡ grown (mem_file self.old name.now) n piece.now) }
         ensures kept { OnErr result (mem_file self.new name.now ≡ mem_file self.old name.now) }
         ensures others { SameElsewhere name.now (mem_file self.old) (mem_file self.new) }
         ensures counts { tally self.new ≡ after_write result (tally self.old) }
-        ensures cause { HasCause (tally self.old).write_faults (tally self.new).write_faults result }
+        ensures cause { HasCause (tally self.old).write_faults
+            (tally self.new).write_faults result }
     {
         let most = self.calls.most().min(piece.len());
         if !self.calls.next_fails() {

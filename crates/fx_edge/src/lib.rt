@@ -1,4 +1,5 @@
-//! The outside of the prover: folders, sinks, and small forms of both in memory; and the paths of boxes, which many crates name.
+//! The outside of the prover: folders, sinks, and small forms of both in memory; and the paths of
+//! boxes, which many crates name.
 #![tactic(auto)]
 
 mod buffer;

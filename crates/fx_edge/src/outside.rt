@@ -30,7 +30,8 @@ pub trait Folder {
     /// How often a write has failed.
     ghost write_faults: { Self → ℕ };
 
-    /// Reads bytes that stand from `at`. None are read only at the end, or into a buffer with no room.
+    /// Reads bytes that stand from `at`. None are read only at the end, or into a buffer with no
+    /// room.
     fn read(&mut self, name: &str, at: u64, buf: &mut [u8]) -> Result<usize, Failed>
         ensures bound { ReadsAtMost result buf.new }
         ensures bytes { ReadsFrom (told self.old name.now) at result buf.new }
@@ -42,8 +43,10 @@ pub trait Folder {
     fn fresh(&mut self, name: &str) -> Result<(), Failed>
         ensures ok { OnOk result (Empties (told self.old name.now) (told self.new name.now)) }
         ensures err { OnErr result
-            ((told self.new name.now ≡ told self.old name.now) ⊎ (told self.new name.now ≡ Some [])) }
-        ensures others { (other : List ℕ) → other ≢ name.now → told self.new other ≡ told self.old other }
+            ((told self.new name.now ≡ told self.old name.now)
+            ⊎ (told self.new name.now ≡ Some [])) }
+        ensures others { (other : List ℕ) → other ≢ name.now
+            → told self.new other ≡ told self.old other }
         ensures cause { HasCause (write_faults self.old) (write_faults self.new) result }
         ensures quiet { read_faults self.new ≡ read_faults self.old };
 
@@ -51,8 +54,10 @@ pub trait Folder {
     fn append(&mut self, name: &str, piece: &[u8]) -> Result<usize, Failed>
         ensures bound { IfOk result (λ n. n ≤ length piece.now) }
         ensures some { IfOk result (λ n. 0 < length piece.now → 0 < n) }
-        ensures bytes { WriteAppends (told self.old name.now) (told self.new name.now) result piece.now }
-        ensures others { (other : List ℕ) → other ≢ name.now → told self.new other ≡ told self.old other }
+        ensures bytes { WriteAppends (told self.old name.now)
+            (told self.new name.now) result piece.now }
+        ensures others { (other : List ℕ) → other ≢ name.now
+            → told self.new other ≡ told self.old other }
         ensures cause { HasCause (write_faults self.old) (write_faults self.new) result }
         ensures quiet { read_faults self.new ≡ read_faults self.old };
 }

@@ -66,7 +66,8 @@ impl Path {
         self.numbers[i as usize]
     }
 
-    /// The path of a piece of this box. The caller sees to it that there is room and that the number is below 64.
+    /// The path of a piece of this box. The caller sees to it that there is room and that the
+    /// number is below 64.
     pub fn child(self, piece: u8) -> Path
         requires room { length self < 36 }
         requires piece { piece < 64 }
@@ -82,7 +83,8 @@ impl Path {
 
     /// The path without its last number. `None` exactly at the root.
     pub fn parent(self) -> Option<Path>
-        ensures { MatchOption result (self ≡ []) (λ p. (self ≡ p ++ slice_index self (length p) ∷ [])) }
+        ensures { MatchOption result (self ≡ [])
+            (λ p. (self ≡ p ++ slice_index self (length p) ∷ [])) }
     {
         if self.len == 0 {
             return None;
@@ -127,7 +129,8 @@ impl Ord for Path {
 impl PartialOrd for Path {
     ghost partial_cmp = { as_partial_cmp (slice_cmp nat_cmp) };
 
-    ghost laws = { partial_order_from_own_ties (Prim.search (comparing, rules)) (Prim.search (comparing, rules)) };
+    ghost laws = { partial_order_from_own_ties (Prim.search (comparing, rules))
+        (Prim.search (comparing, rules)) };
 
     fn partial_cmp(&self, other: &Path) -> Option<Ordering> {
         Some(self.cmp(other))

@@ -72,8 +72,8 @@ impl Sink for SureSink {
     }
 }
 
-/// A sink with room for so many bytes, which takes at most `most` of them in a call, and whose calls with
-/// the numbers in `failing` fail. The calls are numbered from 1.
+/// A sink with room for so many bytes, which takes at most `most` of them in a call, and whose
+/// calls with the numbers in `failing` fail. The calls are numbered from 1.
 #[derive(Drop)]
 pub struct MemSink {
     held: Buffer,

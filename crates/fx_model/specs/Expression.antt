@@ -31,7 +31,8 @@ abbrev pub lift₁ : (Fraction → Fraction) → Option Fraction → Option Frac
 lift₁ f None = None
 lift₁ f (Some x) = Some (f x)
 
-abbrev pub lift₂ : (Fraction → Fraction → Fraction) → Option Fraction → Option Fraction → Option Fraction
+abbrev pub lift₂ : (Fraction → Fraction → Fraction) → Option Fraction
+    → Option Fraction → Option Fraction
 lift₂ f None y = None
 lift₂ f (Some x) None = None
 lift₂ f (Some x) (Some y) = Some (f x y)
@@ -56,7 +57,8 @@ node_value a v (Round r x) = lift₁ (rounded r.dir r.lsb) (v x)
 -- The values of a list of nodes, one after another, with those of `done` before them.
 pub values_after : Assignment → List (Option Fraction) → List Node → List (Option Fraction)
 values_after a done [] = done
-values_after a done (n ∷ ns) = values_after a (done ++ (node_value a (λ x. slice_index_or done x.0 None) n ∷ [])) ns
+values_after a done (n ∷ ns) =
+    values_after a (done ++ (node_value a (λ x. slice_index_or done x.0 None) n ∷ [])) ns
 
 -- The value of expression x of a list of nodes, or none. A number outside the list has none.
 abbrev pub value : List Node → Assignment → ExprId → Option Fraction
@@ -80,39 +82,52 @@ abbrev pub IsOrdered : List Node → Type 0
 IsOrdered nodes = (i : ℕ) (n : Node) → i < length nodes → ChildrenBelow i (slice_index_or nodes i n)
 
 -- a node's value is made of the values of what it is made of
-pub same_children : (a : Assignment) (v w : ExprId → Option Fraction) (k : ℕ) (n : Node) → ChildrenBelow k n → ((x : ExprId) → x.0 < k → v x ≡ w x) → node_value a v n ≡ node_value a w n
+pub same_children : (a : Assignment) (v w : ExprId → Option Fraction) (k : ℕ) (n : Node)
+    → ChildrenBelow k n → ((x : ExprId) → x.0 < k → v x ≡ w x) → node_value a v n ≡ node_value a w n
 same_children a v w k (Var n) h e = refl
 same_children a v w k (Lit l) h e = refl
 same_children a v w k (Neg x) h e = ap (lift₁ neg_ℚ) (e x h)
-same_children a v w k (Add x y) h e = ap (λ u. lift₂ ◌+ℚ◌ u (v y)) (e x h.0) ∙ ap (lift₂ ◌+ℚ◌ (w x)) (e y h.1)
-same_children a v w k (Sub x y) h e = ap (λ u. lift₂ ◌-ℚ◌ u (v y)) (e x h.0) ∙ ap (lift₂ ◌-ℚ◌ (w x)) (e y h.1)
-same_children a v w k (Mul x y) h e = ap (λ u. lift₂ ◌*ℚ◌ u (v y)) (e x h.0) ∙ ap (lift₂ ◌*ℚ◌ (w x)) (e y h.1)
-same_children a v w k (Div x y) h e = ap (λ u. quotient u (v y)) (e x h.0) ∙ ap (quotient (w x)) (e y h.1)
+same_children a v w k (Add x y) h e =
+    ap (λ u. lift₂ ◌+ℚ◌ u (v y)) (e x h.0) ∙ ap (lift₂ ◌+ℚ◌ (w x)) (e y h.1)
+same_children a v w k (Sub x y) h e =
+    ap (λ u. lift₂ ◌-ℚ◌ u (v y)) (e x h.0) ∙ ap (lift₂ ◌-ℚ◌ (w x)) (e y h.1)
+same_children a v w k (Mul x y) h e =
+    ap (λ u. lift₂ ◌*ℚ◌ u (v y)) (e x h.0) ∙ ap (lift₂ ◌*ℚ◌ (w x)) (e y h.1)
+same_children a v w k (Div x y) h e =
+    ap (λ u. quotient u (v y)) (e x h.0) ∙ ap (quotient (w x)) (e y h.1)
 same_children a v w k (Abs x) h e = ap (lift₁ abs_ℚ) (e x h)
 same_children a v w k (Round r x) h e = ap (lift₁ (rounded r.dir r.lsb)) (e x h)
 
 abbrev at_value : List (Option Fraction) → ℕ → Option Fraction
 at_value vs i = slice_index_or vs i None
 
-at_front : (done rest : List (Option Fraction)) (i : ℕ) → i < length done → at_value (done ++ rest) i ≡ at_value done i
+at_front : (done rest : List (Option Fraction)) (i : ℕ) → i < length done
+    → at_value (done ++ rest) i ≡ at_value done i
 at_front done rest i h = get_or_append_left done rest None i h
 
-at_last : (done : List (Option Fraction)) (v : Option Fraction) → at_value (done ++ (v ∷ [])) (length done) ≡ v
+at_last : (done : List (Option Fraction)) (v : Option Fraction)
+    → at_value (done ++ (v ∷ [])) (length done) ≡ v
 at_last done v = get_or-append_seam done v [] None
 
-longer : (done : List (Option Fraction)) (v : Option Fraction) → length (done ++ (v ∷ [])) ≡ length done + 1
+longer : (done : List (Option Fraction)) (v : Option Fraction)
+    → length (done ++ (v ∷ [])) ≡ length done + 1
 longer done v = length-append done (v ∷ [])
 
 -- what is done stays
-kept : (a : Assignment) (done : List (Option Fraction)) (ns : List Node) (i : ℕ) → i < length done → at_value (values_after a done ns) i ≡ at_value done i
+kept : (a : Assignment) (done : List (Option Fraction)) (ns : List Node) (i : ℕ) → i < length done
+    → at_value (values_after a done ns) i ≡ at_value done i
 unfolding values_after
 kept a done [] i h = refl
 kept a done (n ∷ ns) i h =
     let v : Option Fraction = node_value a (λ x. slice_index_or done x.0 None) n in
-    let m : i < length (done ++ (v ∷ [])) = omega (arith, longer done v) in kept a (done ++ (v ∷ [])) ns i m ∙ at_front done (v ∷ []) i h
+    let m : i < length (done ++ (v ∷ [])) = omega (arith, longer done v) in
+    kept a (done ++ (v ∷ [])) ns i m ∙ at_front done (v ∷ []) i h
 
-step : (a : Assignment) (done : List (Option Fraction)) (ns : List Node) (i j : ℕ) (d : Node) → j ≡ length done + i → i < length ns → ((k l : ℕ) → l ≡ length done + k → k < length ns → ChildrenBelow l (slice_index_or ns k d))
-    → at_value (values_after a done ns) j ≡ node_value a (λ x. at_value (values_after a done ns) x.0) (slice_index_or ns i d)
+step : (a : Assignment) (done : List (Option Fraction)) (ns : List Node) (i j : ℕ) (d : Node)
+    → j ≡ length done + i → i < length ns
+    → ((k l : ℕ) → l ≡ length done + k → k < length ns → ChildrenBelow l (slice_index_or ns k d))
+    → at_value (values_after a done ns) j
+    ≡ node_value a (λ x. at_value (values_after a done ns) x.0) (slice_index_or ns i d)
 unfolding values_after
 step a done [] i j d e h o = absurd (omega arith)
 step a done (n ∷ ns) zero j d e h o =
@@ -121,27 +136,38 @@ step a done (n ∷ ns) zero j d e h o =
     let c : ChildrenBelow (length done) n = o zero (length done) here (omega arith) in
     let m : length done < length (done ++ (v ∷ [])) = omega (arith, longer done v) in
     let at : j ≡ length done = omega arith in
-    ap (at_value (values_after a (done ++ (v ∷ [])) ns)) at ∙ kept a (done ++ (v ∷ [])) ns (length done) m ∙ at_last done v
-    ∙ same_children a (λ x. at_value done x.0) (λ x. at_value (values_after a (done ++ (v ∷ [])) ns) x.0) (length done) n c
-    (λ x l. sym (kept a (done ++ (v ∷ [])) ns x.0 (omega (arith, longer done v)) ∙ at_front done (v ∷ []) x.0 l))
+    ap (at_value (values_after a (done ++ (v ∷ [])) ns)) at
+    ∙ kept a (done ++ (v ∷ [])) ns (length done) m ∙ at_last done v
+    ∙ same_children a (λ x. at_value done x.0)
+    (λ x. at_value (values_after a (done ++ (v ∷ [])) ns) x.0) (length done) n c
+    (λ x l. sym (kept a (done ++ (v ∷ [])) ns x.0 (omega (arith, longer done v))
+    ∙ at_front done (v ∷ []) x.0 l))
 step a done (n ∷ ns) (suc i) j d e h o =
     let v : Option Fraction = node_value a (λ x. slice_index_or done x.0 None) n in
-    step a (done ++ (v ∷ [])) ns i j d (omega (arith, longer done v)) (omega arith) (λ k l f m. o (suc k) l (omega (arith, longer done v)) (omega arith))
+    step a (done ++ (v ∷ [])) ns i j d (omega (arith, longer done v)) (omega arith)
+    (λ k l f m. o (suc k) l (omega (arith, longer done v)) (omega arith))
 
 zero_plus : (k l : ℕ) → l ≡ 0 + k → k ≡ l
 zero_plus k l e = omega arith
 
 -- The value of a node is made of the values of its parts.
-pub value_step : (nodes : List Node) (a : Assignment) (x : ExprId) (d : Node) → IsOrdered nodes → x.0 < length nodes → value nodes a x ≡ node_value a (value nodes a) (slice_index_or nodes x.0 d)
-value_step nodes a x d o h = step a [] nodes x.0 x.0 d (omega arith) h (λ k l e m. subst (λ l. ChildrenBelow l (slice_index_or nodes k d)) (zero_plus k l e) (o k d m))
+pub value_step : (nodes : List Node) (a : Assignment) (x : ExprId) (d : Node)
+    → IsOrdered nodes → x.0 < length nodes
+    → value nodes a x ≡ node_value a (value nodes a) (slice_index_or nodes x.0 d)
+value_step nodes a x d o h = step a [] nodes x.0 x.0 d (omega arith) h
+    (λ k l e m. subst (λ l. ChildrenBelow l (slice_index_or nodes k d)) (zero_plus k l e) (o k d m))
 
 pub children_later : (j k : ℕ) (n : Node) → j ≤ k → ChildrenBelow j n → ChildrenBelow k n
 children_later j k (Var m) l c = tt
 children_later j k (Lit m) l c = tt
 children_later j k (Neg x) l c = let a : x.0 < j = c in omega arith
-children_later j k (Add x y) l c = let a : x.0 < j = c.0 in let b : y.0 < j = c.1 in (omega arith, omega arith)
-children_later j k (Sub x y) l c = let a : x.0 < j = c.0 in let b : y.0 < j = c.1 in (omega arith, omega arith)
-children_later j k (Mul x y) l c = let a : x.0 < j = c.0 in let b : y.0 < j = c.1 in (omega arith, omega arith)
-children_later j k (Div x y) l c = let a : x.0 < j = c.0 in let b : y.0 < j = c.1 in (omega arith, omega arith)
+children_later j k (Add x y) l c = let a : x.0 < j = c.0 in let b : y.0 < j = c.1 in
+    (omega arith, omega arith)
+children_later j k (Sub x y) l c = let a : x.0 < j = c.0 in let b : y.0 < j = c.1 in
+    (omega arith, omega arith)
+children_later j k (Mul x y) l c = let a : x.0 < j = c.0 in let b : y.0 < j = c.1 in
+    (omega arith, omega arith)
+children_later j k (Div x y) l c = let a : x.0 < j = c.0 in let b : y.0 < j = c.1 in
+    (omega arith, omega arith)
 children_later j k (Abs x) l c = let a : x.0 < j = c in omega arith
 children_later j k (Round r x) l c = let a : x.0 < j = c in omega arith

@@ -40,7 +40,8 @@ IsUp x Above = (h : Fraction) → IsOnGrid h → ¬ (x ≤ℚ h)
 IsUp x Below = ⊥
 
 pub IsDown-unique : (x : Fraction) (a b : Bound) → IsDown x a → IsDown x b → a ≡ b
-IsDown-unique x (At g) (At h) p q = let e : g ≡ h = le_antisymm g h (q.2 g p.0 p.1) (p.2 h q.0 q.1) in cc
+IsDown-unique x (At g) (At h) p q =
+    let e : g ≡ h = le_antisymm g h (q.2 g p.0 p.1) (p.2 h q.0 q.1) in cc
 IsDown-unique x (At g) Below p q = absurd (q g p.0 p.1)
 IsDown-unique x (At g) Above p q = absurd q
 IsDown-unique x Below (At g) p q = absurd (p g q.0 q.1)
@@ -96,12 +97,22 @@ neg_bound-neg (At g) = ap At (neg-neg g)
 neg_bound-neg Above = refl
 
 pub IsDown-neg : (x : Fraction) (b : Bound) → IsUp x b → IsDown (neg_ℚ x) (neg_bound b)
-IsDown-neg x (At g) p = (IsOnGrid-neg g p.0, neg-le x g p.1, λ h o t. subst (λ y. y ≤ℚ neg_ℚ g) (neg-neg h) (neg-le g (neg_ℚ h) (p.2 (neg_ℚ h) (IsOnGrid-neg h o) (neg_over h x t))))
+IsDown-neg x (At g) p = (
+  IsOnGrid-neg g p.0,
+  neg-le x g p.1,
+  λ h o t. subst (λ y. y ≤ℚ neg_ℚ g) (neg-neg h)
+      (neg-le g (neg_ℚ h) (p.2 (neg_ℚ h) (IsOnGrid-neg h o) (neg_over h x t))),
+)
 IsDown-neg x Above p = λ h o t. p (neg_ℚ h) (IsOnGrid-neg h o) (neg_over h x t)
 IsDown-neg x Below p = p
 
 pub IsUp-neg : (x : Fraction) (b : Bound) → IsDown x b → IsUp (neg_ℚ x) (neg_bound b)
-IsUp-neg x (At g) p = (IsOnGrid-neg g p.0, neg-le g x p.1, λ h o t. subst (λ y. neg_ℚ g ≤ℚ y) (neg-neg h) (neg-le (neg_ℚ h) g (p.2 (neg_ℚ h) (IsOnGrid-neg h o) (neg_under h x t))))
+IsUp-neg x (At g) p = (
+  IsOnGrid-neg g p.0,
+  neg-le g x p.1,
+  λ h o t. subst (λ y. neg_ℚ g ≤ℚ y) (neg-neg h)
+      (neg-le (neg_ℚ h) g (p.2 (neg_ℚ h) (IsOnGrid-neg h o) (neg_under h x t))),
+)
 IsUp-neg x Below p = λ h o t. p (neg_ℚ h) (IsOnGrid-neg h o) (neg_under h x t)
 IsUp-neg x Above p = p
 
@@ -110,21 +121,30 @@ pub signed-signed : (n : Bool) (x : Fraction) → signed n (signed n x) ≡ x
 signed-signed true x = neg-neg x
 signed-signed false x = refl
 
-pub signed-mul : (s t : Bool) (x y : Fraction) → signed (xor s t) (x *ℚ y) ≡ signed s x *ℚ signed t y
+pub signed-mul : (s t : Bool) (x y : Fraction)
+    → signed (xor s t) (x *ℚ y) ≡ signed s x *ℚ signed t y
 unfolding xor
-signed-mul true true x y = sym (neg-neg (x *ℚ y)) ∙ ap neg_ℚ (sym (neg-mul x y) ∙ mul_comm (neg_ℚ x) y) ∙ sym (neg-mul y (neg_ℚ x)) ∙ mul_comm (neg_ℚ y) (neg_ℚ x)
+signed-mul true true x y =
+    sym (neg-neg (x *ℚ y)) ∙ ap neg_ℚ (sym (neg-mul x y) ∙ mul_comm (neg_ℚ x) y)
+    ∙ sym (neg-mul y (neg_ℚ x)) ∙ mul_comm (neg_ℚ y) (neg_ℚ x)
 signed-mul true false x y = sym (neg-mul x y)
 signed-mul false true x y = ap neg_ℚ (mul_comm x y) ∙ sym (neg-mul y x) ∙ mul_comm (neg_ℚ y) x
 signed-mul false false x y = refl
 
 pub scaled-mul : (m e n f : ℤ) → scaled m e *ℚ scaled n f ≡ scaled (m *ℤ n) (e +ℤ f)
-scaled-mul m e n f = mul_assoc (whole m) (two_to e) (scaled n f) ∙ ap (λ y. whole m *ℚ y) (sym (mul_assoc (two_to e) (whole n) (two_to f)) ∙ ap (λ y. y *ℚ two_to f) (mul_comm (two_to e) (whole n)) ∙ mul_assoc (whole n) (two_to e) (two_to f) ∙ ap (λ y. whole n *ℚ y) (sym (two_to-add e f)))
-    ∙ sym (mul_assoc (whole m) (whole n) (two_to (e +ℤ f))) ∙ ap (λ y. y *ℚ two_to (e +ℤ f)) (sym (whole-mul m n))
+scaled-mul m e n f = mul_assoc (whole m) (two_to e) (scaled n f)
+    ∙ ap (λ y. whole m *ℚ y) (sym (mul_assoc (two_to e) (whole n) (two_to f))
+    ∙ ap (λ y. y *ℚ two_to f) (mul_comm (two_to e) (whole n))
+    ∙ mul_assoc (whole n) (two_to e) (two_to f) ∙ ap (λ y. whole n *ℚ y) (sym (two_to-add e f)))
+    ∙ sym (mul_assoc (whole m) (whole n) (two_to (e +ℤ f)))
+    ∙ ap (λ y. y *ℚ two_to (e +ℤ f)) (sym (whole-mul m n))
 
 -- the size of m * 2^e
-pub signed-size : (m e : ℤ) (n : Bool) → (n ≡ int_lt m (pos 0)) → signed n (scaled m e) ≡ scaled (pos (unsigned_abs m)) e
+pub signed-size : (m e : ℤ) (n : Bool) → (n ≡ int_lt m (pos 0))
+    → signed n (scaled m e) ≡ scaled (pos (unsigned_abs m)) e
 signed-size (pos m) e n h = ap (λ n. signed n (scaled (pos m) e)) (h ∙ not_below m)
   where
     not_below : (m : ℕ) → int_lt (pos m) (pos 0) ≡ false
     not_below m = grind (arith, ints)
-signed-size (negsuc m) e n h = ap (λ n. signed n (scaled (negsuc m) e)) h ∙ sym (scaled-neg (negsuc m) e)
+signed-size (negsuc m) e n h =
+    ap (λ n. signed n (scaled (negsuc m) e)) h ∙ sym (scaled-neg (negsuc m) e)

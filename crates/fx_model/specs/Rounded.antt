@@ -1,4 +1,5 @@
--- Rounding to the multiples of a power of two, in eleven directions (Gappa User's Guide, "Rounding directions").
+-- Rounding to the multiples of a power of two, in eleven directions (Gappa User's Guide, "Rounding
+-- directions").
 pub mod Examples
 use Rattle.std.specs.Prelude.{◌≡◌, ℕ, ℤ, pos, negsuc, ◌+ℤ◌, ◌%◌, ◌==◌, Bool, true, false, if◌then◌else◌}
 use Rattle.std.specs.Int.RustNames.{unsigned_abs}

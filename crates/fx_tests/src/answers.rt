@@ -1,4 +1,5 @@
-// Scripts whose goals plain enclosures prove, and scripts with a goal that they don't. Expected lines were worked out by hand.
+// Scripts whose goals plain enclosures prove, and scripts with a goal that they don't. Expected
+// lines were worked out by hand.
 use crate::runs::texts_end;
 use fx_top::Status;
 use std::test::Fail;
@@ -176,7 +177,8 @@ const UNPROVED: [(&str, &str); 19] = [
     ("{ x in [1,2] -> x in ? /\\ y in ? /\\ z in ? }", SECOND),
     ("{ x in [1,2] -> x <= 2 /\\ x <= 1.5 }", SECOND),
     ("{ x in [0,1] -> x in ? /\\ 1 / x >= 1 }", SECOND),
-    // where 0 lies in the divisor's interval, neither the quotient nor what contains it has an enclosure
+    // where 0 lies in the divisor's interval, neither the quotient nor what contains it has an
+    // enclosure
     ("{ x in [-1,1] -> 1 / x in ? }", FIRST),
     ("{ x in [0,1] -> 1 / x >= 1 }", FIRST),
     ("{ x in [0,1] -> 0 * (1 / x) in ? }", FIRST),

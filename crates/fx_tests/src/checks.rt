@@ -1,5 +1,5 @@
-// Certificates that are checked: one that is accepted, another script's, damaged ones. The certificate and its faults were worked
-// out by hand.
+// Certificates that are checked: one that is accepted, another script's, damaged ones. The
+// certificate and its faults were worked out by hand.
 use crate::runs::{Outside, run_ends, run_on, sound};
 use fx_top::Status;
 use std::alloc::{AllocError, Global};
@@ -25,7 +25,8 @@ const CERT: [u8; 143] = [
     3, 0, 1, 0, 0, 0, 0, 0, 0, 0, 2, // the leaf, by step 2
 ];
 
-// A script; the certificate's bytes before a place, a piece, and its bytes from a place on; and how the check of these ends.
+// A script; the certificate's bytes before a place, a piece, and its bytes from a place on; and how
+// the check of these ends.
 const ROWS: [(&str, usize, &[u8], usize, Status, &str); 10] = [
     (PRODUCT, 143, &[], 143, Status::Answered, PRODUCT_LINE),
     // the bounds of a goal are judged by what the certificate shows
@@ -63,7 +64,8 @@ const ROWS: [(&str, usize, &[u8], usize, Status, &str); 10] = [
         Status::Certificate,
         "certificate: WrongScript 1\n",
     ),
-    // an upper end that is too low, a premise that is none, an end that is cut off, a byte more, another version
+    // an upper end that is too low, a premise that is none, an end that is cut off, a byte more,
+    // another version
     (
         PRODUCT,
         103,
@@ -145,7 +147,8 @@ fn each_front_is_truncated_at_its_length(rt: HostRuntime) -> Result<(), Fail> {
     Ok(())
 }
 
-// The bytes of the last step's upper end that are higher with their low bit turned, and what is shown then.
+// The bytes of the last step's upper end that are higher with their low bit turned, and what is
+// shown then.
 const WIDER: [(usize, &str); 8] = [
     (103, "x * y in [3, 72057594037927941b1]\n"),
     (104, "x * y in [3, 281474976710661b1]\n"),

@@ -1,4 +1,5 @@
-// Scripts for the whole engine. Expected lines were worked out by hand, or by a plain program of the definitions.
+// Scripts for the whole engine. Expected lines were worked out by hand, or by a plain program of
+// the definitions.
 use crate::runs::{texts_end, words_end};
 use fx_top::Status;
 use std::test::Fail;

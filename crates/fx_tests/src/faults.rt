@@ -1,4 +1,5 @@
-// Runs whose outside fails: each read and each put of each line, a name that isn't there, a sink without room.
+// Runs whose outside fails: each read and each put of each line, a name that isn't there, a sink
+// without room.
 use crate::runs::{Run, ends, ends_on, room_ends};
 use crate::words::USAGE;
 use fx_top::Status;

@@ -10,7 +10,8 @@ const WITHIN: [(&str, &str); 12] = [
         "{ x in [0,1.00000000000000000000000000000] -> x in ? }",
         "x in [0, 1]\n",
     ),
-    // decimal: 30 digits without leading zeros, and an exponent from -30 to 8 once the point is removed
+    // decimal: 30 digits without leading zeros, and an exponent from -30 to 8 once the point is
+    // removed
     ("{ 0 <= 999999999999999999999999999999 }", ZERO),
     ("{ 0 <= 000999999999999999999999999999999 }", ZERO),
     ("{ 0 <= 0.999999999999999999999999999999 }", ZERO),
@@ -19,7 +20,8 @@ const WITHIN: [(&str, &str); 12] = [
     // with `b`: 30 digits, leading zeros among them, and an exponent from -512 to 512
     ("{ 0 <= 999999999999999999999999999999b512 }", ZERO),
     ("{ 0 <= 000000000000000000000000000001b-512 }", ZERO),
-    // hexadecimal: 25 digits without leading zeros, and an exponent from -512 to 512 once the point is removed
+    // hexadecimal: 25 digits without leading zeros, and an exponent from -512 to 512 once the point
+    // is removed
     ("{ 0 <= 0xfffffffffffffffffffffffffp512 }", ZERO),
     ("{ 0 <= 0x00fffffffffffffffffffffffffp-512 }", ZERO),
     ("{ 0 <= 0x0.1p516 }", ZERO),

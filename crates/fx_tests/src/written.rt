@@ -1,5 +1,5 @@
-// Certificates that `prove` writes to `c`. What is written is judged by `check`. Expected lines were worked out by hand, or by a
-// plain program of the definitions.
+// Certificates that `prove` writes to `c`. What is written is judged by `check`. Expected lines
+// were worked out by hand, or by a plain program of the definitions.
 use crate::runs::{Ended, Outside, run_ends, run_on, sound};
 use crate::words::USAGE;
 use fx_top::Status;
@@ -154,7 +154,8 @@ const SAME: [(&[&str], usize); 6] = [
     (&["prove", "a", "--cert", "c", "--workers", "16"], 7),
 ];
 
-// Four pieces whatever is settled: what is written for halved boxes shows a narrower interval than a run would.
+// Four pieces whatever is settled: what is written for halved boxes shows a narrower interval than
+// a run would.
 const QUARTERED: &str = "{ x in [0,1] -> x * (1 - x) in ? } $ x in 4;";
 
 #[test]
@@ -181,8 +182,9 @@ fn neither_workers_nor_pieces_change_a_byte(rt: HostRuntime) -> Result<(), Fail>
     Ok(())
 }
 
-// Runs that write nothing: of a script that is refused, that isn't there, that stays unproved, that has too many boxes; by words that name
-// one file as script and certificate; and of a certificate whose name isn't there.
+// Runs that write nothing: of a script that is refused, that isn't there, that stays unproved, that
+// has too many boxes; by words that name one file as script and certificate; and of a certificate
+// whose name isn't there.
 const UNWRITTEN: [(&[&str], &str, Status, &str); 9] = [
     (WRITE, "!", Status::Script, "script: BadToken at 0\n"),
     (

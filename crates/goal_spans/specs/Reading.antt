@@ -11,8 +11,8 @@ use Rattle.goal_spans.specs.declared.reader.Stage.{Stage}
 use Rattle.goal_spans.specs.declared.reader.Stage.TheVariants as stage
 use Rattle.goal_spans.specs.Spans.{goal_spans}
 
--- where the reading stands, the number of the word in hand, the first word of the proposition in hand and the end of its
--- expression part, and the spans of the goals before it
+-- where the reading stands, the number of the word in hand, the first word of the proposition in
+-- hand and the end of its expression part, and the spans of the goals before it
 pub record State : Type 0 where
   pub stage : Stage
   pub at : ℕ

@@ -1,10 +1,11 @@
--- Which words of a script are the expression part of each goal, by recursion on its tree. Words are counted from 0.
+-- Which words of a script are the expression part of each goal, by recursion on its tree. Words are
+-- counted from 0.
 use Rattle.std.specs.Prelude.{ℕ, ◌+◌, List, [], ◌∷◌, ◌++◌, length}
 use Rattle.script_shape.specs.Tree.{expr_words, Prop, lies_in, relative_in, at_most, at_least, multiple, Stated, affirmed, denied, Formula, single, and, or, implies, formula_words, definition_words, Script, formula, define}
 use Rattle.goal_spans.specs.declared.span.Span.{Span}
 
--- How many words stand before a proposition's `in`, `<=` or `>=`: those of its expression, or both sides and the `-/`
--- between. `@FIX` has no such part.
+-- How many words stand before a proposition's `in`, `<=` or `>=`: those of its expression, or both
+-- sides and the `-/` between. `@FIX` has no such part.
 abbrev pub side_count : Prop → ℕ
 side_count (lies_in e r) = length (expr_words e)
 side_count (relative_in a b r) = length (expr_words a) + 1 + length (expr_words b)
@@ -21,11 +22,14 @@ abbrev pub stated_at : ℕ → Stated → Span
 stated_at n (affirmed p) = span_at n p
 stated_at n (denied p) = span_at (n + 1) p
 
--- Those of each goal of a formula whose first word has this number: of the propositions behind the last arrow, or of all.
+-- Those of each goal of a formula whose first word has this number: of the propositions behind the
+-- last arrow, or of all.
 abbrev pub formula_spans : ℕ → Formula → List Span
 formula_spans n (single p) = stated_at n p ∷ []
-formula_spans n (and f p) = formula_spans n f ++ (stated_at (n + length (formula_words f) + 1) p ∷ [])
-formula_spans n (or f p) = formula_spans n f ++ (stated_at (n + length (formula_words f) + 1) p ∷ [])
+formula_spans n (and f p) =
+    formula_spans n f ++ (stated_at (n + length (formula_words f) + 1) p ∷ [])
+formula_spans n (or f p) =
+    formula_spans n f ++ (stated_at (n + length (formula_words f) + 1) p ∷ [])
 formula_spans n (implies f p) = stated_at (n + length (formula_words f) + 1) p ∷ []
 
 -- Those of a script whose first word has this number. The formula stands behind its brace.

@@ -3,8 +3,8 @@ ghost use Rattle.goal_spans.specs.Reading.{ReadsSpans};
 
 use script_shape::shape::leaves_are_of_trees;
 
-/// Nothing is done. The clause tells a caller that the words of a script, read from the left by their roles, give the spans
-/// of its tree.
+/// Nothing is done. The clause tells a caller that the words of a script, read from the left by
+/// their roles, give the spans of its tree.
 pub fn spans_are_read()
     ensures { ReadsSpans }
 {

@@ -38,7 +38,13 @@ impl Model for SpanReader {
 
     ghost Value = { State };
 
-    ghost view = { λ r. record { stage = r.stage; at = r.at; first = r.first; end = r.end; spans = r.spans.items } };
+    ghost view = { λ r. record {
+      stage = r.stage;
+      at = r.at;
+      first = r.first;
+      end = r.end;
+      spans = r.spans.items;
+    } };
 }
 
 impl SpanReader {
@@ -165,8 +171,8 @@ impl SpanReader {
     }
 }
 
-/// Which words are the expression part of each goal: of a script's words with their roles, those of `goal_spans` of its tree
-/// (`spans_are_read`). `Err` only where memory runs out.
+/// Which words are the expression part of each goal: of a script's words with their roles, those of
+/// `goal_spans` of its tree (`spans_are_read`). `Err` only where memory runs out.
 #[tactic(auto, unfolding(crate::specs::Reading::read_words))]
 pub fn goal_spans(
     alloc: Global,

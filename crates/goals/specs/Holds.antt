@@ -12,7 +12,8 @@ use Rattle.goals.specs.declared.line.Line.{Line}
 use Rattle.goals.specs.declared.line.Line.TheVariants as line
 use Rattle.goals.specs.Joined.{joined}
 
--- The line holds of what the slot is about: its value or relative error lies in the interval; both sides are 0; or never.
+-- The line holds of what the slot is about: its value or relative error lies in the interval; both
+-- sides are 0; or never.
 abbrev pub LineHolds : List Node → Assignment → Slot → Line → Type 0
 LineHolds nodes a s (line.In i) = LiesAt nodes a i s
 LineHolds nodes a s line.None = AreZeroAt nodes a s
@@ -26,8 +27,10 @@ IsOfGoal _ = ⊥
 
 -- A line with a goal's fact holds where the fact does.
 abbrev pub LineHoldsFirst : Type 0
-LineHoldsFirst = (nodes : List Node) (a : Assignment) (s : Slot) (l : Line) (f : Fact) → IsOfGoal f → slot_of f ≡ s → Holds nodes a f → LineHolds nodes a s (joined l f)
+LineHoldsFirst = (nodes : List Node) (a : Assignment) (s : Slot) (l : Line) (f : Fact) → IsOfGoal f
+    → slot_of f ≡ s → Holds nodes a f → LineHolds nodes a s (joined l f)
 
 -- What a line holds of, it goes on to hold of with further facts.
 abbrev pub LineHoldsOn : Type 0
-LineHoldsOn = (nodes : List Node) (a : Assignment) (s : Slot) (l : Line) (f : Fact) → LineHolds nodes a s l → LineHolds nodes a s (joined l f)
+LineHoldsOn = (nodes : List Node) (a : Assignment) (s : Slot) (l : Line) (f : Fact)
+    → LineHolds nodes a s l → LineHolds nodes a s (joined l f)

@@ -13,10 +13,12 @@ use Rattle.facts.specs.declared.fact.Slot.TheVariants as slot
 use Rattle.facts.specs.Holds.{AreZero, IsRelated}
 
 -- both have values, of which P holds
-abbrev pub OfBoth : List Node → Assignment → ExprId → ExprId → (Fraction → Fraction → Type 0) → Type 0
+abbrev pub OfBoth : List Node → Assignment → ExprId → ExprId
+    → (Fraction → Fraction → Type 0) → Type 0
 OfBoth nodes a x y P = IsSomeAnd (value nodes a x) (λ v. IsSomeAnd (value nodes a y) (P v))
 
--- The value, or the relative error, that the slot is about lies in the interval. A pair of which both are 0 has every relative error.
+-- The value, or the relative error, that the slot is about lies in the interval. A pair of which
+-- both are 0 has every relative error.
 abbrev pub LiesAt : List Node → Assignment → Interval → Slot → Type 0
 LiesAt nodes a i (slot.Bnd x) = IsSomeAnd (value nodes a x) (Lies (range_of i))
 LiesAt nodes a i (slot.Rel x y) = OfBoth nodes a x y (IsRelated i)

@@ -10,13 +10,15 @@ use Rattle.goals.specs.declared.goal.Want.{Want}
 use Rattle.goals.specs.declared.goal.Want.TheVariants.{Ask, Inside}
 use Rattle.goals.specs.declared.goal.Goal.{Goal}
 
--- The interval is what is wanted: its ends are finite, or it lies inside the bounds. Nothing lies inside bounds that cross.
+-- The interval is what is wanted: its ends are finite, or it lies inside the bounds. Nothing lies
+-- inside bounds that cross.
 abbrev pub IsWanted : Want → Interval → Type 0
 IsWanted Ask i = IsFinite (range_of i)
 IsWanted (Inside (Some bounds)) i = IsWithin i bounds
 IsWanted (Inside None) i = ⊥
 
--- The fact's interval is what is wanted. That both sides are 0 is enough, whatever is wanted of a relative error.
+-- The fact's interval is what is wanted. That both sides are 0 is enough, whatever is wanted of a
+-- relative error.
 abbrev pub Answers : Want → Fact → Type 0
 Answers want (fact.Bnd x i) = IsWanted want i
 Answers want (fact.Rel x y (Some e)) = IsWanted want e.interval

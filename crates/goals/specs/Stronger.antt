@@ -14,4 +14,5 @@ AreOfGoals = (want : Want) (f : Fact) → Answers want f → IsOfGoal f
 
 -- A stronger fact than one that settles a goal settles it, or is VOID.
 abbrev pub StrongerSettles : Type 0
-StrongerSettles = (goal : Goal) (f g : Fact) → Settles goal f → IsStronger g f → (g ≡ fact.Void) ⊎ Settles goal g
+StrongerSettles = (goal : Goal) (f g : Fact) → Settles goal f → IsStronger g f
+    → (g ≡ fact.Void) ⊎ Settles goal g

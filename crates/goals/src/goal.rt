@@ -44,8 +44,8 @@ fn is_wanted(want: Want, range: Interval) -> bool
     }
 }
 
-/// Whether the fact's interval is what is wanted. That both sides of a relative goal are 0 is enough, whatever is wanted.
-/// Facts that are neither bounds nor relative errors answer nothing.
+/// Whether the fact's interval is what is wanted. That both sides of a relative goal are 0 is
+/// enough, whatever is wanted. Facts that are neither bounds nor relative errors answer nothing.
 pub fn answers(want: Want, fact: &Fact) -> bool
     ensures { IsTrue result ↔ Answers want fact.now }
 {

@@ -35,8 +35,8 @@ impl Line {
         }
     }
 
-    /// The line with what one more leaf knows of the goal: `fact`, a bound or a relative error on the goal's slot. Facts
-    /// of other kinds change nothing.
+    /// The line with what one more leaf knows of the goal: `fact`, a bound or a relative error on
+    /// the goal's slot. Facts of other kinds change nothing.
     pub fn joined(self, fact: &Fact) -> Line
         ensures { result ≡ joined self fact.now }
     {

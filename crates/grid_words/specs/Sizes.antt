@@ -22,7 +22,8 @@ greater_end b c = cond (le_bound b c) c b
 
 -- The interval of the sizes, as it is: from 0 where 0 lies inside.
 abbrev pub sizes : Range → Range
-sizes r = cond (le_bound (At zero_ℚ) r.low) r (cond (le_bound r.high (At zero_ℚ)) (mirror r) (record { low = At zero_ℚ; high = greater_end (neg_bound r.low) r.high }))
+sizes r = cond (le_bound (At zero_ℚ) r.low) r (cond (le_bound r.high (At zero_ℚ)) (mirror r)
+    (record { low = At zero_ℚ; high = greater_end (neg_bound r.low) r.high }))
 
 -- The best interval of the sizes.
 pub size_range : Range → Range
@@ -67,12 +68,21 @@ abbrev AreSizes : Range → Range → Type 0
 AreSizes r t = ((z : Fraction) → Lies t z → Sizes r z) × ((z : Fraction) → Sizes r z → Lies t z)
 
 sizes_up : (r : Range) → BoundLe (At zero_ℚ) r.low → AreSizes r r
-sizes_up r p = (λ z l. (z, l, sym (abs-from z (from-le (At zero_ℚ) r.low z p l.0))), λ z s. subst (λ y. Lies r y) (sym (s.2 ∙ abs-from s.0 (from-le (At zero_ℚ) r.low s.0 p s.1.0))) s.1)
+sizes_up r p = (
+  λ z l. (z, l, sym (abs-from z (from-le (At zero_ℚ) r.low z p l.0))),
+  λ z s. subst (λ y. Lies r y)
+      (sym (s.2 ∙ abs-from s.0 (from-le (At zero_ℚ) r.low s.0 p s.1.0))) s.1,
+)
 
 sizes_down : (r : Range) → BoundLe r.high (At zero_ℚ) → AreSizes r (mirror r)
 sizes_down r p = (
-  λ z l. let n = lies_mirrored r z l in (neg_ℚ z, n, sym (abs_down (neg_ℚ z) (up_to-le r.high (At zero_ℚ) (neg_ℚ z) p n.1) ∙ neg-neg z)),
-  λ z s. subst (λ y. Lies (mirror r) y) (sym (s.2 ∙ abs_down s.0 (up_to-le r.high (At zero_ℚ) s.0 p s.1.1))) (lies_mirror r s.0 s.1),
+  λ z l. let n = lies_mirrored r z l in (
+    neg_ℚ z,
+    n,
+    sym (abs_down (neg_ℚ z) (up_to-le r.high (At zero_ℚ) (neg_ℚ z) p n.1) ∙ neg-neg z),
+  ),
+  λ z s. subst (λ y. Lies (mirror r) y)
+      (sym (s.2 ∙ abs_down s.0 (up_to-le r.high (At zero_ℚ) s.0 p s.1.1))) (lies_mirror r s.0 s.1),
 )
 
 module _ (r : Range) (p : BoundLe r.low (At zero_ℚ)) (q : BoundLe (At zero_ℚ) r.high) where
@@ -81,13 +91,24 @@ module _ (r : Range) (p : BoundLe r.low (At zero_ℚ)) (q : BoundLe (At zero_ℚ
 
   size_of : (z : Fraction) → Lies wide z → Sizes r z
   size_of z l = ⊎_elim
-      (λ u. (neg_ℚ z, ((lies_mirrored (record { low = r.low; high = Above }) z (tt, u)).0, up_to-le (At zero_ℚ) r.high (neg_ℚ z) q (neg_down z l.0)), sym (abs_down (neg_ℚ z) (neg_down z l.0) ∙ neg-neg z)))
+      (λ u. (
+        neg_ℚ z,
+        (
+          (lies_mirrored (record { low = r.low; high = Above }) z (tt, u)).0,
+          up_to-le (At zero_ℚ) r.high (neg_ℚ z) q (neg_down z l.0),
+        ),
+        sym (abs_down (neg_ℚ z) (neg_down z l.0) ∙ neg-neg z),
+      ))
       (λ u. (z, (from-le r.low (At zero_ℚ) z p l.0, u), sym (abs-from z l.0)))
       (greater_up_to (neg_bound r.low) r.high z l.1)
 
   lies_size : (x : Fraction) → Lies r x → Lies wide (abs_ℚ x)
-  lies_size x l = ⊎_elim (λ h. subst (λ y. Lies wide y) (sym (abs-from x h)) (h, up_to_greater (neg_bound r.low) r.high x (inr l.1)))
-      (λ h. subst (λ y. Lies wide y) (sym (abs_down x (lt_le x zero_ℚ h))) (neg_up x (lt_le x zero_ℚ h), up_to_greater (neg_bound r.low) r.high (neg_ℚ x) (inl ((lies_mirror r x l).1)))) (le_or_lt zero_ℚ x)
+  lies_size x l = ⊎_elim (λ h. subst (λ y. Lies wide y) (sym (abs-from x h))
+      (h, up_to_greater (neg_bound r.low) r.high x (inr l.1)))
+      (λ h. subst (λ y. Lies wide y) (sym (abs_down x (lt_le x zero_ℚ h))) (
+        neg_up x (lt_le x zero_ℚ h),
+        up_to_greater (neg_bound r.low) r.high (neg_ℚ x) (inl ((lies_mirror r x l).1)),
+      )) (le_or_lt zero_ℚ x)
 
   sizes_wide : AreSizes r wide
   sizes_wide = (size_of, λ z s. subst (λ y. Lies wide y) (sym s.2) (lies_size s.0 s.1))
@@ -95,18 +116,24 @@ module _ (r : Range) (p : BoundLe r.low (At zero_ℚ)) (q : BoundLe (At zero_ℚ
 sizes_are : (r : Range) → AreSizes r (sizes r)
 sizes_are r = by (le_bound (At zero_ℚ) r.low) (le_bound r.high (At zero_ℚ)) refl refl
   where
-    by : (a b : Bool) → le_bound (At zero_ℚ) r.low ≡ a → le_bound r.high (At zero_ℚ) ≡ b → AreSizes r (cond a r (cond b (mirror r) (record { low = At zero_ℚ; high = greater_end (neg_bound r.low) r.high })))
+    by : (a b : Bool) → le_bound (At zero_ℚ) r.low ≡ a
+        → le_bound r.high (At zero_ℚ) ≡ b → AreSizes r (cond a r (cond b (mirror r)
+        (record { low = At zero_ℚ; high = greater_end (neg_bound r.low) r.high })))
     by true b h k = sizes_up r (le_bound_true (At zero_ℚ) r.low h)
     by false true h k = sizes_down r (le_bound_true r.high (At zero_ℚ) k)
-    by false false h k = sizes_wide r (le_bound_false (At zero_ℚ) r.low h) (le_bound_false r.high (At zero_ℚ) k)
+    by false false h k =
+        sizes_wide r (le_bound_false (At zero_ℚ) r.low h) (le_bound_false r.high (At zero_ℚ) k)
 
 module _ (r : Range) (o : IsOrdered r.low r.high) where
   pub sizes_ordered : IsOrdered (sizes r).low (sizes r).high
-  sizes_ordered = let m = member_of r.low r.high o in let l = (sizes_are r).1 (abs_ℚ m.0) (m.0, (m.1, m.2), refl) in ordered_by (sizes r).low (sizes r).high (abs_ℚ m.0) l.0 l.1
+  sizes_ordered = let m = member_of r.low r.high o in
+      let l = (sizes_are r).1 (abs_ℚ m.0) (m.0, (m.1, m.2), refl) in
+      ordered_by (sizes r).low (sizes r).high (abs_ℚ m.0) l.0 l.1
 
   pub size_range_is : IsSize r (size_range r)
   unfolding size_range
   size_range_is = outward_exact (Sizes r) (sizes r) sizes_ordered (sizes_are r).0 (sizes_are r).1
 
   pub size_range_ordered : IsOrdered (size_range r).low (size_range r).high
-  size_range_ordered = let m = member_of r.low r.high o in enclosure_ordered (Sizes r) (size_range r) (abs_ℚ m.0) (m.0, (m.1, m.2), refl) size_range_is
+  size_range_ordered = let m = member_of r.low r.high o in
+      enclosure_ordered (Sizes r) (size_range r) (abs_ℚ m.0) (m.0, (m.1, m.2), refl) size_range_is

@@ -53,24 +53,28 @@ module _ (r s : Range) (i : IsOrdered r.low r.high) (j : IsOrdered s.low s.high)
   pub sum_range_is : IsSum r s (sum_range r s)
   unfolding sum_range
   sum_range_is = let m = member_of r.low r.high i in let n = member_of s.low s.high j in
-      sum_is r s (sum_range r s) m.0 n.0 (m.1, m.2) (n.1, n.2) (low_sum_is r.low s.low) (high_sum_is r.high s.high)
+      sum_is r s (sum_range r s) m.0 n.0 (m.1, m.2) (n.1, n.2) (low_sum_is r.low s.low)
+      (high_sum_is r.high s.high)
 
   pub sum_range_ordered : IsOrdered (sum_range r s).low (sum_range r s).high
   sum_range_ordered = let m = member_of r.low r.high i in let n = member_of s.low s.high j in
-      enclosure_ordered (Sums r s) (sum_range r s) (m.0 +ℚ n.0) (m.0, n.0, (m.1, m.2), (n.1, n.2), refl) sum_range_is
+      enclosure_ordered (Sums r s) (sum_range r s) (m.0 +ℚ n.0)
+      (m.0, n.0, (m.1, m.2), (n.1, n.2), refl) sum_range_is
 
 -- ---- differences: the sums with the negatives
 module _ (r s : Range) (i : IsOrdered r.low r.high) (j : IsOrdered s.low s.high) where
   pub difference_range_is : IsDifference r s (difference_range r s)
   unfolding difference_range
   difference_range_is = enclosure_same (Sums r (mirror s)) (Differences r s) (difference_range r s)
-      (λ z d. (d.0, neg_ℚ d.1, d.2, lies_mirrored s d.1 d.3, d.4 ∙ ap (λ y. d.0 +ℚ y) (sym (neg-neg d.1))))
+      (λ z d.
+      (d.0, neg_ℚ d.1, d.2, lies_mirrored s d.1 d.3, d.4 ∙ ap (λ y. d.0 +ℚ y) (sym (neg-neg d.1))))
       (λ z d. (d.0, neg_ℚ d.1, d.2, lies_mirror s d.1 d.3, d.4))
       (sum_range_is r (mirror s) i (mirror_ordered s j))
 
   pub difference_range_ordered : IsOrdered (difference_range r s).low (difference_range r s).high
   difference_range_ordered = let m = member_of r.low r.high i in let n = member_of s.low s.high j in
-      enclosure_ordered (Differences r s) (difference_range r s) (m.0 -ℚ n.0) (m.0, n.0, (m.1, m.2), (n.1, n.2), refl) difference_range_is
+      enclosure_ordered (Differences r s) (difference_range r s) (m.0 -ℚ n.0)
+      (m.0, n.0, (m.1, m.2), (n.1, n.2), refl) difference_range_is
 
 -- ---- negatives
 module _ (r : Range) (o : IsOrdered r.low r.high) where
@@ -82,4 +86,5 @@ module _ (r : Range) (o : IsOrdered r.low r.high) where
 
   pub negation_range_ordered : IsOrdered (negation_range r).low (negation_range r).high
   negation_range_ordered = let m = member_of r.low r.high o in
-      enclosure_ordered (Negations r) (negation_range r) (neg_ℚ m.0) (m.0, (m.1, m.2), refl) negation_range_is
+      enclosure_ordered (Negations r) (negation_range r) (neg_ℚ m.0)
+      (m.0, (m.1, m.2), refl) negation_range_is

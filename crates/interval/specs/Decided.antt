@@ -2,8 +2,11 @@
 use Rattle.std.specs.Prelude.{◌≡◌, Bool, true, false, Option, Some, None, refl}
 use Rattle.std.proofs.Common.{sym, ◌∙◌, ap}
 
--- `test` decides P, of which there is one proof at most, and `make` makes a value from what it decides of.
-module _ {A : Type 0} {T : Type 0} (P : A → Type 0) (prop : (a : A) → IsProp (P a)) (test : A → Bool) (test_in : (a : A) → test a ≡ true → P a) (test_out : (a : A) → P a → test a ≡ true) (make : (a : A) → P a → T) where
+-- `test` decides P, of which there is one proof at most, and `make` makes a value from what it
+-- decides of.
+module _ {A : Type 0} {T : Type 0} (P : A → Type 0)
+    (prop : (a : A) → IsProp (P a)) (test : A → Bool) (test_in : (a : A) → test a ≡ true → P a)
+    (test_out : (a : A) → P a → test a ≡ true) (make : (a : A) → P a → T) where
   abbrev by_test : (a : A) (b : Bool) → test a ≡ b → Option T
   by_test a true e = Some (make a (test_in a e))
   by_test a false e = None
@@ -28,7 +31,8 @@ module _ {A : Type 0} {T : Type 0} (P : A → Type 0) (prop : (a : A) → IsProp
   unfolding made
   made-none a n = none_by a (test a) refl n
 
-  out_by : (a : A) (b : Bool) (e : test a ≡ b) (t : T) → by_test a b e ≡ Some t → (p : P a) × (make a p ≡ t)
+  out_by : (a : A) (b : Bool) (e : test a ≡ b) (t : T) → by_test a b e ≡ Some t
+      → (p : P a) × (make a p ≡ t)
   out_by a true e t q = (test_in a e, cc)
   out_by a false e t q = cc
 

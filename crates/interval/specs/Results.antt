@@ -1,4 +1,5 @@
--- The results of operations as intervals: functions, each with the law that it is the best interval.
+-- The results of operations as intervals: functions, each with the law that it is the best
+-- interval.
 use Rattle.std.specs.Prelude.{◌≡◌, ◌⊎◌, Bool, true, false, not, ◌&&◌, Option, Some, None, refl}
 use Rattle.std.proofs.Common.{sym, ap, ◌∙◌, subst, inl, inr, ⊎_elim}
 use Rattle.dyadic.specs.fx_model.Fraction.{Fraction, zero_ℚ, ◌≤ℚ◌, le_refl, le_antisymm}
@@ -32,7 +33,9 @@ pub interval_of : (r : Range) → IsGridRange r → Interval
 interval_of r g = record {
   lo = end_of r.low g.low;
   hi = end_of r.high g.high;
-  ordered = subst (λ b. IsOrdered b (bound_of (end_of r.high g.high))) (sym (end_of-bound r.low g.low)) (subst (λ b. IsOrdered r.low b) (sym (end_of-bound r.high g.high)) g.ordered);
+  ordered =
+      subst (λ b. IsOrdered b (bound_of (end_of r.high g.high))) (sym (end_of-bound r.low g.low))
+      (subst (λ b. IsOrdered r.low b) (sym (end_of-bound r.high g.high)) g.ordered);
 }
 
 abbrev from_bounds : Bound → Bound → Range
@@ -40,7 +43,9 @@ from_bounds b c = record { low = b; high = c }
 
 pub interval_of-range : (r : Range) (g : IsGridRange r) → range_of (interval_of r g) ≡ r
 unfolding interval_of
-interval_of-range r g = ap (λ b. from_bounds b (bound_of (end_of r.high g.high))) (end_of-bound r.low g.low) ∙ ap (from_bounds r.low) (end_of-bound r.high g.high)
+interval_of-range r g =
+    ap (λ b. from_bounds b (bound_of (end_of r.high g.high))) (end_of-bound r.low g.low)
+    ∙ ap (from_bounds r.low) (end_of-bound r.high g.high)
 
 -- ---- enclosures have ends of the grid
 infimum_grid : (S : Fraction → Type 0) (b : Bound) → IsInfimum S b → IsGridBound b
@@ -53,89 +58,123 @@ supremum_grid S Below i = absurd i
 supremum_grid S (At g) i = i.0
 supremum_grid S Above i = tt
 
-enclosed : (S : Fraction → Type 0) (r : Range) → IsOrdered r.low r.high → IsEnclosure S r → IsGridRange r
-enclosed S r o e = record { ordered = o; low = infimum_grid S r.low e.low; high = supremum_grid S r.high e.high }
+enclosed : (S : Fraction → Type 0) (r : Range) → IsOrdered r.low r.high
+    → IsEnclosure S r → IsGridRange r
+enclosed S r o e =
+    record { ordered = o; low = infimum_grid S r.low e.low; high = supremum_grid S r.high e.high }
 
 whole_grid : (r : Range) → r ≡ whole_line → IsGridRange r
 whole_grid r e = subst IsGridRange (sym e) (record { ordered = tt; low = tt; high = tt })
 
 -- ---- negatives, sums, differences, absolute values
 negation_grid : (i : Interval) → IsGridRange (negation_range (range_of i))
-negation_grid i = enclosed (Negations (range_of i)) (negation_range (range_of i)) (negation_range_ordered (range_of i) i.ordered) (negation_range_is (range_of i) i.ordered)
+negation_grid i = enclosed (Negations (range_of i)) (negation_range (range_of i))
+    (negation_range_ordered (range_of i) i.ordered) (negation_range_is (range_of i) i.ordered)
 
 pub negation_of : Interval → Interval
 negation_of i = interval_of (negation_range (range_of i)) (negation_grid i)
 
 pub negation_of-is : (i : Interval) → IsNegation (range_of i) (range_of (negation_of i))
 unfolding negation_of
-negation_of-is i = subst (IsNegation (range_of i)) (sym (interval_of-range (negation_range (range_of i)) (negation_grid i))) (negation_range_is (range_of i) i.ordered)
+negation_of-is i = subst (IsNegation (range_of i))
+    (sym (interval_of-range (negation_range (range_of i)) (negation_grid i)))
+    (negation_range_is (range_of i) i.ordered)
 
 pub negation_only : (i k : Interval) → IsNegation (range_of i) (range_of k) → k ≡ negation_of i
-negation_only i k p = same_range k (negation_of i) (enclosure_unique (Negations (range_of i)) (range_of k) (range_of (negation_of i)) p (negation_of-is i))
+negation_only i k p = same_range k (negation_of i) (enclosure_unique (Negations (range_of i))
+    (range_of k) (range_of (negation_of i)) p (negation_of-is i))
 
 sum_grid : (i j : Interval) → IsGridRange (sum_range (range_of i) (range_of j))
-sum_grid i j = enclosed (Sums (range_of i) (range_of j)) (sum_range (range_of i) (range_of j)) (sum_range_ordered (range_of i) (range_of j) i.ordered j.ordered) (sum_range_is (range_of i) (range_of j) i.ordered j.ordered)
+sum_grid i j = enclosed (Sums (range_of i) (range_of j)) (sum_range (range_of i) (range_of j))
+    (sum_range_ordered (range_of i) (range_of j) i.ordered j.ordered)
+    (sum_range_is (range_of i) (range_of j) i.ordered j.ordered)
 
 pub sum_of : Interval → Interval → Interval
 sum_of i j = interval_of (sum_range (range_of i) (range_of j)) (sum_grid i j)
 
 pub sum_of-is : (i j : Interval) → IsSum (range_of i) (range_of j) (range_of (sum_of i j))
 unfolding sum_of
-sum_of-is i j = subst (IsSum (range_of i) (range_of j)) (sym (interval_of-range (sum_range (range_of i) (range_of j)) (sum_grid i j))) (sum_range_is (range_of i) (range_of j) i.ordered j.ordered)
+sum_of-is i j = subst (IsSum (range_of i) (range_of j))
+    (sym (interval_of-range (sum_range (range_of i) (range_of j)) (sum_grid i j)))
+    (sum_range_is (range_of i) (range_of j) i.ordered j.ordered)
 
 pub sum_only : (i j k : Interval) → IsSum (range_of i) (range_of j) (range_of k) → k ≡ sum_of i j
-sum_only i j k p = same_range k (sum_of i j) (enclosure_unique (Sums (range_of i) (range_of j)) (range_of k) (range_of (sum_of i j)) p (sum_of-is i j))
+sum_only i j k p = same_range k (sum_of i j) (enclosure_unique (Sums (range_of i) (range_of j))
+    (range_of k) (range_of (sum_of i j)) p (sum_of-is i j))
 
 difference_grid : (i j : Interval) → IsGridRange (difference_range (range_of i) (range_of j))
-difference_grid i j = enclosed (Differences (range_of i) (range_of j)) (difference_range (range_of i) (range_of j)) (difference_range_ordered (range_of i) (range_of j) i.ordered j.ordered) (difference_range_is (range_of i) (range_of j) i.ordered j.ordered)
+difference_grid i j =
+    enclosed (Differences (range_of i) (range_of j)) (difference_range (range_of i) (range_of j))
+    (difference_range_ordered (range_of i) (range_of j) i.ordered j.ordered)
+    (difference_range_is (range_of i) (range_of j) i.ordered j.ordered)
 
 pub difference_of : Interval → Interval → Interval
 difference_of i j = interval_of (difference_range (range_of i) (range_of j)) (difference_grid i j)
 
-pub difference_of-is : (i j : Interval) → IsDifference (range_of i) (range_of j) (range_of (difference_of i j))
+pub difference_of-is : (i j : Interval)
+    → IsDifference (range_of i) (range_of j) (range_of (difference_of i j))
 unfolding difference_of
-difference_of-is i j = subst (IsDifference (range_of i) (range_of j)) (sym (interval_of-range (difference_range (range_of i) (range_of j)) (difference_grid i j))) (difference_range_is (range_of i) (range_of j) i.ordered j.ordered)
+difference_of-is i j = subst (IsDifference (range_of i) (range_of j))
+    (sym (interval_of-range (difference_range (range_of i) (range_of j)) (difference_grid i j)))
+    (difference_range_is (range_of i) (range_of j) i.ordered j.ordered)
 
-pub difference_only : (i j k : Interval) → IsDifference (range_of i) (range_of j) (range_of k) → k ≡ difference_of i j
-difference_only i j k p = same_range k (difference_of i j) (enclosure_unique (Differences (range_of i) (range_of j)) (range_of k) (range_of (difference_of i j)) p (difference_of-is i j))
+pub difference_only : (i j k : Interval)
+    → IsDifference (range_of i) (range_of j) (range_of k) → k ≡ difference_of i j
+difference_only i j k p =
+    same_range k (difference_of i j) (enclosure_unique (Differences (range_of i) (range_of j))
+    (range_of k) (range_of (difference_of i j)) p (difference_of-is i j))
 
 size_grid : (i : Interval) → IsGridRange (size_range (range_of i))
-size_grid i = enclosed (Sizes (range_of i)) (size_range (range_of i)) (size_range_ordered (range_of i) i.ordered) (size_range_is (range_of i) i.ordered)
+size_grid i = enclosed (Sizes (range_of i)) (size_range (range_of i))
+    (size_range_ordered (range_of i) i.ordered) (size_range_is (range_of i) i.ordered)
 
 pub size_of : Interval → Interval
 size_of i = interval_of (size_range (range_of i)) (size_grid i)
 
 pub size_of-is : (i : Interval) → IsSize (range_of i) (range_of (size_of i))
 unfolding size_of
-size_of-is i = subst (IsSize (range_of i)) (sym (interval_of-range (size_range (range_of i)) (size_grid i))) (size_range_is (range_of i) i.ordered)
+size_of-is i =
+    subst (IsSize (range_of i)) (sym (interval_of-range (size_range (range_of i)) (size_grid i)))
+    (size_range_is (range_of i) i.ordered)
 
 pub size_only : (i k : Interval) → IsSize (range_of i) (range_of k) → k ≡ size_of i
-size_only i k p = same_range k (size_of i) (enclosure_unique (Sizes (range_of i)) (range_of k) (range_of (size_of i)) p (size_of-is i))
+size_only i k p = same_range k (size_of i)
+    (enclosure_unique (Sizes (range_of i)) (range_of k) (range_of (size_of i)) p (size_of-is i))
 
 -- ---- products, and quotients where 0 isn't in the divisor
 product_grid : (i j : Interval) → IsGridRange (product_range (range_of i) (range_of j))
 product_grid i j =
     let p = product_range_is (range_of i) (range_of j) i.ordered j.ordered in
-    ⊎_elim (λ f. enclosed (Products (range_of i) (range_of j)) (product_range (range_of i) (range_of j)) (product_range_ordered (range_of i) (range_of j) i.ordered j.ordered) (p.finite f.0 f.1))
-    (λ n. whole_grid (product_range (range_of i) (range_of j)) (p.infinite n)) (both_or (range_of i) (range_of j))
+    ⊎_elim (λ f. enclosed (Products (range_of i) (range_of j))
+    (product_range (range_of i) (range_of j))
+    (product_range_ordered (range_of i) (range_of j) i.ordered j.ordered) (p.finite f.0 f.1))
+    (λ n. whole_grid (product_range (range_of i) (range_of j)) (p.infinite n))
+    (both_or (range_of i) (range_of j))
 
 pub product_of : Interval → Interval → Interval
 product_of i j = interval_of (product_range (range_of i) (range_of j)) (product_grid i j)
 
-pub product_of-is : (i j : Interval) → IsProduct (range_of i) (range_of j) (range_of (product_of i j))
+pub product_of-is : (i j : Interval)
+    → IsProduct (range_of i) (range_of j) (range_of (product_of i j))
 unfolding product_of
-product_of-is i j = subst (IsProduct (range_of i) (range_of j)) (sym (interval_of-range (product_range (range_of i) (range_of j)) (product_grid i j))) (product_range_is (range_of i) (range_of j) i.ordered j.ordered)
+product_of-is i j = subst (IsProduct (range_of i) (range_of j))
+    (sym (interval_of-range (product_range (range_of i) (range_of j)) (product_grid i j)))
+    (product_range_is (range_of i) (range_of j) i.ordered j.ordered)
 
-pub product_only : (i j k : Interval) → IsProduct (range_of i) (range_of j) (range_of k) → k ≡ product_of i j
-product_only i j k p = same_range k (product_of i j) (product_unique (range_of i) (range_of j) (range_of k) (range_of (product_of i j)) p (product_of-is i j))
+pub product_only : (i j k : Interval)
+    → IsProduct (range_of i) (range_of j) (range_of k) → k ≡ product_of i j
+product_only i j k p = same_range k (product_of i j) (product_unique (range_of i) (range_of j)
+    (range_of k) (range_of (product_of i j)) p (product_of-is i j))
 
 -- whether 0 lies in the interval
 abbrev pub has_zero : Range → Bool
 has_zero r = le_bound r.low (At zero_ℚ) && le_bound (At zero_ℚ) r.high
 
 zero_out : (r : Range) → has_zero r ≡ true → Lies r zero_ℚ
-zero_out r e = let a = and_both (le_bound r.low (At zero_ℚ)) (le_bound (At zero_ℚ) r.high) e in
-    (from_zero_in r.low (BoundLe_in r.low (At zero_ℚ) a.0), up_to_zero_in r.high (BoundLe_in (At zero_ℚ) r.high a.1))
+zero_out r e = let a = and_both (le_bound r.low (At zero_ℚ)) (le_bound (At zero_ℚ) r.high) e in (
+  from_zero_in r.low (BoundLe_in r.low (At zero_ℚ) a.0),
+  up_to_zero_in r.high (BoundLe_in (At zero_ℚ) r.high a.1),
+)
   where
     and_both : (a b : Bool) → (a && b) ≡ true → (a ≡ true) × (b ≡ true)
     and_both true b e = (refl, e)
@@ -152,7 +191,8 @@ zero_out r e = let a = and_both (le_bound r.low (At zero_ℚ)) (le_bound (At zer
     up_to_zero_in Above l = tt
 
 zero_in : (r : Range) → Lies r zero_ℚ → has_zero r ≡ true
-zero_in r l = rw (BoundLe_out r.low (At zero_ℚ) (from_zero_out r.low l.0)) (BoundLe_out (At zero_ℚ) r.high (up_to_zero_out r.high l.1))
+zero_in r l = rw (BoundLe_out r.low (At zero_ℚ) (from_zero_out r.low l.0))
+    (BoundLe_out (At zero_ℚ) r.high (up_to_zero_out r.high l.1))
   where
     from_zero_out : (b : Bound) → IsFrom b zero_ℚ → BoundLe b (At zero_ℚ)
     from_zero_out Below l = tt
@@ -175,7 +215,8 @@ abbrev nonzero_test : Interval × Interval → Bool
 nonzero_test p = not (has_zero (range_of p.1))
 
 nonzero_in : (p : Interval × Interval) → nonzero_test p ≡ true → IsNonzero p
-nonzero_in p e = λ l. let h : has_zero (range_of p.1) ≡ true = zero_in (range_of p.1) l in not_both (has_zero (range_of p.1)) h e
+nonzero_in p e = λ l. let h : has_zero (range_of p.1) ≡ true = zero_in (range_of p.1) l in
+    not_both (has_zero (range_of p.1)) h e
   where
     not_both : (b : Bool) → b ≡ true → not b ≡ true → ⊥
     not_both true h e = cc
@@ -188,43 +229,59 @@ nonzero_out p n = by_case (has_zero (range_of p.1)) (λ h. n (zero_out (range_of
     by_case true h = absurd (h refl)
     by_case false h = refl
 
-quotient_grid : (p : Interval × Interval) → IsNonzero p → IsGridRange (quotient_range (range_of p.0) (range_of p.1))
+quotient_grid : (p : Interval × Interval) → IsNonzero p
+    → IsGridRange (quotient_range (range_of p.0) (range_of p.1))
 quotient_grid p n =
     let r = range_of p.0 in let s = range_of p.1 in
     let q = quotient_range_is r s p.0.ordered p.1.ordered n in
-    ⊎_elim (λ f. enclosed (Quotients r s) (quotient_range r s) (quotient_range_ordered r s p.0.ordered p.1.ordered n) (q.finite f.0 f.1))
+    ⊎_elim (λ f. enclosed (Quotients r s) (quotient_range r s)
+    (quotient_range_ordered r s p.0.ordered p.1.ordered n) (q.finite f.0 f.1))
     (λ n. whole_grid (quotient_range r s) (q.infinite n)) (both_or r s)
 
 quotient_with : (p : Interval × Interval) → IsNonzero p → Interval
 quotient_with p n = interval_of (quotient_range (range_of p.0) (range_of p.1)) (quotient_grid p n)
 
-quotient_with-is : (p : Interval × Interval) (n : IsNonzero p) → IsQuotient (range_of p.0) (range_of p.1) (range_of (quotient_with p n))
+quotient_with-is : (p : Interval × Interval) (n : IsNonzero p)
+    → IsQuotient (range_of p.0) (range_of p.1) (range_of (quotient_with p n))
 unfolding quotient_with
-quotient_with-is p n = subst (IsQuotient (range_of p.0) (range_of p.1)) (sym (interval_of-range (quotient_range (range_of p.0) (range_of p.1)) (quotient_grid p n))) (quotient_range_is (range_of p.0) (range_of p.1) p.0.ordered p.1.ordered n)
+quotient_with-is p n = subst (IsQuotient (range_of p.0) (range_of p.1))
+    (sym (interval_of-range (quotient_range (range_of p.0) (range_of p.1)) (quotient_grid p n)))
+    (quotient_range_is (range_of p.0) (range_of p.1) p.0.ordered p.1.ordered n)
 
 -- the quotient; none where 0 lies in the divisor
 pub quotient_of : Interval → Interval → Option Interval
-quotient_of i j = made IsNonzero nonzero_prop nonzero_test nonzero_in nonzero_out quotient_with (i, j)
+quotient_of i j =
+    made IsNonzero nonzero_prop nonzero_test nonzero_in nonzero_out quotient_with (i, j)
 
 pub quotient_of-none : (i j : Interval) → Lies (range_of j) zero_ℚ → quotient_of i j ≡ None
 unfolding quotient_of
-quotient_of-none i j l = made-none IsNonzero nonzero_prop nonzero_test nonzero_in nonzero_out quotient_with (i, j) (λ n. n l)
+quotient_of-none i j l = made-none IsNonzero nonzero_prop nonzero_test nonzero_in nonzero_out
+    quotient_with (i, j) (λ n. n l)
 
-pub quotient_of-some : (i j : Interval) → ¬ Lies (range_of j) zero_ℚ → (k : Interval) × (quotient_of i j ≡ Some k)
+pub quotient_of-some : (i j : Interval) → ¬ Lies (range_of j) zero_ℚ
+    → (k : Interval) × (quotient_of i j ≡ Some k)
 unfolding quotient_of
-quotient_of-some i j n = (quotient_with (i, j) n, made-some IsNonzero nonzero_prop nonzero_test nonzero_in nonzero_out quotient_with (i, j) n)
+quotient_of-some i j n = (
+  quotient_with (i, j) n,
+  made-some IsNonzero nonzero_prop nonzero_test nonzero_in nonzero_out quotient_with (i, j) n,
+)
 
-pub quotient_of-is : (i j k : Interval) → quotient_of i j ≡ Some k → IsQuotient (range_of i) (range_of j) (range_of k)
+pub quotient_of-is : (i j k : Interval) → quotient_of i j ≡ Some k
+    → IsQuotient (range_of i) (range_of j) (range_of k)
 unfolding quotient_of
-quotient_of-is i j k e = let q = made_out IsNonzero nonzero_prop nonzero_test nonzero_in nonzero_out quotient_with (i, j) k e in
+quotient_of-is i j k e = let q =
+    made_out IsNonzero nonzero_prop nonzero_test nonzero_in nonzero_out quotient_with (i, j) k e in
     subst (λ k. IsQuotient (range_of i) (range_of j) (range_of k)) q.1 (quotient_with-is (i, j) q.0)
 
 pub quotient_unique : (r s t u : Range) → IsQuotient r s t → IsQuotient r s u → t ≡ u
-quotient_unique r s t u i j = ⊎_elim (λ f. enclosure_unique (Quotients r s) t u (i.finite f.0 f.1) (j.finite f.0 f.1)) (λ n. i.infinite n ∙ sym (j.infinite n)) (both_or r s)
+quotient_unique r s t u i j = ⊎_elim (λ f. enclosure_unique (Quotients r s) t u (i.finite f.0 f.1)
+    (j.finite f.0 f.1)) (λ n. i.infinite n ∙ sym (j.infinite n)) (both_or r s)
 
-pub quotient_only : (i j k : Interval) → IsQuotient (range_of i) (range_of j) (range_of k) → quotient_of i j ≡ Some k
+pub quotient_only : (i j k : Interval) → IsQuotient (range_of i) (range_of j) (range_of k)
+    → quotient_of i j ≡ Some k
 quotient_only i j k p = let q = quotient_of-some i j p.nonzero in
-    q.1 ∙ ap Some (same_range q.0 k (quotient_unique (range_of i) (range_of j) (range_of q.0) (range_of k) (quotient_of-is i j q.0 q.1) p))
+    q.1 ∙ ap Some (same_range q.0 k (quotient_unique (range_of i) (range_of j) (range_of q.0)
+    (range_of k) (quotient_of-is i j q.0 q.1) p))
 
 -- ---- one fraction
 alone_range : Fraction → Range
@@ -232,10 +289,13 @@ alone_range x = record { low = At x; high = At x }
 
 alone_range_is : (x : Fraction) → IsEnclosure (Alone x) (outward (alone_range x))
 unfolding alone_range
-alone_range_is x = outward_exact (Alone x) (alone_range x) (le_refl x) (λ y l. le_antisymm y x l.1 l.0) (λ y e. (subst (λ z. x ≤ℚ z) (sym e) (le_refl x), subst (λ z. z ≤ℚ x) (sym e) (le_refl x)))
+alone_range_is x =
+    outward_exact (Alone x) (alone_range x) (le_refl x) (λ y l. le_antisymm y x l.1 l.0)
+    (λ y e. (subst (λ z. x ≤ℚ z) (sym e) (le_refl x), subst (λ z. z ≤ℚ x) (sym e) (le_refl x)))
 
 alone_grid : (x : Fraction) → IsGridRange (outward (alone_range x))
-alone_grid x = enclosed (Alone x) (outward (alone_range x)) (enclosure_ordered (Alone x) (outward (alone_range x)) x refl (alone_range_is x)) (alone_range_is x)
+alone_grid x = enclosed (Alone x) (outward (alone_range x)) (enclosure_ordered (Alone x)
+    (outward (alone_range x)) x refl (alone_range_is x)) (alone_range_is x)
 
 -- the least interval that holds x
 pub point_of : Fraction → Interval
@@ -243,10 +303,12 @@ point_of x = interval_of (outward (alone_range x)) (alone_grid x)
 
 pub point_of-is : (x : Fraction) → IsEnclosure (Alone x) (range_of (point_of x))
 unfolding point_of
-point_of-is x = subst (IsEnclosure (Alone x)) (sym (interval_of-range (outward (alone_range x)) (alone_grid x))) (alone_range_is x)
+point_of-is x = subst (IsEnclosure (Alone x))
+    (sym (interval_of-range (outward (alone_range x)) (alone_grid x))) (alone_range_is x)
 
 pub point_only : (x : Fraction) (k : Interval) → IsEnclosure (Alone x) (range_of k) → k ≡ point_of x
-point_only x k p = same_range k (point_of x) (enclosure_unique (Alone x) (range_of k) (range_of (point_of x)) p (point_of-is x))
+point_only x k p = same_range k (point_of x)
+    (enclosure_unique (Alone x) (range_of k) (range_of (point_of x)) p (point_of-is x))
 
 -- ---- single intervals
 -- from minus to plus infinity
@@ -258,8 +320,17 @@ abbrev pub half_line : Interval
 half_line = record { lo = end.At zero_number; hi = end.High; ordered = tt }
 
 -- a number of the grid alone
-pub alone_is : (d : Dyadic) → IsEnclosure (Alone (value_of d)) (from_bounds (At (value_of d)) (At (value_of d)))
+pub alone_is : (d : Dyadic)
+    → IsEnclosure (Alone (value_of d)) (from_bounds (At (value_of d)) (At (value_of d)))
 alone_is d = record {
-  low = (on_grid d, λ x e. subst (λ y. value_of d ≤ℚ y) (sym e) (le_refl (value_of d)), λ h o f. f (value_of d) refl);
-  high = (on_grid d, λ x e. subst (λ y. y ≤ℚ value_of d) (sym e) (le_refl (value_of d)), λ h o f. f (value_of d) refl);
+  low = (
+    on_grid d,
+    λ x e. subst (λ y. value_of d ≤ℚ y) (sym e) (le_refl (value_of d)),
+    λ h o f. f (value_of d) refl,
+  );
+  high = (
+    on_grid d,
+    λ x e. subst (λ y. y ≤ℚ value_of d) (sym e) (le_refl (value_of d)),
+    λ h o f. f (value_of d) refl,
+  );
 }

@@ -189,7 +189,8 @@ impl Interval {
     #[inline(always)]
     pub fn meet(self, other: Interval) -> Option<Interval>
         ensures apart { IsNone result ↔ AreApart (range_of self) (range_of other) }
-        ensures common { IfSome result (λ both. IsCommon (range_of self) (range_of other) (range_of both)) }
+        ensures common { IfSome result
+            (λ both. IsCommon (range_of self) (range_of other) (range_of both)) }
         ensures is { result ≡ common_of self other }
     {
         Interval::new(greater(self.lo, other.lo), lesser(self.hi, other.hi))
@@ -212,7 +213,8 @@ impl Interval {
     #[inline(always)]
     pub fn div(self, other: Interval) -> Option<Interval>
         ensures zero { IsNone result ↔ Lies (range_of other) zero_ℚ }
-        ensures quotient { IfSome result (λ made. IsQuotient (range_of self) (range_of other) (range_of made)) }
+        ensures quotient { IfSome result
+            (λ made. IsQuotient (range_of self) (range_of other) (range_of made)) }
         ensures is { result ≡ quotient_of self other }
     {
         if other.has_zero() {

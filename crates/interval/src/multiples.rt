@@ -21,7 +21,8 @@ impl Interval {
         requires low { negsuc 1023 ≤ℤ k }
         requires high { k ≤ℤ pos 512 }
         ensures none { IsNone result ↔ ((x : Fraction) → ¬ MultiplesIn k (range_of self) x) }
-        ensures best { IfSome result (λ made. IsEnclosure (MultiplesIn k (range_of self)) (range_of made)) }
+        ensures best { IfSome result
+            (λ made. IsEnclosure (MultiplesIn k (range_of self)) (range_of made)) }
     {
         Interval::new(end_up(self.lo, k), end_down(self.hi, k))
     }

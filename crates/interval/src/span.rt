@@ -10,7 +10,8 @@ use dyadic::Dyadic;
 pub struct Span {
     pub low: Dyadic,
     pub high: Dyadic,
-    pub ghost ordered: { value_of low ≤ℚ value_of high } by { Le-prop (value_of low) (value_of high) },
+    pub ghost ordered: { value_of low
+        ≤ℚ value_of high } by { Le-prop (value_of low) (value_of high) },
 }
 
 impl Span {

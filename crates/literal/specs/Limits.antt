@@ -8,7 +8,8 @@ use Rattle.std.proofs.Math.Nat.{mul-le-mul_left, mul-le-mul_right, pow-le-pow_ri
 use Rattle.fx_model.specs.declared.Literal.{Literal}
 use Rattle.literal.specs.Normal.{nought, IsNormal, IsNormalDecimal, IsNormalBinary}
 
--- The whole number has 100 bits, and up to 38 digits with its tens. The exponents are small, and one of them is 0.
+-- The whole number has 100 bits, and up to 38 digits with its tens. The exponents are small, and
+-- one of them is 0.
 pub record IsBounded (l : Literal) : Type 0 where
   pub num : l.num < 16 ^ 25
   pub with_tens : (k : ℕ) → l.ten ≡ pos k → l.num * 10 ^ k < 10 ^ 38
@@ -19,7 +20,8 @@ pub record IsBounded (l : Literal) : Type 0 where
   pub apart : (l.ten ≡ pos 0) ⊎ (l.two ≡ pos 0)
 
 -- ---- powers that are in the number and come out of it
-few : (b m start rest lost : ℕ) → 0 < b → start ≡ rest * b ^ lost → 0 < rest → start < b ^ m → lost < m
+few : (b m start rest lost : ℕ) → 0 < b → start ≡ rest * b ^ lost → 0 < rest
+    → start < b ^ m → lost < m
 few b m start rest lost p e h k = ⊎_elim (λ t. t) (λ t. absurd (past t)) (cases_lt lost m)
   where
     past : m ≤ lost → ⊥

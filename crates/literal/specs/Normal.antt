@@ -12,7 +12,8 @@ use Rattle.literal.specs.Spelling.{Spelling, Spells, written, IsWithin, IsBetwee
 abbrev pub nought : Literal
 nought = record { num = 0; two = pos 0; ten = pos 0 }
 
--- No factor is left in the whole number that its exponent could take: ten in a decimal, two in the others.
+-- No factor is left in the whole number that its exponent could take: ten in a decimal, two in the
+-- others.
 abbrev pub IsReduced : Form → Literal → Type 0
 IsReduced Decimal l = (l.num % 10 ≢ 0) × (l.two ≡ pos 0)
 IsReduced Binary l = (l.num % 2 ≢ 0) × (l.ten ≡ pos 0)

@@ -22,14 +22,20 @@ power_of None = None
 power_of (Some p) = Some (exponent_of p)
 
 abbrev pub spelling_of : Parts → Spelling
-spelling_of p = record { form = p.form; whole = p.whole.now; fraction = p.fraction.now; exponent = power_of p.power }
+spelling_of p = record {
+  form = p.form;
+  whole = p.whole.now;
+  fraction = p.fraction.now;
+  exponent = power_of p.power;
+}
 
 -- The answer is the one b of which P holds, as `view` reads it; none where P holds of none.
 abbrev pub FindsOne : {A B : Type 0} → (A → B) → (B → Type 0) → Option A → Type 0
 FindsOne {A} {B} view P None = (b : B) → ¬ P b
 FindsOne {A} {B} view P (Some a) = P (view a) × ((b : B) → P b → b ≡ view a)
 
--- The rest of a text behind its first byte b, or behind `0x`; none where it begins with something else.
+-- The rest of a text behind its first byte b, or behind `0x`; none where it begins with something
+-- else.
 abbrev pub BeginsWithNo : ℕ → List ℕ → Type 0
 BeginsWithNo b text = (rest : List ℕ) → text ≢ b ∷ rest
 
@@ -37,7 +43,8 @@ abbrev pub StandsBehind : ℕ → List ℕ → Option (Bor (List ℕ)) → Type 
 StandsBehind b text r = MatchOption r (BeginsWithNo b text) (λ rest. text ≡ b ∷ rest.now)
 
 abbrev pub StandsBehindOpening : List ℕ → Option (Bor (List ℕ)) → Type 0
-StandsBehindOpening text r = MatchOption r ((rest : List ℕ) → text ≢ 48 ∷ (120 ∷ rest)) (λ rest. text ≡ 48 ∷ (120 ∷ rest.now))
+StandsBehindOpening text r = MatchOption r ((rest : List ℕ) → text ≢ 48 ∷ (120 ∷ rest))
+    (λ rest. text ≡ 48 ∷ (120 ∷ rest.now))
 
 -- ---- digits at the front
 
@@ -110,7 +117,8 @@ FindsParts text r = FindsOne spelling_of (Spells text) r
 
 -- the number with the point removed, where it is within the limits
 abbrev pub GivesAs : Form → List ℕ → List ℕ → Option Exponent → Option Literal → Type 0
-GivesAs f w p e r = MatchOption r (¬ IsWithinAs f w (written_as f w p e)) (λ l. IsWithinAs f w (written_as f w p e) × (l ≡ written_as f w p e))
+GivesAs f w p e r = MatchOption r (¬ IsWithinAs f w (written_as f w p e))
+    (λ l. IsWithinAs f w (written_as f w p e) × (l ≡ written_as f w p e))
 
 abbrev pub GivesWritten : Spelling → Option Literal → Type 0
 GivesWritten x r = GivesAs x.form x.whole x.fraction x.exponent r
@@ -118,4 +126,5 @@ GivesWritten x r = GivesAs x.form x.whole x.fraction x.exponent r
 -- an exponent below 10^20 either way
 abbrev pub IsSizeOf : ℤ → Option ℤ → Type 0
 IsSizeOf z None = (pos 100000000000000000000 ≤ℤ z) ⊎ (z ≤ℤ negsuc 99999999999999999999)
-IsSizeOf z (Some y) = (y ≡ z) × (negsuc 99999999999999999999 <ℤ y) × (y <ℤ pos 100000000000000000000)
+IsSizeOf z (Some y) = (y ≡ z) × (negsuc 99999999999999999999 <ℤ y)
+    × (y <ℤ pos 100000000000000000000)

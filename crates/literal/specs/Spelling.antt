@@ -13,7 +13,8 @@ pub record Exponent : Type 0 where
   pub mark : Mark
   pub digits : List ℕ
 
--- The parts of a literal: digits, those behind a point (none where there is no point), and an exponent.
+-- The parts of a literal: digits, those behind a point (none where there is no point), and an
+-- exponent.
 pub record Spelling : Type 0 where
   pub form : Form
   pub whole : List ℕ
@@ -103,9 +104,14 @@ exponent_value (Some e) = signed_value e.mark (digits_value 10 e.digits)
 
 -- A hexadecimal digit behind the point is four places of two.
 abbrev pub written_as : Form → List ℕ → List ℕ → Option Exponent → Literal
-written_as Decimal w p e = record { num = digits_value 10 (w ++ p); two = pos 0; ten = exponent_value e -ℤ pos (length p) }
+written_as Decimal w p e =
+    record { num = digits_value 10 (w ++ p); two = pos 0; ten = exponent_value e -ℤ pos (length p) }
 written_as Binary w p e = record { num = digits_value 10 w; two = exponent_value e; ten = pos 0 }
-written_as Hexadecimal w p e = record { num = digits_value 16 (w ++ p); two = exponent_value e -ℤ pos (4 * length p); ten = pos 0 }
+written_as Hexadecimal w p e = record {
+  num = digits_value 16 (w ++ p);
+  two = exponent_value e -ℤ pos (4 * length p);
+  ten = pos 0;
+}
 
 abbrev pub written : Spelling → Literal
 written x = written_as x.form x.whole x.fraction x.exponent

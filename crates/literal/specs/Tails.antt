@@ -5,7 +5,8 @@ use Rattle.literal.specs.declared.scan.Form.TheVariants.{Decimal, Binary, Hexade
 use Rattle.literal.specs.Spelling.{Exponent, base, is_hexadecimal, point_bytes, scale_bytes}
 use Rattle.literal.specs.Parts.{IsNoDigitFirst}
 
-pub tail_ends : (h : Bool) (f : Form) (p : List ℕ) (e : Option Exponent) → is_hexadecimal f ≡ h → IsNoDigitFirst (base h) (point_bytes p ++ scale_bytes f e)
+pub tail_ends : (h : Bool) (f : Form) (p : List ℕ) (e : Option Exponent) → is_hexadecimal f ≡ h
+    → IsNoDigitFirst (base h) (point_bytes p ++ scale_bytes f e)
 tail_ends true f (d ∷ p) e k = lit≤ tt
 tail_ends false f (d ∷ p) e k = lit≤ tt
 tail_ends h f [] None k = tt
@@ -16,5 +17,6 @@ tail_ends false Decimal [] (Some e) k = lit≤ tt
 tail_ends false Binary [] (Some e) k = lit≤ tt
 tail_ends false Hexadecimal [] (Some e) k = cc
 
-pub scale_ends : (h : Bool) (f : Form) (e : Option Exponent) → is_hexadecimal f ≡ h → IsNoDigitFirst (base h) (scale_bytes f e)
+pub scale_ends : (h : Bool) (f : Form) (e : Option Exponent) → is_hexadecimal f ≡ h
+    → IsNoDigitFirst (base h) (scale_bytes f e)
 scale_ends h f e k = tail_ends h f [] e k

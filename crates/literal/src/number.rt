@@ -17,7 +17,8 @@ const HEXADECIMAL_LIMIT: u128 = 0x10_0000_0000_0000_0000_0000_0000;
 // No number of digits behind a point makes up for an exponent of this size.
 const POWER_LIMIT: u128 = 100_000_000_000_000_000_000;
 
-// The number of a spelling, with the point removed into the exponent; `None` exactly where it is past the limits.
+// The number of a spelling, with the point removed into the exponent; `None` exactly where it is
+// past the limits.
 pub fn written(parts: &Parts) -> Option<Literal>
     requires { IsSpelling (spelling_of parts.now) }
     ensures written { GivesWritten (spelling_of parts.now) result }
@@ -74,7 +75,8 @@ fn joined(radix: u128, limit: u128, whole: &[u8], fraction: &[u8]) -> Option<u12
     continued(radix, limit, num, fraction)
 }
 
-// The number that digits write when they follow those of another; `None` exactly where it reaches the limit.
+// The number that digits write when they follow those of another; `None` exactly where it reaches
+// the limit.
 fn continued(radix: u128, limit: u128, first: u128, digits: &[u8]) -> Option<u128>
     requires radix { (0 < radix) × (radix ≤ 16) }
     requires limit { (first < limit) × (limit ≤ 2 ^ 120) }

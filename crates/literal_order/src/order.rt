@@ -19,7 +19,8 @@ struct Ratio {
 
 fn ratio_of(lit: &Literal) -> Ratio
     requires { IsNormal lit.now }
-    ensures value { whole (pos result.divisor) *ℚ literal_value lit.now ≡ scaled (pos result.number) lit.now.two }
+    ensures value { whole (pos result.divisor) *ℚ literal_value lit.now
+        ≡ scaled (pos result.number) lit.now.two }
     ensures some { 0 < result.divisor }
 {
     let power = 10u128.pow(lit.ten.unsigned_abs());

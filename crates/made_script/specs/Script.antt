@@ -17,16 +17,19 @@ abbrev pub in_parentheses : ℕ → Bytes → Bytes
 in_parentheses zero text = text
 in_parentheses (suc powers) text = codes "(" ++ text ++ codes ")"
 
--- The polynomial from the power i on, where so many powers follow. With Horner's form x is written once for each of these.
+-- The polynomial from the power i on, where so many powers follow. With Horner's form x is written
+-- once for each of these.
 abbrev pub horner : ℕ → ℕ → Bytes
 horner i zero = literal i
-horner i (suc powers) = in_parentheses powers (horner (i + 1) powers) ++ codes " * x + " ++ literal i
+horner i (suc powers) =
+    in_parentheses powers (horner (i + 1) powers) ++ codes " * x + " ++ literal i
 
 -- the polynomial of degree n from the power i on
 abbrev pub polynomial : ℕ → ℕ → Bytes
 polynomial n i = horner i (n - i)
 
--- the script, line by line: the polynomial stands in the second with rounded operations, in the third as it is
+-- the script, line by line: the polynomial stands in the second with rounded operations, in the
+-- third as it is
 abbrev pub script_text : ℕ → Bytes
 script_text n =
     codes "@q = fixed<-12,dn>;\n"
@@ -41,9 +44,11 @@ script_text n =
 abbrev pub EndsInALiteral : Type 0
 EndsInALiteral = (n : ℕ) → polynomial n n ≡ literal n
 
--- what x is multiplied by at the power i: the polynomial from the next power on, in parentheses where that isn't the last
+-- what x is multiplied by at the power i: the polynomial from the next power on, in parentheses
+-- where that isn't the last
 abbrev pub factor : ℕ → ℕ → Bytes → Bytes
 factor n i text = if nat_lt (i + 1) n then codes "(" ++ text ++ codes ")" else text
 
 abbrev pub AreNested : Type 0
-AreNested = (n i : ℕ) → i < n → polynomial n i ≡ factor n i (polynomial n (i + 1)) ++ codes " * x + " ++ literal i
+AreNested = (n i : ℕ) → i < n
+    → polynomial n i ≡ factor n i (polynomial n (i + 1)) ++ codes " * x + " ++ literal i

@@ -1,4 +1,5 @@
-//! The made script: a polynomial in Horner's form whose operations are rounded, against the exact one.
+//! The made script: a polynomial in Horner's form whose operations are rounded, against the exact
+//! one.
 #![tactic(auto)]
 
 mod options;

@@ -15,7 +15,8 @@ pub struct Options {
     pub workers: u8,
 }
 
-/// How the made script is proved, whatever its degree: 64 rounds, no halving, 4,096 boxes, 4 workers.
+/// How the made script is proved, whatever its degree: 64 rounds, no halving, 4,096 boxes, 4
+/// workers.
 pub fn made_options() -> Options
     ensures { result ≡ stated_options }
 {

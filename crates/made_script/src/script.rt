@@ -28,7 +28,8 @@ fn factor(alloc: Global, n: u8, i: u8, inner: String) -> Result<String, AllocErr
 // The polynomial of degree n from the power i on, from its text from the next power on.
 fn before(alloc: Global, n: u8, i: u8, inner: String) -> Result<String, AllocError>
     requires { i < n }
-    ensures { IfOk result (λ p. string_bytes p ≡ spec.factor n i (string_bytes inner) ++ codes " * x + " ++ spec.literal i) }
+    ensures { IfOk result (λ p. string_bytes p
+        ≡ spec.factor n i (string_bytes inner) ++ codes " * x + " ++ spec.literal i) }
 {
     let factor = factor(alloc, n, i, inner)?;
     let c = coefficient(i);
@@ -50,8 +51,9 @@ fn polynomial(alloc: Global, n: u8) -> Result<String, AllocError>
     Ok(text)
 }
 
-/// The text of the made script of degree `n`: its polynomial with operations rounded down to multiples of 2^-12, against
-/// the same without roundings, for x from 0 to 1 in 64 pieces. `Err` only where memory runs out.
+/// The text of the made script of degree `n`: its polynomial with operations rounded down to
+/// multiples of 2^-12, against the same without roundings, for x from 0 to 1 in 64 pieces. `Err`
+/// only where memory runs out.
 pub fn made_script(alloc: Global, n: u8) -> Result<Vec<u8>, AllocError>
     ensures { IfOk result (λ text. text.items ≡ spec.script_text n) }
 {
@@ -69,8 +71,9 @@ pub fn made_script(alloc: Global, n: u8) -> Result<Vec<u8>, AllocError>
     Ok(text)
 }
 
-/// Nothing is done. The clauses tell a caller how the polynomial of degree `n` is written: from the last power on it is a
-/// literal, and from an earlier one on it is what it is from the next one on, times x, and a literal.
+/// Nothing is done. The clauses tell a caller how the polynomial of degree `n` is written: from the
+/// last power on it is a literal, and from an earlier one on it is what it is from the next one on,
+/// times x, and a literal.
 pub fn polynomials_are_nested()
     ensures last { spec.EndsInALiteral }
     ensures nested { spec.AreNested }

@@ -26,7 +26,8 @@ pub record HasFewHints (l : HintList) : Type 0 where
 
 -- A script whose words the judge lets pass has few hints, whatever is known before it.
 abbrev pub HintsAreFew : Type 0
-HintsAreFew = (tree : Script) (k : Known) → Judged 0 nothing_seen (script_leaves tree) None → HasFewHints (hints_behind tree k)
+HintsAreFew = (tree : Script) (k : Known) → Judged 0 nothing_seen (script_leaves tree) None
+    → HasFewHints (hints_behind tree k)
 
 -- what the formula of a script claims as goals, behind what is known
 abbrev pub goals_behind : Script → Known → List Claim

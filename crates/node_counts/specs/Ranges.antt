@@ -20,7 +20,8 @@ use Rattle.script_claims.specs.Facts.{hypothesis_fact}
 use Rattle.script_hints.specs.declared.hint.HintList.{HintList}
 use Rattle.node_counts.specs.Few.{hints_behind}
 
--- The claim bounds the expression on both sides, and as a hypothesis it gives an interval with two finite ends.
+-- The claim bounds the expression on both sides, and as a hypothesis it gives an interval with two
+-- finite ends.
 pub record GivesRange (x : ExprId) (c : Claim) : Type 0 where
   pub lower : Written
   pub upper : Written

@@ -1,5 +1,6 @@
--- Which pairs of expressions are compared, and which expressions that takes: the least sets under the rules below.
--- Both sides of a pair are numbers of the script's nodes, and so are those of each difference that is added.
+-- Which pairs of expressions are compared, and which expressions that takes: the least sets under
+-- the rules below. Both sides of a pair are numbers of the script's nodes, and so are those of each
+-- difference that is added.
 use Rattle.std.specs.Prelude.{◌≡◌, ◌≢◌, ◌⊎◌, ◌<◌, ◌==◌, ◌+◌, ◌*◌, ℕ, Bool, if◌then◌else◌, List, [], ◌∷◌, ◌++◌, Some, slice_get, map, length}
 use Rattle.expr_dag.specs.fx_model.declared.ExprId.{ExprId}
 use Rattle.expr_dag.specs.fx_model.declared.Rounding.{Rounding}
@@ -17,7 +18,8 @@ is_same x y = x.0 == y.0
 
 -- ---- pairs
 
--- operands at the same places of two sums, two differences, two products, two quotients or two negations
+-- operands at the same places of two sums, two differences, two products, two quotients or two
+-- negations
 abbrev pub matched : Node → Node → List Pair
 matched (Add a b) (Add c d) = (a, c) ∷ (b, d) ∷ []
 matched (Sub a b) (Sub c d) = (a, c) ∷ (b, d) ∷ []
@@ -39,10 +41,13 @@ abbrev pub rounded : Node → ExprId → List Pair
 rounded (Round r e) c = if is_same e c then [] else ((e, c) ∷ [])
 rounded _ c = []
 
--- From a pair of different sides, operands at the same places. From (R(e), c) with c other than e, (e, c).
+-- From a pair of different sides, operands at the same places. From (R(e), c) with c other than e,
+-- (e, c).
 pub data LeadsToPair (nodes : List Node) : Pair → Pair → Type 0 where
-  operands : (x y : ExprId) (m n : Node) (p : Pair) → x ≢ y → IsAt nodes x m → IsAt nodes y n → Has (matched m n) p → LeadsToPair nodes (x, y) p
-  inside : (x y : ExprId) (m : Node) (p : Pair) → IsAt nodes x m → Has (rounded m y) p → LeadsToPair nodes (x, y) p
+  operands : (x y : ExprId) (m n : Node) (p : Pair) → x ≢ y → IsAt nodes x m → IsAt nodes y n
+      → Has (matched m n) p → LeadsToPair nodes (x, y) p
+  inside : (x y : ExprId) (m : Node) (p : Pair) → IsAt nodes x m → Has (rounded m y) p
+      → LeadsToPair nodes (x, y) p
 
 -- The pairs that are compared.
 abbrev pub IsPair : List Node → List Pair → Pair → Type 0
@@ -83,12 +88,14 @@ module _ (nodes : List Node) (P : Pair → Type 0) where
     written : (n : Node) → Has nodes n → BeginsExpressions n
     difference : (a b : ExprId) → P (a, b) → BeginsExpressions (Sub a b)
 
-  -- From (a + b) - (c + d), (a - b) - (c - d) and a * b - c * d: a - c and b - d; from (-a) - (-b): a - b.
-  -- From a - c and a pair (a, b): b - c. From a - c and a pair (c, b): a - b.
+  -- From (a + b) - (c + d), (a - b) - (c - d) and a * b - c * d: a - c and b - d; from (-a) - (-b):
+  -- a - b. From a - c and a pair (a, b): b - c. From a - c and a pair (c, b): a - b.
   pub data LeadsToExpression : Node → Node → Type 0 where
-    operands : (x y a b : ExprId) (m n : Node) → IsAt nodes x m → IsAt nodes y n → Has (matched_terms m n) (a, b) → LeadsToExpression (Sub x y) (Sub a b)
+    operands : (x y a b : ExprId) (m n : Node) → IsAt nodes x m → IsAt nodes y n
+        → Has (matched_terms m n) (a, b) → LeadsToExpression (Sub x y) (Sub a b)
     past_left : (a b c : ExprId) → P (a, b) → AreApart a b c → LeadsToExpression (Sub a c) (Sub b c)
-    past_right : (a b c : ExprId) → P (c, b) → AreApart a b c → LeadsToExpression (Sub a c) (Sub a b)
+    past_right : (a b c : ExprId) → P (c, b) → AreApart a b c
+        → LeadsToExpression (Sub a c) (Sub a b)
 
   -- The expressions that the pairs of P take.
   abbrev pub IsTaken : Node → Type 0
@@ -107,13 +114,15 @@ pub record AreTooMany (E : Node → Type 0) : Type 0 where
 
 -- ---- order
 
--- the place of a pair among all: by first sides, and where these are one by second sides (numbers are below 65,536)
+-- the place of a pair among all: by first sides, and where these are one by second sides (numbers
+-- are below 65,536)
 abbrev pub rank : Pair → ℕ
 rank p = (p.0).0 * 65536 + (p.1).0
 
 -- Each stands before those of higher rank.
 abbrev pub AreRising : List Pair → Type 0
-AreRising ps = (i j : ℕ) (p q : Pair) → slice_get ps i ≡ Some p → slice_get ps j ≡ Some q → i < j → rank p < rank q
+AreRising ps = (i j : ℕ) (p q : Pair) → slice_get ps i ≡ Some p → slice_get ps j ≡ Some q
+    → i < j → rank p < rank q
 
 abbrev pub difference_of : Pair → Node
 difference_of p = Sub p.0 p.1
@@ -124,9 +133,10 @@ pub record IsFollowed (nodes all : List Node) : Type 0 where
   pub list : all ≡ nodes ++ map difference_of differences
   pub rising : AreRising differences
 
--- The list of nodes begins with the script's, behind which differences rise, and has exactly the expressions, each once; the other
--- list has exactly the pairs, rising.
-pub record IsClosure (nodes : List Node) (starts : List Pair) (all : List Node) (found : List Pair) : Type 0 where
+-- The list of nodes begins with the script's, behind which differences rise, and has exactly the
+-- expressions, each once; the other list has exactly the pairs, rising.
+pub record IsClosure (nodes : List Node) (starts : List Pair) (all : List Node)
+    (found : List Pair) : Type 0 where
   pub begins : (x : ExprId) (n : Node) → IsAt nodes x n → IsAt all x n
   pub order : IsFollowed nodes all
   pub expressions : IsListOf (IsExpression nodes starts) all
@@ -135,4 +145,6 @@ pub record IsClosure (nodes : List Node) (starts : List Pair) (all : List Node) 
 
 -- Two closures are one.
 abbrev pub ClosuresAreOne : Type 0
-ClosuresAreOne = (nodes : List Node) (starts : List Pair) (all some : List Node) (found others : List Pair) → IsClosure nodes starts all found → IsClosure nodes starts some others → (all ≡ some) × (found ≡ others)
+ClosuresAreOne = (nodes : List Node) (starts : List Pair)
+    (all some : List Node) (found others : List Pair) → IsClosure nodes starts all found
+    → IsClosure nodes starts some others → (all ≡ some) × (found ≡ others)

@@ -15,7 +15,8 @@ self_same x = eq-eqb x.0 x.0 refl
 pub apart_ids : (x y : ExprId) → (x.0 == y.0) ≡ false → x ≢ y
 apart_ids x y h e = true≢false (sym (eq-eqb x.0 y.0 (ap (λ (z : ExprId). z.0) e)) ∙ h)
 
-pub same_at : (nodes : List Node) (x y : ExprId) (n : Node) → x ≡ y → IsAt nodes x n → IsAt nodes y n
+pub same_at : (nodes : List Node) (x y : ExprId) (n : Node) → x ≡ y
+    → IsAt nodes x n → IsAt nodes y n
 same_at nodes x y n e = subst (λ z. IsAt nodes z n) e
 
 pub not_same : (x y : ExprId) → x ≢ y → (b : Bool) → (x.0 == y.0) ≡ b → b ≡ false

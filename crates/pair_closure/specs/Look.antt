@@ -30,4 +30,5 @@ pub among_out : (ps : List Pair) (p : Pair) → is_among ps p ≡ true → Has p
 among_out ps p e = has_from_contains ps p (Contains-list_any same_pair exact ps p e)
 
 pub among_in : (ps : List Pair) (p : Pair) → Has ps p → is_among ps p ≡ true
-among_in ps p h = list_any_at (same_pair p) ps h.0 p (slice_get_within ps h.0 p h.1) ((λ j. same_pair p (get_or_from_slice_get ps h.0 p p h.1 j)) ∙ itself p)
+among_in ps p h = list_any_at (same_pair p) ps h.0 p (slice_get_within ps h.0 p h.1)
+    ((λ j. same_pair p (get_or_from_slice_get ps h.0 p p h.1 j)) ∙ itself p)

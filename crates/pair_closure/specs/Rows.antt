@@ -11,5 +11,6 @@ seconds (p ∷ ps) a = if is_same p.0 a then p.1 ∷ seconds ps a else seconds p
 
 -- The row of each first side has its second sides.
 pub record IsIndexed (pairs : List Pair) (table : List (List ExprId)) : Type 0 where
-  pub each : (a : ExprId) (row : List ExprId) → slice_get table a.0 ≡ Some row → row ≡ seconds pairs a
+  pub each : (a : ExprId) (row : List ExprId)
+      → slice_get table a.0 ≡ Some row → row ≡ seconds pairs a
   pub all : (p : Pair) → Has pairs p → (p.0).0 < length table

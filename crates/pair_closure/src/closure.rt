@@ -63,7 +63,8 @@ fn pairs_of(
     }
 }
 
-/// All pairs that follow from a script's roundings and from the pairs to begin with, and all expressions that these take.
+/// All pairs that follow from a script's roundings and from the pairs to begin with, and all
+/// expressions that these take.
 pub fn closure_of(
     alloc: Global,
     script: &Dag,
@@ -75,7 +76,8 @@ pub fn closure_of(
     ensures short { IfOk result (λ c. length c.pairs ≤ 1024) }
     // There are too many exactly where that is answered, want of memory aside.
     ensures few { IfOk result (λ c. ¬ AreTooMany (IsExpression script.now starts.now)) }
-    ensures many { result ≡ Err ClosureFault.TooMany → AreTooMany (IsExpression script.now starts.now) }
+    ensures many { result ≡ Err ClosureFault.TooMany
+        → AreTooMany (IsExpression script.now starts.now) }
 {
     script.laws();
     let Some(pairs) = pairs_of(alloc, script, starts)? else {

@@ -47,7 +47,8 @@ fn blank_rows(alloc: Global, n: u16) -> Result<Vec<Vec<ExprId>>, AllocError>
 fn put(rows: &mut Vec<Vec<ExprId>>, a: ExprId, b: ExprId) -> Result<(), AllocError>
     requires { a.0 < vec_len rows.old }
     ensures count { vec_len rows.new ≡ vec_len rows.old }
-    ensures put { OnOk result ((pairs : List Sides) → IsIndexed pairs (map (λ row. row.items) rows.old.items)
+    ensures put { OnOk result ((pairs : List Sides)
+        → IsIndexed pairs (map (λ row. row.items) rows.old.items)
         → IsIndexed (pairs ++ (a, b) ∷ []) (map (λ row. row.items) rows.new.items)) }
 {
     rows[a.0 as usize].push(b)?;

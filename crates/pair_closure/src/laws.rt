@@ -2,7 +2,8 @@
 
 ghost use Rattle.pair_closure.specs.Closure.{ClosuresAreOne};
 
-/// Nothing is done. The clause tells a caller that the nodes of a script and the pairs to begin with have one closure.
+/// Nothing is done. The clause tells a caller that the nodes of a script and the pairs to begin
+/// with have one closure.
 pub fn closures_are_one()
     ensures { ClosuresAreOne }
 {}

@@ -64,7 +64,8 @@ fn add_in_order(all: &mut Dag, pairs: &PairSet) -> Result<(), AllocError>
 /// The same nodes, first those of the script, and behind them differences by rising sides.
 pub fn in_order(alloc: Global, script: &Dag, all: &Dag) -> Result<Dag, AllocError>
     requires begins { (x : ExprId) (n : Node) → IsAt script.now x n → IsAt all.now x n }
-    requires others { (k : ℕ) (n : Node) → length script.now ≤ k → slice_get all.now k ≡ Some n → IsKnownDifference script.now n }
+    requires others { (k : ℕ) (n : Node) → length script.now ≤ k → slice_get all.now k ≡ Some n
+        → IsKnownDifference script.now n }
     ensures same { IfOk result (λ nodes. (n : Node) → Has nodes n ↔ Has all.now n) }
     ensures order { IfOk result (IsFollowed script.now) }
 {

@@ -12,7 +12,8 @@ use indexmap::IndexSet;
 use std::alloc::{AllocError, Global};
 use std::marker::Model;
 
-/// Pairs of expressions, each once, in the order in which they were found or, after `sort`, by rising sides.
+/// Pairs of expressions, each once, in the order in which they were found or, after `sort`, by
+/// rising sides.
 #[derive(Drop)]
 pub struct PairSet {
     set: IndexSet<Pair>,

@@ -8,8 +8,8 @@ use Rattle.expr_dag.specs.fx_model.declared.Node.TheVariants.{Var, Lit, Neg, Add
 use Rattle.poly_normal.specs.Polynomial as polynomial
 use Rattle.poly_normal.specs.Polynomial.{Polynomial}
 
--- A polynomial, its weight and its degree. Weight and degree are those of the way in which it was made:
--- they stay where terms cancel.
+-- A polynomial, its weight and its degree. Weight and degree are those of the way in which it was
+-- made: they stay where terms cancel.
 pub record Side : Type 0 where
   pub polynomial : Polynomial
   pub weight : ℕ
@@ -24,17 +24,26 @@ abbrev pub atom : ℕ → Side
 atom i = record { polynomial = polynomial.atom i; weight = 1; degree = 1 }
 
 abbrev pub sum : Side → Side → Side
-sum p q = record { polynomial = polynomial.sum p.polynomial q.polynomial; weight = p.weight + q.weight; degree = max p.degree q.degree }
+sum p q = record {
+  polynomial = polynomial.sum p.polynomial q.polynomial;
+  weight = p.weight + q.weight;
+  degree = max p.degree q.degree;
+}
 
 abbrev pub negation : Side → Side
-negation p = record { polynomial = polynomial.negation p.polynomial; weight = p.weight; degree = p.degree }
+negation p =
+    record { polynomial = polynomial.negation p.polynomial; weight = p.weight; degree = p.degree }
 
 -- a difference weighs what the sum weighs
 abbrev pub difference : Side → Side → Side
 difference p q = sum p (negation q)
 
 abbrev pub product : Side → Side → Side
-product p q = record { polynomial = polynomial.product p.polynomial q.polynomial; weight = p.weight * q.weight; degree = p.degree + q.degree }
+product p q = record {
+  polynomial = polynomial.product p.polynomial q.polynomial;
+  weight = p.weight * q.weight;
+  degree = p.degree + q.degree;
+}
 
 -- Numerator and denominator.
 pub record Form : Type 0 where
@@ -44,7 +53,8 @@ pub record Form : Type 0 where
 -- the greatest number from 1 to n that divides both a and b
 unfoldable pub common_divisor_to : ℕ → ℕ → ℕ → ℕ
 common_divisor_to zero a b = 1
-common_divisor_to (suc n) a b = if (a % suc n == 0) && (b % suc n == 0) then suc n else common_divisor_to n a b
+common_divisor_to (suc n) a b =
+    if (a % suc n == 0) && (b % suc n == 0) then suc n else common_divisor_to n a b
 
 -- num * 2^two * 10^ten = literal_top / literal_bottom, not reduced
 abbrev pub literal_top : Literal → ℕ
@@ -59,7 +69,10 @@ literal_divisor l = common_divisor_to (literal_bottom l) (literal_top l) (litera
 
 -- A literal is the reduced fraction.
 abbrev pub literal_form : Literal → Form
-literal_form l = record { top = constant (pos (literal_top l / literal_divisor l)); bottom = constant (pos (literal_bottom l / literal_divisor l)) }
+literal_form l = record {
+  top = constant (pos (literal_top l / literal_divisor l));
+  bottom = constant (pos (literal_bottom l / literal_divisor l));
+}
 
 abbrev pub atom_form : ℕ → Form
 atom_form i = record { top = atom i; bottom = constant (pos 1) }
@@ -68,10 +81,16 @@ abbrev pub negation_form : Form → Form
 negation_form f = record { top = negation f.top; bottom = f.bottom }
 
 abbrev pub sum_form : Form → Form → Form
-sum_form f g = record { top = sum (product f.top g.bottom) (product g.top f.bottom); bottom = product f.bottom g.bottom }
+sum_form f g = record {
+  top = sum (product f.top g.bottom) (product g.top f.bottom);
+  bottom = product f.bottom g.bottom;
+}
 
 abbrev pub difference_form : Form → Form → Form
-difference_form f g = record { top = difference (product f.top g.bottom) (product g.top f.bottom); bottom = product f.bottom g.bottom }
+difference_form f g = record {
+  top = difference (product f.top g.bottom) (product g.top f.bottom);
+  bottom = product f.bottom g.bottom;
+}
 
 abbrev pub product_form : Form → Form → Form
 product_form f g = record { top = product f.top g.top; bottom = product f.bottom g.bottom }
@@ -79,8 +98,8 @@ product_form f g = record { top = product f.top g.top; bottom = product f.bottom
 abbrev pub quotient_form : Form → Form → Form
 quotient_form f g = record { top = product f.top g.bottom; bottom = product f.bottom g.top }
 
--- The form of node i, from the forms of the nodes before it. Variables, absolute values and roundings are atoms:
--- what is inside isn't looked at.
+-- The form of node i, from the forms of the nodes before it. Variables, absolute values and
+-- roundings are atoms: what is inside isn't looked at.
 abbrev pub node_form : ℕ → (ExprId → Form) → Node → Form
 node_form i f (Var n) = atom_form i
 node_form i f (Lit l) = literal_form l
@@ -95,7 +114,8 @@ node_form i f (Round r x) = atom_form i
 -- The forms of a list of nodes, one after another, with those of `done` before them.
 unfoldable pub forms_after : List Form → List Node → List Form
 forms_after done [] = done
-forms_after done (n ∷ ns) = forms_after (done ++ (node_form (length done) (λ x. slice_index_or done x.0 (atom_form x.0)) n ∷ [])) ns
+forms_after done (n ∷ ns) = forms_after
+    (done ++ (node_form (length done) (λ x. slice_index_or done x.0 (atom_form x.0)) n ∷ [])) ns
 
 -- The form of expression x of a list of nodes. A number outside the list is an atom.
 abbrev pub form : List Node → ExprId → Form

@@ -27,11 +27,20 @@ IsLimited width s (Some l) = (l.terms.width ≡ width) × IsLike (side_of l) s
 -- the same terms, weight and degree, or none where there are more than 256 terms
 abbrev pub IsWithin : Terms → ℕ → ℕ → Option Limited → Type 0
 IsWithin terms weight degree None = 256 < length (polynomial_of terms)
-IsWithin terms weight degree (Some l) = (l.terms.width ≡ terms.width) × (polynomial_of l.terms ≡ polynomial_of terms) × (l.weight ≡ weight) × (l.degree ≡ degree)
+IsWithin terms weight degree (Some l) = (l.terms.width ≡ terms.width)
+    × (polynomial_of l.terms ≡ polynomial_of terms) × (l.weight ≡ weight) × (l.degree ≡ degree)
 
 -- a whole number and an atom, as rows
 abbrev pub constant_side : ℕ → ℕ → Side
-constant_side width n = record { polynomial = record { coefficient = pos n; monomial = zero_row width } ∷ []; weight = n; degree = 0 }
+constant_side width n = record {
+  polynomial = record { coefficient = pos n; monomial = zero_row width } ∷ [];
+  weight = n;
+  degree = 0;
+}
 
 abbrev pub atom_side : ℕ → ℕ → Side
-atom_side width place = record { polynomial = record { coefficient = pos 1; monomial = unit_row width place } ∷ []; weight = 1; degree = 1 }
+atom_side width place = record {
+  polynomial = record { coefficient = pos 1; monomial = unit_row width place } ∷ [];
+  weight = 1;
+  degree = 1;
+}

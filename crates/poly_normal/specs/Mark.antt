@@ -25,7 +25,8 @@ IsOperand (Round r x) z = ⊥
 -- The subexpressions of x, itself among them: the least set with x and the operands of its members.
 pub data IsPart (nodes : List Node) (x : ExprId) : ExprId → Type 0 where
   itself : IsPart nodes x x
-  operand : (y z : ExprId) (d : Node) → IsPart nodes x y → IsOperand (slice_index_or nodes y.0 d) z → IsPart nodes x z
+  operand : (y z : ExprId) (d : Node) → IsPart nodes x y
+      → IsOperand (slice_index_or nodes y.0 d) z → IsPart nodes x z
 
 -- The limits of one polynomial: weight below 2^127, degree at most 4,096, at most 256 terms.
 abbrev pub IsTooLarge : Side → Type 0
@@ -44,11 +45,13 @@ right_product nodes a b = product (form nodes b).top (form nodes a).bottom
 -- A limit is passed in a subexpression of either side, or in a cross product.
 abbrev pub PassesLimit : List Node → ExprId → ExprId → Type 0
 PassesLimit nodes a b =
-    ((x : ExprId) × (IsPart nodes a x ⊎ IsPart nodes b x) × HasTooLarge (form nodes x)) ⊎ IsTooLarge (left_product nodes a b) ⊎ IsTooLarge (right_product nodes a b)
+    ((x : ExprId) × (IsPart nodes a x ⊎ IsPart nodes b x) × HasTooLarge (form nodes x))
+    ⊎ IsTooLarge (left_product nodes a b) ⊎ IsTooLarge (right_product nodes a b)
 
 -- The cross products are equal polynomials.
 abbrev pub AreEqual : List Node → ExprId → ExprId → Type 0
-AreEqual nodes a b = IsEqual (left_product nodes a b).polynomial (right_product nodes a b).polynomial
+AreEqual nodes a b =
+    IsEqual (left_product nodes a b).polynomial (right_product nodes a b).polynomial
 
 -- When each answer comes.
 abbrev pub Answers : List Node → ExprId → ExprId → Sameness → Type 0
@@ -59,8 +62,10 @@ Answers nodes a b TooLarge = PassesLimit nodes a b
 -- Wherever both sides have a value, the two values are equal. No divisor that occurs is zero there,
 -- and atoms have whatever value they have.
 abbrev pub HaveEqualValues : List Node → ExprId → ExprId → Type 0
-HaveEqualValues nodes a b = (v : Assignment) (r s : Fraction) → value nodes v a ≡ Some r → value nodes v b ≡ Some s → r ≡ s
+HaveEqualValues nodes a b = (v : Assignment) (r s : Fraction) → value nodes v a ≡ Some r
+    → value nodes v b ≡ Some s → r ≡ s
 
 -- Expressions of which the cross products are equal have equal values wherever both have one.
 abbrev pub EqualFormsHaveEqualValues : Type 0
-EqualFormsHaveEqualValues = (nodes : List Node) (a b : ExprId) → IsOrdered nodes → a.0 < length nodes → b.0 < length nodes → AreEqual nodes a b → HaveEqualValues nodes a b
+EqualFormsHaveEqualValues = (nodes : List Node) (a b : ExprId) → IsOrdered nodes
+    → a.0 < length nodes → b.0 < length nodes → AreEqual nodes a b → HaveEqualValues nodes a b

@@ -36,10 +36,12 @@ spread (true ∷ bs) [] = []
 spread (true ∷ bs) (k ∷ row) = with_power k (spread bs row)
 
 abbrev pub spread_polynomial : List Bool → Polynomial → Polynomial
-spread_polynomial bs p = map (λ t. record { coefficient = t.coefficient; monomial = spread bs t.monomial }) p
+spread_polynomial bs p =
+    map (λ t. record { coefficient = t.coefficient; monomial = spread bs t.monomial }) p
 
 abbrev pub spread_side : List Bool → Side → Side
-spread_side bs s = record { polynomial = spread_polynomial bs s.polynomial; weight = s.weight; degree = s.degree }
+spread_side bs s =
+    record { polynomial = spread_polynomial bs s.polynomial; weight = s.weight; degree = s.degree }
 
 -- the row of 1, and that of the atom at a place
 abbrev pub zero_row : ℕ → List ℕ

@@ -2,7 +2,8 @@
 use Rattle.std.specs.Prelude.{◌≡◌, ℕ, ℤ, pos, neg_ℤ, ◌+ℤ◌, ◌*ℤ◌, ◌+◌, ◌<◌, Bool, true, false, ◌==◌, ◌&&◌, not, if◌then◌else◌, List, [], ◌∷◌, ◌++◌, map, filter, replicate, unsigned_abs}
 use Rattle.std.specs.Set.{distinct_count}
 
--- A product of powers of atoms: at place i the power of the atom with number i, up to the last one that occurs.
+-- A product of powers of atoms: at place i the power of the atom with number i, up to the last one
+-- that occurs.
 abbrev pub Monomial : Type 0
 Monomial = List ℕ
 
@@ -36,7 +37,8 @@ Polynomial = List Term
 -- the coefficient of a monomial, once like terms are joined
 abbrev pub coefficient_of : Polynomial → Monomial → ℤ
 coefficient_of [] m = pos 0
-coefficient_of (t ∷ p) m = (if same_monomial t.monomial m then t.coefficient else pos 0) +ℤ coefficient_of p m
+coefficient_of (t ∷ p) m =
+    (if same_monomial t.monomial m then t.coefficient else pos 0) +ℤ coefficient_of p m
 
 -- two sums are one polynomial
 abbrev pub IsEqual : Polynomial → Polynomial → Type 0
@@ -63,7 +65,10 @@ abbrev pub negation : Polynomial → Polynomial
 negation p = map (λ t. record { coefficient = neg_ℤ t.coefficient; monomial = t.monomial }) p
 
 abbrev pub term_product : Term → Term → Term
-term_product s t = record { coefficient = s.coefficient *ℤ t.coefficient; monomial = monomial_product s.monomial t.monomial }
+term_product s t = record {
+  coefficient = s.coefficient *ℤ t.coefficient;
+  monomial = monomial_product s.monomial t.monomial;
+}
 
 -- each term of the one times each term of the other
 abbrev pub product : Polynomial → Polynomial → Polynomial

@@ -20,7 +20,8 @@ HasRows width q = (q.top.terms.width ≡ width) × (q.bottom.terms.width ≡ wid
 -- the form f within the limits, or none exactly where a part of f passes one
 abbrev pub IsFormOf : ℕ → Form → Option Quotient → Type 0
 IsFormOf width f None = HasTooLarge f
-IsFormOf width f (Some q) = HasRows width q × IsLike (side_of q.top) f.top × IsLike (side_of q.bottom) f.bottom
+IsFormOf width f (Some q) = HasRows width q × IsLike (side_of q.top) f.top
+    × IsLike (side_of q.bottom) f.bottom
 
 -- a quotient is there
 abbrev pub IsKnown : ℕ → Option Quotient → Type 0
@@ -28,7 +29,8 @@ IsKnown width None = ⊥
 IsKnown width (Some q) = HasRows width q
 
 abbrev pub constant_form : ℕ → ℕ → ℕ → Form
-constant_form width top bottom = record { top = constant_side width top; bottom = constant_side width bottom }
+constant_form width top bottom =
+    record { top = constant_side width top; bottom = constant_side width bottom }
 
 abbrev pub atom_row_form : ℕ → ℕ → Form
 atom_row_form width place = record { top = atom_side width place; bottom = constant_side width 1 }

@@ -28,7 +28,8 @@ reduced_bottom l = literal_bottom l / literal_divisor l
 -- top / bottom, or none exactly where one of them reaches 2^127
 abbrev pub IsRatio : ℕ → ℕ → Option Ratio → Type 0
 IsRatio top bottom None = (2 ^ 127 ≤ top) ⊎ (2 ^ 127 ≤ bottom)
-IsRatio top bottom (Some r) = (r.top ≡ top) × (r.bottom ≡ bottom) × (top < 2 ^ 127) × (bottom < 2 ^ 127)
+IsRatio top bottom (Some r) = (r.top ≡ top) × (r.bottom ≡ bottom)
+    × (top < 2 ^ 127) × (bottom < 2 ^ 127)
 
 -- n, or none exactly where it reaches 2^127
 abbrev pub IsBelowLimit : ℕ → Option ℕ → Type 0

@@ -9,7 +9,8 @@ use Rattle.poly_normal.specs.Polynomial.{Monomial, Term, Polynomial, coefficient
 -- each coefficient with its row of `width` powers
 abbrev pub rows : ℕ → List ℤ → List ℕ → Polynomial
 rows width [] powers = []
-rows width (c ∷ cs) powers = record { coefficient = c; monomial = take width powers } ∷ rows width cs (drop width powers)
+rows width (c ∷ cs) powers =
+    record { coefficient = c; monomial = take width powers } ∷ rows width cs (drop width powers)
 
 -- what stands where nothing does
 abbrev pub no_term : Term
@@ -42,23 +43,27 @@ IsRow width degree m = (length m ≡ width) × AllByRecursion (λ k. k ≤ degre
 abbrev pub AllRows : ℕ → ℕ → Polynomial → Type 0
 AllRows width degree p = AllByRecursion (λ t. IsRow width degree t.monomial) p
 
--- A joined polynomial with rows of this width, powers up to this degree, and coefficients that come to at most this weight.
+-- A joined polynomial with rows of this width, powers up to this degree, and coefficients that come
+-- to at most this weight.
 pub record IsJoined (width degree weight : ℕ) (p : Polynomial) : Type 0 where
   pub rising : IsRising p
   pub rows : AllRows width degree p
   pub size : size_of p ≤ weight
 
--- r is the sum of p and q: coefficients add up, sizes at most, what holds of all monomials of both holds of those of r,
--- and where the monomials of both rise, so do those of r.
+-- r is the sum of p and q: coefficients add up, sizes at most, what holds of all monomials of both
+-- holds of those of r, and where the monomials of both rise, so do those of r.
 pub record IsSumOf (p q r : Polynomial) : Type 0 where
   pub coefficients : (m : Monomial) → coefficient_of r m ≡ coefficient_of p m +ℤ coefficient_of q m
   pub size : size_of r ≤ size_of p + size_of q
   pub rising : IsRising p → IsRising q → IsRising r
-  pub rows : (width degree : ℕ) → AllRows width degree p → AllRows width degree q → AllRows width degree r
+  pub rows : (width degree : ℕ) → AllRows width degree p → AllRows width degree q
+      → AllRows width degree r
 
--- r is the product of p and q, whose monomials have `width` powers each, with the same meaning of the parts.
+-- r is the product of p and q, whose monomials have `width` powers each, with the same meaning of
+-- the parts.
 pub record IsProductOf (width : ℕ) (p q r : Polynomial) : Type 0 where
   pub coefficients : (m : Monomial) → coefficient_of r m ≡ coefficient_of (product p q) m
   pub size : size_of r ≤ size_of p * size_of q
   pub rising : IsRising p → IsRising q → IsRising r
-  pub rows : (degree more : ℕ) → AllRows width degree p → AllRows width more q → AllRows width (degree + more) r
+  pub rows : (degree more : ℕ) → AllRows width degree p → AllRows width more q
+      → AllRows width (degree + more) r

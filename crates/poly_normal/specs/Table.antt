@@ -16,7 +16,8 @@ use Rattle.poly_normal.specs.declared.sameness.Sameness.TheVariants.{Same, Diffe
 
 -- what a marked node is made of is marked
 abbrev pub IsClosed : List Node → List Bool → Type 0
-IsClosed nodes marks = (y z : ExprId) → y.0 < length nodes → marked marks y ≡ true → IsOperand (slice_index_or nodes y.0 (Var 0)) z → marked marks z ≡ true
+IsClosed nodes marks = (y z : ExprId) → y.0 < length nodes → marked marks y ≡ true
+    → IsOperand (slice_index_or nodes y.0 (Var 0)) z → marked marks z ≡ true
 
 -- a marked node's form passes a limit
 abbrev pub IsPassed : List Node → List Bool → Type 0
@@ -25,11 +26,13 @@ IsPassed nodes marks = (x : ExprId) × (marked marks x ≡ true) × HasTooLarge 
 -- a quotient over the rows of the marked atoms, which spread is the form f
 abbrev pub Stands : List Bool → Form → Option Quotient → Type 0
 Stands bs f None = ⊥
-Stands bs f (Some q) = HasRows (trues bs) q × IsLike (spread_side bs (side_of q.top)) f.top × IsLike (spread_side bs (side_of q.bottom)) f.bottom
+Stands bs f (Some q) = HasRows (trues bs) q × IsLike (spread_side bs (side_of q.top)) f.top
+    × IsLike (spread_side bs (side_of q.bottom)) f.bottom
 
 -- each marked node below n has its form in the table
 abbrev pub AreKnown : List Node → List Bool → ℕ → List (Option Quotient) → Type 0
-AreKnown nodes marks n forms = (x : ExprId) → x.0 < n → marked marks x ≡ true → Stands (places nodes marks) (form nodes x) (slice_index_or forms x.0 None)
+AreKnown nodes marks n forms = (x : ExprId) → x.0 < n → marked marks x ≡ true
+    → Stands (places nodes marks) (form nodes x) (slice_index_or forms x.0 None)
 
 -- how two cross products compare
 abbrev pub IsCompared : Side → Side → Sameness → Type 0

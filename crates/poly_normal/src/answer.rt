@@ -38,7 +38,8 @@ fn node_form(
     node: Node,
 ) -> Result<Option<Quotient>, AllocError>
     requires before { ChildrenBelow (length forms.now) node }
-    requires known { (x : ExprId) → IsOperand node x → IsKnown width (slice_index_or forms.now x.0 None) }
+    requires known { (x : ExprId) → IsOperand node x
+        → IsKnown width (slice_index_or forms.now x.0 None) }
     requires place { is_atom_node node ≡ true → place < width }
     requires plain { IsPlainNode node }
     ensures { IfOk result (IsFormOf width (row_form width place (form_at forms.now) node)) }
@@ -131,7 +132,8 @@ fn table(
 /// Whether two polynomials within the limits are equal.
 fn compare_sides(left: &Limited, right: &Limited) -> Sameness
     requires { left.now.terms.width ≡ right.now.terms.width }
-    ensures { (s t : Side) → IsLike (side_of left.now) s → IsLike (side_of right.now) t → IsCompared s t result }
+    ensures { (s t : Side) → IsLike (side_of left.now) s → IsLike (side_of right.now) t
+        → IsCompared s t result }
 {
     if arithmetic::is_equal(&left.terms, &right.terms) {
         Sameness::Same
@@ -144,7 +146,8 @@ fn compare_sides(left: &Limited, right: &Limited) -> Sameness
 fn compare(alloc: Global, f: &Quotient, g: &Quotient) -> Result<Sameness, AllocError>
     requires left { HasRows f.now.top.terms.width f.now }
     requires right { HasRows f.now.top.terms.width g.now }
-    ensures { IfOk result (IsCompared (product (side_of f.now.top) (side_of g.now.bottom)) (product (side_of g.now.top) (side_of f.now.bottom))) }
+    ensures { IfOk result (IsCompared (product (side_of f.now.top) (side_of g.now.bottom))
+        (product (side_of g.now.top) (side_of f.now.bottom))) }
 {
     let Some(left) = sides::product(alloc, &f.top, &g.bottom)? else {
         return Ok(Sameness::TooLarge);

@@ -14,7 +14,8 @@ pub fn sum(alloc: Global, p: &Terms, q: &Terms) -> Result<Terms, AllocError>
     requires widths { p.now.width ≡ q.now.width }
     requires room { size_of (polynomial_of p.now) + size_of (polynomial_of q.now) < 2 ^ 127 }
     ensures width { IfOk result (λ r. r.width ≡ p.now.width) }
-    ensures sum { IfOk result (λ r. IsSumOf (polynomial_of p.now) (polynomial_of q.now) (polynomial_of r)) }
+    ensures sum { IfOk result
+        (λ r. IsSumOf (polynomial_of p.now) (polynomial_of q.now) (polynomial_of r)) }
 {
     let mut out = Terms::new(alloc, p.width);
     let mut i = 0;
@@ -78,7 +79,8 @@ fn row_product(alloc: Global, p: &Terms, i: usize, q: &Terms) -> Result<Terms, A
     requires room { size_of (polynomial_of p.now) * size_of (polynomial_of q.now) < 2 ^ 127 }
     ensures width { IfOk result (λ r. r.width ≡ p.now.width) }
     ensures terms { IfOk result (λ r. polynomial_of r
-        ≡ map (term_product (slice_index_or (polynomial_of p.now) i no_term)) (polynomial_of q.now)) }
+        ≡ map (term_product (slice_index_or (polynomial_of p.now) i no_term))
+        (polynomial_of q.now)) }
 {
     let mut out = Terms::new(alloc, p.width);
     let mut row = Vec::new(alloc);
@@ -107,7 +109,8 @@ fn product_between(
     requires room { size_of (polynomial_of p.now) * size_of (polynomial_of q.now) < 2 ^ 127 }
     ensures width { IfOk result (λ r. r.width ≡ p.now.width) }
     ensures product { IfOk result (λ r.
-        IsProductOf p.now.width (slice_range (polynomial_of p.now) low high) (polynomial_of q.now) (polynomial_of r)) }
+        IsProductOf p.now.width (slice_range (polynomial_of p.now) low high)
+        (polynomial_of q.now) (polynomial_of r)) }
 {
     if high - low == 0 {
         return Ok(Terms::new(alloc, p.width));
@@ -128,7 +131,8 @@ pub fn product(alloc: Global, p: &Terms, q: &Terms) -> Result<Terms, AllocError>
     requires right { AllRows p.now.width 4096 (polynomial_of q.now) }
     requires room { size_of (polynomial_of p.now) * size_of (polynomial_of q.now) < 2 ^ 127 }
     ensures width { IfOk result (λ r. r.width ≡ p.now.width) }
-    ensures product { IfOk result (λ r. IsProductOf p.now.width (polynomial_of p.now) (polynomial_of q.now) (polynomial_of r)) }
+    ensures product { IfOk result (λ r. IsProductOf p.now.width (polynomial_of p.now)
+        (polynomial_of q.now) (polynomial_of r)) }
 {
     product_between(alloc, p, 0, p.len(), q)
 }

@@ -25,7 +25,8 @@ pub struct Quotient {
 
 /// Both, where both are within the limits.
 fn both(top: Option<Limited>, bottom: Option<Limited>) -> Option<Quotient>
-    ensures { (width : ℕ) (f : Form) → IsLimited width f.top top → IsLimited width f.bottom bottom → IsFormOf width f result }
+    ensures { (width : ℕ) (f : Form) → IsLimited width f.top top → IsLimited width f.bottom bottom
+        → IsFormOf width f result }
 {
     match (top, bottom) {
         (Some(top), Some(bottom)) => Some(Quotient { top, bottom }),
@@ -46,7 +47,8 @@ pub fn atom(alloc: Global, width: usize, place: usize) -> Result<Option<Quotient
 /// A literal, as a reduced fraction.
 pub fn literal(alloc: Global, width: usize, l: Literal) -> Result<Option<Quotient>, AllocError>
     requires { IsPlain l }
-    ensures { IfOk result (IsFormOf width (constant_form width (reduced_top l) (reduced_bottom l))) }
+    ensures { IfOk result (IsFormOf width
+        (constant_form width (reduced_top l) (reduced_bottom l))) }
 {
     let Some(ratio) = literals::fraction(l) else {
         return Ok(None);
@@ -59,7 +61,8 @@ pub fn literal(alloc: Global, width: usize, l: Literal) -> Result<Option<Quotien
 /// -f
 pub fn negation(alloc: Global, f: &Quotient) -> Result<Option<Quotient>, AllocError>
     requires { f.now.top.terms.width ≡ f.now.bottom.terms.width }
-    ensures { IfOk result (IsFormOf f.now.top.terms.width (form.negation_form (quotient_of f.now))) }
+    ensures { IfOk result (IsFormOf f.now.top.terms.width
+        (form.negation_form (quotient_of f.now))) }
 {
     let top = sides::negation(alloc, &f.top)?;
     let bottom = sides::copy(alloc, &f.bottom)?;
@@ -70,7 +73,8 @@ pub fn negation(alloc: Global, f: &Quotient) -> Result<Option<Quotient>, AllocEr
 pub fn sum(alloc: Global, f: &Quotient, g: &Quotient) -> Result<Option<Quotient>, AllocError>
     requires left { HasRows f.now.top.terms.width f.now }
     requires right { HasRows f.now.top.terms.width g.now }
-    ensures { IfOk result (IsFormOf f.now.top.terms.width (form.sum_form (quotient_of f.now) (quotient_of g.now))) }
+    ensures { IfOk result (IsFormOf f.now.top.terms.width
+        (form.sum_form (quotient_of f.now) (quotient_of g.now))) }
 {
     let top = sides::cross_sum(alloc, &f.top, &g.bottom, &g.top, &f.bottom)?;
     let bottom = sides::product(alloc, &f.bottom, &g.bottom)?;
@@ -81,7 +85,8 @@ pub fn sum(alloc: Global, f: &Quotient, g: &Quotient) -> Result<Option<Quotient>
 pub fn difference(alloc: Global, f: &Quotient, g: &Quotient) -> Result<Option<Quotient>, AllocError>
     requires left { HasRows f.now.top.terms.width f.now }
     requires right { HasRows f.now.top.terms.width g.now }
-    ensures { IfOk result (IsFormOf f.now.top.terms.width (form.difference_form (quotient_of f.now) (quotient_of g.now))) }
+    ensures { IfOk result (IsFormOf f.now.top.terms.width
+        (form.difference_form (quotient_of f.now) (quotient_of g.now))) }
 {
     let minus = sides::negation(alloc, &g.top)?;
     let top = sides::cross_sum(alloc, &f.top, &g.bottom, &minus, &f.bottom)?;
@@ -93,7 +98,8 @@ pub fn difference(alloc: Global, f: &Quotient, g: &Quotient) -> Result<Option<Qu
 pub fn product(alloc: Global, f: &Quotient, g: &Quotient) -> Result<Option<Quotient>, AllocError>
     requires left { HasRows f.now.top.terms.width f.now }
     requires right { HasRows f.now.top.terms.width g.now }
-    ensures { IfOk result (IsFormOf f.now.top.terms.width (form.product_form (quotient_of f.now) (quotient_of g.now))) }
+    ensures { IfOk result (IsFormOf f.now.top.terms.width
+        (form.product_form (quotient_of f.now) (quotient_of g.now))) }
 {
     let top = sides::product(alloc, &f.top, &g.top)?;
     let bottom = sides::product(alloc, &f.bottom, &g.bottom)?;
@@ -104,7 +110,8 @@ pub fn product(alloc: Global, f: &Quotient, g: &Quotient) -> Result<Option<Quoti
 pub fn division(alloc: Global, f: &Quotient, g: &Quotient) -> Result<Option<Quotient>, AllocError>
     requires left { HasRows f.now.top.terms.width f.now }
     requires right { HasRows f.now.top.terms.width g.now }
-    ensures { IfOk result (IsFormOf f.now.top.terms.width (form.quotient_form (quotient_of f.now) (quotient_of g.now))) }
+    ensures { IfOk result (IsFormOf f.now.top.terms.width
+        (form.quotient_form (quotient_of f.now) (quotient_of g.now))) }
 {
     let top = sides::product(alloc, &f.top, &g.bottom)?;
     let bottom = sides::product(alloc, &f.bottom, &g.top)?;

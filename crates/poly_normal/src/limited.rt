@@ -11,7 +11,8 @@ pub struct Limited {
     pub terms: Terms,
     pub weight: u128,
     pub degree: u32,
-    ghost joined: { IsJoined terms.width degree weight (polynomial_of terms) } by { joined-prop terms.width degree weight (polynomial_of terms) },
+    ghost joined: { IsJoined terms.width degree weight
+        (polynomial_of terms) } by { joined-prop terms.width degree weight (polynomial_of terms) },
     ghost light: { weight < 2 ^ 127 },
     ghost low: { degree ≤ 4096 },
     ghost few: { length (polynomial_of terms) ≤ 256 },

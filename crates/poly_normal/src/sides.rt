@@ -52,7 +52,8 @@ fn weight_product(p: u128, q: u128) -> Option<u128>
 /// The product of two polynomials.
 pub fn product(alloc: Global, p: &Limited, q: &Limited) -> Result<Option<Limited>, AllocError>
     requires { p.now.terms.width ≡ q.now.terms.width }
-    ensures { IfOk result (IsLimited p.now.terms.width (form.product (side_of p.now) (side_of q.now))) }
+    ensures { IfOk result (IsLimited p.now.terms.width
+        (form.product (side_of p.now) (side_of q.now))) }
 {
     let Some(weight) = weight_product(p.weight, q.weight) else {
         return Ok(None);
@@ -77,7 +78,8 @@ pub fn cross_sum(
     requires right { q.now.terms.width ≡ d.now.terms.width }
     requires both { p.now.terms.width ≡ q.now.terms.width }
     ensures { IfOk result (IsLimited p.now.terms.width
-        (form.sum (form.product (side_of p.now) (side_of e.now)) (form.product (side_of q.now) (side_of d.now)))) }
+        (form.sum (form.product (side_of p.now) (side_of e.now))
+        (form.product (side_of q.now) (side_of d.now)))) }
 {
     let Some(left_weight) = weight_product(p.weight, e.weight) else {
         return Ok(None);

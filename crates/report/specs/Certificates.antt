@@ -23,14 +23,16 @@ cert_kind_text kind.TooLong = codes "TooLong"
 
 -- of bytes that spell no certificate: why, and at which byte, counted from 0
 abbrev pub cert_fault_line : CertFault → Bytes
-cert_fault_line f = codes "certificate: " ++ cert_kind_text f.kind ++ codes " at " ++ decimal f.at ++ codes "\n"
+cert_fault_line f =
+    codes "certificate: " ++ cert_kind_text f.kind ++ codes " at " ++ decimal f.at ++ codes "\n"
 
 -- what is wrong with an item, with its numbers, one space before each
 abbrev pub check_fault_text : CheckFault → Bytes
 check_fault_text (fault.BadStep step) = codes "BadStep " ++ decimal step
 check_fault_text (fault.BadPremise step) = codes "BadPremise " ++ decimal step
 check_fault_text (fault.BadCut section) = codes "BadCut " ++ decimal section
-check_fault_text (fault.GoalMissing section goal) = codes "GoalMissing " ++ decimal section ++ codes " " ++ decimal goal
+check_fault_text (fault.GoalMissing section goal) =
+    codes "GoalMissing " ++ decimal section ++ codes " " ++ decimal goal
 check_fault_text (fault.HintMark hint) = codes "HintMark " ++ decimal hint
 check_fault_text (fault.WrongScript node) = codes "WrongScript " ++ decimal node
 check_fault_text (fault.BadNode node) = codes "BadNode " ++ decimal node

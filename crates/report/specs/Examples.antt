@@ -24,16 +24,40 @@ use Rattle.report.specs.Certificates.{cert_fault_line, check_fault_line}
 -- ---- numbers and intervals
 
 one_form : IsCanonical (pos 1) (pos 0)
-one_form = record { form = inr refl; size = omega arith; lowest = omega (arith, ints); highest = omega (arith, ints); room = λ k e. absurd (omega (arith, ints)) }
+one_form = record {
+  form = inr refl;
+  size = omega arith;
+  lowest = omega (arith, ints);
+  highest = omega (arith, ints);
+  room = λ k e. absurd (omega (arith, ints));
+}
 
 three_form : IsCanonical (pos 3) (pos 0)
-three_form = record { form = inr refl; size = omega arith; lowest = omega (arith, ints); highest = omega (arith, ints); room = λ k e. absurd (omega (arith, ints)) }
+three_form = record {
+  form = inr refl;
+  size = omega arith;
+  lowest = omega (arith, ints);
+  highest = omega (arith, ints);
+  room = λ k e. absurd (omega (arith, ints));
+}
 
 ten_form : IsCanonical (pos 5) (pos 1)
-ten_form = record { form = inr refl; size = omega arith; lowest = omega (arith, ints); highest = omega (arith, ints); room = λ k e. absurd (omega (arith, ints)) }
+ten_form = record {
+  form = inr refl;
+  size = omega arith;
+  lowest = omega (arith, ints);
+  highest = omega (arith, ints);
+  room = λ k e. absurd (omega (arith, ints));
+}
 
 sixteenth_form : IsCanonical (pos 1) (negsuc 3)
-sixteenth_form = record { form = inr refl; size = omega arith; lowest = omega (arith, ints); highest = omega (arith, ints); room = λ k e. absurd (omega (arith, ints)) }
+sixteenth_form = record {
+  form = inr refl;
+  size = omega arith;
+  lowest = omega (arith, ints);
+  highest = omega (arith, ints);
+  room = λ k e. absurd (omega (arith, ints));
+}
 
 abbrev number : (m e : ℤ) → IsCanonical m e → Dyadic
 number m e form = record { mantissa = m; exponent = e; canonical = form }
@@ -42,14 +66,16 @@ abbrev three_to_ten : Interval
 three_to_ten = record {
   lo = end.At (number (pos 3) (pos 0) three_form);
   hi = end.At (number (pos 5) (pos 1) ten_form);
-  ordered = rw (scaled-shift (pos 5) (pos 0) 1) (scaled-le (pos 3) (pos 10) (pos 0) (omega (arith, ints)));
+  ordered = rw (scaled-shift (pos 5) (pos 0) 1)
+      (scaled-le (pos 3) (pos 10) (pos 0) (omega (arith, ints)));
 }
 
 abbrev from_one : Interval
 from_one = record { lo = end.At (number (pos 1) (pos 0) one_form); hi = end.High; ordered = tt }
 
 abbrev to_sixteenth : Interval
-to_sixteenth = record { lo = end.Low; hi = end.At (number (pos 1) (negsuc 3) sixteenth_form); ordered = tt }
+to_sixteenth =
+    record { lo = end.Low; hi = end.At (number (pos 1) (negsuc 3) sixteenth_form); ordered = tt }
 
 -- ---- goals
 
@@ -61,7 +87,8 @@ abbrev text : Bytes
 text = codes "{ x #\n *y in ? }"
 
 abbrev product : List Token
-product = name_at 2 3 ∷ (record { kind = token.Sign sign.Star; start = 7; end = 8 } ∷ (name_at 8 9 ∷ []))
+product =
+    name_at 2 3 ∷ (record { kind = token.Sign sign.Star; start = 7; end = 8 } ∷ (name_at 8 9 ∷ []))
 
 product_line : goal_line text product (shown.In three_to_ten) ≡ codes "x * y in [3, 5b1]\n"
 unfolding digits
@@ -88,17 +115,20 @@ second_is_assumed = refl
 
 -- ---- refusals
 
-nested : refusal_line (record { kind = kind.Limit limit.Nesting; at = 66 }) ≡ codes "script: Limit(Nesting) at 66\n"
+nested : refusal_line (record { kind = kind.Limit limit.Nesting; at = 66 })
+    ≡ codes "script: Limit(Nesting) at 66\n"
 unfolding digits
 nested = refl
 
-out_of_order : refusal_line (record { kind = kind.BadBound; at = 10 }) ≡ codes "script: BadBound at 10\n"
+out_of_order : refusal_line (record { kind = kind.BadBound; at = 10 })
+    ≡ codes "script: BadBound at 10\n"
 unfolding digits
 out_of_order = refl
 
 -- ---- certificates
 
-cut_short : cert_fault_line (record { kind = cert.Truncated; at = 142 }) ≡ codes "certificate: Truncated at 142\n"
+cut_short : cert_fault_line (record { kind = cert.Truncated; at = 142 })
+    ≡ codes "certificate: Truncated at 142\n"
 unfolding digits
 cut_short = refl
 

@@ -9,7 +9,8 @@ use Rattle.cert_checker.specs.goals.declared.line.Line.TheVariants as shown
 use Rattle.script_words.specs.declared.lex.Token.{Token}
 use Rattle.report.specs.Lines.{Bytes, joined, interval_text}
 
--- what is shown of a goal: an interval; that both sides of a relative goal are 0; that no assignment is left
+-- what is shown of a goal: an interval; that both sides of a relative goal are 0; that no
+-- assignment is left
 abbrev pub shown_text : Line → Bytes
 shown_text (shown.In i) = interval_text i
 shown_text shown.None = codes "none"
@@ -23,7 +24,8 @@ goal_line text tokens l = joined text tokens ++ codes " in " ++ shown_text l ++ 
 abbrev pub goal_lines : Bytes → List Token → List Span → List Line → Bytes
 goal_lines text tokens [] ls = []
 goal_lines text tokens (s ∷ ss) [] = []
-goal_lines text tokens (s ∷ ss) (l ∷ ls) = goal_line text (slice_range tokens s.first s.end) l ++ goal_lines text tokens ss ls
+goal_lines text tokens (s ∷ ss) (l ∷ ls) =
+    goal_line text (slice_range tokens s.first s.end) l ++ goal_lines text tokens ss ls
 
 -- an assumed hint, by its number; a checked one has no line
 abbrev pub hint_line : ℕ → HintMark → Bytes
@@ -39,6 +41,8 @@ hint_lines k (m ∷ ms) = hint_line k m ++ hint_lines (k + 1) ms
 abbrev pub answer_text : Bytes → List Token → List Span → List Line → List HintMark → Bytes
 answer_text text tokens spans lines marks = goal_lines text tokens spans lines ++ hint_lines 1 marks
 
--- of the made script of degree n that is proved: how many boxes its tree has, and what is shown of its goal
+-- of the made script of degree n that is proved: how many boxes its tree has, and what is shown of
+-- its goal
 abbrev pub made_text : ℕ → ℕ → Line → Bytes
-made_text n boxes l = codes "gen " ++ decimal n ++ codes ": " ++ decimal boxes ++ codes " boxes, " ++ shown_text l ++ codes "\n"
+made_text n boxes l = codes "gen " ++ decimal n ++ codes ": " ++ decimal boxes ++ codes " boxes, "
+    ++ shown_text l ++ codes "\n"

@@ -22,7 +22,8 @@ name_at names _ = []
 
 -- a variable with its range in the box at the path
 abbrev pub range_text : View → PlanParts → List ℕ → ExprId → Bytes
-range_text s plan path x = name_at s.variables (slice_get s.nodes x.0) ++ codes " in " ++ interval_text (range_at plan path x)
+range_text s plan path x = name_at s.variables (slice_get s.nodes x.0) ++ codes " in "
+    ++ interval_text (range_at plan path x)
 
 -- the variables with their ranges; without any, the whole box
 abbrev pub box_text : View → PlanParts → List ℕ → List ExprId → Bytes
@@ -31,10 +32,12 @@ box_text s plan path (x ∷ xs) = join_by (range_text s plan path) (codes ", ") 
 
 -- which case it is, where there are more than one
 abbrev pub case_text : ℕ → ℕ → Bytes
-case_text cases case = if nat_lt 1 cases then codes "case " ++ decimal (case + 1) ++ codes ", " else []
+case_text cases case =
+    if nat_lt 1 cases then codes "case " ++ decimal (case + 1) ++ codes ", " else []
 
 -- Goals and cases are counted from 0, and printed from 1. The plan is that of the case. The ranges
 -- are those of the split variables, in the order in which hints first name them.
 abbrev pub unproved_text : View → PlanParts → ℕ → ℕ → List ℕ → ℕ → Bytes
 unproved_text s plan cases case path goal =
-    codes "unproved: goal " ++ decimal (goal + 1) ++ codes " at " ++ case_text cases case ++ box_text s plan path s.hints.order ++ codes "\n"
+    codes "unproved: goal " ++ decimal (goal + 1) ++ codes " at " ++ case_text cases case
+    ++ box_text s plan path s.hints.order ++ codes "\n"

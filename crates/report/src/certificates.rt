@@ -22,7 +22,8 @@ fn cert_kind_text(kind: CertKind) -> &'static str
     }
 }
 
-/// The line of bytes that spell no certificate: why, and at which byte, counted from 0. `Err` only where memory runs out.
+/// The line of bytes that spell no certificate: why, and at which byte, counted from 0. `Err` only
+/// where memory runs out.
 pub fn cert_fault_line(alloc: Global, fault: CertFault) -> Result<Vec<u8>, AllocError>
     ensures { IfOk result (λ line. line.items ≡ spec.cert_fault_line fault) }
 {
@@ -34,7 +35,8 @@ pub fn cert_fault_line(alloc: Global, fault: CertFault) -> Result<Vec<u8>, Alloc
 
 // That a leaf names no step that settles the goal, with the section's number and the goal's.
 fn goal_missing_text(alloc: Global, section: u64, goal: u16) -> Result<String, AllocError>
-    ensures { IfOk result (λ text. string_bytes text ≡ spec.check_fault_text (CheckFault.GoalMissing section goal)) }
+    ensures { IfOk result (λ text. string_bytes text
+        ≡ spec.check_fault_text (CheckFault.GoalMissing section goal)) }
 {
     let text = format!(in alloc; "GoalMissing {section} {goal}")?;
     Ok(text)
@@ -56,8 +58,9 @@ fn check_fault_text(alloc: Global, fault: CheckFault) -> Result<String, AllocErr
     }
 }
 
-/// The line of a certificate by its first item that isn't accepted: what is wrong with it. Steps, sections and nodes are numbered
-/// from 0, goals and hints from 1. `Err` only where memory runs out.
+/// The line of a certificate by its first item that isn't accepted: what is wrong with it. Steps,
+/// sections and nodes are numbered from 0, goals and hints from 1. `Err` only where memory runs
+/// out.
 pub fn check_fault_line(alloc: Global, fault: CheckFault) -> Result<Vec<u8>, AllocError>
     ensures { IfOk result (λ line. line.items ≡ spec.check_fault_line fault) }
 {

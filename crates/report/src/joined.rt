@@ -14,10 +14,11 @@ fn token_text<'a>(text: &'a [u8], token: Token) -> &'a [u8]
     part(text, token.start as usize, token.end as usize)
 }
 
-/// Appends the tokens' texts, one space between two. `Err` only where memory runs out; the line may then have a part of
-/// them.
+/// Appends the tokens' texts, one space between two. `Err` only where memory runs out; the line may
+/// then have a part of them.
 pub fn put_joined(line: &mut Vec<u8>, text: &[u8], tokens: &[Token]) -> Result<(), AllocError>
-    ensures added { OnOk result (line.new.items ≡ line.old.items ++ spec.joined text.now tokens.now) }
+    ensures added { OnOk result
+        (line.new.items ≡ line.old.items ++ spec.joined text.now tokens.now) }
 {
     let [first, more @ ..] = tokens else {
         return Ok(());

@@ -21,7 +21,8 @@ pub(crate) fn put_interval(line: &mut Vec<u8>, range: Interval) -> Result<(), Al
     line.extend_from_slice(text.as_bytes())
 }
 
-// Appends what is shown of a goal. `Err` only where memory runs out; the line may then have a part of it.
+// Appends what is shown of a goal. `Err` only where memory runs out; the line may then have a part
+// of it.
 fn put_shown(line: &mut Vec<u8>, shown: Line) -> Result<(), AllocError>
     ensures added { OnOk result (line.new.items ≡ line.old.items ++ spec.shown_text shown) }
 {
@@ -49,15 +50,16 @@ fn goal_line(
     Ok(line)
 }
 
-/// Appends the line of a goal, by the tokens of its expression and what is shown of it. `Err` only where memory runs
-/// out; nothing is added then.
+/// Appends the line of a goal, by the tokens of its expression and what is shown of it. `Err` only
+/// where memory runs out; nothing is added then.
 pub fn put_goal_line(
     lines: &mut Vec<u8>,
     text: &[u8],
     tokens: &[Token],
     shown: Line,
 ) -> Result<(), AllocError>
-    ensures added { OnOk result (lines.new.items ≡ lines.old.items ++ spec.goal_line text.now tokens.now shown) }
+    ensures added { OnOk result
+        (lines.new.items ≡ lines.old.items ++ spec.goal_line text.now tokens.now shown) }
     ensures kept { OnErr result (lines.new.items ≡ lines.old.items) }
 {
     let line = goal_line(*lines.allocator(), text, tokens, shown)?;
@@ -72,7 +74,8 @@ fn put_goal_lines(
     spans: &[Span],
     lines: &[Line],
 ) -> Result<(), AllocError>
-    ensures added { OnOk result (out.new.items ≡ out.old.items ++ spec.goal_lines text.now tokens.now spans.now lines.now) }
+    ensures added { OnOk result
+        (out.new.items ≡ out.old.items ++ spec.goal_lines text.now tokens.now spans.now lines.now) }
 {
     let mut spans_left = spans;
     let mut lines_left = lines;
@@ -87,8 +90,8 @@ fn put_goal_lines(
     Ok(())
 }
 
-/// Appends the line of hint number `k`, counted from 1, where it is assumed; a checked hint has none. `Err` only where
-/// memory runs out; nothing is added then.
+/// Appends the line of hint number `k`, counted from 1, where it is assumed; a checked hint has
+/// none. `Err` only where memory runs out; nothing is added then.
 pub fn put_hint_line(lines: &mut Vec<u8>, k: u128, mark: HintMark) -> Result<(), AllocError>
     ensures added { OnOk result (lines.new.items ≡ lines.old.items ++ spec.hint_line k mark) }
     ensures kept { OnErr result (lines.new.items ≡ lines.old.items) }
@@ -116,8 +119,9 @@ fn put_hint_lines(out: &mut Vec<u8>, k: u128, marks: &[HintMark]) -> Result<(), 
     }
 }
 
-/// What is printed of a script whose goals are proved: a line for each goal, then one for each assumed hint. A goal's
-/// line begins with the tokens of its span. `Err` only where memory runs out.
+/// What is printed of a script whose goals are proved: a line for each goal, then one for each
+/// assumed hint. A goal's line begins with the tokens of its span. `Err` only where memory runs
+/// out.
 pub fn answer_text(
     alloc: Global,
     text: &[u8],
@@ -126,7 +130,8 @@ pub fn answer_text(
     lines: &[Line],
     marks: &[HintMark],
 ) -> Result<Vec<u8>, AllocError>
-    ensures { IfOk result (λ out. out.items ≡ spec.answer_text text.now tokens.now spans.now lines.now marks.now) }
+    ensures { IfOk result (λ out. out.items
+        ≡ spec.answer_text text.now tokens.now spans.now lines.now marks.now) }
 {
     let mut out = Vec::new(alloc);
     put_goal_lines(&mut out, text, tokens, spans, lines)?;
@@ -134,8 +139,8 @@ pub fn answer_text(
     Ok(out)
 }
 
-/// What is printed of the made script of degree n that is proved: how many boxes its tree has, and what is shown of its goal. `Err` only where
-/// memory runs out.
+/// What is printed of the made script of degree n that is proved: how many boxes its tree has, and
+/// what is shown of its goal. `Err` only where memory runs out.
 pub fn made_text(alloc: Global, n: u8, boxes: u32, shown: Line) -> Result<Vec<u8>, AllocError>
     ensures { IfOk result (λ line. line.items ≡ spec.made_text n boxes shown) }
 {

@@ -43,7 +43,8 @@ fn kind_text(kind: RefusalKind) -> &'static str
     }
 }
 
-/// The line of a refused text: why, and at which byte, counted from 0. `Err` only where memory runs out.
+/// The line of a refused text: why, and at which byte, counted from 0. `Err` only where memory runs
+/// out.
 pub fn refusal_line(alloc: Global, refusal: Refusal) -> Result<Vec<u8>, AllocError>
     ensures { IfOk result (λ line. line.items ≡ spec.refusal_line refusal) }
 {

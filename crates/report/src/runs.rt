@@ -12,7 +12,8 @@ pub fn expressions_text() -> &'static [u8]
     "limit: more than 1024 expressions\n".as_bytes()
 }
 
-/// The line of a script with more boxes than are allowed, which is `most`. `Err` only where memory runs out.
+/// The line of a script with more boxes than are allowed, which is `most`. `Err` only where memory
+/// runs out.
 pub fn boxes_text(alloc: Global, most: u32) -> Result<Vec<u8>, AllocError>
     ensures { IfOk result (λ line. line.items ≡ spec.boxes_text most) }
 {

@@ -32,7 +32,8 @@ fn put_range(
     path: &Path,
     x: ExprId,
 ) -> Result<(), AllocError>
-    ensures added { OnOk result (line.new.items ≡ line.old.items ++ spec.range_text script.now plan.now path.now x) }
+    ensures added { OnOk result
+        (line.new.items ≡ line.old.items ++ spec.range_text script.now plan.now path.now x) }
 {
     line.extend_from_slice(name_at(script, script.nodes().get(x)))?;
     line.extend_from_slice(" in ".as_bytes())?;
@@ -47,7 +48,8 @@ fn put_box(
     path: &Path,
     order: &[ExprId],
 ) -> Result<(), AllocError>
-    ensures added { OnOk result (line.new.items ≡ line.old.items ++ spec.box_text script.now plan.now path.now order.now) }
+    ensures added { OnOk result
+        (line.new.items ≡ line.old.items ++ spec.box_text script.now plan.now path.now order.now) }
 {
     let [first, more @ ..] = order else {
         return line.extend_from_slice("the whole box".as_bytes());

@@ -17,11 +17,13 @@ pub record IsRowOf (nodes : List Node) (h : Hint) (row : HintRow) : Type 0 where
   pub needs : row.needs ≡ map need_of h.constraints
   pub divisors : AreDivisors nodes h.left row.divisors
 
--- The row of a hint whose left side is a node is true of each assignment that meets the hint. (That the left side has a value
--- is what the divisors are there for.)
+-- The row of a hint whose left side is a node is true of each assignment that meets the hint. (That
+-- the left side has a value is what the divisors are there for.)
 abbrev pub RowsAreTrue : Type 0
-RowsAreTrue = (nodes : List Node) (a : Assignment) (h : Hint) (row : HintRow) → IsOrdered nodes → h.left.0 < length nodes → IsRowOf nodes h row → MeetsHint nodes a h → RowIsTrue nodes a row
+RowsAreTrue = (nodes : List Node) (a : Assignment) (h : Hint) (row : HintRow) → IsOrdered nodes
+    → h.left.0 < length nodes → IsRowOf nodes h row → MeetsHint nodes a h → RowIsTrue nodes a row
 
 -- A hint whose sides have equal values wherever both have one is met by each assignment.
 abbrev pub EqualSidesAreMet : Type 0
-EqualSidesAreMet = (nodes : List Node) (a : Assignment) (h : Hint) → HaveEqualValues nodes h.left h.right → MeetsHint nodes a h
+EqualSidesAreMet = (nodes : List Node) (a : Assignment) (h : Hint)
+    → HaveEqualValues nodes h.left h.right → MeetsHint nodes a h

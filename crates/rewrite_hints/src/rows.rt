@@ -12,7 +12,8 @@ use script_hints::hint::{Constraint, Hint};
 use script_hints::{HintRow, Need};
 use std::alloc::{AllocError, Global};
 
-// The constraints with their bounds rounded to the grid, so that what meets them meets the written ones.
+// The constraints with their bounds rounded to the grid, so that what meets them meets the written
+// ones.
 fn needs_of(alloc: Global, constraints: &[Constraint]) -> Result<Vec<Need>, AllocError>
     requires { All HasNormalBound constraints.now }
     ensures { IfOk result (λ needs. needs.items ≡ map need_of constraints.now) }
@@ -24,8 +25,8 @@ fn needs_of(alloc: Global, constraints: &[Constraint]) -> Result<Vec<Need>, Allo
     Ok(needs)
 }
 
-/// The hint with the divisors that occur anywhere in its left side, by rising number, and its constraints with bounds rounded
-/// to the grid.
+/// The hint with the divisors that occur anywhere in its left side, by rising number, and its
+/// constraints with bounds rounded to the grid.
 pub fn row_of(alloc: Global, dag: &Dag, hint: &Hint) -> Result<HintRow, AllocError>
     requires known { hint.now.left.0 < length dag.now }
     requires normal { HasNormalBounds hint.now }

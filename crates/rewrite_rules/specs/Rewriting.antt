@@ -1,5 +1,5 @@
--- The rule of rewriting hints, number 80 of the list, as a function from a hint's row, premises and a target to its conclusion.
--- What doesn't fit gives nothing.
+-- The rule of rewriting hints, number 80 of the list, as a function from a hint's row, premises and
+-- a target to its conclusion. What doesn't fit gives nothing.
 use Rattle.std.specs.Prelude.{◌&&◌, not, nat_lt, length, Bool, true, false, List, [], ◌∷◌, Option, None}
 use Rattle.expr_dag.specs.fx_model.Grid.{Bound}
 use Rattle.expr_dag.specs.fx_model.declared.ExprId.{ExprId}
@@ -24,11 +24,14 @@ abbrev pub is_under : Bool → Bound → Bound → Bool
 is_under true b c = not (le_bound c b)
 is_under false b c = le_bound b c
 
--- the fact shows that the constraint holds: NZR of the expression, or BND with an interval on its side of the bound
+-- the fact shows that the constraint holds: NZR of the expression, or BND with an interval on its
+-- side of the bound
 abbrev pub shows : List Node → Need → Fact → Bool
 shows nodes (need.NotZero x) (fact.Nzr z) = is_known nodes x && is_same z x
-shows nodes (need.Below x end apart) (fact.Bnd z j) = (is_known nodes x && is_same z x) && is_under apart (range_of j).high (bound_of end)
-shows nodes (need.Above x end apart) (fact.Bnd z j) = (is_known nodes x && is_same z x) && is_under apart (bound_of end) (range_of j).low
+shows nodes (need.Below x end apart) (fact.Bnd z j) =
+    (is_known nodes x && is_same z x) && is_under apart (range_of j).high (bound_of end)
+shows nodes (need.Above x end apart) (fact.Bnd z j) =
+    (is_known nodes x && is_same z x) && is_under apart (bound_of end) (range_of j).low
 shows nodes _ _ = false
 
 -- there is one fact for each constraint, in their order, which shows it
@@ -40,7 +43,8 @@ show_needs nodes _ _ = false
 -- first NZR of each divisor, in their order, and then one fact for each constraint
 abbrev pub show_row : List Node → List ExprId → List Need → List Fact → Bool
 show_row nodes [] needs ps = show_needs nodes needs ps
-show_row nodes (d ∷ ds) needs (p ∷ ps) = shows nodes (need.NotZero d) p && show_row nodes ds needs ps
+show_row nodes (d ∷ ds) needs (p ∷ ps) =
+    shows nodes (need.NotZero d) p && show_row nodes ds needs ps
 show_row nodes (d ∷ ds) needs [] = false
 
 -- ---- the rule
@@ -52,9 +56,11 @@ rewritten a b (fact.Fix x k) (slot.Fix e) = only_if (is_same x b && is_same e a)
 rewritten a b (fact.Nzr x) (slot.Nzr e) = only_if (is_same x b && is_same e a) (fact.Nzr e)
 rewritten a b _ _ = None
 
--- 80: for a hint `a -> b`, from a BND, ABS, FIX or NZR fact on b, NZR of each divisor of the row, and a fact for each of its
--- constraints: the same fact on a. Nothing from more than 65535 premises.
+-- 80: for a hint `a -> b`, from a BND, ABS, FIX or NZR fact on b, NZR of each divisor of the row,
+-- and a fact for each of its constraints: the same fact on a. Nothing from more than 65535
+-- premises.
 abbrev pub rewriting_rule : HintRow → List Node → List Fact → Slot → Option Fact
 rewriting_rule row nodes (p ∷ ps) t =
-    given_if (nat_lt (length ps) 65535 && (are_known nodes row.left row.right && show_row nodes row.divisors row.needs ps)) (rewritten row.left row.right p t)
+    given_if (nat_lt (length ps) 65535 && (are_known nodes row.left row.right
+    && show_row nodes row.divisors row.needs ps)) (rewritten row.left row.right p t)
 rewriting_rule row nodes [] t = None

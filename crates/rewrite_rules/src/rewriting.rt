@@ -8,8 +8,8 @@ ghost use Rattle.rewrite_rules.specs.Rewriting.{is_under, shows, show_needs, sho
 use expr_dag::{Dag, ExprId};
 use facts::{End, Fact, HintRow, Need, Slot};
 
-/// For a hint `a -> b`, from a BND, ABS, FIX or NZR fact on b, NZR of each divisor of the row, and a fact for each of its
-/// constraints: the same fact on a. Nothing from more than 65535 premises.
+/// For a hint `a -> b`, from a BND, ABS, FIX or NZR fact on b, NZR of each divisor of the row, and
+/// a fact for each of its constraints: the same fact on a. Nothing from more than 65535 premises.
 #[inline(always)]
 pub fn rule_80(dag: &Dag, hint: &HintRow, premises: &[Fact], target: Slot) -> Option<Fact>
     ensures concludes { result ≡ rewriting_rule hint.now dag.now premises.now target }

@@ -1,5 +1,5 @@
--- How far a rounding moves a number: by direction, by what is known of the number's sign, and of which power of two it is a multiple
--- (Gappa User's Guide, "Theorems about rounding operators").
+-- How far a rounding moves a number: by direction, by what is known of the number's sign, and of
+-- which power of two it is a multiple (Gappa User's Guide, "Theorems about rounding operators").
 use Rattle.std.specs.Prelude.{◌≡◌, ℤ, negsuc, ◌+ℤ◌, Option, Some, None, ⊤, if◌then◌else◌, Bool, false, not}
 use Rattle.std.specs.Int.RustNames.{int_lt}
 use Rattle.interval.specs.fx_model.Fraction.{Fraction, ◌-ℚ◌, ◌≤ℚ◌, neg_ℚ, zero_ℚ}
@@ -54,7 +54,8 @@ signed_errors Zero d u h = errors d u h
 abbrev pub half_of : ℤ → Fraction
 half_of l = two_to (l +ℤ negsuc 0)
 
--- A multiple of 2^k below the unit 2^l stays 2^k away from the next unit; of the unit or above it is left as it is.
+-- A multiple of 2^k below the unit 2^l stays 2^k away from the next unit; of the unit or above it
+-- is left as it is.
 abbrev pub multiple_errors : Direction → ℤ → ℤ → Range
 multiple_errors d l k = if int_lt k l then errors d (two_to l -ℚ two_to k) (half_of l) else nowhere
 
@@ -75,7 +76,8 @@ FitsPlace d l None e = ⊤
 FitsPlace d l (Some k) e = Lies (multiple_errors d l k) e
 
 -- e is a possible error by direction, by sign and by place.
-pub record IsPossible (d : Direction) (l : ℤ) (sign : Sign) (place : Option ℤ) (e : Fraction) : Type 0 where
+pub record IsPossible (d : Direction) (l : ℤ) (sign : Sign) (place : Option ℤ)
+    (e : Fraction) : Type 0 where
   pub by_direction : Lies (errors d (two_to l) (half_of l)) e
   pub by_sign : Lies (signed_errors sign d (two_to l) (half_of l)) e
   pub by_place : FitsPlace d l place e
@@ -93,4 +95,5 @@ keeps l (Some k) = not (int_lt k l)
 -- The possible errors by cases.
 abbrev pub error_range : Direction → ℤ → Sign → Option ℤ → Range
 error_range d l sign None = signed_errors sign d (two_to l) (half_of l)
-error_range d l sign (Some k) = if int_lt k l then signed_errors sign d (two_to l -ℚ two_to k) (half_of l) else nowhere
+error_range d l sign (Some k) =
+    if int_lt k l then signed_errors sign d (two_to l -ℚ two_to k) (half_of l) else nowhere

@@ -10,14 +10,17 @@ use Rattle.rounding.specs.Sums.{neg-lt, plus-le, plus-lt}
 use Rattle.interval.specs.fx_model.Grid.{neg_over}
 
 pub whole-lt_out : (a b : ℤ) → whole a <ℚ whole b → a <ℤ b
-whole-lt_out a b h = by_lt_z a b (λ l. l) (λ l. absurd (lt_not (whole a) (whole b) h (whole-le b a l)))
+whole-lt_out a b h =
+    by_lt_z a b (λ l. l) (λ l. absurd (lt_not (whole a) (whole b) h (whole-le b a l)))
 
 -- ---- the floor is the greatest whole number that isn't above
 pub floor_from : (z : ℤ) (x : Fraction) → whole z ≤ℚ x → z ≤ℤ floor x
-floor_from z x h = let l : z <ℤ (floor x +ℤ pos 1) = whole-lt_out z (floor x +ℤ pos 1) (le_lt_trans (whole z) x (whole (floor x +ℤ pos 1)) h (floor_high x)) in omega (arith, ints)
+floor_from z x h = let l : z <ℤ (floor x +ℤ pos 1) = whole-lt_out z (floor x +ℤ pos 1)
+    (le_lt_trans (whole z) x (whole (floor x +ℤ pos 1)) h (floor_high x)) in omega (arith, ints)
 
 pub floor_to : (z : ℤ) (x : Fraction) → x <ℚ whole (z +ℤ pos 1) → floor x ≤ℤ z
-floor_to z x h = let l : floor x <ℤ (z +ℤ pos 1) = whole-lt_out (floor x) (z +ℤ pos 1) (le_lt_trans (whole (floor x)) x (whole (z +ℤ pos 1)) (floor_low x) h) in omega (arith, ints)
+floor_to z x h = let l : floor x <ℤ (z +ℤ pos 1) = whole-lt_out (floor x) (z +ℤ pos 1)
+    (le_lt_trans (whole (floor x)) x (whole (z +ℤ pos 1)) (floor_low x) h) in omega (arith, ints)
 
 -- The floor is monotone.
 pub floor-le : (x y : Fraction) → x ≤ℚ y → floor x ≤ℤ floor y
@@ -25,31 +28,40 @@ floor-le x y h = floor_from (floor x) y (le_trans (whole (floor x)) x y (floor_l
 
 -- A whole number is its own floor.
 pub floor-whole : (z : ℤ) → floor (whole z) ≡ z
-floor-whole z = floor_unique (whole z) z (le_refl (whole z)) (whole-lt z (z +ℤ pos 1) (omega (arith, ints)))
+floor-whole z =
+    floor_unique (whole z) z (le_refl (whole z)) (whole-lt z (z +ℤ pos 1) (omega (arith, ints)))
 
 -- A whole number is added to the floor as it is.
 pub floor-plus : (x : Fraction) (z : ℤ) → floor (x +ℚ whole z) ≡ floor x +ℤ z
 floor-plus x z = floor_unique (x +ℚ whole z) (floor x +ℤ z)
-    (subst (λ a. a ≤ℚ (x +ℚ whole z)) (sym (whole-add (floor x) z)) (plus-le (whole z) (whole (floor x)) x (floor_low x)))
-    (subst (λ a. (x +ℚ whole z) <ℚ a) next (plus-lt (whole z) x (whole (floor x +ℤ pos 1)) (floor_high x)))
+    (subst (λ a. a ≤ℚ (x +ℚ whole z)) (sym (whole-add (floor x) z))
+    (plus-le (whole z) (whole (floor x)) x (floor_low x)))
+    (subst (λ a. (x +ℚ whole z) <ℚ a) next
+    (plus-lt (whole z) x (whole (floor x +ℤ pos 1)) (floor_high x)))
   where
     next : whole (floor x +ℤ pos 1) +ℚ whole z ≡ whole ((floor x +ℤ z) +ℤ pos 1)
-    next = let e : (floor x +ℤ pos 1) +ℤ z ≡ (floor x +ℤ z) +ℤ pos 1 = omega (arith, ints) in sym (whole-add (floor x +ℤ pos 1) z) ∙ ap whole e
+    next = let e : (floor x +ℤ pos 1) +ℤ z ≡ (floor x +ℤ z) +ℤ pos 1 = omega (arith, ints) in
+        sym (whole-add (floor x +ℤ pos 1) z) ∙ ap whole e
 
 -- ---- the ceiling is the least whole number that isn't below
 pub ceiling_high : (x : Fraction) → x ≤ℚ whole (ceiling x)
-ceiling_high x = subst (λ a. x ≤ℚ a) (sym (whole-neg (floor (neg_ℚ x)))) (neg_over (whole (floor (neg_ℚ x))) x (floor_low (neg_ℚ x)))
+ceiling_high x = subst (λ a. x ≤ℚ a) (sym (whole-neg (floor (neg_ℚ x))))
+    (neg_over (whole (floor (neg_ℚ x))) x (floor_low (neg_ℚ x)))
 
 pub ceiling_to : (z : ℤ) (x : Fraction) → x ≤ℚ whole z → ceiling x ≤ℤ z
-ceiling_to z x h = let l : neg_ℤ z ≤ℤ floor (neg_ℚ x) = floor_from (neg_ℤ z) (neg_ℚ x) (subst (λ a. a ≤ℚ neg_ℚ x) (sym (whole-neg z)) (neg-le x (whole z) h)) in omega (arith, ints)
+ceiling_to z x h = let l : neg_ℤ z ≤ℤ floor (neg_ℚ x) = floor_from (neg_ℤ z) (neg_ℚ x)
+    (subst (λ a. a ≤ℚ neg_ℚ x) (sym (whole-neg z)) (neg-le x (whole z) h)) in omega (arith, ints)
 
 pub ceiling_low : (x : Fraction) → whole (ceiling x) <ℚ (x +ℚ whole (pos 1))
-ceiling_low x = subst (λ a. a <ℚ (x +ℚ whole (pos 1))) down (plus-lt (whole (pos 1)) (neg_ℚ (whole (floor (neg_ℚ x) +ℤ pos 1))) x
-    (subst (λ a. neg_ℚ (whole (floor (neg_ℚ x) +ℤ pos 1)) <ℚ a) (neg-neg x) (neg-lt (neg_ℚ x) (whole (floor (neg_ℚ x) +ℤ pos 1)) (floor_high (neg_ℚ x)))))
+ceiling_low x = subst (λ a. a <ℚ (x +ℚ whole (pos 1))) down
+    (plus-lt (whole (pos 1)) (neg_ℚ (whole (floor (neg_ℚ x) +ℤ pos 1))) x
+    (subst (λ a. neg_ℚ (whole (floor (neg_ℚ x) +ℤ pos 1)) <ℚ a) (neg-neg x)
+    (neg-lt (neg_ℚ x) (whole (floor (neg_ℚ x) +ℤ pos 1)) (floor_high (neg_ℚ x)))))
   where
     down : neg_ℚ (whole (floor (neg_ℚ x) +ℤ pos 1)) +ℚ whole (pos 1) ≡ whole (ceiling x)
     down = let e : neg_ℤ (floor (neg_ℚ x) +ℤ pos 1) +ℤ pos 1 ≡ ceiling x = omega (arith, ints) in
-        ap (λ a. a +ℚ whole (pos 1)) (sym (whole-neg (floor (neg_ℚ x) +ℤ pos 1))) ∙ sym (whole-add (neg_ℤ (floor (neg_ℚ x) +ℤ pos 1)) (pos 1)) ∙ ap whole e
+        ap (λ a. a +ℚ whole (pos 1)) (sym (whole-neg (floor (neg_ℚ x) +ℤ pos 1)))
+        ∙ sym (whole-add (neg_ℤ (floor (neg_ℚ x) +ℤ pos 1)) (pos 1)) ∙ ap whole e
 
 -- The ceiling is monotone.
 pub ceiling-le : (x y : Fraction) → x ≤ℚ y → ceiling x ≤ℤ ceiling y
@@ -57,21 +69,28 @@ ceiling-le x y h = ceiling_to (ceiling y) x (le_trans x y (whole (ceiling y)) h 
 
 -- A whole number is its own ceiling.
 pub ceiling-whole : (z : ℤ) → ceiling (whole z) ≡ z
-ceiling-whole z = let e : floor (neg_ℚ (whole z)) ≡ neg_ℤ z = ap floor (sym (whole-neg z)) ∙ floor-whole (neg_ℤ z) in omega (arith, ints)
+ceiling-whole z = let e : floor (neg_ℚ (whole z)) ≡ neg_ℤ z =
+    ap floor (sym (whole-neg z)) ∙ floor-whole (neg_ℤ z) in omega (arith, ints)
 
 -- A whole number is added to the ceiling as it is.
 pub ceiling-plus : (x : Fraction) (z : ℤ) → ceiling (x +ℚ whole z) ≡ ceiling x +ℤ z
-ceiling-plus x z = let e : floor (neg_ℚ (x +ℚ whole z)) ≡ floor (neg_ℚ x) +ℤ neg_ℤ z = ap floor (neg-add x (whole z) ∙ ap (λ a. neg_ℚ x +ℚ a) (sym (whole-neg z))) ∙ floor-plus (neg_ℚ x) (neg_ℤ z) in omega (arith, ints)
+ceiling-plus x z = let e : floor (neg_ℚ (x +ℚ whole z)) ≡ floor (neg_ℚ x) +ℤ neg_ℤ z =
+    ap floor (neg-add x (whole z) ∙ ap (λ a. neg_ℚ x +ℚ a) (sym (whole-neg z)))
+    ∙ floor-plus (neg_ℚ x) (neg_ℤ z) in omega (arith, ints)
 
 -- ---- the two beside each other
 pub floor_ceiling : (x : Fraction) → floor x ≤ℤ ceiling x
-floor_ceiling x = whole-le_out (floor x) (ceiling x) (le_trans (whole (floor x)) x (whole (ceiling x)) (floor_low x) (ceiling_high x))
+floor_ceiling x = whole-le_out (floor x) (ceiling x)
+    (le_trans (whole (floor x)) x (whole (ceiling x)) (floor_low x) (ceiling_high x))
 
 pub ceiling_floor : (x : Fraction) → ceiling x ≤ℤ (floor x +ℤ pos 1)
-ceiling_floor x = ceiling_to (floor x +ℤ pos 1) x (lt_le x (whole (floor x +ℤ pos 1)) (floor_high x))
+ceiling_floor x =
+    ceiling_to (floor x +ℤ pos 1) x (lt_le x (whole (floor x +ℤ pos 1)) (floor_high x))
 
 pub ceiling_from : (z : ℤ) (x : Fraction) → whole (z +ℤ negsuc 0) <ℚ x → z ≤ℤ ceiling x
-ceiling_from z x h = let l : (z +ℤ negsuc 0) <ℤ ceiling x = whole-lt_out (z +ℤ negsuc 0) (ceiling x) (lt_le_trans (whole (z +ℤ negsuc 0)) x (whole (ceiling x)) h (ceiling_high x)) in omega (arith, ints)
+ceiling_from z x h = let l : (z +ℤ negsuc 0) <ℤ ceiling x = whole-lt_out (z +ℤ negsuc 0)
+    (ceiling x) (lt_le_trans (whole (z +ℤ negsuc 0)) x (whole (ceiling x)) h (ceiling_high x)) in
+    omega (arith, ints)
 
 -- ---- the sign
 pub floor_from_zero : (x : Fraction) → zero_ℚ ≤ℚ x → pos 0 ≤ℤ floor x

@@ -36,7 +36,8 @@ module _ (e u v : Fraction) (h : u ≤ℚ v) where
   wider Nd k l = l
   wider Nu k l = l
 
-  signed_wider : (sign : Sign) (d : Direction) (k : Fraction) → Lies (signed_errors sign d u k) e → Lies (signed_errors sign d v k) e
+  signed_wider : (sign : Sign) (d : Direction) (k : Fraction) → Lies (signed_errors sign d u k) e
+      → Lies (signed_errors sign d v k) e
   signed_wider Unknown d k l = wider d k l
   signed_wider NotNegative Zr k l = wider_left l
   signed_wider NotNegative Aw k l = wider_right l
@@ -65,7 +66,8 @@ module _ (e u : Fraction) (h : zero_ℚ ≤ℚ u) where
   zero_side l = right_side (zero_right l)
 
 -- a sign leaves no more
-unsigned : (e u k : Fraction) → zero_ℚ ≤ℚ u → (sign : Sign) (d : Direction) → Lies (signed_errors sign d u k) e → Lies (errors d u k) e
+unsigned : (e u k : Fraction) → zero_ℚ ≤ℚ u → (sign : Sign) (d : Direction)
+    → Lies (signed_errors sign d u k) e → Lies (errors d u k) e
 unsigned e u k h Unknown d l = l
 unsigned e u k h NotNegative Zr l = left_side e u h l
 unsigned e u k h NotNegative Aw l = right_side e u h l
@@ -78,7 +80,8 @@ unsigned e u k h Zero Aw l = zero_side e u h l
 unsigned e u k h Zero d l = l
 
 -- the sign tells the side, and the place the size
-both : (e u v k : Fraction) (sign : Sign) (d : Direction) → Lies (signed_errors sign d v k) e → Lies (errors d u k) e → Lies (signed_errors sign d u k) e
+both : (e u v k : Fraction) (sign : Sign) (d : Direction) → Lies (signed_errors sign d v k) e
+    → Lies (errors d u k) e → Lies (signed_errors sign d u k) e
 both e u v k Unknown d s l = l
 both e u v k NotNegative Zr s l = (l.0, s.1)
 both e u v k NotNegative Aw s l = (s.0, l.1)
@@ -91,7 +94,8 @@ both e u v k Zero Aw s l = s
 both e u v k Zero d s l = l
 
 -- 0 is always possible
-pub zero_possible : (e u k : Fraction) → zero_ℚ ≤ℚ u → zero_ℚ ≤ℚ k → (d : Direction) → Lies nowhere e → Lies (errors d u k) e
+pub zero_possible : (e u k : Fraction) → zero_ℚ ≤ℚ u → zero_ℚ ≤ℚ k → (d : Direction)
+    → Lies nowhere e → Lies (errors d u k) e
 zero_possible e u k h i Dn l = zero_left e u h l
 zero_possible e u k h i Up l = zero_right e u h l
 zero_possible e u k h i Zr l = zero_side e u h l
@@ -104,7 +108,8 @@ zero_possible e u k h i Na l = zero_side e k i l
 zero_possible e u k h i Nd l = zero_side e k i l
 zero_possible e u k h i Nu l = zero_side e k i l
 
-pub signed_zero_possible : (e u k : Fraction) → zero_ℚ ≤ℚ u → zero_ℚ ≤ℚ k → (sign : Sign) (d : Direction) → Lies nowhere e → Lies (signed_errors sign d u k) e
+pub signed_zero_possible : (e u k : Fraction) → zero_ℚ ≤ℚ u → zero_ℚ ≤ℚ k
+    → (sign : Sign) (d : Direction) → Lies nowhere e → Lies (signed_errors sign d u k) e
 signed_zero_possible e u k h i Unknown d l = zero_possible e u k h i d l
 signed_zero_possible e u k h i NotNegative Zr l = zero_left e u h l
 signed_zero_possible e u k h i NotNegative Aw l = zero_right e u h l
@@ -125,24 +130,42 @@ module _ (d : Direction) (l : ℤ) (sign : Sign) (e : Fraction) where
   half_from = lt_le zero_ℚ (half_of l) (two_to-positive _)
 
   module _ (k : ℤ) where
-    meet : (b : Bool) → Lies (signed_errors sign d (two_to l) (half_of l)) e → Lies (if b then errors d (two_to l -ℚ two_to k) (half_of l) else nowhere) e
+    meet : (b : Bool) → Lies (signed_errors sign d (two_to l) (half_of l)) e
+        → Lies (if b then errors d (two_to l -ℚ two_to k) (half_of l) else nowhere) e
         → Lies (if b then signed_errors sign d (two_to l -ℚ two_to k) (half_of l) else nowhere) e
     meet true s p = both e (two_to l -ℚ two_to k) (two_to l) (half_of l) sign d s p
     meet false s p = p
 
-    part : (b : Bool) → (int_lt k l ≡ b) → Lies (if b then signed_errors sign d (two_to l -ℚ two_to k) (half_of l) else nowhere) e
-        → Lies (signed_errors sign d (two_to l) (half_of l)) e × Lies (if b then errors d (two_to l -ℚ two_to k) (half_of l) else nowhere) e
-    part true q p = (signed_wider e (two_to l -ℚ two_to k) (two_to l) (sub-le (two_to l) (two_to k) (lt_le zero_ℚ (two_to k) (two_to-positive k))) sign d (half_of l) p, unsigned e (two_to l -ℚ two_to k) (half_of l) (sub-from (two_to l) (two_to k) (two_to-le k l (less k l q))) sign d p)
+    part : (b : Bool) → (int_lt k l ≡ b)
+        → Lies (if b then signed_errors sign d (two_to l -ℚ two_to k) (half_of l) else nowhere) e
+        → Lies (signed_errors sign d (two_to l) (half_of l)) e
+        × Lies (if b then errors d (two_to l -ℚ two_to k) (half_of l) else nowhere) e
+    part true q p = (
+      signed_wider e (two_to l -ℚ two_to k) (two_to l) (sub-le (two_to l) (two_to k)
+          (lt_le zero_ℚ (two_to k) (two_to-positive k))) sign d (half_of l) p,
+      unsigned e (two_to l -ℚ two_to k) (half_of l)
+          (sub-from (two_to l) (two_to k) (two_to-le k l (less k l q))) sign d p,
+    )
     part false q p = (signed_zero_possible e (two_to l) (half_of l) unit_from half_from sign d p, p)
 
   to_cases : (place : Option ℤ) → IsPossible d l sign place e → Lies (error_range d l sign place) e
   to_cases None p = p.by_sign
   to_cases (Some k) p = meet k (int_lt k l) p.by_sign p.by_place
 
-  from_cases : (place : Option ℤ) → Lies (error_range d l sign place) e → IsPossible d l sign place e
-  from_cases None p = record { by_direction = unsigned e (two_to l) (half_of l) unit_from sign d p; by_sign = p; by_place = tt }
-  from_cases (Some k) p = let q = part k (int_lt k l) refl p in record { by_direction = unsigned e (two_to l) (half_of l) unit_from sign d q.0; by_sign = q.0; by_place = q.1 }
+  from_cases : (place : Option ℤ) → Lies (error_range d l sign place) e
+      → IsPossible d l sign place e
+  from_cases None p = record {
+    by_direction = unsigned e (two_to l) (half_of l) unit_from sign d p;
+    by_sign = p;
+    by_place = tt;
+  }
+  from_cases (Some k) p = let q = part k (int_lt k l) refl p in record {
+    by_direction = unsigned e (two_to l) (half_of l) unit_from sign d q.0;
+    by_sign = q.0;
+    by_place = q.1;
+  }
 
 -- The possible errors by cases are those that are possible by direction, by sign and by place.
-pub possible_by_cases : (d : Direction) (l : ℤ) (sign : Sign) (place : Option ℤ) (e : Fraction) → IsPossible d l sign place e ↔ Lies (error_range d l sign place) e
+pub possible_by_cases : (d : Direction) (l : ℤ) (sign : Sign) (place : Option ℤ) (e : Fraction)
+    → IsPossible d l sign place e ↔ Lies (error_range d l sign place) e
 possible_by_cases d l sign place e = (to_cases d l sign e place, from_cases d l sign e place)

@@ -27,26 +27,33 @@ pub mul-whole_one : (x : Fraction) → x *ℚ whole (pos 1) ≡ x
 mul-whole_one x = mul_comm x (whole (pos 1)) ∙ whole_one-mul x
 
 pub two_to-inverse : (l : ℤ) → two_to (neg_ℤ l) *ℚ two_to l ≡ whole (pos 1)
-two_to-inverse l = let e : neg_ℤ l +ℤ l ≡ pos 0 = omega (arith, ints) in sym (two_to-add (neg_ℤ l) l) ∙ ap two_to e ∙ two_to-zero
+two_to-inverse l = let e : neg_ℤ l +ℤ l ≡ pos 0 = omega (arith, ints) in
+    sym (two_to-add (neg_ℤ l) l) ∙ ap two_to e ∙ two_to-zero
 
 pub units-times : (l : ℤ) (x : Fraction) → units l x *ℚ two_to l ≡ x
-units-times l x = mul_assoc x (two_to (neg_ℤ l)) (two_to l) ∙ ap (λ a. x *ℚ a) (two_to-inverse l) ∙ mul-whole_one x
+units-times l x = mul_assoc x (two_to (neg_ℤ l)) (two_to l)
+    ∙ ap (λ a. x *ℚ a) (two_to-inverse l) ∙ mul-whole_one x
 
 pub units-scaled : (l m : ℤ) → units l (scaled m l) ≡ whole m
-units-scaled l m = mul_assoc (whole m) (two_to l) (two_to (neg_ℤ l)) ∙ ap (λ a. whole m *ℚ a) (mul_comm (two_to l) (two_to (neg_ℤ l)) ∙ two_to-inverse l) ∙ mul-whole_one (whole m)
+units-scaled l m = mul_assoc (whole m) (two_to l) (two_to (neg_ℤ l)) ∙ ap (λ a. whole m *ℚ a)
+    (mul_comm (two_to l) (two_to (neg_ℤ l)) ∙ two_to-inverse l) ∙ mul-whole_one (whole m)
 
 pub units-exact : (l m e : ℤ) → units l (scaled m e) ≡ scaled m (e +ℤ neg_ℤ l)
-units-exact l m e = mul_assoc (whole m) (two_to e) (two_to (neg_ℤ l)) ∙ ap (λ a. whole m *ℚ a) (sym (two_to-add e (neg_ℤ l)))
+units-exact l m e = mul_assoc (whole m) (two_to e) (two_to (neg_ℤ l))
+    ∙ ap (λ a. whole m *ℚ a) (sym (two_to-add e (neg_ℤ l)))
 
 -- the definition of a rounded number
-pub rounded-is : (d : Direction) (l : ℤ) (x : Fraction) → rounded d l x ≡ scaled (whole_for d (units l x)) l
+pub rounded-is : (d : Direction) (l : ℤ) (x : Fraction)
+    → rounded d l x ≡ scaled (whole_for d (units l x)) l
 unfolding rounded
 rounded-is d l x = refl
 
 -- ---- the three laws
 pub rounded-le : (d : Direction) (l : ℤ) (x y : Fraction) → x ≤ℚ y → rounded d l x ≤ℚ rounded d l y
 unfolding rounded
-rounded-le d l x y h = scaled-le (whole_for d (units l x)) (whole_for d (units l y)) l (whole_for-le d (units l x) (units l y) (times-le (two_to (neg_ℤ l)) x y (two_to-positive (neg_ℤ l)) h))
+rounded-le d l x y h =
+    scaled-le (whole_for d (units l x)) (whole_for d (units l y)) l (whole_for-le d (units l x)
+    (units l y) (times-le (two_to (neg_ℤ l)) x y (two_to-positive (neg_ℤ l)) h))
 
 pub rounded_multiple : (d : Direction) (l : ℤ) (x : Fraction) → IsMultiple l (rounded d l x)
 unfolding rounded
@@ -54,14 +61,17 @@ rounded_multiple d l x = (whole_for d (units l x), refl)
 
 pub rounded-scaled : (d : Direction) (l m : ℤ) → rounded d l (scaled m l) ≡ scaled m l
 unfolding rounded
-rounded-scaled d l m = ap (λ w. scaled w l) (ap (whole_for d) (units-scaled l m) ∙ whole_for-whole d m)
+rounded-scaled d l m =
+    ap (λ w. scaled w l) (ap (whole_for d) (units-scaled l m) ∙ whole_for-whole d m)
 
 pub rounded-multiple : (d : Direction) (l : ℤ) (x : Fraction) → IsMultiple l x → rounded d l x ≡ x
 rounded-multiple d l x p = ap (rounded d l) p.1 ∙ rounded-scaled d l p.0 ∙ sym p.1
 
 -- a multiple of 2^k is one of 2^l for l at most k
 pub multiple_of_less : (k l : ℤ) (x : Fraction) → l ≤ℤ k → IsMultiple k x → IsMultiple l x
-multiple_of_less k l x h p = let g = gap_le l k h in (p.0 *ℤ pos (2 ^ g.0), p.1 ∙ ap (scaled p.0) g.1 ∙ scaled-shift p.0 l g.0)
+multiple_of_less k l x h p = let g = gap_le l k h in
+    (p.0 *ℤ pos (2 ^ g.0), p.1 ∙ ap (scaled p.0) g.1 ∙ scaled-shift p.0 l g.0)
 
-pub rounded-finer : (d : Direction) (k l : ℤ) (x : Fraction) → l ≤ℤ k → IsMultiple k x → rounded d l x ≡ x
+pub rounded-finer : (d : Direction) (k l : ℤ) (x : Fraction) → l ≤ℤ k
+    → IsMultiple k x → rounded d l x ≡ x
 rounded-finer d k l x h p = rounded-multiple d l x (multiple_of_less k l x h p)

@@ -9,26 +9,31 @@ pub neg-le_left : (x y : Fraction) → neg_ℚ x ≤ℚ y → neg_ℚ y ≤ℚ x
 neg-le_left x y h = subst (λ z. neg_ℚ y ≤ℚ z) (neg-neg x) (neg-le (neg_ℚ x) y h)
 
 pub plus-le : (z x y : Fraction) → x ≤ℚ y → (x +ℚ z) ≤ℚ (y +ℚ z)
-plus-le z x y h = subst (λ a. a ≤ℚ (y +ℚ z)) (add_comm z x) (subst (λ b. (z +ℚ x) ≤ℚ b) (add_comm z y) (add-le z x y h))
+plus-le z x y h = subst (λ a. a ≤ℚ (y +ℚ z)) (add_comm z x)
+    (subst (λ b. (z +ℚ x) ≤ℚ b) (add_comm z y) (add-le z x y h))
 
 pub plus-lt : (z x y : Fraction) → x <ℚ y → (x +ℚ z) <ℚ (y +ℚ z)
-plus-lt z x y h = subst (λ a. a <ℚ (y +ℚ z)) (add_comm z x) (subst (λ b. (z +ℚ x) <ℚ b) (add_comm z y) (add-lt z x y h))
+plus-lt z x y h = subst (λ a. a <ℚ (y +ℚ z)) (add_comm z x)
+    (subst (λ b. (z +ℚ x) <ℚ b) (add_comm z y) (add-lt z x y h))
 
 pub plus-lt_out : (z x y : Fraction) → (x +ℚ z) <ℚ (y +ℚ z) → x <ℚ y
 plus-lt_out z x y h = lt_by x y (λ k. lt_not (x +ℚ z) (y +ℚ z) h (plus-le z y x k))
 
 -- ---- differences
 pub sub-at_most : (a b c : Fraction) → a ≤ℚ (b +ℚ c) → (a -ℚ b) ≤ℚ c
-sub-at_most a b c h = subst (λ z. z ≤ℚ c) (add_comm (neg_ℚ b) a) (subst (λ z. (neg_ℚ b +ℚ a) ≤ℚ z) (add-sub b c) (add-le (neg_ℚ b) a (b +ℚ c) h))
+sub-at_most a b c h = subst (λ z. z ≤ℚ c) (add_comm (neg_ℚ b) a)
+    (subst (λ z. (neg_ℚ b +ℚ a) ≤ℚ z) (add-sub b c) (add-le (neg_ℚ b) a (b +ℚ c) h))
 
 pub sub-flip : (a b : Fraction) → neg_ℚ (a -ℚ b) ≡ b -ℚ a
 sub-flip a b = neg-add a (neg_ℚ b) ∙ ap (λ z. neg_ℚ a +ℚ z) (neg-neg b) ∙ add_comm (neg_ℚ a) b
 
 pub sub-at_least : (a b c : Fraction) → b ≤ℚ (a +ℚ c) → neg_ℚ c ≤ℚ (a -ℚ b)
-sub-at_least a b c h = subst (λ z. neg_ℚ c ≤ℚ z) (sub-flip b a) (neg-le (b -ℚ a) c (sub-at_most b a c h))
+sub-at_least a b c h =
+    subst (λ z. neg_ℚ c ≤ℚ z) (sub-flip b a) (neg-le (b -ℚ a) c (sub-at_most b a c h))
 
 pub sub-below : (a b c : Fraction) → a <ℚ (b +ℚ c) → (a -ℚ b) <ℚ c
-sub-below a b c h = subst (λ z. z <ℚ c) (add_comm (neg_ℚ b) a) (subst (λ z. (neg_ℚ b +ℚ a) <ℚ z) (add-sub b c) (add-lt (neg_ℚ b) a (b +ℚ c) h))
+sub-below a b c h = subst (λ z. z <ℚ c) (add_comm (neg_ℚ b) a)
+    (subst (λ z. (neg_ℚ b +ℚ a) <ℚ z) (add-sub b c) (add-lt (neg_ℚ b) a (b +ℚ c) h))
 
 pub sub-above : (a b c : Fraction) → b <ℚ (a +ℚ c) → neg_ℚ c <ℚ (a -ℚ b)
 sub-above a b c h = subst (λ z. neg_ℚ c <ℚ z) (sub-flip b a) (neg-lt (b -ℚ a) c (sub-below b a c h))

@@ -145,8 +145,9 @@ fn spread(span: Span, unit: Dyadic, half: Dyadic) -> Interval
     }
 }
 
-/// The least interval of the grid that holds each error that the table allows a rounding: by its direction,
-/// by what is known of the number's sign, and where the number is known to be a multiple of 2^fix.
+/// The least interval of the grid that holds each error that the table allows a rounding: by its
+/// direction, by what is known of the number's sign, and where the number is known to be a multiple
+/// of 2^fix.
 pub fn error_interval(r: Rounding, sign: Sign, fix: Option<i16>) -> Interval
     requires low { negsuc 511 ≤ℤ r.lsb }
     requires high { r.lsb ≤ℤ pos 512 }

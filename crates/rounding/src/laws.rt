@@ -23,15 +23,21 @@ pub fn floors()
 /// Nothing is done. The clauses tell a caller that each direction is monotone, gives a multiple of
 /// its unit, leaves multiples as they are, and stays on the grid.
 pub fn roundings()
-    ensures monotone { (d : Direction) (l : ℤ) (x y : Fraction) → x ≤ℚ y → rounded d l x ≤ℚ rounded d l y }
+    ensures monotone { (d : Direction) (l : ℤ) (x y : Fraction) → x ≤ℚ y
+        → rounded d l x ≤ℚ rounded d l y }
     ensures multiple { (d : Direction) (l : ℤ) (x : Fraction) → IsMultiple l (rounded d l x) }
-    ensures kept { (d : Direction) (k l : ℤ) (x : Fraction) → l ≤ℤ k → IsMultiple k x → rounded d l x ≡ x }
-    ensures on_grid { (d : Direction) (l : ℤ) (x : Fraction) → negsuc 511 ≤ℤ l → l ≤ℤ pos 512 → IsOnGrid x → IsOnGrid (rounded d l x) }
+    ensures kept { (d : Direction) (k l : ℤ) (x : Fraction) → l ≤ℤ k
+        → IsMultiple k x → rounded d l x ≡ x }
+    ensures on_grid { (d : Direction) (l : ℤ) (x : Fraction) → negsuc 511 ≤ℤ l → l ≤ℤ pos 512
+        → IsOnGrid x → IsOnGrid (rounded d l x) }
 {}
 
 /// Nothing is done. The clauses tell a caller that the error of a rounding is a possible one, and
 /// which errors are possible by direction, by sign and by place at once.
 pub fn errors()
-    ensures lies { (d : Direction) (l : ℤ) (sign : Sign) (place : Option ℤ) (x : Fraction) → HasSign sign x → HasPlace place x → Lies (error_range d l sign place) (rounded d l x -ℚ x) }
-    ensures meet { (d : Direction) (l : ℤ) (sign : Sign) (place : Option ℤ) (e : Fraction) → IsPossible d l sign place e ↔ Lies (error_range d l sign place) e }
+    ensures lies { (d : Direction) (l : ℤ) (sign : Sign) (place : Option ℤ) (x : Fraction)
+        → HasSign sign x → HasPlace place x
+        → Lies (error_range d l sign place) (rounded d l x -ℚ x) }
+    ensures meet { (d : Direction) (l : ℤ) (sign : Sign) (place : Option ℤ) (e : Fraction)
+        → IsPossible d l sign place e ↔ Lies (error_range d l sign place) e }
 {}

@@ -1,4 +1,5 @@
--- Beside each instance of the shrinking rule stands the instance of the rule for "no multiple is left" with the same premises.
+-- Beside each instance of the shrinking rule stands the instance of the rule for "no multiple is
+-- left" with the same premises.
 use Rattle.std.specs.Prelude.{◌≡◌, ◌==◌, Bool, false, ℕ, List, refl}
 use Rattle.std.proofs.Common.{ap, sym, ◌∙◌, true≢false}
 use Rattle.fx_model.specs.declared.ExprId.{ExprId}
@@ -22,7 +23,8 @@ use Rattle.rule_instances.specs.Instances.OfHint.{rule_80_bound, rule_80_size, r
 abbrev is_28 : ℕ → Bool
 is_28 n = n == 28
 
-operation_other : (nodes : List Node) (x : ExprId) (i : Instance) → OfOperation nodes x i → is_28 i.rule ≡ false
+operation_other : (nodes : List Node) (x : ExprId) (i : Instance)
+    → OfOperation nodes x i → is_28 i.rule ≡ false
 operation_other nodes x i (rule_1 l e) = refl
 operation_other nodes x i (rule_21 l e) = refl
 operation_other nodes x i (rule_2 a e) = refl
@@ -52,12 +54,14 @@ operation_other nodes x i (rule_25 r a e) = refl
 operation_other nodes x i (rule_26 r a e) = refl
 operation_other nodes x i (rule_41 r a e) = refl
 
-error_other : (nodes : List Node) (x : ExprId) (i : Instance) → OfError nodes x i → is_28 i.rule ≡ false
+error_other : (nodes : List Node) (x : ExprId) (i : Instance)
+    → OfError nodes x i → is_28 i.rule ≡ false
 error_other nodes x i (rule_42 r y a e f) = refl
 error_other nodes x i (rule_43 r y a e f s) = refl
 error_other nodes x i (rule_44 r y a e f) = refl
 
-terms_other : (nodes : List Node) (x : ExprId) (i : Instance) → OfTerms nodes x i → is_28 i.rule ≡ false
+terms_other : (nodes : List Node) (x : ExprId) (i : Instance)
+    → OfTerms nodes x i → is_28 i.rule ≡ false
 terms_other nodes x i (rule_71 y z a b c d p q e f g h j) = refl
 terms_other nodes x i (rule_72 y z a b c d p q e f g h j) = refl
 terms_other nodes x i (rule_73 y z a b c d p q e f g h j) = refl
@@ -95,7 +99,8 @@ hint_other k h i rule_80_nonzero = refl
 not_28 : (n : ℕ) → is_28 n ≡ false → n ≡ 28 → ⊥
 not_28 n e s = true≢false (sym (ap is_28 s) ∙ e)
 
-any_beside : (x : ExprId) (i : Instance) → OfAny x i → i.rule ≡ 28 → OfAny x (rule 90 i.premises Void)
+any_beside : (x : ExprId) (i : Instance) → OfAny x i → i.rule ≡ 28
+    → OfAny x (rule 90 i.premises Void)
 any_beside x i rule_11 e = absurd (not_28 11 refl e)
 any_beside x i rule_12 e = absurd (not_28 12 refl e)
 any_beside x i rule_13 e = absurd (not_28 13 refl e)
@@ -108,13 +113,23 @@ any_beside x i rule_91 e = absurd (not_28 91 refl e)
 
 -- Beside each instance of rule 28 stands the instance of rule 90 with the same premises.
 abbrev pub IsClosed : Type 0
-IsClosed = (nodes : List Node) (pairs : List Pair) (hints : List HintRow) (i : Instance) → IsInstance nodes (Has pairs) hints i → i.rule ≡ 28 → IsInstance nodes (Has pairs) hints (rule 90 i.premises Void)
+IsClosed = (nodes : List Node) (pairs : List Pair) (hints : List HintRow) (i : Instance)
+    → IsInstance nodes (Has pairs) hints i → i.rule ≡ 28
+    → IsInstance nodes (Has pairs) hints (rule 90 i.premises Void)
 
-pub shrinking_beside : (nodes : List Node) (P : Pair → Type 0) (hints : List HintRow) (i : Instance) → IsInstance nodes P hints i → i.rule ≡ 28 → IsInstance nodes P hints (rule 90 i.premises Void)
-shrinking_beside nodes P hints i (of_any x n _ at a) e = of_any x n (rule 90 i.premises Void) at (any_beside x i a e)
-shrinking_beside nodes P hints i (of_operation x _ o) e = absurd (not_28 i.rule (operation_other nodes x i o) e)
-shrinking_beside nodes P hints i (of_error x _ o) e = absurd (not_28 i.rule (error_other nodes x i o) e)
-shrinking_beside nodes P hints i (of_terms x _ o) e = absurd (not_28 i.rule (terms_other nodes x i o) e)
-shrinking_beside nodes P hints i (of_chain x _ o) e = absurd (not_28 i.rule (chain_other nodes P x i o) e)
-shrinking_beside nodes P hints i (of_pair x y _ p o) e = absurd (not_28 i.rule (pair_other nodes P x y i o) e)
-shrinking_beside nodes P hints i (of_hint k h _ s o) e = absurd (not_28 i.rule (hint_other k h i o) e)
+pub shrinking_beside : (nodes : List Node) (P : Pair → Type 0) (hints : List HintRow) (i : Instance)
+    → IsInstance nodes P hints i → i.rule ≡ 28 → IsInstance nodes P hints (rule 90 i.premises Void)
+shrinking_beside nodes P hints i (of_any x n _ at a) e =
+    of_any x n (rule 90 i.premises Void) at (any_beside x i a e)
+shrinking_beside nodes P hints i (of_operation x _ o) e =
+    absurd (not_28 i.rule (operation_other nodes x i o) e)
+shrinking_beside nodes P hints i (of_error x _ o) e =
+    absurd (not_28 i.rule (error_other nodes x i o) e)
+shrinking_beside nodes P hints i (of_terms x _ o) e =
+    absurd (not_28 i.rule (terms_other nodes x i o) e)
+shrinking_beside nodes P hints i (of_chain x _ o) e =
+    absurd (not_28 i.rule (chain_other nodes P x i o) e)
+shrinking_beside nodes P hints i (of_pair x y _ p o) e =
+    absurd (not_28 i.rule (pair_other nodes P x y i o) e)
+shrinking_beside nodes P hints i (of_hint k h _ s o) e =
+    absurd (not_28 i.rule (hint_other k h i o) e)

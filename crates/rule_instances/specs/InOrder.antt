@@ -1,4 +1,5 @@
--- All instances, in their order: those of each expression, of each difference, of each pair, of each hint.
+-- All instances, in their order: those of each expression, of each difference, of each pair, of
+-- each hint.
 use Rattle.std.specs.Prelude.{◌==◌, ◌&&◌, ◌+◌, ℕ, Bool, not, if◌then◌else◌, List, [], ◌∷◌, ◌++◌, slice_index_or}
 use Rattle.fx_model.specs.declared.ExprId.{ExprId}
 use Rattle.fx_model.specs.declared.Node.{Node}
@@ -46,7 +47,9 @@ module _ (nodes : List Node) where
   module _ (pairs : List Pair) where
     -- of a difference x = a - c
     abbrev pub of_sides : ExprId → ExprId → ExprId → List Instance
-    of_sides x a c = at_error x (node_of a) c ++ (at_terms nodes x (node_of a) (node_of c) ++ (each_at (one_left x a c) 0 (seconds pairs a) ++ each_at (one_right x a c) 0 (seconds pairs c)))
+    of_sides x a c =
+        at_error x (node_of a) c ++ (at_terms nodes x (node_of a) (node_of c) ++ (each_at
+        (one_left x a c) 0 (seconds pairs a) ++ each_at (one_right x a c) 0 (seconds pairs c)))
 
     -- of expression number k, where it is a difference
     abbrev pub of_difference : ℕ → Node → List Instance
@@ -55,12 +58,16 @@ module _ (nodes : List Node) where
 
     -- of a pair
     abbrev pub of_pair : ℕ → Pair → List Instance
-    of_pair k p = at_pair nodes pairs p.0 p.1 (node_of p.0) (node_of p.1) ++ each_at (past_of pairs p.0 p.1) 0 (seconds pairs p.1)
+    of_pair k p = at_pair nodes pairs p.0 p.1 (node_of p.0) (node_of p.1)
+        ++ each_at (past_of pairs p.0 p.1) 0 (seconds pairs p.1)
 
 -- of hint number k
 abbrev pub of_hint : ℕ → HintRow → List Instance
-of_hint k h = rewriting k h slot.Bnd ∷ rewriting k h slot.Abs ∷ rewriting k h slot.Fix ∷ rewriting k h slot.Nzr ∷ []
+of_hint k h = rewriting k h slot.Bnd ∷ rewriting k h slot.Abs ∷ rewriting k h slot.Fix
+    ∷ rewriting k h slot.Nzr ∷ []
 
 -- all of them
 abbrev pub instance_list : List Node → List Pair → List HintRow → List Instance
-instance_list nodes pairs hints = each_at of_node 0 nodes ++ (each_at (of_difference nodes pairs) 0 nodes ++ (each_at (of_pair nodes pairs) 0 pairs ++ each_at of_hint 0 hints))
+instance_list nodes pairs hints =
+    each_at of_node 0 nodes ++ (each_at (of_difference nodes pairs) 0 nodes
+    ++ (each_at (of_pair nodes pairs) 0 pairs ++ each_at of_hint 0 hints))

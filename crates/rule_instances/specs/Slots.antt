@@ -10,7 +10,8 @@ use Rattle.facts.specs.declared.instance.Instance.{Instance}
 
 -- rule `number` from premises on some slots, in this order, to a conclusion on the target
 abbrev pub rule : ℕ → List Slot → Slot → Instance
-rule number premises target = record { rule = number; arg = 0; target = target; premises = premises }
+rule number premises target =
+    record { rule = number; arg = 0; target = target; premises = premises }
 
 -- the fact that a constraint is met by
 abbrev pub need_slot : Need → Slot
@@ -24,4 +25,5 @@ conditions h = map Nzr h.divisors ++ map need_slot h.needs
 
 -- the hint's fact of one kind, from the same fact on its right side
 abbrev pub rewriting : ℕ → HintRow → (ExprId → Slot) → Instance
-rewriting number h kind = record { rule = 80; arg = number; target = kind h.left; premises = kind h.right ∷ conditions h }
+rewriting number h kind =
+    record { rule = 80; arg = number; target = kind h.left; premises = kind h.right ∷ conditions h }

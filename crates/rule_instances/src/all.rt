@@ -151,7 +151,8 @@ fn add_if_difference(
 
 // Adds those of all differences.
 fn add_differences(rows: &mut Rows, nodes: &Dag, pairs: &PairIndex) -> Result<(), AllocError>
-    ensures { OnOk result (rows.new ≡ rows.old ++ each_at (of_difference nodes.now pairs.now) 0 nodes.now) }
+    ensures { OnOk result (rows.new
+        ≡ rows.old ++ each_at (of_difference nodes.now pairs.now) 0 nodes.now) }
 {
     for i in 0..nodes.len() {
         add_if_difference(rows, nodes, pairs, ExprId(i), nodes.node(ExprId(i)))?;
@@ -195,7 +196,8 @@ fn add_pair(
 // Adds those of all pairs.
 fn add_pairs(rows: &mut Rows, nodes: &Dag, pairs: &PairIndex) -> Result<(), AllocError>
     requires { AreKnown nodes.now pairs.now }
-    ensures { OnOk result (rows.new ≡ rows.old ++ each_at (of_pair nodes.now pairs.now) 0 pairs.now) }
+    ensures { OnOk result (rows.new
+        ≡ rows.old ++ each_at (of_pair nodes.now pairs.now) 0 pairs.now) }
 {
     let list = pairs.pairs();
     for i in 0..list.len() {
@@ -216,8 +218,9 @@ fn add_hints(rows: &mut Rows, hints: &[HintRow]) -> Result<(), AllocError>
     Ok(())
 }
 
-/// The instances of the rules over expressions, pairs and hints: exactly these, each once, those of expressions first, then those
-/// of differences, of pairs and of hints, each kind in the order of its list.
+/// The instances of the rules over expressions, pairs and hints: exactly these, each once, those of
+/// expressions first, then those of differences, of pairs and of hints, each kind in the order of
+/// its list.
 pub fn instances_of(
     alloc: Global,
     nodes: &Dag,
@@ -226,7 +229,8 @@ pub fn instances_of(
 ) -> Result<Vec<Instance>, AllocError>
     requires known { AreKnown nodes.now pairs.now }
     requires few { length hints.now < 65536 }
-    ensures exactly { IfOk result (λ list. IsListOf (IsInstance nodes.now (Has pairs.now) hints.now) list.items) }
+    ensures exactly { IfOk result
+        (λ list. IsListOf (IsInstance nodes.now (Has pairs.now) hints.now) list.items) }
     ensures order { IfOk result (λ list. list.items ≡ instance_list nodes.now pairs.now hints.now) }
 {
     nodes.laws();

@@ -1,4 +1,5 @@
-//! Which rules can be used on which facts: the instances of the rules over given expressions and pairs.
+//! Which rules can be used on which facts: the instances of the rules over given expressions and
+//! pairs.
 #![tactic(auto)]
 
 // What callers name of the crates below.

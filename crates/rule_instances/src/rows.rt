@@ -48,7 +48,12 @@ impl Rows {
         target: Slot,
     ) -> Result<(), AllocError>
         ensures { OnOk result (self.new ≡ self.old
-            ++ (record { rule = 80; arg = number; target = target; premises = premises.items } ∷ [])) }
+            ++ (record {
+              rule = 80;
+              arg = number;
+              target = target;
+              premises = premises.items;
+            } ∷ [])) }
     {
         self.list.push(Instance {
             rule: 80,
@@ -88,7 +93,8 @@ impl Rows {
         premises: &[Slot],
         target: Slot,
     ) -> Result<(), AllocError>
-        ensures { OnOk result (self.new ≡ self.old ++ given test (rule number premises.now target)) }
+        ensures { OnOk result (self.new
+            ≡ self.old ++ given test (rule number premises.now target)) }
     {
         if test {
             self.add(number, premises, target)?;

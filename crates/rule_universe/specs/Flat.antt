@@ -1,7 +1,8 @@
 -- Rows that stand one behind another in one list.
 use Rattle.std.specs.Prelude.{◌≡◌, ◌<◌, ◌≤◌, ◌-◌, ℕ, suc, List, [], ◌∷◌, Some, length, take, drop, slice_get}
 
--- The first row begins at the start, each ends at the next of the ends, and the row behind it begins there.
+-- The first row begins at the start, each ends at the next of the ends, and the row behind it
+-- begins there.
 abbrev pub cut_from : {T : Type 0} → List T → ℕ → List ℕ → List (List T)
 cut_from items start [] = []
 cut_from items start (end ∷ ends) = take (end - start) (drop start items) ∷ cut_from items end ends

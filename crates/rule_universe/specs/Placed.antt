@@ -20,14 +20,18 @@ pub record ArePlaced (n : ℕ) (pairs : List Pair) (ss : List Slot) (row : List 
   pub places : (p : Placed) → Contains row p → IsPlaced n pairs p
 
 -- By instance, its premises with their places.
-pub record ArePremises (n : ℕ) (pairs : List Pair) (instances : List Instance) (rows : List (List Placed)) : Type 0 where
+pub record ArePremises (n : ℕ) (pairs : List Pair) (instances : List Instance)
+    (rows : List (List Placed)) : Type 0 where
   pub count : length rows ≡ length instances
-  pub each : (k : ℕ) (i : Instance) (row : List Placed) → slice_get instances k ≡ Some i → slice_get rows k ≡ Some row → ArePlaced n pairs i.premises row
+  pub each : (k : ℕ) (i : Instance) (row : List Placed) → slice_get instances k ≡ Some i
+      → slice_get rows k ≡ Some row → ArePlaced n pairs i.premises row
 
 -- By instance, the place of its target.
-pub record AreTargets (n : ℕ) (pairs : List Pair) (instances : List Instance) (places : List ℕ) : Type 0 where
+pub record AreTargets (n : ℕ) (pairs : List Pair) (instances : List Instance)
+    (places : List ℕ) : Type 0 where
   pub count : length places ≡ length instances
-  pub each : (k : ℕ) (i : Instance) (p : ℕ) → slice_get instances k ≡ Some i → slice_get places k ≡ Some p → IsPlace n pairs i.target p
+  pub each : (k : ℕ) (i : Instance) (p : ℕ) → slice_get instances k ≡ Some i
+      → slice_get places k ≡ Some p → IsPlace n pairs i.target p
 
 -- The second list is the first with the slots and their places behind it.
 abbrev pub AddsPlaced : ℕ → List Pair → List Slot → List Placed → List Placed → Type 0

@@ -29,10 +29,13 @@ IsPlaceOfOne n pairs ss p = (s : Slot) × Contains ss s × IsPlace n pairs s p
 
 -- p is the place of a premise of instance j, which is one of the first m
 abbrev pub IsTaken : ℕ → List Pair → List Instance → ℕ → ℕ → ℕ → Type 0
-IsTaken n pairs instances m p j = (j < m) × ((i : Instance) × (slice_get instances j ≡ Some i) × IsPlaceOfOne n pairs i.premises p)
+IsTaken n pairs instances m p j = (j < m)
+    × ((i : Instance) × (slice_get instances j ≡ Some i) × IsPlaceOfOne n pairs i.premises p)
 
--- The rows of the first m instances: a row for each place, with the rising numbers of those that have a premise there.
-pub record AreRows (n : ℕ) (pairs : List Pair) (instances : List Instance) (m : ℕ) (rows : List (List ℕ)) : Type 0 where
+-- The rows of the first m instances: a row for each place, with the rising numbers of those that
+-- have a premise there.
+pub record AreRows (n : ℕ) (pairs : List Pair) (instances : List Instance) (m : ℕ)
+    (rows : List (List ℕ)) : Type 0 where
   pub count : length rows ≡ place_count n pairs
   pub exactly : (p j : ℕ) → InRow rows p j ↔ IsTaken n pairs instances m p j
   pub rising : (p : ℕ) (row : List ℕ) → slice_get rows p ≡ Some row → AreRising row

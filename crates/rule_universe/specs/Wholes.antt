@@ -17,7 +17,8 @@ use Rattle.derivation.specs.Derivations.{IsClosed}
 use Rattle.rule_universe.specs.Worlds.{World, IsWhole, HasSlot}
 use Rattle.rule_universe.specs.Licensed.{RowIsKnown, instance_slots}
 
--- What `IsWhole` follows from: expressions in order, pairs of expressions, hints about expressions, exactly the instances of these.
+-- What `IsWhole` follows from: expressions in order, pairs of expressions, hints about expressions,
+-- exactly the instances of these.
 pub record IsLicensed (u : World) : Type 0 where
   pub ordered : IsOrdered u.nodes
   pub known : AreKnown u.nodes u.pairs
@@ -28,18 +29,21 @@ pub record IsLicensed (u : World) : Type 0 where
   pub each : (i : Instance) → IsInstance u.nodes (Has u.pairs) u.hints i → Has u.instances i
   pub hypotheses : (k : ℕ) (f : Fact) → slice_get u.hypotheses k ≡ Some f → HasSlot u (slot_of f)
 
-all_at : {A : Type 0} (P : A → Type 0) (xs : List A) → AllByRecursion P xs → (x : A) (k : ℕ) → k < length xs → slice_index_or xs k x ≡ x → P x
+all_at : {A : Type 0} (P : A → Type 0) (xs : List A) → AllByRecursion P xs → (x : A) (k : ℕ)
+    → k < length xs → slice_index_or xs k x ≡ x → P x
 all_at P [] h x k l e = absurd (omega arith)
 all_at P (y ∷ ys) h x zero l e = subst P e h.0
 all_at P (y ∷ ys) h x (suc k) l e = all_at P ys h.1 x k (omega arith) e
 
-pub all_contained : {A : Type 0} (P : A → Type 0) (xs : List A) → AllByRecursion P xs → (x : A) → Contains xs x → P x
+pub all_contained : {A : Type 0} (P : A → Type 0) (xs : List A) → AllByRecursion P xs
+    → (x : A) → Contains xs x → P x
 all_contained P xs h x c = all_at P xs h x c.0 c.1 c.2
 
 module _ (u : World) (l : IsLicensed u) where
   closed : IsClosed u.instances
   closed k i e s =
-      let beside = l.each (rule 90 i.premises slot.Void) (shrinking_beside u.nodes (Has u.pairs) u.hints i (l.only i (k, e)) s) in
+      let beside = l.each (rule 90 i.premises slot.Void)
+      (shrinking_beside u.nodes (Has u.pairs) u.hints i (l.only i (k, e)) s) in
       (beside.0, rule 90 i.premises slot.Void, beside.1, refl, refl, refl, refl)
 
   pub licensed_whole : IsWhole u
@@ -47,7 +51,9 @@ module _ (u : World) (l : IsLicensed u) where
     once = l.once;
     few = l.few;
     closed = closed;
-    targets = λ k i e. (instance_slots u.nodes u.pairs l.ordered l.known u.hints l.rows i (l.only i (k, e))).0;
-    premises = λ k i e s c. all_contained (HasSlot u) i.premises (instance_slots u.nodes u.pairs l.ordered l.known u.hints l.rows i (l.only i (k, e))).1 s c;
+    targets = λ k i e.
+        (instance_slots u.nodes u.pairs l.ordered l.known u.hints l.rows i (l.only i (k, e))).0;
+    premises = λ k i e s c. all_contained (HasSlot u) i.premises
+        (instance_slots u.nodes u.pairs l.ordered l.known u.hints l.rows i (l.only i (k, e))).1 s c;
     hypotheses = l.hypotheses;
   }

@@ -34,12 +34,14 @@ IsSlot n pairs slot.Void = ⊤
 abbrev pub HasSlot : World → Slot → Type 0
 HasSlot u s = IsSlot (length u.nodes) u.pairs s
 
--- What each universe keeps: no pair stands twice; there are at most 1,024 pairs; beside each instance of the shrinking rule
--- stands that of the rule for "no multiple is left"; instances and hypotheses are about slots of the universe.
+-- What each universe keeps: no pair stands twice; there are at most 1,024 pairs; beside each
+-- instance of the shrinking rule stands that of the rule for "no multiple is left"; instances and
+-- hypotheses are about slots of the universe.
 pub record IsWhole (u : World) : Type 0 where
   pub once : IsEachOnce u.pairs
   pub few : length u.pairs ≤ 1024
   pub closed : IsClosed u.instances
   pub targets : (k : ℕ) (i : Instance) → slice_get u.instances k ≡ Some i → HasSlot u i.target
-  pub premises : (k : ℕ) (i : Instance) → slice_get u.instances k ≡ Some i → (s : Slot) → Contains i.premises s → HasSlot u s
+  pub premises : (k : ℕ) (i : Instance) → slice_get u.instances k ≡ Some i → (s : Slot)
+      → Contains i.premises s → HasSlot u s
   pub hypotheses : (k : ℕ) (f : Fact) → slice_get u.hypotheses k ≡ Some f → HasSlot u (slot_of f)

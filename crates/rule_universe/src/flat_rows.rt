@@ -5,7 +5,8 @@ ghost use Rattle.rule_universe.specs.Flat.{rows_in, IsFlat};
 use std::alloc::{AllocError, Global};
 use std::marker::Model;
 
-/// A list of rows, whose elements stand one behind another in one list. So it takes two blocks of memory, however many rows there are.
+/// A list of rows, whose elements stand one behind another in one list. So it takes two blocks of
+/// memory, however many rows there are.
 #[derive(Drop)]
 pub struct FlatRows<T> {
     // Where each row begins among the elements, and where the last one ends.
@@ -37,7 +38,8 @@ fn part<T>(items: &[T], start: usize, end: usize) -> &[T]
 }
 
 impl<T> FlatRows<T> {
-    // The rows of these elements that begin at these numbers, of which the last is where the last row ends.
+    // The rows of these elements that begin at these numbers, of which the last is where the last
+    // row ends.
     pub fn from_parts(starts: Vec<u32>, items: Vec<T>) -> FlatRows<T>
         requires { IsFlat (length items.items) starts.items }
         ensures { result ≡ rows_in items.items starts.items }

@@ -1,5 +1,5 @@
-//! What derivations use: expressions, pairs, hypotheses, goals, rows of hints and rule instances, with an index from each slot to
-//! the instances that take it.
+//! What derivations use: expressions, pairs, hypotheses, goals, rows of hints and rule instances,
+//! with an index from each slot to the instances that take it.
 #![tactic(auto)]
 
 // What callers name of the crates below.

@@ -43,7 +43,8 @@ fn add_placed(
 ) -> Result<(), AllocError>
     requires few { length pairs.now ≤ 1024 }
     requires slots { (s : Slot) → Contains slots.now s → IsSlot (length nodes.now) pairs.now s }
-    ensures { OnOk result (AddsPlaced (length nodes.now) pairs.now slots.now items.old.items items.new.items) }
+    ensures { OnOk result
+        (AddsPlaced (length nodes.now) pairs.now slots.now items.old.items items.new.items) }
 {
     for s in slots {
         let place = known_place(nodes, pairs, *s);
@@ -60,7 +61,8 @@ pub fn placed_premises(
     instances: &[Instance],
 ) -> Result<FlatRows<Placed>, AllocError>
     requires few { length pairs.now ≤ 1024 }
-    requires slots { (k : ℕ) (i : Instance) → slice_get instances.now k ≡ Some i → (s : Slot) → Contains i.premises s → IsSlot (length nodes.now) pairs.now s }
+    requires slots { (k : ℕ) (i : Instance) → slice_get instances.now k ≡ Some i → (s : Slot)
+        → Contains i.premises s → IsSlot (length nodes.now) pairs.now s }
     ensures { IfOk result (ArePremises (length nodes.now) pairs.now instances.now) }
 {
     let mut starts = Vec::new(alloc);
@@ -81,8 +83,10 @@ pub fn target_places(
     instances: &[Instance],
 ) -> Result<Vec<u16>, AllocError>
     requires few { length pairs.now ≤ 1024 }
-    requires slots { (k : ℕ) (i : Instance) → slice_get instances.now k ≡ Some i → IsSlot (length nodes.now) pairs.now i.target }
-    ensures { IfOk result (λ places. AreTargets (length nodes.now) pairs.now instances.now places.items) }
+    requires slots { (k : ℕ) (i : Instance) → slice_get instances.now k ≡ Some i
+        → IsSlot (length nodes.now) pairs.now i.target }
+    ensures { IfOk result (λ places.
+        AreTargets (length nodes.now) pairs.now instances.now places.items) }
 {
     let mut places = Vec::new(alloc);
     for k in 0..instances.len() {

@@ -52,7 +52,13 @@ impl Model for Universe {
 
     ghost Value = { World };
 
-    ghost coded = { Prim.hlevel (codes, fact_row.the_row.coded, hint_row.the_row.coded, goal_row.the_row.coded, instance_row.the_row.coded) };
+    ghost coded = { Prim.hlevel (
+      codes,
+      fact_row.the_row.coded,
+      hint_row.the_row.coded,
+      goal_row.the_row.coded,
+      instance_row.the_row.coded,
+    ) };
 
     ghost view = { λ u. record {
       nodes = u.nodes;
@@ -70,8 +76,11 @@ impl Model for Universe {
       hypotheses = u.hypotheses.items;
       hints = u.hints.items;
       instances = u.instances.items;
-    }) × (u.pairs.items ≡ u.index) × AreRows (length u.nodes) u.index u.instances.items (length u.instances.items) u.users × (length u.goals.items ≤ 65535)
-        × AreTargets (length u.nodes) u.index u.instances.items u.targets.items × ArePremises (length u.nodes) u.index u.instances.items u.premises };
+    }) × (u.pairs.items ≡ u.index)
+        × AreRows (length u.nodes) u.index u.instances.items (length u.instances.items) u.users
+        × (length u.goals.items ≤ 65535)
+        × AreTargets (length u.nodes) u.index u.instances.items u.targets.items
+        × ArePremises (length u.nodes) u.index u.instances.items u.premises };
 }
 
 impl Universe {
@@ -94,7 +103,14 @@ impl Universe {
           instances = instances.items;
         }) }
         requires few { length goals.items ≤ 65535 }
-        ensures { IfOk result (λ u. u ≡ record { nodes = nodes; pairs = pairs; goals = goals.items; hypotheses = hypotheses.items; hints = hints.items; instances = instances.items }) }
+        ensures { IfOk result (λ u. u ≡ record {
+          nodes = nodes;
+          pairs = pairs;
+          goals = goals.items;
+          hypotheses = hypotheses.items;
+          hints = hints.items;
+          instances = instances.items;
+        }) }
     {
         let rows = user_rows(alloc, &nodes, &pairs, &instances)?;
         let users = flat_rows(alloc, &rows)?;
@@ -166,7 +182,8 @@ impl Universe {
         &self.instances
     }
 
-    /// The place of a slot of the universe: bounds, sizes, multiples, expressions that aren't 0, pairs, and VOID last.
+    /// The place of a slot of the universe: bounds, sizes, multiples, expressions that aren't 0,
+    /// pairs, and VOID last.
     pub fn place(&self, s: Slot) -> u16
         requires { HasSlot self.now s }
         ensures { IsPlace (length self.now.nodes) self.now.pairs s result }
@@ -184,14 +201,17 @@ impl Universe {
     /// The premises of the instance with this number, from 0, with their places.
     pub fn premises(&self, k: usize) -> &[Placed]
         requires { k < length self.now.instances }
-        ensures { (i : Instance) → slice_get self.now.instances k ≡ Some i → ArePlaced (length self.now.nodes) self.now.pairs i.premises result.now }
+        ensures { (i : Instance) → slice_get self.now.instances k ≡ Some i
+            → ArePlaced (length self.now.nodes) self.now.pairs i.premises result.now }
     {
         self.premises.row(k)
     }
 
-    /// The rising numbers, from 0, of the instances that have the slot with this place among their premises.
+    /// The rising numbers, from 0, of the instances that have the slot with this place among their
+    /// premises.
     pub fn users_at(&self, place: u16) -> &[u32]
-        ensures { (s : Slot) → IsPlace (length self.now.nodes) self.now.pairs s place → AreUsers self.now.instances s result.now }
+        ensures { (s : Slot) → IsPlace (length self.now.nodes) self.now.pairs s place
+            → AreUsers self.now.instances s result.now }
     {
         if (place as usize) < self.users.len() {
             self.users.row(place as usize)

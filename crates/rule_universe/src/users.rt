@@ -39,7 +39,8 @@ fn put(rows: &mut Vec<Vec<u32>>, p: usize, k: u32) -> Result<(), AllocError>
     requires up_to { RowsUpTo k (map (λ row. row.items) rows.old.items) }
     ensures count { length rows.new.items ≡ length rows.old.items }
     ensures rows { OnOk result (RowsUpTo k (map (λ row. row.items) rows.new.items)) }
-    ensures added { OnOk result (IsAdded (map (λ row. row.items) rows.old.items) (map (λ row. row.items) rows.new.items) k (λ q. q ≡ p)) }
+    ensures added { OnOk result (IsAdded (map (λ row. row.items) rows.old.items)
+        (map (λ row. row.items) rows.new.items) k (λ q. q ≡ p)) }
 {
     add(&mut rows[p], k)
 }
@@ -57,7 +58,8 @@ fn add_slot(
     requires up_to { RowsUpTo k (map (λ row. row.items) rows.old.items) }
     ensures count { length rows.new.items ≡ length rows.old.items }
     ensures rows { OnOk result (RowsUpTo k (map (λ row. row.items) rows.new.items)) }
-    ensures added { OnOk result (IsAdded (map (λ row. row.items) rows.old.items) (map (λ row. row.items) rows.new.items) k (IsPlace (length nodes.now) pairs.now s)) }
+    ensures added { OnOk result (IsAdded (map (λ row. row.items) rows.old.items)
+        (map (λ row. row.items) rows.new.items) k (IsPlace (length nodes.now) pairs.now s)) }
 {
     pairs.laws();
     match place_of(nodes, pairs, s) {
@@ -79,7 +81,9 @@ fn add_instance(
     requires up_to { RowsUpTo k (map (λ row. row.items) rows.old.items) }
     ensures count { length rows.new.items ≡ length rows.old.items }
     ensures rows { OnOk result (RowsUpTo k (map (λ row. row.items) rows.new.items)) }
-    ensures added { OnOk result (IsAdded (map (λ row. row.items) rows.old.items) (map (λ row. row.items) rows.new.items) k (IsPlaceOfOne (length nodes.now) pairs.now premises.now)) }
+    ensures added { OnOk result
+        (IsAdded (map (λ row. row.items) rows.old.items) (map (λ row. row.items) rows.new.items) k
+        (IsPlaceOfOne (length nodes.now) pairs.now premises.now)) }
 {
     for s in premises {
         add_slot(rows, nodes, pairs, *s, k)?;
@@ -90,8 +94,10 @@ fn add_instance(
 // A row of nothing for each place.
 fn blank_rows(alloc: Global, nodes: &Dag, pairs: &PairIndex) -> Result<Vec<Vec<u32>>, AllocError>
     requires few { length pairs.now ≤ 1024 }
-    ensures count { IfOk result (λ rows. length rows.items ≡ place_count (length nodes.now) pairs.now) }
-    ensures blank { IfOk result (λ rows. (p : ℕ) (row : List ℕ) → slice_get (map (λ row. row.items) rows.items) p ≡ Some row → row ≡ []) }
+    ensures count { IfOk result
+        (λ rows. length rows.items ≡ place_count (length nodes.now) pairs.now) }
+    ensures blank { IfOk result (λ rows. (p : ℕ) (row : List ℕ)
+        → slice_get (map (λ row. row.items) rows.items) p ≡ Some row → row ≡ []) }
 {
     let mut rows = Vec::new(alloc);
     for _ in 0..place_count(nodes, pairs) {
@@ -108,7 +114,8 @@ pub fn user_rows(
     instances: &[Instance],
 ) -> Result<Vec<Vec<u32>>, AllocError>
     requires few { length pairs.now ≤ 1024 }
-    ensures { IfOk result (λ rows. AreRows (length nodes.now) pairs.now instances.now (length instances.now) (map (λ row. row.items) rows.items)) }
+    ensures { IfOk result (λ rows. AreRows (length nodes.now) pairs.now instances.now
+        (length instances.now) (map (λ row. row.items) rows.items)) }
 {
     let mut rows = blank_rows(alloc, nodes, pairs)?;
     if instances.len() > u32::MAX as usize {

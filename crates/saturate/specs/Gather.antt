@@ -18,17 +18,22 @@ pub after_none : (o : Option (List Fact)) → o ≡ after [] o
 after_none (Some qs) = refl
 after_none None = refl
 
-pub after_first : (ps : List Fact) (f : Fact) (o : Option (List Fact)) → after ps (with_first (Some f) o) ≡ after (ps ++ f ∷ []) o
+pub after_first : (ps : List Fact) (f : Fact) (o : Option (List Fact))
+    → after ps (with_first (Some f) o) ≡ after (ps ++ f ∷ []) o
 after_first ps f (Some qs) = ap Some (sym (append_assoc ps (f ∷ []) qs))
 after_first ps f None = refl
 
 module _ (rules : RuleList) (at : At) (i : Instance) (ss : List Slot) (same : ss ≡ i.premises) where
-  pub gathered_none : (ps : List Fact) (rest : Option (List Fact)) → all_at at ss ≡ after ps (with_first None rest) → None ≡ conclusion rules at i
-  gathered_none ps rest e = ap (concluded rules i) (sym (none_first rest) ∙ sym e) ∙ ap (λ l. concluded rules i (all_at at l)) same
+  pub gathered_none : (ps : List Fact) (rest : Option (List Fact))
+      → all_at at ss ≡ after ps (with_first None rest) → None ≡ conclusion rules at i
+  gathered_none ps rest e = ap (concluded rules i) (sym (none_first rest) ∙ sym e)
+      ∙ ap (λ l. concluded rules i (all_at at l)) same
     where
       none_first : (o : Option (List Fact)) → after ps (with_first None o) ≡ None
       none_first (Some qs) = refl
       none_first None = refl
 
-  pub gathered_all : (ps : List Fact) → all_at at ss ≡ after ps (all_at at []) → rules i.rule i.arg ps i.target ≡ conclusion rules at i
-  gathered_all ps e = ap (concluded rules i) (ap Some (sym (append-nil ps)) ∙ sym e) ∙ ap (λ l. concluded rules i (all_at at l)) same
+  pub gathered_all : (ps : List Fact) → all_at at ss ≡ after ps (all_at at [])
+      → rules i.rule i.arg ps i.target ≡ conclusion rules at i
+  gathered_all ps e = ap (concluded rules i) (ap Some (sym (append-nil ps)) ∙ sym e)
+      ∙ ap (λ l. concluded rules i (all_at at l)) same

@@ -14,9 +14,11 @@ use Rattle.rule_universe.specs.declared.placed.Placed.{Placed}
 use Rattle.rule_universe.specs.Placed.{IsPlaced}
 use Rattle.saturate.specs.Universes.{World}
 
--- The instance concludes nothing and the second table is the first, or what it concludes came to it.
+-- The instance concludes nothing and the second table is the first, or what it concludes came to
+-- it.
 abbrev pub IsVisit : RuleList → At → Table → Table → Instance → Type 0
-IsVisit rules at next new i = ((conclusion rules at i ≡ None) × (new ≡ next)) ⊎ ((c : Fact) × (k : Fact) × (conclusion rules at i ≡ Some c) × Improves (fact_at next) (fact_at new) c k)
+IsVisit rules at next new i = ((conclusion rules at i ≡ None) × (new ≡ next)) ⊎ ((c : Fact)
+    × (k : Fact) × (conclusion rules at i ≡ Some c) × Improves (fact_at next) (fact_at new) c k)
 
 -- It has the place of its slot, or its slot is VOID.
 abbrev pub IsKnown : World → Placed → Type 0
@@ -28,7 +30,8 @@ GainsKnown u before after = (p : Placed) → Contains after p → Contains befor
 
 -- Each slot of the later list was in the earlier one and has the same fact, or its fact rose.
 abbrev pub RiseOrStay : List Slot → List Slot → At → At → Type 0
-RiseOrStay before after at new = (s : Slot) → Contains after s → (Contains before s × (new s ≡ at s)) ⊎ IsRisen (at s) (new s)
+RiseOrStay before after at new = (s : Slot) → Contains after s
+    → (Contains before s × (new s ≡ at s)) ⊎ IsRisen (at s) (new s)
 
 -- All have their places.
 abbrev pub AreKnown : World → List Placed → Type 0

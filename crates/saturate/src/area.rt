@@ -6,8 +6,8 @@ use crate::kept::Table;
 use rule_universe::{Fact, Placed};
 use std::alloc::{AllocError, Global};
 
-/// Memory for the rounds of a box, which a thread hands from box to box; so a box asks for its own table alone. What it holds
-/// doesn't matter to any call.
+/// Memory for the rounds of a box, which a thread hands from box to box; so a box asks for its own
+/// table alone. What it holds doesn't matter to any call.
 #[derive(Drop)]
 pub struct Area {
     // The table that a round writes.

@@ -83,9 +83,9 @@ fn best_table<C: Concludes>(
     }
 }
 
-/// What a box comes to, and its best table. At the root nothing is given; at any other box the piece that the last cut left
-/// and the best table of the parent, for this universe and so many rounds. The area may come from any other box, of any
-/// universe.
+/// What a box comes to, and its best table. At the root nothing is given; at any other box the
+/// piece that the last cut left and the best table of the parent, for this universe and so many
+/// rounds. The area may come from any other box, of any universe.
 ///
 /// A step is a conclusion that was asked for. The call has no other, and `Steps` asks `conclude`.
 pub fn settle_counted<C: Concludes>(
@@ -139,8 +139,10 @@ fn settle_blank<L: Ledger>(
     requires given { IsSomeBox uni.now rounds piece parent }
     requires places { IsOfUniverse uni.now piece parent }
     requires marked { IsMarkedParent (setting_of uni.now) parent }
-    ensures table { IfOk result (λ settled. IsItsTable uni.now rounds piece parent.entry (table_of settled)) }
-    ensures state { IfOk result (λ settled. IsItsState uni.now rounds piece parent.entry (state_of settled)) }
+    ensures table { IfOk result
+        (λ settled. IsItsTable uni.now rounds piece parent.entry (table_of settled)) }
+    ensures state { IfOk result
+        (λ settled. IsItsState uni.now rounds piece parent.entry (state_of settled)) }
     ensures places { IfOk result (λ settled. HasAllPlaces uni.now (table_of settled)) }
     ensures marked { IfOk result (λ settled. IsMarked (setting_of uni.now) (table_of settled)) }
 {
@@ -160,8 +162,10 @@ pub fn settle_in(
     requires given { IsSomeBox uni.now rounds piece parent }
     requires places { IsOfUniverse uni.now piece parent }
     requires marked { IsMarkedParent (setting_of uni.now) parent }
-    ensures table { IfOk result (λ settled. IsItsTable uni.now rounds piece parent.entry (table_of settled)) }
-    ensures state { IfOk result (λ settled. IsItsState uni.now rounds piece parent.entry (state_of settled)) }
+    ensures table { IfOk result
+        (λ settled. IsItsTable uni.now rounds piece parent.entry (table_of settled)) }
+    ensures state { IfOk result
+        (λ settled. IsItsState uni.now rounds piece parent.entry (state_of settled)) }
     ensures places { IfOk result (λ settled. HasAllPlaces uni.now (table_of settled)) }
     ensures marked { IfOk result (λ settled. IsMarked (setting_of uni.now) (table_of settled)) }
 {
@@ -179,8 +183,10 @@ pub fn settle(
     requires given { IsSomeBox uni.now rounds piece parent }
     requires places { IsOfUniverse uni.now piece parent }
     requires marked { IsMarkedParent (setting_of uni.now) parent }
-    ensures table { IfOk result (λ settled. IsItsTable uni.now rounds piece parent.entry (table_of settled)) }
-    ensures state { IfOk result (λ settled. IsItsState uni.now rounds piece parent.entry (state_of settled)) }
+    ensures table { IfOk result
+        (λ settled. IsItsTable uni.now rounds piece parent.entry (table_of settled)) }
+    ensures state { IfOk result
+        (λ settled. IsItsState uni.now rounds piece parent.entry (state_of settled)) }
     ensures places { IfOk result (λ settled. HasAllPlaces uni.now (table_of settled)) }
     ensures marked { IfOk result (λ settled. IsMarked (setting_of uni.now) (table_of settled)) }
 {

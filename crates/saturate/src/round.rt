@@ -19,7 +19,8 @@ use crate::kept::Table;
 use rule_universe::{Dag, Fact, HintRow, Instance, Placed, Universe};
 use std::alloc::AllocError;
 
-// What the instance concludes from the table. Its premises are given with their places; the list of facts is scratch.
+// What the instance concludes from the table. Its premises are given with their places; the list of
+// facts is scratch.
 #[inline(always)]
 fn apply<C: Concludes>(
     dag: &Dag,
@@ -59,13 +60,14 @@ fn instance_at(uni: &Universe, k: usize) -> &Instance
 #[inline(always)]
 fn target_place(uni: &Universe, k: usize) -> u16
     requires { k < length uni.now.instances }
-    ensures { (i : Applied) → slice_get uni.now.instances k ≡ Some i → IsPlace (length uni.now.nodes) uni.now.pairs i.target result }
+    ensures { (i : Applied) → slice_get uni.now.instances k ≡ Some i
+        → IsPlace (length uni.now.nodes) uni.now.pairs i.target result }
 {
     uni.targets()[k]
 }
 
-// Applies the instance with this number to the one table, keeps in the other what comes of it, and lists the slot that changed,
-// if one did.
+// Applies the instance with this number to the one table, keeps in the other what comes of it, and
+// lists the slot that changed, if one did.
 #[inline(always)]
 fn visit<C: Concludes>(
     uni: &Universe,
@@ -82,10 +84,13 @@ fn visit<C: Concludes>(
     requires no_void { fact_at next.old slot.Void ≡ None }
     ensures visit { IfOk result (λ _. (i : Applied) → slice_get uni.now.instances k ≡ Some i →
         IsVisit (C.rules uni.now.nodes uni.now.hints) (fact_at now.now) next.old next.new i) }
-    ensures listed { IfOk result (λ _. IsListed (slots_of changed.new.items) (fact_at next.old) (fact_at next.new)) }
-    ensures kept { IfOk result (λ _. (s : Slot) → Contains (slots_of changed.old.items) s → Contains (slots_of changed.new.items) s) }
+    ensures listed { IfOk result
+        (λ _. IsListed (slots_of changed.new.items) (fact_at next.old) (fact_at next.new)) }
+    ensures kept { IfOk result (λ _. (s : Slot) → Contains (slots_of changed.old.items) s
+        → Contains (slots_of changed.new.items) s) }
     ensures known { IfOk result (λ _. GainsKnown uni.now changed.old.items changed.new.items) }
-    ensures risen { IfOk result (λ _. RiseOrStay (slots_of changed.old.items) (slots_of changed.new.items) (fact_at next.old) (fact_at next.new)) }
+    ensures risen { IfOk result (λ _. RiseOrStay (slots_of changed.old.items)
+        (slots_of changed.new.items) (fact_at next.old) (fact_at next.new)) }
     ensures shape { IsShaped next.old next.new }
     ensures cost { C.asked steps.new ≤ C.asked steps.old + 1 }
 {
@@ -110,7 +115,8 @@ fn visit<C: Concludes>(
     Ok(())
 }
 
-// Applies each instance that is due to the one table, keeps what comes of it in the other, and lists the slots that changed.
+// Applies each instance that is due to the one table, keeps what comes of it in the other, and
+// lists the slots that changed.
 pub(crate) fn round<C: Concludes>(
     uni: &Universe,
     now: &Table,
@@ -128,9 +134,11 @@ pub(crate) fn round<C: Concludes>(
     requires places { HasAllPlaces uni.now next.old }
     ensures ahead { IfOk result (λ _.
         IsAhead (setting_by C.rules uni.now) (fact_at now.now) (fact_at next.new) AllSeen) }
-    ensures listed { IfOk result (λ _. IsListed (slots_of changed.new.items) (fact_at now.now) (fact_at next.new)) }
+    ensures listed { IfOk result
+        (λ _. IsListed (slots_of changed.new.items) (fact_at now.now) (fact_at next.new)) }
     ensures known { IfOk result (λ _. AreKnown uni.now changed.new.items) }
-    ensures risen { IfOk result (λ _. AreRisen (slots_of changed.new.items) (fact_at now.now) (fact_at next.new)) }
+    ensures risen { IfOk result
+        (λ _. AreRisen (slots_of changed.new.items) (fact_at now.now) (fact_at next.new)) }
     ensures places { HasAllPlaces uni.now next.new }
     ensures cost { C.asked steps.new ≤ C.asked steps.old + count_by (λ b. b) due.now }
 {

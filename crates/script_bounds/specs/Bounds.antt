@@ -38,6 +38,7 @@ up_end Above = end.High
 abbrev pub outward_of : Range → Option Interval
 outward_of r = interval_from (down_end r.low) (up_end r.high)
 
--- the interval with the ends rounded inward; none where the lower end is plus infinity, the upper is minus infinity, or they cross
+-- the interval with the ends rounded inward; none where the lower end is plus infinity, the upper
+-- is minus infinity, or they cross
 abbrev pub inward_of : Range → Option Interval
 inward_of r = interval_from (up_end r.low) (down_end r.high)

@@ -12,9 +12,12 @@ use Rattle.literal_order.specs.Values.{written_value}
 abbrev pub is_point : Interval → Bool
 is_point i = le_bound (bound_of i.hi) (bound_of i.lo)
 
--- At most this end, and below it where the flag is true. It is true where the bound is strict and a number of the grid.
+-- At most this end, and below it where the flag is true. It is true where the bound is strict and a
+-- number of the grid.
 abbrev pub below_of : Written → Bool → End × Bool
-below_of w strict = ((point_of (written_value w)).lo, strict && is_point (point_of (written_value w)))
+below_of w strict =
+    ((point_of (written_value w)).lo, strict && is_point (point_of (written_value w)))
 
 abbrev pub above_of : Written → Bool → End × Bool
-above_of w strict = ((point_of (written_value w)).hi, strict && is_point (point_of (written_value w)))
+above_of w strict =
+    ((point_of (written_value w)).hi, strict && is_point (point_of (written_value w)))

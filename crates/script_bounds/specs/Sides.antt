@@ -16,9 +16,12 @@ abbrev pub IsOverWritten : Written → Bool → Fraction → Type 0
 IsOverWritten w true x = written_value w <ℚ x
 IsOverWritten w false x = written_value w ≤ℚ x
 
--- Any number that is at most the end, or below it, is so to the written bound, be it of the grid or not.
+-- Any number that is at most the end, or below it, is so to the written bound, be it of the grid or
+-- not.
 abbrev pub UnderIsEnough : Type 0
-UnderIsEnough = (w : Written) (strict : Bool) (x : Fraction) → IsUnder (bound_of (below_of w strict).0) (below_of w strict).1 x → IsUnderWritten w strict x
+UnderIsEnough = (w : Written) (strict : Bool) (x : Fraction)
+    → IsUnder (bound_of (below_of w strict).0) (below_of w strict).1 x → IsUnderWritten w strict x
 
 abbrev pub OverIsEnough : Type 0
-OverIsEnough = (w : Written) (strict : Bool) (x : Fraction) → IsOver (bound_of (above_of w strict).0) (above_of w strict).1 x → IsOverWritten w strict x
+OverIsEnough = (w : Written) (strict : Bool) (x : Fraction)
+    → IsOver (bound_of (above_of w strict).0) (above_of w strict).1 x → IsOverWritten w strict x

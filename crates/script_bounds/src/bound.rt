@@ -5,8 +5,9 @@ ghost use Rattle.script_bounds.specs.Bounds.{low_of, high_of, written_range, dow
 
 use literal_order::{End, Interval, Written};
 
-/// What a hypothesis says: the least interval that holds each number between the bounds. A bound that isn't there
-/// leaves its side open. None exactly where the lower end would lie above the upper.
+/// What a hypothesis says: the least interval that holds each number between the bounds. A bound
+/// that isn't there leaves its side open. None exactly where the lower end would lie above the
+/// upper.
 pub fn outward(lower: Option<Written>, upper: Option<Written>) -> Option<Interval>
     requires lower { IsWritten lower }
     requires upper { IsWritten upper }
@@ -15,8 +16,8 @@ pub fn outward(lower: Option<Written>, upper: Option<Written>) -> Option<Interva
     Interval::new(down_of_low(lower), up_of_high(upper))
 }
 
-/// What a goal asks for: the greatest interval that holds numbers between the bounds alone. None exactly where there
-/// is no such interval.
+/// What a goal asks for: the greatest interval that holds numbers between the bounds alone. None
+/// exactly where there is no such interval.
 pub fn inward(lower: Option<Written>, upper: Option<Written>) -> Option<Interval>
     requires lower { IsWritten lower }
     requires upper { IsWritten upper }

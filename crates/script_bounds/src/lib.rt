@@ -1,4 +1,5 @@
-//! Bounds of propositions as they are written, and the intervals with ends on the grid that stand for them.
+//! Bounds of propositions as they are written, and the intervals with ends on the grid that stand
+//! for them.
 #![tactic(auto)]
 
 // What callers name of the crates below.

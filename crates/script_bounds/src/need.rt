@@ -7,8 +7,8 @@ ghost use Rattle.script_bounds.specs.Needs.{below_of, above_of, is_point};
 
 use literal_order::{End, Interval, Written};
 
-/// What numbers of the grid below the bound have in common, or at most the bound where it isn't strict: the end that
-/// they are at most, and whether that end itself is left out.
+/// What numbers of the grid below the bound have in common, or at most the bound where it isn't
+/// strict: the end that they are at most, and whether that end itself is left out.
 pub fn below(bound: Written, strict: bool) -> (End, bool)
     requires { IsWritten (Some bound) }
     ensures { result ≡ below_of bound strict }

@@ -51,7 +51,8 @@ arrow_begins p =
 -- The parts that have ended have no more cases than have begun.
 pub few_before : {X : Type 0} (p : Parts X) → case_count p.before ≤ begun_cases p
 few_before p =
-    let least : case_count p.before * 1 ≤ case_count p.before * suc (length p.ended) = Rattle.std.proofs.Math.Nat.mul-le-mul_left (case_count p.before) (omega arith) in
+    let least : case_count p.before * 1 ≤ case_count p.before * suc (length p.ended) =
+    Rattle.std.proofs.Math.Nat.mul-le-mul_left (case_count p.before) (omega arith) in
     omega (least, arith)
 
 -- ---- the items of a case
@@ -79,10 +80,12 @@ module _ {X : Type 0} (P : X → Type 0) where
       → AllByRecursion P (flat_map (λ c. c) p) → AllByRecursion (AllByRecursion P) later
       → AllByRecursion (AllByRecursion P) (flat_map (with_first later) p)
   all_of_part [] later h q = tt
-  all_of_part (c ∷ p) later h q = let s = apart c _ h in both_lists (with_first later c) _ (all_with_first c later s.0 q) (all_of_part p later s.1 q)
+  all_of_part (c ∷ p) later h q = let s = apart c _ h in
+      both_lists (with_first later c) _ (all_with_first c later s.0 q) (all_of_part p later s.1 q)
 
   -- What all items have, those of each case have.
   pub all_of_cases : (parts : List (List (List X)))
       → AllByRecursion P (all_items parts) → AllByRecursion (AllByRecursion P) (cases parts)
   all_of_cases [] h = (tt, tt)
-  all_of_cases (p ∷ ps) h = let s = apart (flat_map (λ c. c) p) (all_items ps) h in all_of_part p (cases ps) s.0 (all_of_cases ps s.1)
+  all_of_cases (p ∷ ps) h = let s = apart (flat_map (λ c. c) p) (all_items ps) h in
+      all_of_part p (cases ps) s.0 (all_of_cases ps s.1)

@@ -51,7 +51,8 @@ module _ {X : Type 0} (P : X → Type 0) where
   begins_with : (c : List X) (later : List (List X)) → SomeOf
       (AllByRecursion P) (with_first later c) → AllByRecursion P c × SomeOf (AllByRecursion P) later
   begins_with c [] h = absurd h
-  begins_with c (r ∷ later) h = ⊎_elim (λ q. let s = all_apart c r q in (s.0, inl s.1)) (λ q. let s = begins_with c later q in (s.0, inr s.1)) h
+  begins_with c (r ∷ later) h = ⊎_elim (λ q. let s = all_apart c r q in
+      (s.0, inl s.1)) (λ q. let s = begins_with c later q in (s.0, inr s.1)) h
 
   part_to : (p : List (List X)) (later : List (List X)) → SomeOf (AllByRecursion P) p
       → SomeOf (AllByRecursion P) later → SomeOf (AllByRecursion P) (flat_map (with_first later) p)
@@ -64,7 +65,8 @@ module _ {X : Type 0} (P : X → Type 0) where
       → SomeOf (AllByRecursion P) (flat_map (with_first later) p)
       → SomeOf (AllByRecursion P) p × SomeOf (AllByRecursion P) later
   part_from [] later h = absurd h
-  part_from (c ∷ p) later h = ⊎_elim (λ q. let r = begins_with c later q in (inl r.0, r.1)) (λ q. let r = part_from p later q in (inr r.0, r.1)) (some_either (with_first later c) _ h)
+  part_from (c ∷ p) later h = ⊎_elim (λ q. let r = begins_with c later q in (inl r.0, r.1))
+      (λ q. let r = part_from p later q in (inr r.0, r.1)) (some_either (with_first later c) _ h)
 
   met_to : (parts : List (List (List X))) → AreMet P parts → IsSomeMet P parts
   met_to [] h = inl tt

@@ -192,7 +192,8 @@ fn take_case<T: Copy>(
     requires few { gaps 0 parts.now ≤ 64 }
     requires number { number < gaps 0 parts.now }
     ensures { IfOk result (λ case.
-        slice_get (cases (pieces 0 (pieces 0 items.now ends.now) parts.now)) number ≡ Some case.items) }
+        slice_get (cases (pieces 0 (pieces 0 items.now ends.now) parts.now)) number
+        ≡ Some case.items) }
 {
     let mut case = Vec::new(alloc);
     let mut left = product(parts);

@@ -34,8 +34,8 @@ pub record ShowsFor (s : View) (p : Cursor) (lines : Lines) : Type 0 where
   pub is : IsSubjectOf s subject
   pub shows : ShowsLines subject p lines
 
--- From the bytes at the cursor: lines where they are accepted, or their first fault. Where the folder failed or memory wasn't found,
--- nothing is said.
+-- From the bytes at the cursor: lines where they are accepted, or their first fault. Where the
+-- folder failed or memory wasn't found, nothing is said.
 abbrev pub ChecksFor : View → Cursor → Result Lines CheckStop → Type 0
 ChecksFor s p (Ok lines) = ShowsFor s p lines
 ChecksFor s p (Err (check_stop.Cert f)) = ComesFor s p (unread f)
@@ -45,7 +45,8 @@ ChecksFor s p (Err check_stop.OutOfMemory) = ⊤
 
 -- One thing comes of bytes for a script.
 abbrev pub ChecksAreOne : Type 0
-ChecksAreOne = (s : View) (p : Cursor) (o other : Outcome) → ComesFor s p o → ComesFor s p other → o ≡ other
+ChecksAreOne = (s : View) (p : Cursor) (o other : Outcome) → ComesFor s p o
+    → ComesFor s p other → o ≡ other
 
 -- The bytes spell a certificate that is accepted for the script with these lines.
 pub record AreAcceptedFor (s : View) (bytes : List ℕ) (lines : List Line) : Type 0 where
@@ -61,11 +62,14 @@ AreAcceptedItemsFor s bytes a = (t : Subject) × IsSubjectOf s t × AreAcceptedI
 abbrev pub AreLedFor : View → Accepted → Type 0
 AreLedFor s a = (t : Subject) × IsSubjectOf s t × AreLed t a
 
--- Each goal has a line in its place, which holds of the assignment; and the goal is true, with bounds exactly as they are written.
+-- Each goal has a line in its place, which holds of the assignment; and the goal is true, with
+-- bounds exactly as they are written.
 abbrev pub AreHeld : View → Assignment → List Line → Type 0
-AreHeld s a lines = (k : ℕ) (c : Claim) → slice_get s.goals k ≡ Some c → (l : Line) × (slice_get lines k ≡ Some l) × LineHolds s.nodes a (slot_of c) l × IsTrueAt s.nodes a c
+AreHeld s a lines = (k : ℕ) (c : Claim) → slice_get s.goals k ≡ Some c → (l : Line)
+    × (slice_get lines k ≡ Some l) × LineHolds s.nodes a (slot_of c) l × IsTrueAt s.nodes a c
 
--- This is so of every assignment that meets the script, of the lines of each certificate that is accepted, whoever wrote it.
+-- This is so of every assignment that meets the script, of the lines of each certificate that is
+-- accepted, whoever wrote it.
 abbrev pub AcceptedHoldsOfScripts : Type 0
 AcceptedHoldsOfScripts = (s : View) (t : Subject) (items : List Item) (lines : List Line)
     → IsOrdered s.nodes → NamesNodes s → HasFewCases s

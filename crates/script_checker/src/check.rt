@@ -18,8 +18,9 @@ use rewrite_hints::rows_are_true;
 use script_meets::{Script, goals_are_enough, hypotheses_hold, met_scripts};
 use std::alloc::Global;
 
-/// Checks the certificate under the reader's name for the script: its lines where it is accepted, or else the first fault in
-/// the order of reading. `Failed` comes only where a read of the folder failed in this call.
+/// Checks the certificate under the reader's name for the script: its lines where it is accepted,
+/// or else the first fault in the order of reading. `Failed` comes only where a read of the folder
+/// failed in this call.
 pub fn check_script<F: Folder>(
     alloc: Global,
     script: &Script<'_>,
@@ -29,21 +30,29 @@ pub fn check_script<F: Folder>(
     requires fresh { IsFresh reader.old }
     requires agrees { AgreesTold (F.told folder.old reader.old.ahead.name) reader.old.ahead }
     // What is answered comes of the bytes, where the folder tells them,
-    ensures checks { (all : List ℕ) → F.told folder.old reader.old.ahead.name ≡ Some all → ChecksFor script.now (cursor_of all reader.old.ahead) result }
+    ensures checks { (all : List ℕ) → F.told folder.old reader.old.ahead.name ≡ Some all
+        → ChecksFor script.now (cursor_of all reader.old.ahead) result }
     // and what comes of them is answered, unless reads fail or memory isn't found.
-    ensures exact { (all : List ℕ) → F.told folder.old reader.old.ahead.name ≡ Some all → (o : Outcome) → ComesFor script.now (cursor_of all reader.old.ahead) o → IsAnswer o result }
+    ensures exact { (all : List ℕ)
+        → F.told folder.old reader.old.ahead.name ≡ Some all → (o : Outcome)
+        → ComesFor script.now (cursor_of all reader.old.ahead) o → IsAnswer o result }
     // Lines come of bytes that spell a certificate which is accepted with them.
-    ensures accepts { (all : List ℕ) → F.told folder.old reader.old.ahead.name ≡ Some all → AreBytes all → IfOk result (λ lines. AreAcceptedFor script.now all lines.rows) }
-    // Whatever the bytes are, lines hold of every assignment that meets the script, and the goals are true of it.
-    ensures holds { IfOk result (λ lines. (a : Assignment) → Meets a script.now → AreHeld script.now a lines.rows) }
+    ensures accepts { (all : List ℕ) → F.told folder.old reader.old.ahead.name ≡ Some all
+        → AreBytes all → IfOk result (λ lines. AreAcceptedFor script.now all lines.rows) }
+    // Whatever the bytes are, lines hold of every assignment that meets the script, and the goals
+    // are true of it.
+    ensures holds { IfOk result (λ lines. (a : Assignment) → Meets a script.now
+        → AreHeld script.now a lines.rows) }
     ensures count { IfOk result (λ lines. length lines.rows ≡ length script.now.goals) }
-    ensures marks { IfOk result (λ lines. AreMarks script.now.nodes script.now.hints.rewrites lines.marks) }
+    ensures marks { IfOk result
+        (λ lines. AreMarks script.now.nodes script.now.hints.rewrites lines.marks) }
     ensures agrees { AgreesTold (F.told folder.new reader.new.ahead.name) reader.new.ahead }
     ensures name { reader.new.ahead.name ≡ reader.old.ahead.name }
     ensures told { (other : List ℕ) → F.told folder.new other ≡ F.told folder.old other }
     ensures later { F.read_faults folder.old ≤ F.read_faults folder.new }
     ensures quiet { F.write_faults folder.new ≡ F.write_faults folder.old }
-    ensures cause { IsErrOf result CheckStop.Failed → Rose (F.read_faults folder.old) (F.read_faults folder.new) }
+    ensures cause { IsErrOf result CheckStop.Failed
+        → Rose (F.read_faults folder.old) (F.read_faults folder.new) }
 {
     script.laws();
     goals_are_enough();

@@ -5,8 +5,9 @@ use cert_checker::{accepted_lines_hold, items_are_judged_once};
 use rewrite_hints::rows_are_true;
 use script_meets::{goals_are_enough, hypotheses_hold, met_scripts};
 
-/// Nothing is done. The clauses tell a caller that the lines of an accepted certificate, and of bytes that are accepted, hold of
-/// every assignment that meets the script; and that its goals are true of it.
+/// Nothing is done. The clauses tell a caller that the lines of an accepted certificate, and of
+/// bytes that are accepted, hold of every assignment that meets the script; and that its goals are
+/// true of it.
 pub fn accepted_lines_hold_of_scripts()
     ensures items { AcceptedHoldsOfScripts }
     ensures bytes { CheckedHoldsOfScripts }
@@ -18,8 +19,8 @@ pub fn accepted_lines_hold_of_scripts()
     met_scripts();
 }
 
-/// Nothing is done. The clause tells a caller that one thing comes of a certificate's bytes for a script: they are accepted, with
-/// what that comes to, or have one first fault.
+/// Nothing is done. The clause tells a caller that one thing comes of a certificate's bytes for a
+/// script: they are accepted, with what that comes to, or have one first fault.
 pub fn checks_are_one()
     ensures { ChecksAreOne }
 {

@@ -1,4 +1,5 @@
-//! Certificates of scripts: what a script asks of them, and what the lines of an accepted one say of it.
+//! Certificates of scripts: what a script asks of them, and what the lines of an accepted one say
+//! of it.
 #![tactic(auto)]
 
 // What callers name of the crates below.

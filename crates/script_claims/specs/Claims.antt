@@ -42,9 +42,12 @@ of_value claim p = (p.0, claim p.1)
 -- its claim, and what is known behind it
 abbrev pub prop_claim : Prop → Known → Known × Claim
 prop_claim (lies_in e r) k = of_value (ranged r) (expr_value None e k)
-prop_claim (relative_in a b r) k = of_value (relative r (expr_value None a k).1) (expr_value None b (expr_value None a k).0)
-prop_claim (at_most e b) k = of_value (λ x. Bounded x None (Some (bound_written b))) (expr_value None e k)
-prop_claim (at_least e b) k = of_value (λ x. Bounded x (Some (bound_written b)) None) (expr_value None e k)
+prop_claim (relative_in a b r) k =
+    of_value (relative r (expr_value None a k).1) (expr_value None b (expr_value None a k).0)
+prop_claim (at_most e b) k =
+    of_value (λ x. Bounded x None (Some (bound_written b))) (expr_value None e k)
+prop_claim (at_least e b) k =
+    of_value (λ x. Bounded x (Some (bound_written b)) None) (expr_value None e k)
 prop_claim (multiple f e w) k = of_value (λ x. Multiple x (exponent_of w)) (expr_value None e k)
 
 -- `not` before a bound. Before other propositions it is refused.
@@ -120,7 +123,8 @@ then_arrow cs = record { known = cs.known; sides = behind_arrow cs.sides }
 abbrev pub no_claims : Known → Claims
 no_claims k = record { known = k; sides = no_sides }
 
--- The last part has the goals, and the parts before it have the hypotheses. With no arrow all are goals.
+-- The last part has the goals, and the parts before it have the hypotheses. With no arrow all are
+-- goals.
 abbrev pub formula_claims : Formula → Known → Claims
 formula_claims (single p) k = then_claimed p (no_claims k)
 formula_claims (and f p) k = then_claimed p (formula_claims f k)

@@ -49,19 +49,32 @@ abbrev parts_of_formula : Formula → List (List (List Claim))
 parts_of_formula f = (formula_claims f nothing_known).sides.parts.before
 
 -- `x in [1,2] /\ y <= 3 -> x * y in ? /\ x >= 0.1`
-one_arrow : sides_of (and (implies (and (single (affirmed (lies_in x (between (unsigned Digits (codes "1")) (unsigned Digits (codes "2")))))) (affirmed (at_most y (unsigned Digits (codes "3"))))) (affirmed (lies_in (term (product (factor (atom x_atom)) (atom y_atom))) asked))) (affirmed (at_least x (unsigned Other (codes "0.1")))))
+one_arrow : sides_of (and (implies (and (single
+    (affirmed (lies_in x (between (unsigned Digits (codes "1")) (unsigned Digits (codes "2"))))))
+    (affirmed (at_most y (unsigned Digits (codes "3")))))
+    (affirmed (lies_in (term (product (factor (atom x_atom)) (atom y_atom))) asked)))
+    (affirmed (at_least x (unsigned Other (codes "0.1")))))
     ≡ record {
-      hypotheses = Bounded (id 0) (Some (ones 1)) (Some (ones 2)) ∷ Bounded (id 1) None (Some (ones 3)) ∷ [];
+      hypotheses =
+          Bounded (id 0) (Some (ones 1)) (Some (ones 2)) ∷ Bounded (id 1) None (Some (ones 3)) ∷ [];
       goals = Asked (id 2) ∷ Bounded (id 0) (Some (tenths 1)) None ∷ [];
     }
 unfolding put variable_put named parts_of tens_out twos_out literal_of
 one_arrow = refl
 
--- `y >= -1b-1 -> @FIX(x, -4) -> x -/ y in [-0.1, +0.1]`: only what stands behind the last arrow is a goal
-two_arrows : sides_of (implies (implies (single (affirmed (at_least y (negative Other (codes "1b-1"))))) (affirmed (multiple (free (codes "FIX")) x (opposite (digits (codes "4")))))) (affirmed (relative_in x y (between (negative Other (codes "0.1")) (positive Other (codes "0.1"))))))
+-- `y >= -1b-1 -> @FIX(x, -4) -> x -/ y in [-0.1, +0.1]`: only what stands behind the last arrow is
+-- a goal
+two_arrows : sides_of (implies
+    (implies (single (affirmed (at_least y (negative Other (codes "1b-1")))))
+    (affirmed (multiple (free (codes "FIX")) x (opposite (digits (codes "4")))))) (affirmed
+    (relative_in x y (between (negative Other (codes "0.1")) (positive Other (codes "0.1"))))))
     ≡ record {
-      hypotheses = Bounded (id 0) (Some (record { literal = record { num = 1; two = negsuc 0; ten = pos 0 }; negative = true })) None ∷ Multiple (id 1) (negsuc 3) ∷ [];
-      goals = Relative (id 1) (id 0) (record { literal = record { num = 1; two = pos 0; ten = negsuc 0 }; negative = true }) (tenths 1) ∷ [];
+      hypotheses = Bounded (id 0) (Some
+          (record { literal = record { num = 1; two = negsuc 0; ten = pos 0 }; negative = true }))
+          None ∷ Multiple (id 1) (negsuc 3) ∷ [];
+      goals = Relative (id 1) (id 0)
+          (record { literal = record { num = 1; two = pos 0; ten = negsuc 0 }; negative = true })
+          (tenths 1) ∷ [];
     }
 unfolding put variable_put named parts_of tens_out twos_out literal_of exponent_size
 two_arrows = refl
@@ -78,7 +91,10 @@ no_arrow = refl
 -- 3` is assumed
 abbrev two_cases : Formula
 two_cases =
-    implies (implies (or (and (single (affirmed (lies_in x (between (unsigned Digits (codes "1")) (unsigned Digits (codes "2")))))) (denied (at_least x (unsigned Digits (codes "2"))))) (denied (at_most y (unsigned Digits (codes "3"))))) (affirmed (at_least y (unsigned Digits (codes "3"))))) (affirmed (lies_in x asked))
+    implies (implies (or (and (single (affirmed (lies_in x (between (unsigned Digits (codes "1"))
+    (unsigned Digits (codes "2")))))) (denied (at_least x (unsigned Digits (codes "2")))))
+    (denied (at_most y (unsigned Digits (codes "3")))))
+    (affirmed (at_least y (unsigned Digits (codes "3"))))) (affirmed (lies_in x asked))
 
 two_parts : parts_of_formula two_cases
     ≡ ((Bounded (id 0) (Some (ones 1)) (Some (ones 2)) ∷ Below (id 0) (ones 2) ∷ []) ∷

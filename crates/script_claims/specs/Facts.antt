@@ -1,4 +1,5 @@
--- The fact that a claim gives as a hypothesis, with bounds rounded outward, and what it wants as a goal, rounded inward.
+-- The fact that a claim gives as a hypothesis, with bounds rounded outward, and what it wants as a
+-- goal, rounded inward.
 use Rattle.std.specs.Prelude.{⊤, Option, Some, None}
 use Rattle.goals.specs.fx_model.Fraction.{neg_ℚ, one_ℚ}
 use Rattle.goals.specs.fx_model.Enclosure.{IsOrdered}
@@ -41,18 +42,21 @@ relative_fact x y i = rel_of x y (error_of_part i)
 abbrev pub hypothesis_fact : Claim → Option Fact
 hypothesis_fact (Bounded x lower upper) = bnd_of x (outward_of (written_range lower upper))
 hypothesis_fact (Asked x) = None
-hypothesis_fact (Relative x y lower upper) = relative_fact x y (outward_of (written_range (Some lower) (Some upper)))
+hypothesis_fact (Relative x y lower upper) =
+    relative_fact x y (outward_of (written_range (Some lower) (Some upper)))
 hypothesis_fact (RelativeAsked x y) = None
 hypothesis_fact (Above x n) = bnd_of x (outward_of (written_range (Some n) None))
 hypothesis_fact (Below x n) = bnd_of x (outward_of (written_range None (Some n)))
 hypothesis_fact (Multiple x k) = fix_of x (place_from k)
 
--- What the checks of a script leave to a hypothesis: the bounds of a relative claim are in order, and the lower one,
--- rounded down, is above -1; an exponent is in its range. A question isn't a hypothesis.
+-- What the checks of a script leave to a hypothesis: the bounds of a relative claim are in order,
+-- and the lower one, rounded down, is above -1; an exponent is in its range. A question isn't a
+-- hypothesis.
 abbrev pub IsHypothesis : Claim → Type 0
 IsHypothesis (Bounded x lower upper) = ⊤
 IsHypothesis (Asked x) = ⊥
-IsHypothesis (Relative x y lower upper) = IsOrdered (low_of (Some lower)) (high_of (Some upper)) × IsBelow (neg_ℚ one_ℚ) (bound_of (down_end (low_of (Some lower))))
+IsHypothesis (Relative x y lower upper) = IsOrdered (low_of (Some lower)) (high_of (Some upper))
+    × IsBelow (neg_ℚ one_ℚ) (bound_of (down_end (low_of (Some lower))))
 IsHypothesis (RelativeAsked x y) = ⊥
 IsHypothesis (Above x n) = ⊤
 IsHypothesis (Below x n) = ⊤

@@ -19,9 +19,11 @@ IsRelatedWithin r x y = AreZero x y ⊎ ((y ≢ zero_ℚ) × Lies r ((x /ℚ y) 
 
 -- The claim is true of the assignment. A question claims nothing.
 abbrev pub IsTrueAt : List Node → Assignment → Claim → Type 0
-IsTrueAt nodes a (Bounded x lower upper) = IsSomeAnd (value nodes a x) (Lies (written_range lower upper))
+IsTrueAt nodes a (Bounded x lower upper) =
+    IsSomeAnd (value nodes a x) (Lies (written_range lower upper))
 IsTrueAt nodes a (Asked x) = ⊤
-IsTrueAt nodes a (Relative x y lower upper) = OfBoth nodes a x y (IsRelatedWithin (written_range (Some lower) (Some upper)))
+IsTrueAt nodes a (Relative x y lower upper) =
+    OfBoth nodes a x y (IsRelatedWithin (written_range (Some lower) (Some upper)))
 IsTrueAt nodes a (RelativeAsked x y) = ⊤
 IsTrueAt nodes a (Above x n) = IsSomeAnd (value nodes a x) (λ v. written_value n <ℚ v)
 IsTrueAt nodes a (Below x n) = IsSomeAnd (value nodes a x) (λ v. v <ℚ written_value n)

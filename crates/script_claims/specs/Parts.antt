@@ -61,14 +61,16 @@ nothing_read = record { part = Nothing; exponent = pos 0; negative = false; deni
 
 -- a bound, or the sign before it
 abbrev pub bound_read : Word → Proposition → Proposition
-bound_read (literal k text) p = record p { part = bounded (record { literal = literal_of text; negative = false }) p.part }
+bound_read (literal k text) p =
+    record p { part = bounded (record { literal = literal_of text; negative = false }) p.part }
 bound_read (sign s.Plus) p = record p { negative = false }
 bound_read (sign s.Minus) p = record p { negative = true }
 bound_read w p = p
 
 -- the literal behind a sign
 abbrev pub magnitude_read : Word → Proposition → Proposition
-magnitude_read (literal k text) p = record p { part = bounded (record { literal = literal_of text; negative = p.negative }) p.part }
+magnitude_read (literal k text) p =
+    record p { part = bounded (record { literal = literal_of text; negative = p.negative }) p.part }
 magnitude_read w p = p
 
 abbrev pub whole_read : Word → Proposition → Proposition

@@ -36,7 +36,10 @@ abbrev pub with_part : (Part → Part) → Proposition → Proposition
 with_part f p = record p { part = f p.part }
 
 abbrev pub taken : (ExprId → Part → Part) → State → Option Complete → State
-taken f st (Some c) = record st { reading = record { known = c.0.0; waits = c.1 }; proposition = with_part (f c.0.1) st.proposition }
+taken f st (Some c) = record st {
+  reading = record { known = c.0.0; waits = c.1 };
+  proposition = with_part (f c.0.1) st.proposition;
+}
 taken f st None = st
 
 abbrev pub expr_taken : (ExprId → Part → Part) → State → State
@@ -84,10 +87,13 @@ read_claims (l ∷ ls) st = read_claims ls (read_claim l.role l.word st)
 abbrev pub then_brace : Formula → List Leaf → List Leaf
 then_brace f rest = formula_leaves f ++ (at d.CloseBrace (sign s.CloseBrace) ∷ rest)
 
--- Whatever is known and whatever follows, the words of a formula and the brace behind it are read as its claims.
+-- Whatever is known and whatever follows, the words of a formula and the brace behind it are read
+-- as its claims.
 abbrev pub ReadsFormulas : Type 0
-ReadsFormulas = (f : Formula) (rest : List Leaf) (k : Known) → read_claims (then_brace f rest) (from_claims (no_claims k)) ≡ read_claims rest (from_claims (formula_claims f k))
+ReadsFormulas = (f : Formula) (rest : List Leaf) (k : Known) → read_claims (then_brace f rest)
+    (from_claims (no_claims k)) ≡ read_claims rest (from_claims (formula_claims f k))
 
 -- Nodes never go: behind a word there are as many as before it, or more.
 abbrev pub ClaimsGrow : Type 0
-ClaimsGrow = (r : Due) (w : Word) (st : State) → node_count st.reading.known ≤ node_count (read_claim r w st).reading.known
+ClaimsGrow = (r : Due) (w : Word) (st : State)
+    → node_count st.reading.known ≤ node_count (read_claim r w st).reading.known

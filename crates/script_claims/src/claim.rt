@@ -12,7 +12,8 @@ pub enum Claim {
     Bounded(ExprId, Option<Written>, Option<Written>),
     /// `e in ?`.
     Asked(ExprId),
-    /// `x -/ y in [a, b]`: both values are 0, or the first over the second, less 1, lies between the bounds.
+    /// `x -/ y in [a, b]`: both values are 0, or the first over the second, less 1, lies between
+    /// the bounds.
     Relative(ExprId, ExprId, Written, Written),
     /// `x -/ y in ?`.
     RelativeAsked(ExprId, ExprId),
@@ -20,13 +21,15 @@ pub enum Claim {
     Above(ExprId, Written),
     /// `not e >= n`: the value is below the bound.
     Below(ExprId, Written),
-    /// `@FIX(e, k)`: the value is a whole multiple of 2^k. Of k past 1025 and -1025 these stand for it.
+    /// `@FIX(e, k)`: the value is a whole multiple of 2^k. Of k past 1025 and -1025 these stand for
+    /// it.
     Multiple(ExprId, i16),
 }
 
 impl Claim {
-    /// The fact that the claim gives as a hypothesis. None for a question, for bounds that are out of order, for
-    /// relative bounds of which the lower isn't above -1, and for an exponent that isn't from -1024 to 512.
+    /// The fact that the claim gives as a hypothesis. None for a question, for bounds that are out
+    /// of order, for relative bounds of which the lower isn't above -1, and for an exponent that
+    /// isn't from -1024 to 512.
     pub fn hypothesis(self) -> Option<Fact>
         requires { HasNormalBounds self }
         ensures { result ≡ hypothesis_fact self }

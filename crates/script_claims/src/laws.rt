@@ -16,32 +16,38 @@ ghost use Rattle.script_claims.specs.Reads.{ReadsFormulas, ClaimsGrow};
 use script_bounds::{inward_is_greatest, outward_is_least};
 use script_nodes::laws::{nodes_only_grow, reads_trees};
 
-/// Nothing is done. The clauses tell a caller that a claim's fact holds wherever the claim is true, and that a
-/// hypothesis has a fact there.
+/// Nothing is done. The clauses tell a caller that a claim's fact holds wherever the claim is true,
+/// and that a hypothesis has a fact there.
 pub fn hypotheses_hold()
-    ensures holds { (nodes : List Node) (a : Assignment) (c : Claim) (f : Fact) → hypothesis_fact c ≡ Some f → IsTrueAt nodes a c → Holds nodes a f }
-    ensures kept { (nodes : List Node) (a : Assignment) (c : Claim) → IsHypothesis c → IsTrueAt nodes a c → (f : Fact) × (hypothesis_fact c ≡ Some f) }
+    ensures holds { (nodes : List Node) (a : Assignment) (c : Claim) (f : Fact)
+        → hypothesis_fact c ≡ Some f → IsTrueAt nodes a c → Holds nodes a f }
+    ensures kept { (nodes : List Node) (a : Assignment) (c : Claim) → IsHypothesis c
+        → IsTrueAt nodes a c → (f : Fact) × (hypothesis_fact c ≡ Some f) }
 {
     outward_is_least();
 }
 
-/// Nothing is done. The clauses tell a caller that a claim is true where what it is about lies in the interval that it
-/// wants, and that a relative claim is true where both values are 0.
+/// Nothing is done. The clauses tell a caller that a claim is true where what it is about lies in
+/// the interval that it wants, and that a relative claim is true where both values are 0.
 pub fn goals_are_enough()
-    ensures inside { (nodes : List Node) (a : Assignment) (c : Claim) (i : Interval) → want_of c ≡ Inside (Some i) → LiesAt nodes a i (slot_of c) → IsTrueAt nodes a c }
-    ensures zeros { (nodes : List Node) (a : Assignment) (c : Claim) → AreZeroAt nodes a (slot_of c) → IsTrueAt nodes a c }
+    ensures inside { (nodes : List Node) (a : Assignment) (c : Claim) (i : Interval)
+        → want_of c ≡ Inside (Some i) → LiesAt nodes a i (slot_of c) → IsTrueAt nodes a c }
+    ensures zeros { (nodes : List Node) (a : Assignment) (c : Claim)
+        → AreZeroAt nodes a (slot_of c) → IsTrueAt nodes a c }
 {
     inward_is_greatest();
 }
 
-/// Nothing is done. The clause tells a caller that the words of a formula, read from the left, are read as its claims.
+/// Nothing is done. The clause tells a caller that the words of a formula, read from the left, are
+/// read as its claims.
 pub fn formulas_are_read()
     ensures { ReadsFormulas }
 {
     reads_trees();
 }
 
-/// Nothing is done. The clause tells a caller that nodes never go while the words of a formula are read.
+/// Nothing is done. The clause tells a caller that nodes never go while the words of a formula are
+/// read.
 pub fn claims_only_grow()
     ensures { ClaimsGrow }
 {

@@ -17,7 +17,8 @@ use script_nodes::{Due, Sign, Word};
 pub struct Proposition {
     /// What stands before the word in hand.
     pub part: Part,
-    /// The last whole number that was read, or 1025 or -1025 past these. It is that of `@FIX`, where one ends.
+    /// The last whole number that was read, or 1025 or -1025 past these. It is that of `@FIX`,
+    /// where one ends.
     pub exponent: i16,
     /// Whether the sign before a bound is a minus.
     pub negative: bool,
@@ -77,7 +78,9 @@ impl Proposition {
 
     fn add_bound(&mut self, text: &[u8], negative: bool)
         ensures read { self.new ≡ record self.old {
-          part = spec.bounded (record { literal = spec_literals.literal_of text.now; negative = negative }) self.old.part;
+          part = spec.bounded
+              (record { literal = spec_literals.literal_of text.now; negative = negative })
+              self.old.part;
         } }
         ensures normal { IsNormalPart self.old.part → IsNormalPart self.new.part }
     {

@@ -30,7 +30,8 @@ impl<'a> Model for ClaimReader<'a> {
 
     ghost Value = { State };
 
-    ghost view = { λ r. record { reading = r.nodes; proposition = r.proposition; sides = r.sides } };
+    ghost view = { λ r.
+        record { reading = r.nodes; proposition = r.proposition; sides = r.sides } };
 
     ghost invariant = { λ r. IsNormalPart r.proposition.part };
 }
@@ -38,7 +39,11 @@ impl<'a> Model for ClaimReader<'a> {
 impl<'a> ClaimReader<'a> {
     /// No claims, over what was read before. It takes no memory.
     pub fn new(alloc: Global, nodes: Reader<'a>) -> ClaimReader<'a>
-        ensures { result ≡ record { reading = nodes.entry; proposition = spec_parts.nothing_read; sides = no_sides } }
+        ensures { result ≡ record {
+          reading = nodes.entry;
+          proposition = spec_parts.nothing_read;
+          sides = no_sides;
+        } }
     {
         ClaimReader {
             nodes,
@@ -76,7 +81,8 @@ impl<'a> ClaimReader<'a> {
         ensures read { OnOk result (self.new
             ≡ spec.expr_taken (spec_parts.relation_behind (word_of word.entry)) self.old) }
         ensures full { result ≡ Err DagFault.Full → 1024 < length
-            (spec.expr_taken (spec_parts.relation_behind (word_of word.entry)) self.old).reading.known.nodes }
+            (spec.expr_taken (spec_parts.relation_behind (word_of word.entry))
+            self.old).reading.known.nodes }
     {
         if let Some(x) = self.nodes.expression(None)? {
             self.proposition.part = self.proposition.part.related(word, x);
@@ -118,7 +124,8 @@ impl<'a> ClaimReader<'a> {
     // Takes the end of a proposition.
     fn end(&mut self) -> Result<(), DagFault>
         ensures read { OnOk result (self.new ≡ spec.ended self.old) }
-        ensures full { result ≡ Err DagFault.Full → 1024 < length (spec.ended self.old).reading.known.nodes }
+        ensures full { result ≡ Err DagFault.Full
+            → 1024 < length (spec.ended self.old).reading.known.nodes }
     {
         match self.proposition.part {
             Part::Made(claim) => return self.add(claim),
@@ -135,8 +142,10 @@ impl<'a> ClaimReader<'a> {
 
     // Takes the sign behind a proposition.
     fn connect(&mut self, word: Word<'_>) -> Result<(), DagFault>
-        ensures read { OnOk result (self.new ≡ spec.connected (word_of word.entry) (spec.ended self.old)) }
-        ensures full { result ≡ Err DagFault.Full → 1024 < length (spec.ended self.old).reading.known.nodes }
+        ensures read { OnOk result
+            (self.new ≡ spec.connected (word_of word.entry) (spec.ended self.old)) }
+        ensures full { result ≡ Err DagFault.Full
+            → 1024 < length (spec.ended self.old).reading.known.nodes }
     {
         self.end()?;
         match word {
@@ -170,14 +179,16 @@ impl<'a> ClaimReader<'a> {
         }
     }
 
-    /// Takes a word of a formula, or the brace behind it, by its role. `Full` only where the meaning has more than 1,024
-    /// nodes, and else an `Err` only where memory runs out; the reader is then not to be used on: what it holds is sound
-    /// (`Reader::laws`), and the bounds of its claims are in normal form.
+    /// Takes a word of a formula, or the brace behind it, by its role. `Full` only where the
+    /// meaning has more than 1,024 nodes, and else an `Err` only where memory runs out; the reader
+    /// is then not to be used on: what it holds is sound (`Reader::laws`), and the bounds of its
+    /// claims are in normal form.
     #[tactic(auto, unfolding(script_nodes::specs::Waits::read, crate::specs::Reads::read_claim))]
     pub fn token(&mut self, role: Due, word: Word<'a>) -> Result<(), DagFault>
         ensures read { OnOk result (self.new ≡ spec.read_claim role (word_of word.entry) self.old) }
         ensures full { result ≡ Err DagFault.Full
-            → 1024 < length (spec.read_claim role (word_of word.entry) self.old).reading.known.nodes }
+            → 1024 < length (spec.read_claim role
+            (word_of word.entry) self.old).reading.known.nodes }
     {
         match role {
             Due::Relation => self.relate(word),

@@ -1,4 +1,5 @@
--- What a script says, by recursion on its tree: definitions first, then the formula, then the hints.
+-- What a script says, by recursion on its tree: definitions first, then the formula, then the
+-- hints.
 use Rattle.std.specs.Prelude.{List}
 use Rattle.node_counts.specs.script_cases.Parts.{Parts}
 use Rattle.goal_spans.specs.script_shape.Tree.{Hints, Script, formula, define}

@@ -12,12 +12,14 @@ use Rattle.node_counts.specs.script_nodes.Operators.{number_of}
 use Rattle.node_counts.specs.script_claims.Claims.{exponent_size}
 use Rattle.script_grammar.specs.Spells.{View, Spells}
 
--- digits alone are read as the number that they write, as the place of an operator and as the exponent of a multiple
+-- digits alone are read as the number that they write, as the place of an operator and as the
+-- exponent of a multiple
 abbrev pub AreDigits : List ℕ → Type 0
-AreDigits text = (number_of text ≡ digits_value 10 text) × (exponent_size text ≡ digits_value 10 text)
+AreDigits text = (number_of text ≡ digits_value 10 text)
+    × (exponent_size text ≡ digits_value 10 text)
 
--- A literal of an expression or a bound is within its limits, and the literal of its text is what it is read as. Digits alone
--- stand for the number that they write.
+-- A literal of an expression or a bound is within its limits, and the literal of its text is what
+-- it is read as. Digits alone stand for the number that they write.
 abbrev pub IsRead : Due → Word → Type 0
 IsRead d.Operand (literal k text) = IsReading text (literal_of text)
 IsRead d.Bound (literal k text) = IsReading text (literal_of text)
@@ -29,4 +31,5 @@ IsRead r w = ⊤
 
 -- Each word of a script that a text spells is read so.
 abbrev pub SpelledAreRead : Type 0
-SpelledAreRead = (text : List ℕ) (s : View) (p : Spells text s) → AllByRecursion (λ l. IsRead l.role l.word) (script_leaves p.tree)
+SpelledAreRead = (text : List ℕ) (s : View) (p : Spells text s)
+    → AllByRecursion (λ l. IsRead l.role l.word) (script_leaves p.tree)

@@ -15,10 +15,10 @@ use Rattle.goal_spans.specs.declared.span.Span.{Span}
 use Rattle.goal_spans.specs.Spans.{goal_spans}
 use Rattle.script_grammar.specs.Meaning.{Meaning, meaning_of}
 
--- A script as it is read: its text, its tokens, the nodes of its expressions, the names of its variables (`Var i` is the i-th), what
--- its formula claims, its hypotheses by parts and conjunctions (each part a list of conjunctions,
--- and each conjunction of claims), which of its tokens are the expressions of the goals, and what
--- its hints say.
+-- A script as it is read: its text, its tokens, the nodes of its expressions, the names of its
+-- variables (`Var i` is the i-th), what its formula claims, its hypotheses by parts and
+-- conjunctions (each part a list of conjunctions, and each conjunction of claims), which of its
+-- tokens are the expressions of the goals, and what its hints say.
 pub record View : Type 0 where
   pub text : List ℕ
   pub tokens : List Token
@@ -43,7 +43,8 @@ view_of text tokens m spans = record {
   hints = m.hints;
 }
 
--- The text spells the script: it is refused nowhere, and its tokens are the words of a tree that says this.
+-- The text spells the script: it is refused nowhere, and its tokens are the words of a tree that
+-- says this.
 pub record Spells (text : List ℕ) (s : View) : Type 0 where
   pub accepted : IsFirstRefusal text None
   pub lexed : Lexes 0 text s.tokens None

@@ -15,7 +15,8 @@ use Rattle.node_counts.specs.script_hints.Drafts.{fresh}
 use Rattle.node_counts.specs.script_hints.Reading.{HintReading, hints_from, read_hint}
 use Rattle.script_grammar.specs.Meaning.{Meaning, meaning_of}
 
--- where the reading stands: in the definitions, in the formula, or in the hints with the formula's claims
+-- where the reading stands: in the definitions, in the formula, or in the hints with the formula's
+-- claims
 pub data Step : Type 0 where
   defining : Defining → Step
   claiming : State → Step
@@ -31,8 +32,10 @@ hints_begun st = hinting st.sides (record { reading = st.reading; draft = fresh 
 
 -- what stands behind a word
 unfoldable pub read_word : Due → Word → Step → Step
-read_word r w (defining p) = if opens_formula r w then claiming (state_of p.reading no_sides) else defining (define_word r w p)
-read_word r w (claiming st) = if closes_formula r then hints_begun (read_claim r w st) else claiming (read_claim r w st)
+read_word r w (defining p) = if opens_formula r w then claiming (state_of p.reading no_sides)
+    else defining (define_word r w p)
+read_word r w (claiming st) =
+    if closes_formula r then hints_begun (read_claim r w st) else claiming (read_claim r w st)
 read_word r w (hinting sides h) = hinting sides (read_hint r w h)
 
 unfoldable pub read_words : List Leaf → Step → Step

@@ -92,8 +92,8 @@ pub fn spelled_have_few_goals()
     leaves_are_of_trees();
 }
 
-/// Nothing is done. The clause tells a caller that the rewritings of a script that a text spells have
-/// no more than 2^18 constraints together.
+/// Nothing is done. The clause tells a caller that the rewritings of a script that a text spells
+/// have no more than 2^18 constraints together.
 pub fn spelled_have_few_constraints()
     ensures { SpelledHaveFewConstraints }
 {

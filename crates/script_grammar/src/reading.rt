@@ -27,7 +27,8 @@ pub fn parse<'a>(alloc: Global, text: &'a [u8]) -> Result<Script<'a>, ParseStop>
     ensures spelled { IfOk result (Spells text.now) }
     ensures refused { (r : Refusal) → result ≡ Err (ParseStop.Refused r) → IsRefused text.now r }
     // What is spelled is answered, want of memory aside.
-    ensures answered { (s : View) → Spells text.now s → IfOk result (λ t. t ≡ s) × ((r : Refusal) → ¬ (result ≡ Err (ParseStop.Refused r))) }
+    ensures answered { (s : View) → Spells text.now s
+        → IfOk result (λ t. t ≡ s) × ((r : Refusal) → ¬ (result ≡ Err (ParseStop.Refused r))) }
 {
     script_or_refusal();
     match judge_text(alloc, text) {

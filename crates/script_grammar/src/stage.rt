@@ -38,14 +38,17 @@ fn closes_formula(role: Due) -> bool
 }
 
 impl<'a> Stage<'a> {
-    // Takes a word that neither opens the formula nor closes it. The stage stays where it is in memory.
+    // Takes a word that neither opens the formula nor closes it. The stage stays where it is in
+    // memory.
     #[tactic(auto, unfolding(crate::specs::Steps::read_word))]
     fn stay(&mut self, role: Due, word: Word<'a>) -> Result<(), DagFault>
         requires opens { opens_formula role (word_of word) ≡ false }
         requires closes { spec.closes_formula role ≡ false }
-        ensures read { OnOk result (step_of self.new ≡ spec.read_word role (word_of word.entry) (step_of self.old)) }
+        ensures read { OnOk result
+            (step_of self.new ≡ spec.read_word role (word_of word.entry) (step_of self.old)) }
         ensures full { result ≡ Err DagFault.Full
-            → 1024 < length (spec.nodes_at (spec.read_word role (word_of word.entry) (step_of self.old))) }
+            → 1024 < length (spec.nodes_at
+            (spec.read_word role (word_of word.entry) (step_of self.old))) }
     {
         match self {
             Stage::Definitions(definitions) => definitions.token(role, word),
@@ -57,9 +60,11 @@ impl<'a> Stage<'a> {
     // Takes a word by its role.
     #[tactic(auto, unfolding(crate::specs::Steps::read_word))]
     fn read(self, alloc: Global, role: Due, word: Word<'a>) -> Result<Stage<'a>, DagFault>
-        ensures read { IfOk result (λ next. step_of next ≡ spec.read_word role (word_of word.entry) (step_of self.entry)) }
+        ensures read { IfOk result
+            (λ next. step_of next ≡ spec.read_word role (word_of word.entry) (step_of self.entry)) }
         ensures full { result ≡ Err DagFault.Full
-            → 1024 < length (spec.nodes_at (spec.read_word role (word_of word.entry) (step_of self.entry))) }
+            → 1024 < length (spec.nodes_at (spec.read_word role (word_of word.entry)
+            (step_of self.entry))) }
     {
         match self {
             Stage::Definitions(mut definitions) => {
@@ -85,17 +90,19 @@ impl<'a> Stage<'a> {
     }
 }
 
-/// What words with their roles say, from the left. `Full` only where they have more than 1,024 nodes, and else an `Err` only
-/// where memory runs out.
+/// What words with their roles say, from the left. `Full` only where they have more than 1,024
+/// nodes, and else an `Err` only where memory runs out.
 #[tactic(auto, unfolding(crate::specs::Steps::read_words))]
 pub fn read_words<'a>(
     alloc: Global,
     words: WordList<'_, 'a>,
     roles: &[Due],
 ) -> Result<Stage<'a>, DagFault>
-    ensures read { IfOk result (λ stage. step_of stage ≡ spec.read_words (leaves_of roles.now (words_in words.entry)) spec.start) }
+    ensures read { IfOk result (λ stage. step_of stage
+        ≡ spec.read_words (leaves_of roles.now (words_in words.entry)) spec.start) }
     ensures full { result ≡ Err DagFault.Full → 1024
-        < length (spec.nodes_at (spec.read_words (leaves_of roles.now (words_in words.entry)) spec.start)) }
+        < length (spec.nodes_at (spec.read_words
+        (leaves_of roles.now (words_in words.entry)) spec.start)) }
 {
     nodes_only_grow();
     claims_only_grow();

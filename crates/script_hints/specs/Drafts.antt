@@ -15,7 +15,8 @@ use Rattle.script_hints.specs.declared.stage.Bounded.{Bounded}
 use Rattle.script_hints.specs.declared.stage.Bounded.TheVariants as bounded
 use Rattle.script_hints.specs.Hints.{with_point, piece_count, ordered, halved, with_cut}
 
--- How far the hint is read; what its next bound is for, and whether a minus stands before it; its constraints and points so far.
+-- How far the hint is read; what its next bound is for, and whether a minus stands before it; its
+-- constraints and points so far.
 pub record Draft : Type 0 where
   pub stage : Stage
   pub bounded : Bounded
@@ -26,7 +27,14 @@ pub record Draft : Type 0 where
 
 -- before a hint
 abbrev pub fresh : HintList → Draft
-fresh l = record { stage = stage.Front; bounded = bounded.Point; negative = false; constraints = []; points = []; list = l }
+fresh l = record {
+  stage = stage.Front;
+  bounded = bounded.Point;
+  negative = false;
+  constraints = [];
+  points = [];
+  list = l;
+}
 
 abbrev pub staged : Draft → Stage → Draft
 staged h t = record h { stage = t }
@@ -113,7 +121,8 @@ points_begun h = points_begun_as h.stage h
 -- ---- the end of a hint
 
 abbrev pub rewriting_added : ExprId → ExprId → List Constraint → HintList → HintList
-rewriting_added x y cs l = record l { rewrites = l.rewrites ++ (record { left = x; right = y; constraints = cs } ∷ []) }
+rewriting_added x y cs l =
+    record l { rewrites = l.rewrites ++ (record { left = x; right = y; constraints = cs } ∷ []) }
 
 abbrev pub like_added : ExprId → ExprId → HintList → HintList
 like_added x y l = record l { likes = l.likes ++ ((x, y) ∷ []) }

@@ -32,16 +32,44 @@ abbrev pub said : Hints → HintsSoFar
 said h = with_hints h (nothing_known, no_hints)
 
 -- `x $ y; $ x in 2;` names y before x
-halved_first : (said (hint (halving (halved_by (expression_of x) (last_name (name_of y)))) (hint (split (name_of x) (pieces (digits (codes "2")))) no_hint))).1 ≡ record { rewrites = []; likes = []; cuts = record { var = number 0; cut = cutting.Pieces 2 } ∷ []; halves = number 1 ∷ []; order = number 1 ∷ (number 0 ∷ []) }
+halved_first : (said (hint (halving (halved_by (expression_of x) (last_name (name_of y))))
+    (hint (split (name_of x) (pieces (digits (codes "2")))) no_hint))).1 ≡ record {
+      rewrites = [];
+      likes = [];
+      cuts = record { var = number 0; cut = cutting.Pieces 2 } ∷ [];
+      halves = number 1 ∷ [];
+      order = number 1 ∷ (number 0 ∷ []);
+    }
 unfolding named variable_put put number_of
 halved_first = refl
 
 -- `$ y; x ~ y; x $ y, x, y;` cuts along y into 4, and halves y before x
-cut_first : (said (hint (split (name_of y) in_four) (hint (like (expression_of x) (expression_of y)) (hint (halving (halved_by (expression_of x) (more_names (name_of y) (more_names (name_of x) (last_name (name_of y)))))) no_hint)))).1 ≡ record { rewrites = []; likes = (number 1, number 0) ∷ []; cuts = record { var = number 0; cut = cutting.Pieces 4 } ∷ []; halves = number 0 ∷ (number 1 ∷ []); order = number 0 ∷ (number 1 ∷ []) }
+cut_first : (said (hint (split (name_of y) in_four) (hint (like (expression_of x) (expression_of y))
+    (hint (halving (halved_by (expression_of x) (more_names (name_of y)
+    (more_names (name_of x) (last_name (name_of y)))))) no_hint)))).1 ≡ record {
+      rewrites = [];
+      likes = (number 1, number 0) ∷ [];
+      cuts = record { var = number 0; cut = cutting.Pieces 4 } ∷ [];
+      halves = number 0 ∷ (number 1 ∷ []);
+      order = number 0 ∷ (number 1 ∷ []);
+    }
 unfolding named variable_put put
 cut_first = refl
 
 -- `x -> y { y <> 0 };`
-needed : (said (hint (rewrite (expression_of x) (expression_of y) (provided (last_need (nonzero (expression_of y) (codes "0"))))) no_hint)).1 ≡ record { rewrites = record { left = number 0; right = number 1; constraints = constraint.NotZero (number 1) ∷ [] } ∷ []; likes = []; cuts = []; halves = []; order = [] }
+needed : (said (hint (rewrite (expression_of x) (expression_of y)
+    (provided (last_need (nonzero (expression_of y) (codes "0"))))) no_hint)).1 ≡ record {
+      rewrites =
+          record {
+            left = number 0;
+            right = number 1;
+            constraints = constraint.NotZero (number 1) ∷ [];
+          }
+          ∷ [];
+      likes = [];
+      cuts = [];
+      halves = [];
+      order = [];
+    }
 unfolding named variable_put put
 needed = refl

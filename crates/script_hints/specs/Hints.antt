@@ -1,4 +1,5 @@
--- What hints say, by recursion on their trees. Expressions are read from the left, in the order of writing.
+-- What hints say, by recursion on their trees. Expressions are read from the left, in the order of
+-- writing.
 use Rattle.std.specs.Prelude.{ℕ, nat_lt, ◌==◌, List, [], ◌∷◌, ◌++◌, Bool, true, false, None, if◌then◌else◌}
 use Rattle.std.specs.List.{list_any}
 use Rattle.script_nodes.specs.fx_model.declared.ExprId.{ExprId}
@@ -31,10 +32,14 @@ one_more f p ns = (p.0, ns ++ (f p.1 ∷ []))
 
 abbrev pub with_need : Need → NeedsSoFar → NeedsSoFar
 with_need (nonzero e zero_text) s = one_more constraint.NotZero (expr_value None e s.0) s.1
-with_need (below e b) s = one_more (λ x. constraint.Below x (bound_written b) true) (expr_value None e s.0) s.1
-with_need (not_above e b) s = one_more (λ x. constraint.Below x (bound_written b) false) (expr_value None e s.0) s.1
-with_need (above e b) s = one_more (λ x. constraint.Above x (bound_written b) true) (expr_value None e s.0) s.1
-with_need (not_below e b) s = one_more (λ x. constraint.Above x (bound_written b) false) (expr_value None e s.0) s.1
+with_need (below e b) s =
+    one_more (λ x. constraint.Below x (bound_written b) true) (expr_value None e s.0) s.1
+with_need (not_above e b) s =
+    one_more (λ x. constraint.Below x (bound_written b) false) (expr_value None e s.0) s.1
+with_need (above e b) s =
+    one_more (λ x. constraint.Above x (bound_written b) true) (expr_value None e s.0) s.1
+with_need (not_below e b) s =
+    one_more (λ x. constraint.Above x (bound_written b) false) (expr_value None e s.0) s.1
 
 abbrev pub with_need_list : NeedList → NeedsSoFar → NeedsSoFar
 with_need_list (last_need n) s = with_need n s
@@ -46,7 +51,8 @@ needs_value (provided l) k = with_need_list l (k, [])
 
 -- ---- cuts
 
--- The point is the greatest number of the grid that isn't above the bound. Where there is none, there is no point.
+-- The point is the greatest number of the grid that isn't above the bound. Where there is none,
+-- there is no point.
 abbrev pub with_end : List Dyadic → End → List Dyadic
 with_end ps end.Low = ps
 with_end ps (end.At x) = ps ++ (x ∷ [])
@@ -100,7 +106,10 @@ with_names (more_names n l) s = with_names l (with_halved n s)
 -- ---- hints
 
 abbrev pub rewrites_to : ExprId → ExprId → NeedsSoFar → HintList → HintsSoFar
-rewrites_to x y ns l = (ns.0, record l { rewrites = l.rewrites ++ (record { left = x; right = y; constraints = ns.1 } ∷ []) })
+rewrites_to x y ns l = (
+  ns.0,
+  record l { rewrites = l.rewrites ++ (record { left = x; right = y; constraints = ns.1 } ∷ []) },
+)
 
 abbrev pub rewrites_left : ExprId → Placed → Needs → HintList → HintsSoFar
 rewrites_left x b n l = rewrites_to x b.1 (needs_value n b.0) l
@@ -120,8 +129,10 @@ with_halving (halved_by e n) s = with_names n ((expr_value None e s.0).0, s.1)
 with_halving (with_goal e h) s = with_halving h ((expr_value None e s.0).0, s.1)
 
 abbrev pub with_hint : Hint → HintsSoFar → HintsSoFar
-with_hint (rewrite a b n) s = rewrites_left (expr_value None a s.0).1 (expr_value None b (expr_value None a s.0).0) n s.1
-with_hint (like a b) s = likens (expr_value None a s.0).1 (expr_value None b (expr_value None a s.0).0) s.1
+with_hint (rewrite a b n) s =
+    rewrites_left (expr_value None a s.0).1 (expr_value None b (expr_value None a s.0).0) n s.1
+with_hint (like a b) s =
+    likens (expr_value None a s.0).1 (expr_value None b (expr_value None a s.0).0) s.1
 with_hint (split n c) s = cuts_along (named s.0 (name_text n)) c s.1
 with_hint (halving h) s = with_halving h s
 

@@ -1,4 +1,5 @@
--- Hints, word by word from the left. Each word goes to the expression in hand, or ends it and goes to the hint.
+-- Hints, word by word from the left. Each word goes to the expression in hand, or ends it and goes
+-- to the hint.
 use Rattle.std.specs.Prelude.{List, [], ◌∷◌, Option, Some, None}
 use Rattle.script_nodes.specs.fx_model.declared.ExprId.{ExprId}
 use Rattle.script_nodes.specs.script_words.declared.class.Sign.{Sign}
@@ -50,7 +51,8 @@ by_sign f (sign g) x h = f g x h
 by_sign f w x h = h
 
 abbrev pub bound_word : Word → Draft → Draft
-bound_word (literal k text) h = with_bound (record { literal = literal_of text; negative = h.negative }) h
+bound_word (literal k text) h =
+    with_bound (record { literal = literal_of text; negative = h.negative }) h
 bound_word (sign g) h = bound_signed g h
 bound_word w h = h
 
@@ -60,9 +62,13 @@ cut_word (sign s.OpenParen) h = points_begun h
 cut_word w h = h
 
 abbrev pub variable_placed : Placed → HintReading → HintReading
-variable_placed p r = record { reading = record { known = p.0; waits = r.reading.waits }; draft = with_split_variable p.1 r.draft }
+variable_placed p r = record {
+  reading = record { known = p.0; waits = r.reading.waits };
+  draft = with_split_variable p.1 r.draft;
+}
 
--- a name that has a value stands for that, as in an expression; a script that is accepted splits variables alone
+-- a name that has a value stands for that, as in an expression; a script that is accepted splits
+-- variables alone
 abbrev pub variable_word : Word → HintReading → HintReading
 variable_word (name k text) r = variable_placed (named r.reading.known text) r
 variable_word (rounding k text) r = variable_placed (named r.reading.known text) r

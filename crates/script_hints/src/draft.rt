@@ -45,10 +45,17 @@ impl Model for HintDraft {
       negative = h.negative;
       constraints = h.constraints.items;
       points = h.points.items;
-      list = record { rewrites = h.rewrites.items; likes = h.likes.items; cuts = h.cuts.items; halves = h.halves.items; order = h.order.items };
+      list = record {
+        rewrites = h.rewrites.items;
+        likes = h.likes.items;
+        cuts = h.cuts.items;
+        halves = h.halves.items;
+        order = h.order.items;
+      };
     } };
 
-    ghost invariant = { λ h. All HasNormalBound h.constraints.items × All HasNormalBounds h.rewrites.items };
+    ghost invariant = { λ h. All HasNormalBound h.constraints.items
+        × All HasNormalBounds h.rewrites.items };
 }
 
 impl HintDraft {
@@ -255,7 +262,8 @@ fn add_constraint(
 ) -> Result<(), AllocError>
     requires one { HasNormalBound constraint }
     requires others { All HasNormalBound constraints.old.items }
-    ensures added { OnOk result (constraints.new.items ≡ constraints.old.items ++ (constraint ∷ [])) }
+    ensures added { OnOk result
+        (constraints.new.items ≡ constraints.old.items ++ (constraint ∷ [])) }
     ensures normal { All HasNormalBound constraints.new.items }
 {
     constraints.push(constraint)?;
@@ -272,7 +280,11 @@ fn add_rewriting(
     requires one { All HasNormalBound constraints.items }
     requires others { All HasNormalBounds rewrites.old.items }
     ensures added { OnOk result (rewrites.new.items
-        ≡ rewrites.old.items ++ (record { left = left; right = right; constraints = constraints.items } ∷ [])) }
+        ≡ rewrites.old.items ++ (record {
+          left = left;
+          right = right;
+          constraints = constraints.items;
+        } ∷ [])) }
     ensures normal { All HasNormalBounds rewrites.new.items }
 {
     rewrites.push(Hint {

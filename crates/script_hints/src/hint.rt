@@ -18,7 +18,8 @@ pub enum Constraint {
 }
 
 impl Constraint {
-    /// The constraint with its bound rounded to the grid, so that what meets it meets the written one.
+    /// The constraint with its bound rounded to the grid, so that what meets it meets the written
+    /// one.
     pub fn need(self) -> Need
         requires { HasNormalBound self }
         ensures { result ≡ need_of self }

@@ -17,7 +17,8 @@ use script_nodes::{DagFault, Due, ExprId, Sign, Word};
 use std::alloc::Global;
 use std::marker::Model;
 
-/// The expression that is being read, the hint, and what the hints before it say. After an `Err` it says nothing.
+/// The expression that is being read, the hint, and what the hints before it say. After an `Err` it
+/// says nothing.
 #[derive(Drop)]
 pub struct HintReader<'a> {
     reader: Reader<'a>,
@@ -35,7 +36,8 @@ impl<'a> Model for HintReader<'a> {
 /// The number of the expression that ends here.
 fn end(reader: &mut Reader<'_>) -> Result<ExprId, DagFault>
     ensures ended { IfOk result (λ x. spec.ended reader.old ≡ (reader.new, x)) }
-    ensures full { result ≡ Err DagFault.Full → 1024 < length (spec.ended reader.old).0.known.nodes }
+    ensures full { result ≡ Err DagFault.Full
+        → 1024 < length (spec.ended reader.old).0.known.nodes }
 {
     match reader.expression(None)? {
         Some(expression) => Ok(expression),
@@ -46,9 +48,11 @@ fn end(reader: &mut Reader<'_>) -> Result<ExprId, DagFault>
 /// The number of a name's node: that of its value, or a variable's.
 #[tactic(auto, unfolding(script_nodes::specs::Known::named))]
 fn named<'a>(reader: &mut Reader<'a>, name: &'a [u8]) -> Result<ExprId, DagFault>
-    ensures put { IfOk result (λ x. (reader.new.known, x) ≡ spec_known.named reader.old.known name.now) }
+    ensures put { IfOk result
+        (λ x. (reader.new.known, x) ≡ spec_known.named reader.old.known name.now) }
     ensures waits { reader.new.waits ≡ reader.old.waits }
-    ensures full { result ≡ Err DagFault.Full → 1024 < length (spec_known.named reader.old.known name.now).0.nodes }
+    ensures full { result ≡ Err DagFault.Full
+        → 1024 < length (spec_known.named reader.old.known name.now).0.nodes }
 {
     match reader.value(name) {
         Some(value) => Ok(value),
@@ -59,7 +63,8 @@ fn named<'a>(reader: &mut Reader<'a>, name: &'a [u8]) -> Result<ExprId, DagFault
 impl<'a> HintReader<'a> {
     /// Before the first hint, behind what the reader has read. It takes no memory.
     pub fn new(alloc: Global, reader: Reader<'a>) -> HintReader<'a>
-        ensures { result ≡ record { reading = reader.entry; draft = spec_drafts.fresh spec_hints.no_hints } }
+        ensures { result
+            ≡ record { reading = reader.entry; draft = spec_drafts.fresh spec_hints.no_hints } }
     {
         HintReader {
             reader,
@@ -78,9 +83,11 @@ impl<'a> HintReader<'a> {
 
     /// The word behind an expression at the front of a hint.
     fn end_side(&mut self, word: Word<'a>) -> Result<(), DagFault>
-        ensures reading { OnOk result (self.new ≡ spec.then_draft (spec.by_sign spec_drafts.side_ended (word_of word.entry))
+        ensures reading { OnOk result
+            (self.new ≡ spec.then_draft (spec.by_sign spec_drafts.side_ended (word_of word.entry))
             self.old.draft (spec.ended self.old.reading)) }
-        ensures full { result ≡ Err DagFault.Full → 1024 < length (spec.ended self.old.reading).0.known.nodes }
+        ensures full { result ≡ Err DagFault.Full
+            → 1024 < length (spec.ended self.old.reading).0.known.nodes }
     {
         let side = end(&mut self.reader)?;
         if let Word::Sign(sign) = word {
@@ -92,8 +99,10 @@ impl<'a> HintReader<'a> {
     /// The `{` of constraints.
     fn open_needs(&mut self) -> Result<(), DagFault>
         ensures reading { OnOk result (self.new
-            ≡ spec.then_draft spec_drafts.needs_opened self.old.draft (spec.ended self.old.reading)) }
-        ensures full { result ≡ Err DagFault.Full → 1024 < length (spec.ended self.old.reading).0.known.nodes }
+            ≡ spec.then_draft spec_drafts.needs_opened self.old.draft
+            (spec.ended self.old.reading)) }
+        ensures full { result ≡ Err DagFault.Full
+            → 1024 < length (spec.ended self.old.reading).0.known.nodes }
     {
         let right = end(&mut self.reader)?;
         self.draft.open_needs(right);
@@ -102,9 +111,11 @@ impl<'a> HintReader<'a> {
 
     /// The word behind the expression of a constraint.
     fn relate(&mut self, word: Word<'a>) -> Result<(), DagFault>
-        ensures reading { OnOk result (self.new ≡ spec.then_draft (spec.by_sign spec_drafts.related (word_of word.entry))
+        ensures reading { OnOk result
+            (self.new ≡ spec.then_draft (spec.by_sign spec_drafts.related (word_of word.entry))
             self.old.draft (spec.ended self.old.reading)) }
-        ensures full { result ≡ Err DagFault.Full → 1024 < length (spec.ended self.old.reading).0.known.nodes }
+        ensures full { result ≡ Err DagFault.Full
+            → 1024 < length (spec.ended self.old.reading).0.known.nodes }
     {
         let side = end(&mut self.reader)?;
         let Word::Sign(sign) = word else {
@@ -120,7 +131,8 @@ impl<'a> HintReader<'a> {
     fn end_hint(&mut self) -> Result<(), DagFault>
         ensures reading { OnOk result (self.new
             ≡ spec.then_draft spec_drafts.hint_ended self.old.draft (spec.ended self.old.reading)) }
-        ensures full { result ≡ Err DagFault.Full → 1024 < length (spec.ended self.old.reading).0.known.nodes }
+        ensures full { result ≡ Err DagFault.Full
+            → 1024 < length (spec.ended self.old.reading).0.known.nodes }
     {
         let last = end(&mut self.reader)?;
         let Ok(()) = self.draft.end(last) else {
@@ -131,7 +143,8 @@ impl<'a> HintReader<'a> {
 
     /// A word of a bound.
     fn bound(&mut self, word: Word<'a>) -> Result<(), DagFault>
-        ensures reading { OnOk result (self.new ≡ spec.drafted (spec.bound_word (word_of word.entry)) self.old) }
+        ensures reading { OnOk result
+            (self.new ≡ spec.drafted (spec.bound_word (word_of word.entry)) self.old) }
         ensures memory { IfErr result (λ fault. fault ≡ DagFault.OutOfMemory) }
     {
         match word {
@@ -163,8 +176,10 @@ impl<'a> HintReader<'a> {
 
     /// The name of a variable of a split.
     fn name(&mut self, word: Word<'a>) -> Result<(), DagFault>
-        ensures reading { OnOk result (self.new ≡ spec.variable_word (word_of word.entry) self.old) }
-        ensures full { result ≡ Err DagFault.Full → 1024 < length (spec.variable_word (word_of word.entry) self.old).reading.known.nodes }
+        ensures reading { OnOk result
+            (self.new ≡ spec.variable_word (word_of word.entry) self.old) }
+        ensures full { result ≡ Err DagFault.Full
+            → 1024 < length (spec.variable_word (word_of word.entry) self.old).reading.known.nodes }
     {
         let (Word::Name(_, text) | Word::Rounding(_, text)) = word else {
             return Ok(());
@@ -176,13 +191,15 @@ impl<'a> HintReader<'a> {
         Ok(())
     }
 
-    /// Takes a word. `Full` only where its meaning has more than 1,024 nodes, and else an `Err` only where memory runs out;
-    /// the reader is then not to be used on: what it holds is sound (`Reader::laws`), and the bounds of its rewritings are in
-    /// normal form.
+    /// Takes a word. `Full` only where its meaning has more than 1,024 nodes, and else an `Err`
+    /// only where memory runs out; the reader is then not to be used on: what it holds is sound
+    /// (`Reader::laws`), and the bounds of its rewritings are in normal form.
     #[tactic(auto, unfolding(crate::specs::Reading::read_hint))]
     pub fn token(&mut self, role: Due, word: Word<'a>) -> Result<(), DagFault>
-        ensures reading { OnOk result (self.new ≡ spec.read_hint role (word_of word.entry) self.old) }
-        ensures full { result ≡ Err DagFault.Full → 1024 < length (spec.read_hint role (word_of word.entry) self.old).reading.known.nodes }
+        ensures reading { OnOk result
+            (self.new ≡ spec.read_hint role (word_of word.entry) self.old) }
+        ensures full { result ≡ Err DagFault.Full → 1024
+            < length (spec.read_hint role (word_of word.entry) self.old).reading.known.nodes }
     {
         match role {
             Due::HintRest | Due::GoalSplit => self.end_side(word),

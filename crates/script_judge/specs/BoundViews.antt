@@ -8,8 +8,16 @@ use Rattle.script_judge.specs.Numbers.{Verdict}
 
 -- what stands before a bound
 abbrev pub bounds_of : Bounds → BoundsSeen
-bounds_of b = record { relative = b.relative; lower_due = b.lower_due; lower = option_map written_value b.lower }
+bounds_of b = record {
+  relative = b.relative;
+  lower_due = b.lower_due;
+  lower = option_map written_value b.lower;
+}
 
 -- what is told of a token
 abbrev pub verdict_of : CodeVerdict → Verdict
-verdict_of v = record { past = v.past; number = option_map written_value v.number; arrow_behind = v.arrow_behind }
+verdict_of v = record {
+  past = v.past;
+  number = option_map written_value v.number;
+  arrow_behind = v.arrow_behind;
+}

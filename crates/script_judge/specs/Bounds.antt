@@ -35,8 +35,8 @@ IsBoundOf r w behind x = ⊥
 
 -- ---- what stands before a bound
 
--- `relative` says that the range is one of relative errors, `lower_due` that its lower bound comes next, and `lower` is the
--- lower bound, up to the upper.
+-- `relative` says that the range is one of relative errors, `lower_due` that its lower bound comes
+-- next, and `lower` is the lower bound, up to the upper.
 pub record BoundsSeen : Type 0 where
   pub relative : Bool
   pub lower_due : Bool
@@ -90,4 +90,5 @@ is_some_too_low (Some x) = is_too_low x
 
 -- An upper bound below its lower one, or a lower bound of relative errors that is too low.
 abbrev pub is_bad_bound : BoundsSeen → Option Fraction → Bool
-is_bad_bound b number = is_crossed b.lower number || b.relative && b.lower_due && is_some_too_low number
+is_bad_bound b number =
+    is_crossed b.lower number || b.relative && b.lower_due && is_some_too_low number

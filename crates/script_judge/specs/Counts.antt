@@ -73,7 +73,8 @@ abbrev pub begins_hint : Place → Bool
 begins_hint place.HintNext = true
 begins_hint p = false
 
--- Nodes of a sign that an operand begins with. An `fma` has its product and its sum, which is rounded with it.
+-- Nodes of a sign that an operand begins with. An `fma` has its product and its sum, which is
+-- rounded with it.
 abbrev pub sign_nodes : Bool → Sign → ℕ
 sign_nodes rounds s.Minus = 1
 sign_nodes rounds s.Bar = 1
@@ -112,7 +113,8 @@ pieces_after n d.Bound w = n + one_if (nat_lt 0 n)
 pieces_after n d.Semicolon w = 0
 pieces_after n r w = n
 
--- ---- whether operations are rounded by the definition, and whether split variables are halved for goals
+-- ---- whether operations are rounded by the definition, and whether split variables are halved for
+-- goals
 
 -- the `=` of a definition
 abbrev pub is_equal_sign : Word → Bool

@@ -59,16 +59,19 @@ is_equal _ = false
 
 -- the name of a direction, and not any name
 abbrev pub is_direction_due : List Word → Bool
-is_direction_due before = may_follow before (class.Name spelled.Direction) && not (may_follow before (class.Name spelled.Plain))
+is_direction_due before = may_follow before (class.Name spelled.Direction)
+    && not (may_follow before (class.Name spelled.Plain))
 
 -- `=` or an operator, as behind the name that a definition begins with
 abbrev pub is_definition_due : List Word → Bool
-is_definition_due before = may_follow before (class.Sign s.Equal) && may_follow before (class.Sign s.Fixed)
+is_definition_due before =
+    may_follow before (class.Sign s.Equal) && may_follow before (class.Sign s.Fixed)
 
 -- a written operator, and neither `=` nor a name: as behind `@ name =`
 abbrev pub is_operator_due : List Word → Bool
 is_operator_due before =
-    may_follow before (class.Sign s.Fixed) && not (may_follow before (class.Sign s.Equal)) && not (may_follow before (class.Name spelled.Plain))
+    may_follow before (class.Sign s.Fixed) && not (may_follow before (class.Sign s.Equal))
+    && not (may_follow before (class.Name spelled.Plain))
 
 -- ---- names with a value
 
@@ -101,8 +104,8 @@ is_unknown before leaves w next =
     || is_spelled w && (is_operator_due before || is_direction_due before)
     || is_unknown_op before leaves w next
 
--- Why a word that has no place behind these is refused, and at which word: at the name before it where it is the `(` of
--- a call of what is no operator, else at the word.
+-- Why a word that has no place behind these is refused, and at which word: at the name before it
+-- where it is the `(` of a call of what is no operator, else at the word.
 abbrev pub fault_of : List Word → List Leaf → Word → Option Word → Fault
 fault_of before leaves w next =
     if not (is_foreign w) && is_unknown_call (slice_get before (length before - 1)) (Some w)

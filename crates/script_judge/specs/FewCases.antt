@@ -26,7 +26,8 @@ same_before p (node_of v) true (Some e) = (refl, refl)
 
 same_begun : (p : Parts SplitRange) (x : Subject) (arrow : Bool) (ends : Option Ends)
     → begun_cases (ranges_after p x arrow ends) ≡ begun_cases p
-same_begun p x arrow ends = let h = same_before p x arrow ends in λ i. case_count (h.0 i) * suc (length (h.1 i))
+same_begun p x arrow ends = let h = same_before p x arrow ends in
+    λ i. case_count (h.0 i) * suc (length (h.1 i))
 
 -- where a sign passes no limit
 few_behind : (p : Parts SplitRange) (r : Due) (w : Word) → begun_cases p ≤ 64 → is_past_cases r w

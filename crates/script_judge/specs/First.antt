@@ -23,7 +23,8 @@ number (kind.Limit k) = 11
 
 -- a lower byte, or the same with the lower number
 abbrev pub is_before : Refusal → Refusal → Bool
-is_before one other = nat_lt one.at other.at || (one.at == other.at && nat_lt (number one.kind) (number other.kind))
+is_before one other =
+    nat_lt one.at other.at || (one.at == other.at && nat_lt (number one.kind) (number other.kind))
 
 -- the first of two refusals
 abbrev pub first_of : Option Refusal → Option Refusal → Option Refusal
@@ -36,19 +37,24 @@ abbrev pub refusal_of : Reading → Option Fault → Option Refusal
 refusal_of r None = None
 refusal_of r (Some f) = Some (at_word r.tokens f)
 
--- The first refusal: of the bytes, else the first of that at which the reading ends and that of the words before it.
+-- The first refusal: of the bytes, else the first of that at which the reading ends and that of the
+-- words before it.
 pub data IsFirstRefusal : List ℕ → Option Refusal → Type 0 where
-  unread : {text : List ℕ} {r : Refusal} → IsTextRefusal text (Some r) → IsFirstRefusal text (Some r)
+  unread : {text : List ℕ} {r : Refusal} → IsTextRefusal text (Some r)
+      → IsFirstRefusal text (Some r)
   read : {text : List ℕ} {r : Reading} {found : Option Fault} → IsReadable text → IsReadingOf text r
-      → Judged 0 nothing_seen r.leaves found → IsFirstRefusal text (first_of (fault (length text) r) (refusal_of r found))
+      → Judged 0 nothing_seen r.leaves found
+      → IsFirstRefusal text (first_of (fault (length text) r) (refusal_of r found))
 
 -- A text has one answer of each.
 abbrev pub FaultsAreUnique : Type 0
-FaultsAreUnique = (text : List ℕ) (a b : Option Refusal) → IsFaultOf text a → IsFaultOf text b → a ≡ b
+FaultsAreUnique = (text : List ℕ) (a b : Option Refusal) → IsFaultOf text a
+    → IsFaultOf text b → a ≡ b
 
 -- A text has one first refusal.
 abbrev pub FirstsAreUnique : Type 0
-FirstsAreUnique = (text : List ℕ) (a b : Option Refusal) → IsFirstRefusal text a → IsFirstRefusal text b → a ≡ b
+FirstsAreUnique = (text : List ℕ) (a b : Option Refusal) → IsFirstRefusal text a
+    → IsFirstRefusal text b → a ≡ b
 
 -- ---- no refusal
 pub second_none : (a b : Option Refusal) → first_of a b ≡ None → b ≡ None

@@ -34,7 +34,17 @@ abbrev pub nothing_seen : Seen
 nothing_seen = record {
   names = no_names;
   opened = [];
-  counts = record { place = place.Definitions; rounds = false; halves = false; definitions = 0; propositions = 0; hints = 0; nodes = 0; splits = 0; pieces = 0 };
+  counts = record {
+    place = place.Definitions;
+    rounds = false;
+    halves = false;
+    definitions = 0;
+    propositions = 0;
+    hints = 0;
+    nodes = 0;
+    splits = 0;
+    pieces = 0;
+  };
   bounds = no_bounds;
   splits = no_splits;
 }
@@ -46,7 +56,8 @@ seen_after v seen r w = record {
   opened = opened_after seen.opened r w;
   counts = counts_after seen.counts (is_new seen.names r w) r w;
   bounds = bounds_after seen.bounds v.number r w;
-  splits = splits_after seen.splits (ended r seen.names.pending) (is_some_among seen.names.defined (operand_name r w)) v.arrow_behind (ends_between seen.bounds.lower v.number) v.number r w;
+  splits = splits_after seen.splits (ended r seen.names.pending) (is_some_among seen.names.defined
+      (operand_name r w)) v.arrow_behind (ends_between seen.bounds.lower v.number) v.number r w;
 }
 
 -- ---- `?` in a hypothesis; `@FIX`, `\/` and `not` in a goal: propositions with a `->` of the
@@ -89,15 +100,20 @@ form_kind wrong_side used bad_bound rangeless defined_split no_pieces bad_point 
     ∷ ((used, kind.NameUsed)
     ∷ ((bad_bound, kind.BadBound)
     ∷ ((rangeless, kind.SplitRange)
-    ∷ ((defined_split || no_pieces || bad_point, kind.BadSplit) ∷ ((past, kind.LiteralLimit) ∷ []))))))
+    ∷ ((
+      defined_split || no_pieces || bad_point,
+      kind.BadSplit,
+    ) ∷ ((past, kind.LiteralLimit) ∷ []))))))
 
 -- the tests of one token, with whether a `->` of the formula stands behind it
 abbrev pub form_refusal : Verdict → Seen → Due → Word → Bool → List Leaf → Option RefusalKind
 form_refusal v seen r w arrow_behind behind =
     form_kind (is_on_wrong_side r w arrow_behind behind)
     (is_used seen.names (defines r w) behind) (is_bad_bound seen.bounds v.number)
-    (is_rangeless seen.splits.ranges (is_some_among seen.names.defined (split_name r w)) (split_name r w))
-    (is_some_among seen.names.defined (split_name r w)) (has_no_pieces r w) (is_bad_point seen.splits (nat_lt 0 seen.counts.pieces) v.number) v.past
+    (is_rangeless seen.splits.ranges
+    (is_some_among seen.names.defined (split_name r w)) (split_name r w))
+    (is_some_among seen.names.defined (split_name r w)) (has_no_pieces r w)
+    (is_bad_point seen.splits (nat_lt 0 seen.counts.pieces) v.number) v.past
 
 -- the limits that are passed with a token
 abbrev pub limit_kind : ℕ → ℕ → Counts → Bool → Bool → Bool → Option RefusalKind
@@ -131,19 +147,24 @@ or_else None other = other
 -- why a token is refused: by its form, or by a limit
 abbrev pub refusal_at : Verdict → Seen → Due → Word → List Leaf → Option RefusalKind
 refusal_at v seen r w behind =
-    or_else (form_refusal v seen r w (has_arrow behind) behind) (limit_refusal (seen_after v seen r w) r w)
+    or_else (form_refusal v seen r w (has_arrow behind) behind)
+    (limit_refusal (seen_after v seen r w) r w)
 
 -- ---- all tokens
 
 -- The first refused word, counted from i on, or none.
 pub data Judged : ℕ → Seen → List Leaf → Option Fault → Type 0 where
   none_refused : {i : ℕ} {seen : Seen} → Judged i seen [] None
-  refused : {i : ℕ} {seen : Seen} {l : Leaf} {ls : List Leaf} {v : Verdict} {k : RefusalKind} → Tells v l.role l.word ls → refusal_at v seen l.role l.word ls ≡ Some k → Judged i seen (l ∷ ls) (Some (record { kind = k; word = i }))
-  passed : {i : ℕ} {seen : Seen} {l : Leaf} {ls : List Leaf} {v : Verdict} {found : Option Fault} → Tells v l.role l.word ls → refusal_at v seen l.role l.word ls ≡ None
+  refused : {i : ℕ} {seen : Seen} {l : Leaf} {ls : List Leaf} {v : Verdict} {k : RefusalKind}
+      → Tells v l.role l.word ls → refusal_at v seen l.role l.word ls ≡ Some k
+      → Judged i seen (l ∷ ls) (Some (record { kind = k; word = i }))
+  passed : {i : ℕ} {seen : Seen} {l : Leaf} {ls : List Leaf} {v : Verdict} {found : Option Fault}
+      → Tells v l.role l.word ls → refusal_at v seen l.role l.word ls ≡ None
       → Judged (i + 1) (seen_after v seen l.role l.word) ls found → Judged i seen (l ∷ ls) found
 
 -- ---- no refusal
-pub fails : (b : Bool) (k : RefusalKind) (rest : Option RefusalKind) → (if b then Some k else rest) ≡ None → (b ≡ false) × (rest ≡ None)
+pub fails : (b : Bool) (k : RefusalKind) (rest : Option RefusalKind)
+    → (if b then Some k else rest) ≡ None → (b ≡ false) × (rest ≡ None)
 fails true k rest e = absurd (cc e)
 fails false k rest e = (refl, e)
 

@@ -9,4 +9,5 @@ use Rattle.script_judge.specs.Views.{reading_of}
 -- The refusal is the text's first, or there is none and the text is read so.
 abbrev pub IsJudgement : List ℕ → Judgement → Type 0
 IsJudgement text (judgement.Refused r) = IsFirstRefusal text (Some r)
-IsJudgement text (judgement.Accepted read) = IsFirstRefusal text None × IsReadingOf text (reading_of read)
+IsJudgement text (judgement.Accepted read) =
+    IsFirstRefusal text None × IsReadingOf text (reading_of read)

@@ -52,8 +52,9 @@ abbrev pub is_some_apart : List Name → Option Name → Bool
 is_some_apart names None = false
 is_some_apart names (Some text) = not (is_among names text)
 
--- `known` has every name that is defined or was an operand, `defined` those that are defined, `pending` the name whose
--- definition is being read, and `halved` the variables that hints halve for goals.
+-- `known` has every name that is defined or was an operand, `defined` those that are defined,
+-- `pending` the name whose definition is being read, and `halved` the variables that hints halve
+-- for goals.
 pub record NamesSeen : Type 0 where
   pub known : List Name
   pub defined : List Name
@@ -82,7 +83,8 @@ pending_after old r None = old
 
 -- a variable counts at its first place in the hints that halve
 abbrev pub halved_after : List Name → Bool → Option Name → List Name
-halved_after halved halves (Some text) = if halves && not (is_among halved text) then halved ++ (text ∷ []) else halved
+halved_after halved halves (Some text) =
+    if halves && not (is_among halved text) then halved ++ (text ∷ []) else halved
 halved_after halved halves None = halved
 
 -- the names behind a token, which stands in a hint that halves or in none
@@ -116,7 +118,8 @@ is_used_before_end text [] = false
 is_used_before_end text (l ∷ ls) =
     not (is_end l.role) && (is_text text (operand_name l.role l.word) || is_used_before_end text ls)
 
--- A definition's name that is defined or was an operand before, or is an operand of its own definition.
+-- A definition's name that is defined or was an operand before, or is an operand of its own
+-- definition.
 abbrev pub is_used : NamesSeen → Option Name → List Leaf → Bool
 is_used n None behind = false
 is_used n (Some text) behind = is_among n.known text || is_used_before_end text behind

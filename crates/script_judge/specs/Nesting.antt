@@ -1,4 +1,5 @@
--- What is open: parentheses of expressions and calls, bars, and minus signs whose factor isn't complete.
+-- What is open: parentheses of expressions and calls, bars, and minus signs whose factor isn't
+-- complete.
 use Rattle.std.specs.Prelude.{List, [], ◌∷◌}
 use Rattle.script_shape.specs.script_words.declared.class.Sign.{Sign}
 use Rattle.script_shape.specs.script_words.declared.class.Sign.TheVariants as s

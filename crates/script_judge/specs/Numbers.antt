@@ -35,8 +35,9 @@ is_past_pieces r w = false
 
 -- ---- what only a literal's value tells
 
--- what is told of a token: whether it is a literal of an expression or a bound that is past its limits, the value of the
--- bound that begins there, and whether a `->` of the formula stands behind it
+-- what is told of a token: whether it is a literal of an expression or a bound that is past its
+-- limits, the value of the bound that begins there, and whether a `->` of the formula stands behind
+-- it
 pub record Verdict : Type 0 where
   pub past : Bool
   pub number : Option Fraction

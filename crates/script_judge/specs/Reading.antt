@@ -15,8 +15,8 @@ use Rattle.script_judge.specs.declared.refusal.LimitKind.TheVariants as limit
 use Rattle.script_judge.specs.declared.fault.Fault.{Fault}
 use Rattle.script_judge.specs.Fault.{fault_of}
 
--- A text's tokens up to the first byte that begins none, their words, how many of these begin a script, whether all
--- of them are one, and the words that begin one with their roles.
+-- A text's tokens up to the first byte that begins none, their words, how many of these begin a
+-- script, whether all of them are one, and the words that begin one with their roles.
 pub record Reading : Type 0 where
   pub tokens : List Token
   pub bad : Option ℕ
@@ -51,10 +51,12 @@ fault_at_end len None whole = if whole then None else Some (refusal kind.Unexpec
 
 -- where the words, the first of which has no place, end the reading of a text of this length
 abbrev pub fault_at : ℕ → Reading → Option Word → Option Refusal
-fault_at len r (Some w) = Some (at_word r.tokens (fault_of (take r.taken r.words) r.leaves w (slice_get r.words (r.taken + 1))))
+fault_at len r (Some w) = Some (at_word r.tokens
+    (fault_of (take r.taken r.words) r.leaves w (slice_get r.words (r.taken + 1))))
 fault_at len r None = fault_at_end len r.bad r.whole
 
--- The refusal at which the reading of a text ends, or none where the text is words of a whole script.
+-- The refusal at which the reading of a text ends, or none where the text is words of a whole
+-- script.
 abbrev pub fault : ℕ → Reading → Option Refusal
 fault len r = fault_at len r (slice_get r.words r.taken)
 
@@ -64,14 +66,17 @@ IsReadable text = (length text ≤ 2 ^ 20) × IsUtf8 text
 
 -- More than 2^20 bytes, else the first byte of what is ill-formed, else none.
 pub data IsTextRefusal : List ℕ → Option Refusal → Type 0 where
-  too_long : {text : List ℕ} → 2 ^ 20 < length text → IsTextRefusal text (Some (refusal (kind.Limit limit.Bytes) 1048576))
-  not_text : {text : List ℕ} {at : ℕ} → length text ≤ 2 ^ 20 → IsValidUpTo text at → IsTextRefusal text (Some (refusal kind.NotText at))
+  too_long : {text : List ℕ} → 2 ^ 20 < length text
+      → IsTextRefusal text (Some (refusal (kind.Limit limit.Bytes) 1048576))
+  not_text : {text : List ℕ} {at : ℕ} → length text ≤ 2 ^ 20 → IsValidUpTo text at
+      → IsTextRefusal text (Some (refusal kind.NotText at))
   readable : {text : List ℕ} → IsReadable text → IsTextRefusal text None
 
 -- The refusal at which the reading of the bytes ends, if they aren't the words of a whole script.
 pub data IsFaultOf : List ℕ → Option Refusal → Type 0 where
   unread : {text : List ℕ} {r : Refusal} → IsTextRefusal text (Some r) → IsFaultOf text (Some r)
-  read : {text : List ℕ} {r : Reading} → IsReadable text → IsReadingOf text r → IsFaultOf text (fault (length text) r)
+  read : {text : List ℕ} {r : Reading} → IsReadable text → IsReadingOf text r
+      → IsFaultOf text (fault (length text) r)
 
 -- The bytes are text, and the text is the words of a whole script.
 pub record IsScriptText (text : List ℕ) : Type 0 where

@@ -123,9 +123,10 @@ pub record SplitsSeen : Type 0 where
 abbrev pub no_splits : SplitsSeen
 no_splits = record { subject = nothing; aliases = []; ranges = no_parts; cut = []; before = None }
 
--- What stands behind a token: `ended` is the name whose definition it ends, `defined` says that it is an operand that has a
--- definition, `ends` are those of a range whose upper bound begins there.
-abbrev pub splits_after : SplitsSeen → Option Name → Bool → Bool → Option Ends → Option Fraction → Due → Word → SplitsSeen
+-- What stands behind a token: `ended` is the name whose definition it ends, `defined` says that it
+-- is an operand that has a definition, `ends` are those of a range whose upper bound begins there.
+abbrev pub splits_after : SplitsSeen → Option Name → Bool → Bool → Option Ends → Option Fraction
+    → Due → Word → SplitsSeen
 splits_after x ended defined arrow_behind ends number r w = record {
   subject = subject_after x.subject x.aliases defined r w;
   aliases = aliases_after x.aliases x.subject ended;

@@ -45,7 +45,8 @@ operand_subject old aliases defined (name k text) = first_name old aliases defin
 operand_subject old aliases defined (sign g) = signed_subject old g
 operand_subject old aliases defined w = other
 
--- Definitions and propositions begin with nothing. The expression of `x in` stays up to the next one.
+-- Definitions and propositions begin with nothing. The expression of `x in` stays up to the next
+-- one.
 abbrev pub subject_after : Subject → List Alias → Bool → Due → Word → Subject
 subject_after old aliases defined d.Script w = nothing
 subject_after old aliases defined d.Connective w = nothing
@@ -55,5 +56,6 @@ subject_after old aliases defined r w = old
 
 -- the name whose definition ends stands for the variable
 abbrev pub aliases_after : List Alias → Subject → Option Name → List Alias
-aliases_after aliases (node_of variable) (Some text) = aliases ++ (record { name = text; variable = variable } ∷ [])
+aliases_after aliases (node_of variable) (Some text) =
+    aliases ++ (record { name = text; variable = variable } ∷ [])
 aliases_after aliases subject ended = aliases

@@ -100,7 +100,8 @@ fn opens_range(role: Due, word: Word<'_>) -> bool
 // Keeps the lower bound of a range for the upper.
 fn keep_lower(lower: &mut Option<Written>, lower_due: bool, number: Option<Written>, role: Due)
     ensures value { option_map written_value lower.new
-        ≡ spec.lower_after (option_map written_value lower.old) lower_due (option_map written_value number) role }
+        ≡ spec.lower_after (option_map written_value lower.old) lower_due
+        (option_map written_value number) role }
     ensures normal { IsWritten lower.old → IsWritten number → IsWritten lower.new }
 {
     match role {
@@ -113,7 +114,8 @@ fn keep_lower(lower: &mut Option<Written>, lower_due: bool, number: Option<Writt
 fn is_crossed(lower: Option<Written>, upper: Option<Written>) -> bool
     requires lower { IsWritten lower }
     requires upper { IsWritten upper }
-    ensures { result ≡ spec.is_crossed (option_map written_value lower) (option_map written_value upper) }
+    ensures { result ≡ spec.is_crossed (option_map written_value lower)
+        (option_map written_value upper) }
 {
     match (lower, upper) {
         (Some(lower), Some(upper)) => upper.is_below(lower),
@@ -154,7 +156,8 @@ impl Bounds {
     /// Takes a token, with the number of the bound that begins there.
     pub fn take(&mut self, number: Option<Written>, role: Due, word: Word<'_>)
         ensures value { bounds_of self.new
-            ≡ spec.bounds_after (bounds_of self.old) (option_map written_value number) role (word_of word.entry) }
+            ≡ spec.bounds_after (bounds_of self.old)
+            (option_map written_value number) role (word_of word.entry) }
         ensures normal { IsWritten self.old.lower → IsWritten number → IsWritten self.new.lower }
     {
         keep_lower(&mut self.lower, self.lower_due, number, role);
@@ -162,7 +165,8 @@ impl Bounds {
         self.lower_due = opens_range(role, word);
     }
 
-    /// Whether the bound is below its lower one, or a lower bound of relative errors that is too low.
+    /// Whether the bound is below its lower one, or a lower bound of relative errors that is too
+    /// low.
     pub fn is_bad(self, number: Option<Written>) -> bool
         requires lower { IsWritten self.lower }
         requires number { IsWritten number }

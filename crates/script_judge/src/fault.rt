@@ -118,7 +118,8 @@ fn is_operator_due(alloc: Global, before: WordList<'_, '_>) -> Result<bool, Allo
 /// Whether a definition before the one that these words end with gives the name a value.
 fn has_earlier_value(words: WordList<'_, '_>, roles: &[Due], name: &[u8]) -> bool
     requires { length roles.now ≤ length (words_in words) }
-    ensures { result ≡ spec.has_earlier_value name.now (leaves_of roles.now (words_in words.entry)) }
+    ensures { result ≡ spec.has_earlier_value name.now
+        (leaves_of roles.now (words_in words.entry)) }
 {
     has_value(words, &roles[..roles.len().saturating_sub(1)], name)
 }

@@ -36,7 +36,8 @@ fn number(kind: RefusalKind) -> u32
     }
 }
 
-/// Whether the one refusal comes before the other: at a lower byte, or at the same with the lower number.
+/// Whether the one refusal comes before the other: at a lower byte, or at the same with the lower
+/// number.
 fn is_before(one: Refusal, other: Refusal) -> bool
     ensures { result ≡ spec.is_before one other }
 {
@@ -97,7 +98,8 @@ pub enum Judgement<'a> {
     Accepted(ReadText<'a>),
 }
 
-/// The first refusal of a text, or its words, which are read once. `Err` only where memory runs out.
+/// The first refusal of a text, or its words, which are read once. `Err` only where memory runs
+/// out.
 pub fn judge_text<'a>(alloc: Global, text: &'a [u8]) -> Result<Judgement<'a>, AllocError>
     ensures { IfOk result (IsJudgement text.now) }
 {

@@ -57,7 +57,8 @@ fn form_refusal<'a>(
     requires found { map (option_map ends_seen) found.now
         ≡ ranges_at (splits_seen seen.now.splits).ranges (split_name leaf.0 (word_of leaf.1)) }
     ensures { (stands : spec.Seen) → IsSeen seen.now stands → result
-        ≡ spec.form_refusal (verdict_of verdict) stands leaf.entry.0 (word_of leaf.entry.1) arrow_behind
+        ≡ spec.form_refusal (verdict_of verdict) stands leaf.entry.0
+        (word_of leaf.entry.1) arrow_behind
         (leaves_of roles.now (words_in words.entry)) }
 {
     let (role, word) = leaf;
@@ -138,7 +139,8 @@ impl<'a> Seen<'a> {
             ≡ ranges_at (splits_seen self.old.splits).ranges (split_name role (word_of word)) }
         requires few { begun_cases (splits_seen self.old.splits).ranges ≤ 64 }
         ensures seen { OnOk result ((stands : spec.Seen) → IsSeen self.old stands
-            → IsSeen self.new (spec.seen_after (verdict_of verdict) stands role (word_of word.entry))) }
+            → IsSeen self.new (spec.seen_after (verdict_of verdict) stands role
+            (word_of word.entry))) }
         ensures few { OnOk result (case_count (splits_seen self.new.splits).ranges.before ≤ 64) }
     {
         let is_new = self.names.is_new(role, word);

@@ -91,7 +91,8 @@ fn is_text(name: &[u8], found: Option<&[u8]>) -> bool
 
 /// Whether the name is an operand before the next `;`.
 fn is_used_before_end(name: &[u8], words: WordList<'_, '_>, roles: &[Due]) -> bool
-    ensures { result ≡ spec.is_used_before_end name.now (leaves_of roles.now (words_in words.entry)) }
+    ensures { result ≡ spec.is_used_before_end name.now
+        (leaves_of roles.now (words_in words.entry)) }
 {
     let mut words = words;
     let mut roles = roles;
@@ -167,7 +168,8 @@ impl<'a> Names<'a> {
         lacks_some(&self.known, operand_name(role, word))
     }
 
-    /// Whether the token is a definition's name that was used before, or is used in its own definition.
+    /// Whether the token is a definition's name that was used before, or is used in its own
+    /// definition.
     pub fn is_used(&self, role: Due, word: Word<'a>, words: WordList<'_, 'a>, roles: &[Due]) -> bool
         ensures { (names : NamesSeen) → AreNames self.now names
             → result ≡ spec.is_used names (spec.defines role (word_of word.entry))
@@ -182,7 +184,8 @@ impl<'a> Names<'a> {
     /// Whether the token is a split variable that has a definition.
     pub fn splits_defined(&self, role: Due, word: Word<'a>) -> bool
         ensures { (names : NamesSeen) → AreNames self.now names
-            → result ≡ spec.is_some_among names.defined (spec.split_name role (word_of word.entry)) }
+            → result ≡ spec.is_some_among names.defined
+            (spec.split_name role (word_of word.entry)) }
     {
         has_some(&self.defined, split_name(role, word))
     }
@@ -198,7 +201,8 @@ impl<'a> Names<'a> {
     /// Whether the token is an operand that has a definition.
     pub fn uses_defined(&self, role: Due, word: Word<'a>) -> bool
         ensures { (names : NamesSeen) → AreNames self.now names
-            → result ≡ spec.is_some_among names.defined (spec.operand_name role (word_of word.entry)) }
+            → result ≡ spec.is_some_among names.defined
+            (spec.operand_name role (word_of word.entry)) }
     {
         has_some(&self.defined, operand_name(role, word))
     }

@@ -19,7 +19,8 @@ pub enum Open {
 
 /// Ends the minus signs before an operand that is complete.
 fn drop_minus(opened: &mut Vec<Open>) -> Result<(), AllocError>
-    ensures { OnOk result (reverse opened.new.items ≡ spec.without_minus (reverse opened.old.items)) }
+    ensures { OnOk result (reverse opened.new.items
+        ≡ spec.without_minus (reverse opened.old.items)) }
 {
     while let Some(top) = opened.pop() {
         if let Open::Pair = top {
@@ -41,7 +42,8 @@ fn close(opened: &mut Vec<Open>) -> Result<(), AllocError>
 }
 
 fn open_by_sign(opened: &mut Vec<Open>, sign: Sign) -> Result<(), AllocError>
-    ensures { OnOk result (reverse opened.new.items ≡ spec.opened_by_sign sign (reverse opened.old.items)) }
+    ensures { OnOk result (reverse opened.new.items
+        ≡ spec.opened_by_sign sign (reverse opened.old.items)) }
 {
     match sign {
         Sign::OpenParen | Sign::Bar => opened.push(Open::Pair)?,

@@ -45,7 +45,8 @@ pub fn text_refusal(text: &[u8]) -> Option<Refusal>
 pub fn read_text<'a>(alloc: Global, text: &'a [u8]) -> Result<ReadText<'a>, AllocError>
     requires { length text.now ≤ 2 ^ 20 }
     ensures reading { IfOk result (λ read. IsReadingOf text.now (reading_of read)) }
-    ensures taken { IfOk result (λ read. length read.shape.roles.items ≤ length (all_words read.words)) }
+    ensures taken { IfOk result
+        (λ read. length read.shape.roles.items ≤ length (all_words read.words)) }
 {
     // Words have one list of roles.
     roles_are_unique();
@@ -103,8 +104,8 @@ pub fn fault(alloc: Global, len: u32, read: &ReadText<'_>) -> Result<Option<Refu
     Ok(Some(at_word(words, fault)))
 }
 
-/// The first place at which the reading of a text ends before its script does, the text's own faults before it. None
-/// where the text's words are a script. `Err` only where memory runs out.
+/// The first place at which the reading of a text ends before its script does, the text's own
+/// faults before it. None where the text's words are a script. `Err` only where memory runs out.
 pub fn reading_fault(alloc: Global, text: &[u8]) -> Result<Option<Refusal>, AllocError>
     ensures { IfOk result (IsFaultOf text.now) }
 {

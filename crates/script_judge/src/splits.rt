@@ -94,7 +94,8 @@ fn add_range<'a>(
     ends: Option<Ends>,
 ) -> Result<(), AllocError>
     ensures { OnOk result (map_parts range_seen ranges.new
-        ≡ spec.ranges_after (map_parts range_seen ranges.old) (subject_seen subject.entry) arrow_behind
+        ≡ spec.ranges_after (map_parts range_seen ranges.old)
+        (subject_seen subject.entry) arrow_behind
         (option_map ends_seen ends)) }
 {
     if let (Subject::Variable(variable), true, Some(ends)) = (subject, arrow_behind, ends) {
@@ -336,7 +337,8 @@ impl<'a> Splits<'a> {
     ) -> Result<(), AllocError>
         requires { begun_cases (splits_seen self.now).ranges ≤ 64 }
         ensures { OnOk result (map (option_map ends_seen) found.new.items
-            ≡ spec.ranges_at (splits_seen self.now).ranges (names.split_name role (word_of word.entry))) }
+            ≡ spec.ranges_at (splits_seen self.now).ranges
+            (names.split_name role (word_of word.entry))) }
     {
         found.clear();
         match split_name(role, word) {
@@ -367,7 +369,8 @@ impl<'a> Splits<'a> {
     /// Whether the point of a list doesn't split.
     pub fn is_bad_point(&self, in_points: bool, number: Option<Written>) -> bool
         requires { IsWritten number }
-        ensures { result ≡ spec.is_bad_point (splits_seen self.now) in_points (option_map written_value number) }
+        ensures { result ≡ spec.is_bad_point (splits_seen self.now) in_points
+            (option_map written_value number) }
     {
         in_points && is_no_split(self.cut.as_slice(), self.before, number)
     }

@@ -62,7 +62,8 @@ fn first_name<'a>(
     name: &'a [u8],
 ) -> Subject<'a>
     ensures { subject_seen result
-        ≡ spec.first_name (subject_seen subject.entry) (map alias_seen aliases.now) defined name.now }
+        ≡ spec.first_name (subject_seen subject.entry)
+        (map alias_seen aliases.now) defined name.now }
 {
     match subject {
         Subject::Nothing => named(alias_of(aliases, name), defined, name),

@@ -11,9 +11,10 @@ pub use script_grammar::{
     spelled_have_few_hints,
 };
 
-/// Nothing is done. The clauses tell a caller that an assignment that meets a script meets each rewriting of it, those that
-/// are checked too; and so gives equal values to the sides of each whose rounded needs are met. It
-/// meets the hypotheses exactly where all claims of some case are true of it.
+/// Nothing is done. The clauses tell a caller that an assignment that meets a script meets each
+/// rewriting of it, those that are checked too; and so gives equal values to the sides of each
+/// whose rounded needs are met. It meets the hypotheses exactly where all claims of some case are
+/// true of it.
 pub fn met_scripts()
     ensures hints { HintsAreMet }
     ensures sides { NeedsGiveEqualSides }

@@ -13,7 +13,8 @@ use Rattle.script_nodes.specs.declared.waits.Waits.TheVariants as wait
 use Rattle.script_nodes.specs.Waits.{Reading, Complete, expr_done, then_waits, read}
 use Rattle.script_nodes.specs.Definitions.{with_value, with_operator, definition_value, definitions_value}
 
--- the name whose definition is being read, what rounds its operations, and how far its expression is read
+-- the name whose definition is being read, what rounds its operations, and how far its expression
+-- is read
 pub record Defining : Type 0 where
   pub name : Option Name
   pub rounds : Option Rounding
@@ -51,7 +52,8 @@ defined_by p w = with_reading p (operator_begun w p.reading)
 
 -- an operator ends before its `=`
 abbrev pub operator_closed : Defining → List Waits → Defining
-operator_closed p (wait.Operator r ∷ ws) = with_rounds p r (record { known = p.reading.known; waits = ws })
+operator_closed p (wait.Operator r ∷ ws) =
+    with_rounds p r (record { known = p.reading.known; waits = ws })
 operator_closed p ws = p
 
 -- ---- the end
@@ -96,15 +98,19 @@ opens_formula r w = false
 -- up to the formula
 unfoldable pub define_all : List Leaf → Defining → Defining
 define_all [] p = p
-define_all (l ∷ ls) p = if opens_formula l.role l.word then p else define_all ls (define_word l.role l.word p)
+define_all (l ∷ ls) p =
+    if opens_formula l.role l.word then p else define_all ls (define_word l.role l.word p)
 
 abbrev pub read_from_start : List Leaf → Defining
 read_from_start leaves = define_all leaves (between nothing_known)
 
 -- Whatever is known and whatever follows, the words of a definition are read as its tree.
 abbrev pub ReadsDefinition : Type 0
-ReadsDefinition = (x : Definition) (rest : List Leaf) (k : Known) → define_all (definition_leaves x ++ rest) (between k) ≡ define_all rest (between (definition_value x k))
+ReadsDefinition = (x : Definition) (rest : List Leaf) (k : Known)
+    → define_all (definition_leaves x ++ rest) (between k)
+    ≡ define_all rest (between (definition_value x k))
 
 -- Reading the words of a script up to its formula gives what its definitions add to nothing.
 abbrev pub ReadsDefinitions : Type 0
-ReadsDefinitions = (tree : Script) → read_from_start (script_leaves tree) ≡ between (definitions_value tree nothing_known)
+ReadsDefinitions = (tree : Script)
+    → read_from_start (script_leaves tree) ≡ between (definitions_value tree nothing_known)

@@ -18,12 +18,15 @@ NamesGrow = (k : Known) (text : Name) → node_count k ≤ node_count (named k t
 
 -- where an expression ends
 abbrev pub EndsGrow : Type 0
-EndsGrow = (q : Option Rounding) (r : Reading) (ws : List Waits) → IfSome (expr_done q r ws) (λ c. node_count r.known ≤ node_count c.0.0)
+EndsGrow = (q : Option Rounding) (r : Reading) (ws : List Waits)
+    → IfSome (expr_done q r ws) (λ c. node_count r.known ≤ node_count c.0.0)
 
 -- behind a word of an expression
 abbrev pub WordsGrow : Type 0
-WordsGrow = (q : Option Rounding) (r : Reading) (role : Due) (w : Word) → node_count r.known ≤ node_count (read q role w r).known
+WordsGrow = (q : Option Rounding) (r : Reading) (role : Due) (w : Word)
+    → node_count r.known ≤ node_count (read q role w r).known
 
 -- behind a word of a definition
 abbrev pub DefiningGrows : Type 0
-DefiningGrows = (role : Due) (w : Word) (p : Defining) → node_count p.reading.known ≤ node_count (define_word role w p).reading.known
+DefiningGrows = (role : Due) (w : Word) (p : Defining)
+    → node_count p.reading.known ≤ node_count (define_word role w p).reading.known

@@ -13,8 +13,8 @@ use Rattle.expr_dag.specs.Nodes.{with_node}
 abbrev pub Name : Type 0
 Name = List ℕ
 
--- The nodes so far; the names of variables in the order of their first use, so that `Var i` is the i-th; the names that
--- have a value, with the number of its node; the names of operators.
+-- The nodes so far; the names of variables in the order of their first use, so that `Var i` is the
+-- i-th; the names that have a value, with the number of its node; the names of operators.
 pub record Known : Type 0 where
   pub nodes : List Node
   pub variables : List Name
@@ -47,9 +47,11 @@ put k n = (record k { nodes = (with_node k.nodes n).0 }, (with_node k.nodes n).1
 abbrev pub variables_with : List Name → Name → List Name
 variables_with names text = if list_any (bytes_eq text) names then names else names ++ (text ∷ [])
 
--- A variable has the number of its place among the variables. At its first use it is new and goes last.
+-- A variable has the number of its place among the variables. At its first use it is new and goes
+-- last.
 unfoldable pub variable_put : Known → Name → Placed
-variable_put k text = put (record k { variables = variables_with k.variables text }) (Var (position_or_len (bytes_eq text) k.variables))
+variable_put k text = put (record k { variables = variables_with k.variables text })
+    (Var (position_or_len (bytes_eq text) k.variables))
 
 -- a name with a value stands for that, and any other for a variable
 abbrev pub name_put : Known → Name → Option ExprId → Placed
@@ -59,7 +61,8 @@ name_put k text None = variable_put k text
 unfoldable pub named : Known → Name → Placed
 named k text = name_put k text (entry_of k.values text)
 
--- Rounding to whole numbers toward 0. It stands where a name isn't an operator's, which no script has.
+-- Rounding to whole numbers toward 0. It stands where a name isn't an operator's, which no script
+-- has.
 abbrev pub no_rounding : Rounding
 no_rounding = record { lsb = pos 0; dir = Zr }
 

@@ -78,11 +78,13 @@ parts_of text = parts_as (opens_hexadecimal text) (without_opening (opens_hexade
 -- n * 10^e, and n * 2^e, with so many factors at most taken out of the number
 unfoldable pub tens_out : ℕ → ℕ → ℤ → Literal
 tens_out zero n e = record { num = n; two = pos 0; ten = e }
-tens_out (suc k) n e = if n % 10 == 0 then tens_out k (n / 10) (e +ℤ pos 1) else record { num = n; two = pos 0; ten = e }
+tens_out (suc k) n e = if n % 10 == 0 then tens_out k (n / 10) (e +ℤ pos 1)
+    else record { num = n; two = pos 0; ten = e }
 
 unfoldable pub twos_out : ℕ → ℕ → ℤ → Literal
 twos_out zero n e = record { num = n; two = e; ten = pos 0 }
-twos_out (suc k) n e = if n % 2 == 0 then twos_out k (n / 2) (e +ℤ pos 1) else record { num = n; two = e; ten = pos 0 }
+twos_out (suc k) n e =
+    if n % 2 == 0 then twos_out k (n / 2) (e +ℤ pos 1) else record { num = n; two = e; ten = pos 0 }
 
 -- A number within the limits has fewer than 30 factors of ten, and than 100 of two.
 abbrev pub normal_of : Form → Literal → Literal
@@ -123,11 +125,14 @@ is_within Hexadecimal w l = nat_lt l.num (16 ^ 25) && is_between (negsuc 511) (p
 abbrev pub is_read_as : List ℕ → Spelling → Bool
 is_read_as text x =
     bytes_eq (spelling_bytes x) text && (is_numeral (base (is_hexadecimal x.form)) x.whole
-    && (is_fraction x.form x.fraction && (is_exponent x.exponent x.form && is_within x.form x.whole (written x))))
+    && (is_fraction x.form x.fraction
+    && (is_exponent x.exponent x.form && is_within x.form x.whole (written x))))
 
--- The literal that a text spells, in its normal form. Of other texts, and of literals past their limits, it is 0.
+-- The literal that a text spells, in its normal form. Of other texts, and of literals past their
+-- limits, it is 0.
 unfoldable pub literal_of : List ℕ → Literal
-literal_of text = if is_read_as text (parts_of text) then normal_of (parts_of text).form (written (parts_of text)) else nought
+literal_of text = if is_read_as text (parts_of text)
+    then normal_of (parts_of text).form (written (parts_of text)) else nought
 
 -- It is what a text is read as wherever it is read.
 abbrev pub ReadsLiterals : Type 0
@@ -135,7 +140,8 @@ ReadsLiterals = (text : List ℕ) (l : Literal) → IsReading text l → literal
 
 -- Each text is read as its literal, or is a literal past its limits, or is no literal.
 abbrev pub LiteralsAreTold : Type 0
-LiteralsAreTold = (text : List ℕ) → IsReading text (literal_of text) ⊎ (IsPastLimits text ⊎ ¬ IsLiteral text)
+LiteralsAreTold = (text : List ℕ)
+    → IsReading text (literal_of text) ⊎ (IsPastLimits text ⊎ ¬ IsLiteral text)
 
 -- A text has the parts of one literal at most.
 abbrev pub SpelledOnce : Type 0
@@ -143,4 +149,5 @@ SpelledOnce = (text : List ℕ) (x y : Spelling) → Spells text x → Spells te
 
 -- The test of a text is true exactly where it is read as its literal.
 abbrev pub LiteralsAreTested : Type 0
-LiteralsAreTested = (text : List ℕ) → Decides (is_read_as text (parts_of text)) (IsReading text (literal_of text))
+LiteralsAreTested = (text : List ℕ)
+    → Decides (is_read_as text (parts_of text)) (IsReading text (literal_of text))

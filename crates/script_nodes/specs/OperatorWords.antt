@@ -1,4 +1,5 @@
--- What the words of a written operator make of what waits: its least significant bit, its direction, and its end.
+-- What the words of a written operator make of what waits: its least significant bit, its
+-- direction, and its end.
 use Rattle.std.specs.Prelude.{pos, neg_ℤ, List, ◌∷◌}
 use Rattle.expr_dag.specs.fx_model.declared.Rounding.{Rounding}
 use Rattle.script_shape.specs.script_words.Words.{Word, name, rounding, literal}
@@ -15,15 +16,18 @@ operator_ended (wait.Operator r ∷ ws) = wait.Call r ∷ ws
 operator_ended ws = ws
 
 abbrev pub whole_read : Word → List Waits → List Waits
-whole_read (literal k text) ws = with_lsb (λ r. record { lsb = pos (number_of text); dir = r.dir }) ws
+whole_read (literal k text) ws =
+    with_lsb (λ r. record { lsb = pos (number_of text); dir = r.dir }) ws
 whole_read w ws = ws
 
 -- digits behind a minus
 abbrev pub opposite_read : Word → List Waits → List Waits
-opposite_read (literal k text) ws = with_lsb (λ r. record { lsb = neg_ℤ (pos (number_of text)); dir = r.dir }) ws
+opposite_read (literal k text) ws =
+    with_lsb (λ r. record { lsb = neg_ℤ (pos (number_of text)); dir = r.dir }) ws
 opposite_read w ws = ws
 
 abbrev pub direction_read : Word → List Waits → List Waits
 direction_read (name k text) ws = with_lsb (λ r. record { lsb = r.lsb; dir = direction_of text }) ws
-direction_read (rounding k text) ws = with_lsb (λ r. record { lsb = r.lsb; dir = direction_of text }) ws
+direction_read (rounding k text) ws =
+    with_lsb (λ r. record { lsb = r.lsb; dir = direction_of text }) ws
 direction_read w ws = ws

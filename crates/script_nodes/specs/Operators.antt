@@ -26,8 +26,8 @@ direction_of text =
 abbrev pub stopped : ℕ → ℕ
 stopped n = if nat_lt n 512 then n else 512
 
--- The number that digits write, and 512 where they write more. Digits may be of any length and have leading zeros;
--- scripts that are accepted write no more than 512.
+-- The number that digits write, and 512 where they write more. Digits may be of any length and have
+-- leading zeros; scripts that are accepted write no more than 512.
 unfoldable pub number_of : List ℕ → ℕ
 number_of text = stopped (digits_value 10 text)
 

@@ -1,5 +1,5 @@
--- What every reading keeps: its numbers are those of nodes, its roundings are within their limits, and its nodes name the
--- variables that there are.
+-- What every reading keeps: its numbers are those of nodes, its roundings are within their limits,
+-- and its nodes name the variables that there are.
 use Rattle.std.specs.Prelude.{ℕ, ◌<◌, ◌≤◌, pos, negsuc, List, [], ◌∷◌, length, Option, Some, None}
 use Rattle.expr_dag.specs.fx_model.declared.Rounding.{Rounding}
 use Rattle.expr_dag.specs.fx_model.declared.ExprId.{ExprId}

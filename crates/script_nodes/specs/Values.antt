@@ -1,4 +1,5 @@
--- The nodes of an expression, by recursion on its tree: operands from the left, then the operation, then its rounding.
+-- The nodes of an expression, by recursion on its tree: operands from the left, then the operation,
+-- then its rounding.
 use Rattle.std.specs.Prelude.{Option, Some, None}
 use Rattle.expr_dag.specs.fx_model.declared.Rounding.{Rounding}
 use Rattle.expr_dag.specs.fx_model.declared.ExprId.{ExprId}
@@ -34,19 +35,22 @@ fused_last q x y c = fused_sum q x y.1 (c y.0)
 abbrev pub fused_operands : Option Rounding → Placed → (Known → Placed) → (Known → Placed) → Placed
 fused_operands q x b c = fused_last q x.1 (b x.0) c
 
--- Under `name op= expr` each sum, difference, product and quotient is rounded by op, and each `fma` once. Literals, names,
--- minus, bars and the operators that are written aren't.
+-- Under `name op= expr` each sum, difference, product and quotient is rounded by op, and each `fma`
+-- once. Literals, names, minus, bars and the operators that are written aren't.
 module _ (q : Option Rounding) where
   abbrev mutual
     pub expr_value : Expr → Known → Placed
     expr_value (term t) k = term_value t k
     expr_value (sum e t) k = two_operands q Add (expr_value e k).1 (term_value t (expr_value e k).0)
-    expr_value (difference e t) k = two_operands q Sub (expr_value e k).1 (term_value t (expr_value e k).0)
+    expr_value (difference e t) k =
+        two_operands q Sub (expr_value e k).1 (term_value t (expr_value e k).0)
 
     pub term_value : Term → Known → Placed
     term_value (factor f) k = factor_value f k
-    term_value (product t f) k = two_operands q Mul (term_value t k).1 (factor_value f (term_value t k).0)
-    term_value (quotient t f) k = two_operands q Div (term_value t k).1 (factor_value f (term_value t k).0)
+    term_value (product t f) k =
+        two_operands q Mul (term_value t k).1 (factor_value f (term_value t k).0)
+    term_value (quotient t f) k =
+        two_operands q Div (term_value t k).1 (factor_value f (term_value t k).0)
 
     pub factor_value : Factor → Known → Placed
     factor_value (negation f) k = one_operand Neg (factor_value f k)

@@ -1,4 +1,5 @@
--- The nodes of an expression, word by word from the left, with a list of what waits for an operand, the last first.
+-- The nodes of an expression, word by word from the left, with a list of what waits for an operand,
+-- the last first.
 use Rattle.std.specs.Prelude.{List, [], ◌∷◌, Option, Some, None, Bool, true, false}
 use Rattle.expr_dag.specs.fx_model.declared.Rounding.{Rounding}
 use Rattle.expr_dag.specs.fx_model.declared.ExprId.{ExprId}

@@ -38,7 +38,8 @@ impl<'a> Model for Definitions<'a> {
 
     ghost Value = { Defining };
 
-    ghost view = { λ d. record { name = option_copied d.name; rounds = d.rounds; reading = d.reader } };
+    ghost view = { λ d.
+        record { name = option_copied d.name; rounds = d.rounds; reading = d.reader } };
 
     ghost invariant = { λ d. IsInRangeIf d.rounds };
 }
@@ -55,7 +56,8 @@ fn named_by<'a>(word: Word<'a>) -> Option<&'a [u8]>
 impl<'a> Reader<'a> {
     /// An operator begins.
     fn begin_operator(&mut self, word: Word<'a>) -> Result<(), DagFault>
-        ensures reading { OnOk result (self.new ≡ spec.operator_begun (word_of word.entry) self.old) }
+        ensures reading { OnOk result
+            (self.new ≡ spec.operator_begun (word_of word.entry) self.old) }
         ensures memory { IfErr result (λ fault. fault ≡ DagFault.OutOfMemory) }
     {
         match word {
@@ -67,7 +69,8 @@ impl<'a> Reader<'a> {
     /// The operator or the value that was read gets its name.
     fn join(&mut self, rounds: Option<Rounding>, name: &'a [u8]) -> Result<(), DagFault>
         requires { IsInRangeIf rounds }
-        ensures reading { OnOk result (self.new ≡ spec.joined rounds name.now self.old self.old.waits) }
+        ensures reading { OnOk result
+            (self.new ≡ spec.joined rounds name.now self.old self.old.waits) }
         ensures full { result ≡ Err DagFault.Full
             → 1024 < length (spec.joined rounds name.now self.old self.old.waits).known.nodes }
     {
@@ -121,7 +124,8 @@ impl<'a> Definitions<'a> {
     /// The definition ends.
     fn end(&mut self) -> Result<(), DagFault>
         ensures reading { OnOk result (self.new ≡ spec.ended self.old) }
-        ensures full { result ≡ Err DagFault.Full → 1024 < length (spec.ended self.old).reading.known.nodes }
+        ensures full { result ≡ Err DagFault.Full
+            → 1024 < length (spec.ended self.old).reading.known.nodes }
     {
         let name = self.name;
         let rounds = self.rounds;
@@ -133,13 +137,16 @@ impl<'a> Definitions<'a> {
         }
     }
 
-    /// Takes a word by its role. `Full` only where the meaning has more than 1,024 nodes, and else an `Err` only where
-    /// memory runs out; it is then not to be used on: what its reader holds is sound (`Reader::laws`).
+    /// Takes a word by its role. `Full` only where the meaning has more than 1,024 nodes, and else
+    /// an `Err` only where memory runs out; it is then not to be used on: what its reader holds is
+    /// sound (`Reader::laws`).
     #[tactic(auto, unfolding(crate::specs::Defining::define_word))]
     pub fn token(&mut self, role: Due, word: Word<'a>) -> Result<(), DagFault>
-        ensures reading { OnOk result (self.new ≡ spec.define_word role (word_of word.entry) self.old) }
+        ensures reading { OnOk result
+            (self.new ≡ spec.define_word role (word_of word.entry) self.old) }
         ensures full { result ≡ Err DagFault.Full
-            → 1024 < length (spec.define_word role (word_of word.entry) self.old).reading.known.nodes }
+            → 1024 < length (spec.define_word role
+            (word_of word.entry) self.old).reading.known.nodes }
     {
         match role {
             Due::Script | Due::NewName => {
@@ -188,7 +195,8 @@ fn read_words<'a>(
     ensures read { IfOk result (λ read. read
         ≡ spec.read_from_start (leaves_of roles.now (words_in words.entry))) }
     ensures full { result ≡ Err DagFault.Full → 1024
-        < length (spec.read_from_start (leaves_of roles.now (words_in words.entry))).reading.known.nodes }
+        < length (spec.read_from_start
+        (leaves_of roles.now (words_in words.entry))).reading.known.nodes }
 {
     let mut read = Definitions::new(alloc);
     let mut words = words;
@@ -207,8 +215,9 @@ fn read_words<'a>(
     Ok(read)
 }
 
-/// What the definitions before the formula add to nothing, from the words of a text with their roles. `Full` only where
-/// they have more than 1,024 nodes, and else an `Err` only where memory runs out.
+/// What the definitions before the formula add to nothing, from the words of a text with their
+/// roles. `Full` only where they have more than 1,024 nodes, and else an `Err` only where memory
+/// runs out.
 pub fn definitions_of<'a>(
     alloc: Global,
     words: WordList<'_, 'a>,
@@ -221,7 +230,8 @@ pub fn definitions_of<'a>(
         → HasRoles (words_in words.entry) (leaves_of roles.now (words_in words.entry))
         → read ≡ spec.between (definitions_value tree spec_known.nothing_known)) }
     ensures full { result ≡ Err DagFault.Full → 1024
-        < length (spec.read_from_start (leaves_of roles.now (words_in words.entry))).reading.known.nodes }
+        < length (spec.read_from_start
+        (leaves_of roles.now (words_in words.entry))).reading.known.nodes }
 {
     // Words of a script with roles are the leaves of its tree.
     leaves_are_of_trees();

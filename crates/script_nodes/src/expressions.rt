@@ -42,12 +42,14 @@ impl<'a> Reader<'a> {
     /// The number of a factor with the minus signs before it.
     fn signed(&mut self, rounds: Option<Rounding>, factor: ExprId) -> Result<ExprId, DagFault>
         requires { factor.0 < length self.old.known.nodes }
-        ensures reading { IfOk result (λ x. spec.factor_done rounds self.old.waits (self.old.known, factor)
+        ensures reading { IfOk result
+            (λ x. spec.factor_done rounds self.old.waits (self.old.known, factor)
             ≡ spec.factor_done rounds self.new.waits (self.new.known, x)) }
         ensures first { OnOk result (spec.is_minus_first self.new.waits ≡ false) }
         ensures below { IfOk result (λ x. x.0 < length self.new.known.nodes) }
         ensures full { result ≡ Err DagFault.Full
-            → 1024 < length (spec.factor_done rounds self.old.waits (self.old.known, factor)).known.nodes }
+            → 1024 < length (spec.factor_done rounds self.old.waits
+            (self.old.known, factor)).known.nodes }
     {
         let mut factor = factor;
         while self.is_minus_first() {
@@ -64,7 +66,8 @@ impl<'a> Reader<'a> {
         ensures reading { OnOk result (self.new
             ≡ spec.factor_done rounds self.old.waits (self.old.known, factor)) }
         ensures full { result ≡ Err DagFault.Full
-            → 1024 < length (spec.factor_done rounds self.old.waits (self.old.known, factor)).known.nodes }
+            → 1024 < length (spec.factor_done rounds self.old.waits
+            (self.old.known, factor)).known.nodes }
     {
         let factor = self.signed(rounds, factor)?;
         let term = match self.top() {
@@ -109,10 +112,13 @@ impl<'a> Reader<'a> {
         requires { IsInRangeIf rounds }
         ensures reading { IfOk result (λ found. MatchOption found
             ((spec.expr_done rounds self.old self.old.waits ≡ None) × (self.new ≡ self.old))
-            (λ x. spec.expr_done rounds self.old self.old.waits ≡ Some ((self.new.known, x), self.new.waits))) }
-        ensures below { IfOk result (λ found. IfSome found (λ x. x.0 < length self.new.known.nodes)) }
+            (λ x. spec.expr_done rounds self.old self.old.waits
+            ≡ Some ((self.new.known, x), self.new.waits))) }
+        ensures below { IfOk result
+            (λ found. IfSome found (λ x. x.0 < length self.new.known.nodes)) }
         ensures full { result ≡ Err DagFault.Full
-            → IsSomeAnd (spec.expr_done rounds self.old self.old.waits) (λ c. 1024 < length c.0.0.nodes) }
+            → IsSomeAnd (spec.expr_done rounds self.old self.old.waits)
+            (λ c. 1024 < length c.0.0.nodes) }
     {
         match self.top() {
             Some(Waits::Term(term)) => {

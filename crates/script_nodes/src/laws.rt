@@ -15,15 +15,16 @@ pub fn reads_literals()
     ensures { ReadsLiterals }
 {}
 
-/// Nothing is done. The clauses tell a caller that each text is read as its literal, is a literal past its limits, or is none;
-/// and that it is spelled in one way.
+/// Nothing is done. The clauses tell a caller that each text is read as its literal, is a literal
+/// past its limits, or is none; and that it is spelled in one way.
 pub fn literals_are_told()
     ensures told { LiteralsAreTold }
     ensures once { SpelledOnce }
     ensures tested { LiteralsAreTested }
 {}
 
-/// Reading the words of a definition, and those of a script up to its formula, gives what the definitions mean.
+/// Reading the words of a definition, and those of a script up to its formula, gives what the
+/// definitions mean.
 pub fn reads_definitions()
     ensures one { ReadsDefinition }
     ensures all { ReadsDefinitions }

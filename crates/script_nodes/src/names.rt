@@ -39,7 +39,8 @@ impl<'a> Variables<'a> {
     /// The place of a name, which goes last where it isn't there.
     pub fn put(&mut self, name: &'a [u8]) -> Result<usize, AllocError>
         ensures names { OnOk result (self.new ≡ spec.variables_with self.old name.now) }
-        ensures place { IfOk result (λ place. place ≡ position_or_len (bytes_eq name.now) self.old) }
+        ensures place { IfOk result
+            (λ place. place ≡ position_or_len (bytes_eq name.now) self.old) }
         ensures refused { OnErr result (self.new ≡ self.old) }
     {
         let (place, _) = self.names.insert_full(name)?;

@@ -38,12 +38,22 @@ impl<'a> Model for Reader<'a> {
     ghost Value = { Reading };
 
     ghost view = { λ r. record {
-      known = record { nodes = r.dag; variables = r.variables; values = r.values; operators = r.operators };
+      known = record {
+        nodes = r.dag;
+        variables = r.variables;
+        values = r.values;
+        operators = r.operators;
+      };
       waits = reverse r.waits.items;
     } };
 
     ghost invariant = { λ r. IsSound (record {
-      known = record { nodes = r.dag; variables = r.variables; values = r.values; operators = r.operators };
+      known = record {
+        nodes = r.dag;
+        variables = r.variables;
+        values = r.values;
+        operators = r.operators;
+      };
       waits = reverse r.waits.items;
     }) };
 }
@@ -77,7 +87,8 @@ impl<'a> Reader<'a> {
         ensures waits { self.new.waits ≡ self.old.waits }
         ensures below { IfOk result (λ x. x.0 < length self.new.known.nodes) }
         ensures longer { length self.old.known.nodes ≤ length self.new.known.nodes }
-        ensures full { result ≡ Err DagFault.Full → 1024 < length (spec.put self.old.known node).0.nodes }
+        ensures full { result ≡ Err DagFault.Full
+            → 1024 < length (spec.put self.old.known node).0.nodes }
         ensures refused { OnErr result (self.new ≡ self.old) }
     {
         self.dag.laws();
@@ -86,7 +97,8 @@ impl<'a> Reader<'a> {
 
     /// The number of a variable's node.
     pub fn variable(&mut self, name: &'a [u8]) -> Result<ExprId, DagFault>
-        ensures put { IfOk result (λ x. (self.new.known, x) ≡ spec.variable_put self.old.known name.now) }
+        ensures put { IfOk result
+            (λ x. (self.new.known, x) ≡ spec.variable_put self.old.known name.now) }
         ensures waits { self.new.waits ≡ self.old.waits }
         ensures below { IfOk result (λ x. x.0 < length self.new.known.nodes) }
         ensures longer { length self.old.known.nodes ≤ length self.new.known.nodes }
@@ -116,7 +128,8 @@ impl<'a> Reader<'a> {
         self.values.get(name)
     }
 
-    /// The rounding of an operator. Where the name isn't an operator's, it is to whole numbers toward 0.
+    /// The rounding of an operator. Where the name isn't an operator's, it is to whole numbers
+    /// toward 0.
     pub fn operator(&self, name: &'a [u8]) -> Rounding
         ensures rounding { result ≡ spec.operator_named self.now.known name.now }
         ensures range { IsInRange result }
@@ -188,7 +201,8 @@ impl<'a> Reader<'a> {
 
     /// What waits, the last first.
     pub fn top(&self) -> Option<Waits>
-        ensures top { MatchOption result (self.now.waits ≡ []) (λ wait. self.now.waits ≡ wait ∷ rest self.now.waits) }
+        ensures top { MatchOption result (self.now.waits ≡ [])
+            (λ wait. self.now.waits ≡ wait ∷ rest self.now.waits) }
         ensures fits { IfSome result (Fits (length self.now.known.nodes)) }
     {
         self.waits.last().copied()

@@ -16,8 +16,10 @@ impl<'a> Reader<'a> {
     pub fn plus(&mut self, rounds: Option<Rounding>) -> Result<(), DagFault>
         requires { IsInRangeIf rounds }
         ensures reading { OnOk result (self.new
-            ≡ spec.then_operation Waits.Sum self.old (spec.expr_done rounds self.old self.old.waits)) }
-        ensures full { result ≡ Err DagFault.Full → 1024 < length (spec.then_operation Waits.Sum self.old
+            ≡ spec.then_operation Waits.Sum self.old
+            (spec.expr_done rounds self.old self.old.waits)) }
+        ensures full { result ≡ Err DagFault.Full
+            → 1024 < length (spec.then_operation Waits.Sum self.old
             (spec.expr_done rounds self.old self.old.waits)).known.nodes }
     {
         match self.expression(rounds)? {
@@ -30,8 +32,10 @@ impl<'a> Reader<'a> {
     pub fn minus(&mut self, rounds: Option<Rounding>) -> Result<(), DagFault>
         requires { IsInRangeIf rounds }
         ensures reading { OnOk result (self.new
-            ≡ spec.then_operation Waits.Difference self.old (spec.expr_done rounds self.old self.old.waits)) }
-        ensures full { result ≡ Err DagFault.Full → 1024 < length (spec.then_operation Waits.Difference self.old
+            ≡ spec.then_operation Waits.Difference self.old
+            (spec.expr_done rounds self.old self.old.waits)) }
+        ensures full { result ≡ Err DagFault.Full
+            → 1024 < length (spec.then_operation Waits.Difference self.old
             (spec.expr_done rounds self.old self.old.waits)).known.nodes }
     {
         match self.expression(rounds)? {
@@ -42,7 +46,8 @@ impl<'a> Reader<'a> {
 
     /// A product waits for its right side.
     pub fn times(&mut self) -> Result<(), DagFault>
-        ensures reading { OnOk result (self.new ≡ spec.term_operation Waits.Product self.old self.old.waits) }
+        ensures reading { OnOk result
+            (self.new ≡ spec.term_operation Waits.Product self.old self.old.waits) }
         ensures memory { IfErr result (λ fault. fault ≡ DagFault.OutOfMemory) }
     {
         match self.top() {
@@ -56,7 +61,8 @@ impl<'a> Reader<'a> {
 
     /// A quotient waits for its right side.
     pub fn over(&mut self) -> Result<(), DagFault>
-        ensures reading { OnOk result (self.new ≡ spec.term_operation Waits.Quotient self.old self.old.waits) }
+        ensures reading { OnOk result
+            (self.new ≡ spec.term_operation Waits.Quotient self.old self.old.waits) }
         ensures memory { IfErr result (λ fault. fault ≡ DagFault.OutOfMemory) }
     {
         match self.top() {
@@ -85,7 +91,8 @@ impl<'a> Reader<'a> {
         ensures waits { self.new.waits ≡ self.old.waits }
         ensures below { IfOk result (λ x. x.0 < length self.new.known.nodes) }
         ensures full { result ≡ Err DagFault.Full
-            → 1024 < length (spec_values.fused_sum rounds left right (self.old.known, last)).0.nodes }
+            → 1024 < length (spec_values.fused_sum rounds left right
+            (self.old.known, last)).0.nodes }
     {
         let product = self.add(Node::Mul(left, right))?;
         self.operation(rounds, Node::Add(product, last))
@@ -95,7 +102,8 @@ impl<'a> Reader<'a> {
     fn enclosed(&mut self, rounds: Option<Rounding>, x: ExprId) -> Result<(), DagFault>
         requires range { IsInRangeIf rounds }
         requires below { x.0 < length self.old.known.nodes }
-        ensures reading { OnOk result (self.new ≡ spec.closing rounds (self.old.known, x) self.old.waits) }
+        ensures reading { OnOk result
+            (self.new ≡ spec.closing rounds (self.old.known, x) self.old.waits) }
         ensures full { result ≡ Err DagFault.Full
             → 1024 < length (spec.closing rounds (self.old.known, x) self.old.waits).known.nodes }
     {
@@ -116,7 +124,8 @@ impl<'a> Reader<'a> {
         ensures reading { OnOk result (self.new
             ≡ spec.closed rounds self.old (spec.expr_done rounds self.old self.old.waits)) }
         ensures full { result ≡ Err DagFault.Full → 1024 < length
-            (spec.closed rounds self.old (spec.expr_done rounds self.old self.old.waits)).known.nodes }
+            (spec.closed rounds self.old
+            (spec.expr_done rounds self.old self.old.waits)).known.nodes }
     {
         match self.expression(rounds)? {
             Some(x) => self.enclosed(rounds, x),
@@ -196,7 +205,8 @@ impl<'a> Reader<'a> {
 
     /// Takes the end of an operator.
     pub fn end_operator(&mut self) -> Result<(), DagFault>
-        ensures reading { OnOk result (self.new ≡ spec.with_waits self.old (spec_operators.operator_ended self.old.waits)) }
+        ensures reading { OnOk result
+            (self.new ≡ spec.with_waits self.old (spec_operators.operator_ended self.old.waits)) }
         ensures memory { IfErr result (λ fault. fault ≡ DagFault.OutOfMemory) }
     {
         match self.top() {

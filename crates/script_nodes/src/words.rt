@@ -32,7 +32,8 @@ impl<'a> Reader<'a> {
 
     /// The number of a name's node: that of its value, or a variable's.
     fn name(&mut self, name: &'a [u8]) -> Result<ExprId, DagFault>
-        ensures put { IfOk result (λ x. (self.new.known, x) ≡ spec_known.named self.old.known name.now) }
+        ensures put { IfOk result
+            (λ x. (self.new.known, x) ≡ spec_known.named self.old.known name.now) }
         ensures waits { self.new.waits ≡ self.old.waits }
         ensures below { IfOk result (λ x. x.0 < length self.new.known.nodes) }
         ensures full { result ≡ Err DagFault.Full
@@ -47,7 +48,8 @@ impl<'a> Reader<'a> {
     /// A word that an operand begins with, or is.
     fn operand(&mut self, rounds: Option<Rounding>, word: Word<'a>) -> Result<(), DagFault>
         requires { IsInRangeIf rounds }
-        ensures reading { OnOk result (self.new ≡ spec.operand rounds (word_of word.entry) self.old) }
+        ensures reading { OnOk result
+            (self.new ≡ spec.operand rounds (word_of word.entry) self.old) }
         ensures full { result ≡ Err DagFault.Full
             → 1024 < length (spec.operand rounds (word_of word.entry) self.old).known.nodes }
     {
@@ -71,7 +73,8 @@ impl<'a> Reader<'a> {
     /// A word between operands.
     fn between(&mut self, rounds: Option<Rounding>, word: Word<'a>) -> Result<(), DagFault>
         requires { IsInRangeIf rounds }
-        ensures reading { OnOk result (self.new ≡ spec.operation rounds (word_of word.entry) self.old) }
+        ensures reading { OnOk result
+            (self.new ≡ spec.operation rounds (word_of word.entry) self.old) }
         ensures full { result ≡ Err DagFault.Full
             → 1024 < length (spec.operation rounds (word_of word.entry) self.old).known.nodes }
     {
@@ -87,7 +90,8 @@ impl<'a> Reader<'a> {
     /// A least significant bit, or the minus before it.
     fn whole(&mut self, word: Word<'a>) -> Result<(), DagFault>
         ensures reading { OnOk result (self.new
-            ≡ spec.with_waits self.old (spec_operators.whole_read (word_of word.entry) self.old.waits)) }
+            ≡ spec.with_waits self.old
+            (spec_operators.whole_read (word_of word.entry) self.old.waits)) }
         ensures memory { IfErr result (λ fault. fault ≡ DagFault.OutOfMemory) }
     {
         match word {
@@ -99,7 +103,8 @@ impl<'a> Reader<'a> {
     /// A least significant bit behind a minus.
     fn opposite(&mut self, word: Word<'a>) -> Result<(), DagFault>
         ensures reading { OnOk result (self.new
-            ≡ spec.with_waits self.old (spec_operators.opposite_read (word_of word.entry) self.old.waits)) }
+            ≡ spec.with_waits self.old
+            (spec_operators.opposite_read (word_of word.entry) self.old.waits)) }
         ensures memory { IfErr result (λ fault. fault ≡ DagFault.OutOfMemory) }
     {
         match word {
@@ -111,7 +116,8 @@ impl<'a> Reader<'a> {
     /// A direction.
     fn direction(&mut self, word: Word<'a>) -> Result<(), DagFault>
         ensures reading { OnOk result (self.new
-            ≡ spec.with_waits self.old (spec_operators.direction_read (word_of word.entry) self.old.waits)) }
+            ≡ spec.with_waits self.old
+            (spec_operators.direction_read (word_of word.entry) self.old.waits)) }
         ensures memory { IfErr result (λ fault. fault ≡ DagFault.OutOfMemory) }
     {
         match word {
@@ -120,9 +126,9 @@ impl<'a> Reader<'a> {
         }
     }
 
-    /// Takes a word of an expression by its role. `Full` only where the meaning has more than 1,024 nodes, and else an
-    /// `Err` only where memory runs out; the reader is then not to be used on: what it holds is sound (`laws`), and which
-    /// part of the word it took isn't said.
+    /// Takes a word of an expression by its role. `Full` only where the meaning has more than 1,024
+    /// nodes, and else an `Err` only where memory runs out; the reader is then not to be used on:
+    /// what it holds is sound (`laws`), and which part of the word it took isn't said.
     #[tactic(auto, unfolding(crate::specs::Waits::read))]
     pub fn read(
         &mut self,
@@ -131,7 +137,8 @@ impl<'a> Reader<'a> {
         word: Word<'a>,
     ) -> Result<(), DagFault>
         requires { IsInRangeIf rounds }
-        ensures reading { OnOk result (self.new ≡ spec.read rounds role (word_of word.entry) self.old) }
+        ensures reading { OnOk result
+            (self.new ≡ spec.read rounds role (word_of word.entry) self.old) }
         ensures full { result ≡ Err DagFault.Full
             → 1024 < length (spec.read rounds role (word_of word.entry) self.old).known.nodes }
     {

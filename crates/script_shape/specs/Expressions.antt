@@ -1,4 +1,5 @@
--- The grammar of expressions: names, numbers, rounding operators, and expressions that group to the left.
+-- The grammar of expressions: names, numbers, rounding operators, and expressions that group to the
+-- left.
 use Rattle.std.specs.Prelude.{ℕ, List, [], ◌∷◌, ◌++◌}
 use Rattle.script_words.specs.Words.{Word, name, rounding, literal, sign}
 use Rattle.script_words.specs.declared.class.Spelled.{Spelled}
@@ -61,7 +62,8 @@ pub data Operator : Type 0 where
   int : Special → Operator
 
 abbrev pub operator_words : Operator → List Word
-operator_words (fixed l d) = sign s.Fixed ∷ (sign s.Less ∷ (whole_words l ++ (sign s.Comma ∷ special_words spelled.Direction d)))
+operator_words (fixed l d) = sign s.Fixed
+    ∷ (sign s.Less ∷ (whole_words l ++ (sign s.Comma ∷ special_words spelled.Direction d)))
 operator_words (int d) = sign s.Int ∷ (sign s.Less ∷ special_words spelled.Direction d)
 
 -- ---- expressions
@@ -110,6 +112,9 @@ abbrev mutual
   atom_words (variable k text) = name k text ∷ []
   atom_words (parenthesized e) = sign s.OpenParen ∷ (expr_words e ++ (sign s.CloseParen ∷ []))
   atom_words (absolute e) = sign s.Bar ∷ (expr_words e ++ (sign s.Bar ∷ []))
-  atom_words (called k text e) = rounding k text ∷ (sign s.OpenParen ∷ (expr_words e ++ (sign s.CloseParen ∷ [])))
-  atom_words (rounded o e) = operator_words o ++ (sign s.Greater ∷ (sign s.OpenParen ∷ (expr_words e ++ (sign s.CloseParen ∷ []))))
-  atom_words (fused a b c) = sign s.Fma ∷ (sign s.OpenParen ∷ (expr_words a ++ (sign s.Comma ∷ (expr_words b ++ (sign s.Comma ∷ (expr_words c ++ (sign s.CloseParen ∷ [])))))))
+  atom_words (called k text e) =
+      rounding k text ∷ (sign s.OpenParen ∷ (expr_words e ++ (sign s.CloseParen ∷ [])))
+  atom_words (rounded o e) = operator_words o
+      ++ (sign s.Greater ∷ (sign s.OpenParen ∷ (expr_words e ++ (sign s.CloseParen ∷ []))))
+  atom_words (fused a b c) = sign s.Fma ∷ (sign s.OpenParen ∷ (expr_words a ++ (sign s.Comma
+      ∷ (expr_words b ++ (sign s.Comma ∷ (expr_words c ++ (sign s.CloseParen ∷ [])))))))

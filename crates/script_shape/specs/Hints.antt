@@ -13,7 +13,8 @@ pub data Need : Type 0 where
   not_below : Expr → Bound → Need
 
 abbrev pub need_words : Need → List Word
-need_words (nonzero e zero_text) = expr_words e ++ (sign s.Unequal ∷ (literal digits_kind.Zero zero_text ∷ []))
+need_words (nonzero e zero_text) =
+    expr_words e ++ (sign s.Unequal ∷ (literal digits_kind.Zero zero_text ∷ []))
 need_words (below e b) = expr_words e ++ (sign s.Less ∷ bound_words b)
 need_words (not_above e b) = expr_words e ++ (sign s.LessEqual ∷ bound_words b)
 need_words (above e b) = expr_words e ++ (sign s.Greater ∷ bound_words b)
@@ -51,7 +52,8 @@ pub data Cut : Type 0 where
 abbrev pub cut_words : Cut → List Word
 cut_words in_four = []
 cut_words (pieces d) = sign s.In ∷ digits_words d
-cut_words (at_points l) = sign s.In ∷ (sign s.OpenParen ∷ (points_words l ++ (sign s.CloseParen ∷ [])))
+cut_words (at_points l) =
+    sign s.In ∷ (sign s.OpenParen ∷ (points_words l ++ (sign s.CloseParen ∷ [])))
 
 pub data Names : Type 0 where
   last_name : AnyName → Names

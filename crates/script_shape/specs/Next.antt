@@ -12,4 +12,5 @@ may_follow ws c = is_some (option_and_then (step c) (run ws start))
 
 -- It does exactly where the words, with one of that class behind them, begin a script.
 abbrev pub NextIsExact : Type 0
-NextIsExact = (ws : List Word) (w : Word) → IsTrue (may_follow ws (class_of w)) ↔ BeginsScript (ws ++ (w ∷ []))
+NextIsExact = (ws : List Word) (w : Word)
+    → IsTrue (may_follow ws (class_of w)) ↔ BeginsScript (ws ++ (w ∷ []))

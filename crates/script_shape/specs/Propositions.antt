@@ -11,7 +11,8 @@ pub data Range : Type 0 where
 
 abbrev pub range_words : Range → List Word
 range_words asked = sign s.Ask ∷ []
-range_words (between a b) = sign s.OpenBracket ∷ (bound_words a ++ (sign s.Comma ∷ (bound_words b ++ (sign s.CloseBracket ∷ []))))
+range_words (between a b) = sign s.OpenBracket
+    ∷ (bound_words a ++ (sign s.Comma ∷ (bound_words b ++ (sign s.CloseBracket ∷ []))))
 
 pub data Prop : Type 0 where
   lies_in : Expr → Range → Prop
@@ -22,10 +23,12 @@ pub data Prop : Type 0 where
 
 abbrev pub prop_words : Prop → List Word
 prop_words (lies_in e r) = expr_words e ++ (sign s.In ∷ range_words r)
-prop_words (relative_in a b r) = expr_words a ++ (sign s.Against ∷ (expr_words b ++ (sign s.In ∷ range_words r)))
+prop_words (relative_in a b r) =
+    expr_words a ++ (sign s.Against ∷ (expr_words b ++ (sign s.In ∷ range_words r)))
 prop_words (at_most e b) = expr_words e ++ (sign s.LessEqual ∷ bound_words b)
 prop_words (at_least e b) = expr_words e ++ (sign s.GreaterEqual ∷ bound_words b)
-prop_words (multiple f e k) = sign s.At ∷ (special_words spelled.Fix f ++ (sign s.OpenParen ∷ (expr_words e ++ (sign s.Comma ∷ (whole_words k ++ (sign s.CloseParen ∷ []))))))
+prop_words (multiple f e k) = sign s.At ∷ (special_words spelled.Fix f ++ (sign s.OpenParen
+    ∷ (expr_words e ++ (sign s.Comma ∷ (whole_words k ++ (sign s.CloseParen ∷ []))))))
 
 -- a proposition, or `not` and a proposition
 pub data Stated : Type 0 where
@@ -36,7 +39,8 @@ abbrev pub stated_words : Stated → List Word
 stated_words (affirmed p) = prop_words p
 stated_words (denied p) = sign s.Not ∷ prop_words p
 
--- one or more of these with a sign between: `/\` joins, `\/` begins a new conjunction, `->` a new part
+-- one or more of these with a sign between: `/\` joins, `\/` begins a new conjunction, `->` a new
+-- part
 pub data Formula : Type 0 where
   single : Stated → Formula
   and : Formula → Stated → Formula

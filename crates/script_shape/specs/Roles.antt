@@ -1,5 +1,5 @@
--- The part that each word of a script has in it: the thing that was due and that the word stands for or begins.
--- By recursion on the tree, as the words are.
+-- The part that each word of a script has in it: the thing that was due and that the word stands
+-- for or begins. By recursion on the tree, as the words are.
 use Rattle.std.specs.Prelude.{◌≡◌, List, [], ◌∷◌, ◌++◌, take, length, map}
 use Rattle.script_words.specs.Words.{Word, name, rounding, literal, sign}
 use Rattle.script_shape.specs.declared.due.Due.{Due}
@@ -39,8 +39,10 @@ bound_leaves (positive k text) = at d.Bound (sign s.Plus) ∷ (at d.Magnitude (l
 bound_leaves (negative k text) = at d.Bound (sign s.Minus) ∷ (at d.Magnitude (literal k text) ∷ [])
 
 abbrev pub operator_leaves : Due → Operator → List Leaf
-operator_leaves r (fixed l x) = at r (sign s.Fixed) ∷ (at d.Less (sign s.Less) ∷ (whole_leaves l ++ (at d.Comma (sign s.Comma) ∷ special_leaves d.Direction spelled.Direction x)))
-operator_leaves r (int x) = at r (sign s.Int) ∷ (at d.Less (sign s.Less) ∷ special_leaves d.Direction spelled.Direction x)
+operator_leaves r (fixed l x) = at r (sign s.Fixed) ∷ (at d.Less (sign s.Less) ∷ (whole_leaves l
+    ++ (at d.Comma (sign s.Comma) ∷ special_leaves d.Direction spelled.Direction x)))
+operator_leaves r (int x) =
+    at r (sign s.Int) ∷ (at d.Less (sign s.Less) ∷ special_leaves d.Direction spelled.Direction x)
 
 abbrev mutual
   pub expr_leaves : Expr → List Leaf
@@ -60,22 +62,33 @@ abbrev mutual
   pub atom_leaves : Atom → List Leaf
   atom_leaves (number k text) = at d.Operand (literal k text) ∷ []
   atom_leaves (variable k text) = at d.Operand (name k text) ∷ []
-  atom_leaves (parenthesized e) = at d.Operand (sign s.OpenParen) ∷ (expr_leaves e ++ (at d.CloseParen (sign s.CloseParen) ∷ []))
-  atom_leaves (absolute e) = at d.Operand (sign s.Bar) ∷ (expr_leaves e ++ (at d.CloseBar (sign s.Bar) ∷ []))
-  atom_leaves (called k text e) = at d.Operand (rounding k text) ∷ (at d.OpenParen (sign s.OpenParen) ∷ (expr_leaves e ++ (at d.CloseParen (sign s.CloseParen) ∷ [])))
-  atom_leaves (rounded o e) = operator_leaves d.Operand o ++ (at d.Greater (sign s.Greater) ∷ (at d.OpenParen (sign s.OpenParen) ∷ (expr_leaves e ++ (at d.CloseParen (sign s.CloseParen) ∷ []))))
-  atom_leaves (fused a b c) = at d.Operand (sign s.Fma) ∷ (at d.OpenParen (sign s.OpenParen) ∷ (expr_leaves a ++ (at d.Comma (sign s.Comma) ∷ (expr_leaves b ++ (at d.Comma (sign s.Comma) ∷ (expr_leaves c ++ (at d.CloseParen (sign s.CloseParen) ∷ [])))))))
+  atom_leaves (parenthesized e) = at d.Operand (sign s.OpenParen)
+      ∷ (expr_leaves e ++ (at d.CloseParen (sign s.CloseParen) ∷ []))
+  atom_leaves (absolute e) =
+      at d.Operand (sign s.Bar) ∷ (expr_leaves e ++ (at d.CloseBar (sign s.Bar) ∷ []))
+  atom_leaves (called k text e) = at d.Operand (rounding k text) ∷ (at d.OpenParen
+      (sign s.OpenParen) ∷ (expr_leaves e ++ (at d.CloseParen (sign s.CloseParen) ∷ [])))
+  atom_leaves (rounded o e) =
+      operator_leaves d.Operand o ++ (at d.Greater (sign s.Greater) ∷ (at d.OpenParen
+      (sign s.OpenParen) ∷ (expr_leaves e ++ (at d.CloseParen (sign s.CloseParen) ∷ []))))
+  atom_leaves (fused a b c) = at d.Operand (sign s.Fma) ∷ (at d.OpenParen (sign s.OpenParen)
+      ∷ (expr_leaves a ++ (at d.Comma (sign s.Comma) ∷ (expr_leaves b ++ (at d.Comma (sign s.Comma)
+      ∷ (expr_leaves c ++ (at d.CloseParen (sign s.CloseParen) ∷ [])))))))
 
 abbrev pub range_leaves : Range → List Leaf
 range_leaves asked = at d.Range (sign s.Ask) ∷ []
-range_leaves (between a b) = at d.Range (sign s.OpenBracket) ∷ (bound_leaves a ++ (at d.Comma (sign s.Comma) ∷ (bound_leaves b ++ (at d.CloseBracket (sign s.CloseBracket) ∷ []))))
+range_leaves (between a b) = at d.Range (sign s.OpenBracket) ∷ (bound_leaves a ++ (at d.Comma
+    (sign s.Comma) ∷ (bound_leaves b ++ (at d.CloseBracket (sign s.CloseBracket) ∷ []))))
 
 abbrev pub prop_leaves : Prop → List Leaf
 prop_leaves (lies_in e r) = expr_leaves e ++ (at d.Relation (sign s.In) ∷ range_leaves r)
-prop_leaves (relative_in a b r) = expr_leaves a ++ (at d.Relation (sign s.Against) ∷ (expr_leaves b ++ (at d.In (sign s.In) ∷ range_leaves r)))
+prop_leaves (relative_in a b r) = expr_leaves a
+    ++ (at d.Relation (sign s.Against) ∷ (expr_leaves b ++ (at d.In (sign s.In) ∷ range_leaves r)))
 prop_leaves (at_most e b) = expr_leaves e ++ (at d.Relation (sign s.LessEqual) ∷ bound_leaves b)
 prop_leaves (at_least e b) = expr_leaves e ++ (at d.Relation (sign s.GreaterEqual) ∷ bound_leaves b)
-prop_leaves (multiple f e k) = at d.Prop (sign s.At) ∷ (special_leaves d.Fix spelled.Fix f ++ (at d.OpenParen (sign s.OpenParen) ∷ (expr_leaves e ++ (at d.Comma (sign s.Comma) ∷ (whole_leaves k ++ (at d.CloseParen (sign s.CloseParen) ∷ []))))))
+prop_leaves (multiple f e k) = at d.Prop (sign s.At) ∷ (special_leaves d.Fix spelled.Fix f
+    ++ (at d.OpenParen (sign s.OpenParen) ∷ (expr_leaves e ++ (at d.Comma (sign s.Comma)
+    ∷ (whole_leaves k ++ (at d.CloseParen (sign s.CloseParen) ∷ []))))))
 
 abbrev pub stated_leaves : Stated → List Leaf
 stated_leaves (affirmed p) = prop_leaves p
@@ -85,22 +98,28 @@ abbrev pub formula_leaves : Formula → List Leaf
 formula_leaves (single p) = stated_leaves p
 formula_leaves (and f p) = formula_leaves f ++ (at d.Connective (sign s.And) ∷ stated_leaves p)
 formula_leaves (or f p) = formula_leaves f ++ (at d.Connective (sign s.Or) ∷ stated_leaves p)
-formula_leaves (implies f p) = formula_leaves f ++ (at d.Connective (sign s.Arrow) ∷ stated_leaves p)
+formula_leaves (implies f p) =
+    formula_leaves f ++ (at d.Connective (sign s.Arrow) ∷ stated_leaves p)
 
 abbrev pub need_leaves : Need → List Leaf
-need_leaves (nonzero e zero_text) = expr_leaves e ++ (at d.NeedRelation (sign s.Unequal) ∷ (at d.Zero (literal digits_kind.Zero zero_text) ∷ []))
+need_leaves (nonzero e zero_text) = expr_leaves e
+    ++ (at d.NeedRelation (sign s.Unequal) ∷ (at d.Zero (literal digits_kind.Zero zero_text) ∷ []))
 need_leaves (below e b) = expr_leaves e ++ (at d.NeedRelation (sign s.Less) ∷ bound_leaves b)
-need_leaves (not_above e b) = expr_leaves e ++ (at d.NeedRelation (sign s.LessEqual) ∷ bound_leaves b)
+need_leaves (not_above e b) =
+    expr_leaves e ++ (at d.NeedRelation (sign s.LessEqual) ∷ bound_leaves b)
 need_leaves (above e b) = expr_leaves e ++ (at d.NeedRelation (sign s.Greater) ∷ bound_leaves b)
-need_leaves (not_below e b) = expr_leaves e ++ (at d.NeedRelation (sign s.GreaterEqual) ∷ bound_leaves b)
+need_leaves (not_below e b) =
+    expr_leaves e ++ (at d.NeedRelation (sign s.GreaterEqual) ∷ bound_leaves b)
 
 abbrev pub need_list_leaves : NeedList → List Leaf
 need_list_leaves (last_need n) = need_leaves n
-need_list_leaves (more_needs n l) = need_leaves n ++ (at d.MoreNeeds (sign s.Comma) ∷ need_list_leaves l)
+need_list_leaves (more_needs n l) =
+    need_leaves n ++ (at d.MoreNeeds (sign s.Comma) ∷ need_list_leaves l)
 
 abbrev pub needs_leaves : Needs → List Leaf
 needs_leaves always = []
-needs_leaves (provided l) = at d.Needs (sign s.OpenBrace) ∷ (need_list_leaves l ++ (at d.CloseBrace (sign s.CloseBrace) ∷ []))
+needs_leaves (provided l) = at d.Needs (sign s.OpenBrace)
+    ∷ (need_list_leaves l ++ (at d.CloseBrace (sign s.CloseBrace) ∷ []))
 
 abbrev pub points_leaves : Points → List Leaf
 points_leaves (last_point b) = bound_leaves b
@@ -109,19 +128,24 @@ points_leaves (more_points b l) = bound_leaves b ++ (at d.Points (sign s.Comma) 
 abbrev pub cut_leaves : Cut → List Leaf
 cut_leaves in_four = []
 cut_leaves (pieces k) = at d.SplitCut (sign s.In) ∷ digits_leaves d.Cut k
-cut_leaves (at_points l) = at d.SplitCut (sign s.In) ∷ (at d.Cut (sign s.OpenParen) ∷ (points_leaves l ++ (at d.CloseParen (sign s.CloseParen) ∷ [])))
+cut_leaves (at_points l) = at d.SplitCut (sign s.In) ∷ (at d.Cut (sign s.OpenParen)
+    ∷ (points_leaves l ++ (at d.CloseParen (sign s.CloseParen) ∷ [])))
 
 abbrev pub names_leaves : Names → List Leaf
 names_leaves (last_name n) = name_leaves d.SplitName n
-names_leaves (more_names n l) = name_leaves d.SplitName n ++ (at d.SplitNames (sign s.Comma) ∷ names_leaves l)
+names_leaves (more_names n l) =
+    name_leaves d.SplitName n ++ (at d.SplitNames (sign s.Comma) ∷ names_leaves l)
 
--- the sign that goes on with a list of goals has the role of what was due there: first HintRest, then GoalSplit
+-- the sign that goes on with a list of goals has the role of what was due there: first HintRest,
+-- then GoalSplit
 abbrev pub halving_leaves : Due → Halving → List Leaf
 halving_leaves r (halved_by e n) = expr_leaves e ++ (at r (sign s.Dollar) ∷ names_leaves n)
-halving_leaves r (with_goal e h) = expr_leaves e ++ (at r (sign s.Comma) ∷ halving_leaves d.GoalSplit h)
+halving_leaves r (with_goal e h) =
+    expr_leaves e ++ (at r (sign s.Comma) ∷ halving_leaves d.GoalSplit h)
 
 abbrev pub hint_leaves : Hint → List Leaf
-hint_leaves (rewrite a b n) = expr_leaves a ++ (at d.HintRest (sign s.Arrow) ∷ (expr_leaves b ++ needs_leaves n))
+hint_leaves (rewrite a b n) =
+    expr_leaves a ++ (at d.HintRest (sign s.Arrow) ∷ (expr_leaves b ++ needs_leaves n))
 hint_leaves (like a b) = expr_leaves a ++ (at d.HintRest (sign s.Tilde) ∷ expr_leaves b)
 hint_leaves (split n c) = at d.Hints (sign s.Dollar) ∷ (name_leaves d.SplitName n ++ cut_leaves c)
 hint_leaves (halving h) = halving_leaves d.HintRest h
@@ -133,15 +157,21 @@ hints_leaves (hint h l) = hint_leaves h ++ (at d.Semicolon (sign s.Semicolon) �
 abbrev pub how_leaves : How → List Leaf
 how_leaves exactly = at d.DefinedBy (sign s.Equal) ∷ []
 how_leaves (rounded_by k text) = at d.DefinedBy (rounding k text) ∷ (at d.Equal (sign s.Equal) ∷ [])
-how_leaves (rounded_apart o) = operator_leaves d.DefinedBy o ++ (at d.CloseOperator (sign s.Greater) ∷ (at d.Equal (sign s.Equal) ∷ []))
-how_leaves (rounded_joined o) = operator_leaves d.DefinedBy o ++ (at d.CloseOperator (sign s.GreaterEqual) ∷ [])
+how_leaves (rounded_apart o) = operator_leaves d.DefinedBy o
+    ++ (at d.CloseOperator (sign s.Greater) ∷ (at d.Equal (sign s.Equal) ∷ []))
+how_leaves (rounded_joined o) =
+    operator_leaves d.DefinedBy o ++ (at d.CloseOperator (sign s.GreaterEqual) ∷ [])
 
 abbrev pub definition_leaves : Definition → List Leaf
-definition_leaves (names_operator n o) = at d.Script (sign s.At) ∷ (name_leaves d.NewName n ++ (at d.Equal (sign s.Equal) ∷ (operator_leaves d.Operator o ++ (at d.Greater (sign s.Greater) ∷ (at d.Semicolon (sign s.Semicolon) ∷ [])))))
-definition_leaves (names_value n h e) = name_leaves d.Script n ++ (how_leaves h ++ (expr_leaves e ++ (at d.Semicolon (sign s.Semicolon) ∷ [])))
+definition_leaves (names_operator n o) = at d.Script (sign s.At)
+    ∷ (name_leaves d.NewName n ++ (at d.Equal (sign s.Equal) ∷ (operator_leaves d.Operator o
+    ++ (at d.Greater (sign s.Greater) ∷ (at d.Semicolon (sign s.Semicolon) ∷ [])))))
+definition_leaves (names_value n h e) = name_leaves d.Script n
+    ++ (how_leaves h ++ (expr_leaves e ++ (at d.Semicolon (sign s.Semicolon) ∷ [])))
 
 abbrev pub script_leaves : Script → List Leaf
-script_leaves (formula f h) = at d.Script (sign s.OpenBrace) ∷ (formula_leaves f ++ (at d.CloseBrace (sign s.CloseBrace) ∷ hints_leaves h))
+script_leaves (formula f h) = at d.Script (sign s.OpenBrace)
+    ∷ (formula_leaves f ++ (at d.CloseBrace (sign s.CloseBrace) ∷ hints_leaves h))
 script_leaves (define x rest) = definition_leaves x ++ script_leaves rest
 
 -- The words are those of the leaves, and so the leaves tell the role of each word.
@@ -162,4 +192,5 @@ LeavesSpell = (tree : Script) → map (λ l. l.word) (script_leaves tree) ≡ sc
 
 -- Where words are all of a script, their leaves are those of its tree.
 abbrev pub LeavesAreOfTrees : Type 0
-LeavesAreOfTrees = (tree : Script) (ws : List Word) (leaves : List Leaf) → script_words tree ≡ ws → HasRoles ws leaves → leaves ≡ script_leaves tree
+LeavesAreOfTrees = (tree : Script) (ws : List Word) (leaves : List Leaf) → script_words tree ≡ ws
+    → HasRoles ws leaves → leaves ≡ script_leaves tree

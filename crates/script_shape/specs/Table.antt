@@ -1,4 +1,5 @@
--- The table of the grammar: what each thing that is due takes, and what is due after it, the next first.
+-- The table of the grammar: what each thing that is due takes, and what is due after it, the next
+-- first.
 use Rattle.std.specs.Prelude.{List, [], ◌∷◌, ◌++◌, Option, Some, None, Bool, true, false}
 use Rattle.script_words.specs.declared.class.Class.{Class}
 use Rattle.script_words.specs.declared.class.Class.TheVariants.{Name, Rounding, Literal, Sign}
@@ -16,9 +17,12 @@ operand (Name k) = Some (d.Tail ∷ [])
 operand (Sign s.OpenParen) = Some (d.Operand ∷ d.CloseParen ∷ d.Tail ∷ [])
 operand (Sign s.Bar) = Some (d.Operand ∷ d.CloseBar ∷ d.Tail ∷ [])
 operand (Rounding k) = Some (d.OpenParen ∷ d.Operand ∷ d.CloseParen ∷ d.Tail ∷ [])
-operand (Sign s.Fixed) = Some (d.Less ∷ d.Whole ∷ d.Comma ∷ d.Direction ∷ d.Greater ∷ d.OpenParen ∷ d.Operand ∷ d.CloseParen ∷ d.Tail ∷ [])
-operand (Sign s.Int) = Some (d.Less ∷ d.Direction ∷ d.Greater ∷ d.OpenParen ∷ d.Operand ∷ d.CloseParen ∷ d.Tail ∷ [])
-operand (Sign s.Fma) = Some (d.OpenParen ∷ d.Operand ∷ d.Comma ∷ d.Operand ∷ d.Comma ∷ d.Operand ∷ d.CloseParen ∷ d.Tail ∷ [])
+operand (Sign s.Fixed) = Some (d.Less ∷ d.Whole ∷ d.Comma ∷ d.Direction ∷ d.Greater ∷ d.OpenParen
+    ∷ d.Operand ∷ d.CloseParen ∷ d.Tail ∷ [])
+operand (Sign s.Int) =
+    Some (d.Less ∷ d.Direction ∷ d.Greater ∷ d.OpenParen ∷ d.Operand ∷ d.CloseParen ∷ d.Tail ∷ [])
+operand (Sign s.Fma) = Some (d.OpenParen ∷ d.Operand ∷ d.Comma ∷ d.Operand ∷ d.Comma ∷ d.Operand
+    ∷ d.CloseParen ∷ d.Tail ∷ [])
 operand _ = None
 
 -- an expression, and then what follows it
@@ -28,7 +32,8 @@ then_due (Some new) later = Some (new ++ later)
 
 -- what is due after a token of this class, in place of what was due
 abbrev pub takes : Due → Class → Option (List Due)
-takes d.Script (Sign s.At) = Some (d.NewName ∷ d.Equal ∷ d.Operator ∷ d.Greater ∷ d.Semicolon ∷ d.Script ∷ [])
+takes d.Script (Sign s.At) =
+    Some (d.NewName ∷ d.Equal ∷ d.Operator ∷ d.Greater ∷ d.Semicolon ∷ d.Script ∷ [])
 takes d.Script (Name k) = Some (d.DefinedBy ∷ d.Operand ∷ d.Semicolon ∷ d.Script ∷ [])
 takes d.Script (Rounding k) = Some (d.DefinedBy ∷ d.Operand ∷ d.Semicolon ∷ d.Script ∷ [])
 takes d.Script (Sign s.OpenBrace) = Some (d.Claim ∷ d.Connective ∷ d.CloseBrace ∷ d.Hints ∷ [])
@@ -36,7 +41,8 @@ takes d.NewName (Name k) = Some []
 takes d.NewName (Rounding k) = Some []
 takes d.DefinedBy (Sign s.Equal) = Some []
 takes d.DefinedBy (Rounding k) = Some (d.Equal ∷ [])
-takes d.DefinedBy (Sign s.Fixed) = Some (d.Less ∷ d.Whole ∷ d.Comma ∷ d.Direction ∷ d.CloseOperator ∷ [])
+takes d.DefinedBy (Sign s.Fixed) =
+    Some (d.Less ∷ d.Whole ∷ d.Comma ∷ d.Direction ∷ d.CloseOperator ∷ [])
 takes d.DefinedBy (Sign s.Int) = Some (d.Less ∷ d.Direction ∷ d.CloseOperator ∷ [])
 takes d.Equal (Sign s.Equal) = Some []
 takes d.Operator (Sign s.Fixed) = Some (d.Less ∷ d.Whole ∷ d.Comma ∷ d.Direction ∷ [])
@@ -54,9 +60,11 @@ takes d.CloseOperator (Sign s.Greater) = Some (d.Equal ∷ [])
 takes d.CloseOperator (Sign s.GreaterEqual) = Some []
 takes d.Semicolon (Sign s.Semicolon) = Some []
 takes d.Claim (Sign s.Not) = Some (d.Prop ∷ [])
-takes d.Claim (Sign s.At) = Some (d.Fix ∷ d.OpenParen ∷ d.Operand ∷ d.Comma ∷ d.Whole ∷ d.CloseParen ∷ [])
+takes d.Claim (Sign s.At) =
+    Some (d.Fix ∷ d.OpenParen ∷ d.Operand ∷ d.Comma ∷ d.Whole ∷ d.CloseParen ∷ [])
 takes d.Claim c = then_due (operand c) (d.Relation ∷ [])
-takes d.Prop (Sign s.At) = Some (d.Fix ∷ d.OpenParen ∷ d.Operand ∷ d.Comma ∷ d.Whole ∷ d.CloseParen ∷ [])
+takes d.Prop (Sign s.At) =
+    Some (d.Fix ∷ d.OpenParen ∷ d.Operand ∷ d.Comma ∷ d.Whole ∷ d.CloseParen ∷ [])
 takes d.Prop c = then_due (operand c) (d.Relation ∷ [])
 takes d.Operand c = operand c
 takes d.Tail (Sign s.Plus) = Some (d.Operand ∷ [])
@@ -101,7 +109,8 @@ takes d.Cut (Literal digits_kind.Zero) = Some []
 takes d.Cut (Literal digits_kind.Digits) = Some []
 takes d.Cut (Sign s.OpenParen) = Some (d.Bound ∷ d.Points ∷ d.CloseParen ∷ [])
 takes d.Points (Sign s.Comma) = Some (d.Bound ∷ d.Points ∷ [])
-takes d.Needs (Sign s.OpenBrace) = Some (d.Operand ∷ d.NeedRelation ∷ d.MoreNeeds ∷ d.CloseBrace ∷ [])
+takes d.Needs (Sign s.OpenBrace) =
+    Some (d.Operand ∷ d.NeedRelation ∷ d.MoreNeeds ∷ d.CloseBrace ∷ [])
 takes d.NeedRelation (Sign s.Unequal) = Some (d.Zero ∷ [])
 takes d.NeedRelation (Sign s.Less) = Some (d.Bound ∷ [])
 takes d.NeedRelation (Sign s.LessEqual) = Some (d.Bound ∷ [])
@@ -123,7 +132,8 @@ may_skip d.Needs = true
 may_skip d.MoreNeeds = true
 may_skip _ = false
 
--- The role of a token that a due thing takes: an operand that begins a proposition or a hint has that of an operand.
+-- The role of a token that a due thing takes: an operand that begins a proposition or a hint has
+-- that of an operand.
 abbrev pub role_of : Due → Class → Due
 role_of d.Claim (Sign s.Not) = d.Claim
 role_of d.Claim (Sign s.At) = d.Prop

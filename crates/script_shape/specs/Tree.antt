@@ -1,5 +1,5 @@
--- The grammar of scripts: one type for each row of its table, one constructor for each form, and the words that each
--- form spells. Repetitions that group to the left recurse on the left.
+-- The grammar of scripts: one type for each row of its table, one constructor for each form, and
+-- the words that each form spells. Repetitions that group to the left recurse on the left.
 use Rattle.std.specs.Prelude.{◌≡◌, ℕ, All, List, [], ◌∷◌, ◌++◌}
 use Rattle.script_words.specs.Words.{Word, rounding, sign}
 use Rattle.script_words.specs.Named.{IsToken}
@@ -9,7 +9,8 @@ pub use Rattle.script_shape.specs.Expressions.{AnyName, plain, operator, name_wo
 pub use Rattle.script_shape.specs.Propositions.{Range, asked, between, range_words, Prop, lies_in, relative_in, at_most, at_least, multiple, prop_words, Stated, affirmed, denied, stated_words, Formula, single, and, or, implies, formula_words}
 pub use Rattle.script_shape.specs.Hints.{Need, nonzero, below, not_above, above, not_below, need_words, NeedList, last_need, more_needs, need_list_words, Needs, always, provided, needs_words, Points, last_point, more_points, points_words, Cut, in_four, pieces, at_points, cut_words, Names, last_name, more_names, names_words, Halving, halved_by, with_goal, halving_words, Hint, rewrite, like, split, halving, hint_words, Hints, no_hint, hint, hints_words}
 
--- what stands between a definition's name and its expression. After a written operator the sign `>=` stands for `>` `=`
+-- what stands between a definition's name and its expression. After a written operator the sign
+-- `>=` stands for `>` `=`
 pub data How : Type 0 where
   exactly : How
   rounded_by : Spelled → List ℕ → How
@@ -27,15 +28,18 @@ pub data Definition : Type 0 where
   names_value : AnyName → How → Expr → Definition
 
 abbrev pub definition_words : Definition → List Word
-definition_words (names_operator n o) = sign s.At ∷ (name_words n ++ (sign s.Equal ∷ (operator_words o ++ (sign s.Greater ∷ (sign s.Semicolon ∷ [])))))
-definition_words (names_value n h e) = name_words n ++ (how_words h ++ (expr_words e ++ (sign s.Semicolon ∷ [])))
+definition_words (names_operator n o) = sign s.At ∷ (name_words n
+    ++ (sign s.Equal ∷ (operator_words o ++ (sign s.Greater ∷ (sign s.Semicolon ∷ [])))))
+definition_words (names_value n h e) =
+    name_words n ++ (how_words h ++ (expr_words e ++ (sign s.Semicolon ∷ [])))
 
 pub data Script : Type 0 where
   formula : Formula → Hints → Script
   define : Definition → Script → Script
 
 abbrev pub script_words : Script → List Word
-script_words (formula f h) = sign s.OpenBrace ∷ (formula_words f ++ (sign s.CloseBrace ∷ hints_words h))
+script_words (formula f h) =
+    sign s.OpenBrace ∷ (formula_words f ++ (sign s.CloseBrace ∷ hints_words h))
 script_words (define d rest) = definition_words d ++ script_words rest
 
 -- The words are a whole script.

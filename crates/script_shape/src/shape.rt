@@ -14,9 +14,11 @@ use script_words::class::Class;
 use script_words::list::WordList;
 use std::alloc::{AllocError, Global};
 
-/// Takes one more token, where it has a place, and answers its role. The last thing on the stack is due first.
+/// Takes one more token, where it has a place, and answers its role. The last thing on the stack is
+/// due first.
 fn step(stack: &mut Vec<Due>, class: Class) -> Result<Option<Due>, AllocError>
-    ensures { IfOk result (λ found. Steps class (reverse stack.old.items) found (reverse stack.new.items)) }
+    ensures { IfOk result (λ found.
+        Steps class (reverse stack.old.items) found (reverse stack.new.items)) }
 {
     while let Some(top) = stack.pop() {
         if let Some(new) = takes(top, class) {
@@ -52,8 +54,9 @@ pub struct Shape {
     pub whole: bool,
 }
 
-/// A stack on which a script is due, with room for what so many words leave due: `fma` and its `(` leave six things more
-/// than they take, which is three a word, and no words leave more, a few aside.
+/// A stack on which a script is due, with room for what so many words leave due: `fma` and its `(`
+/// leave six things more than they take, which is three a word, and no words leave more, a few
+/// aside.
 fn script_due(alloc: Global, words: usize) -> Result<Vec<Due>, AllocError>
     ensures { IfOk result (λ stack. reverse stack.items ≡ spec.start) }
 {
@@ -65,8 +68,10 @@ fn script_due(alloc: Global, words: usize) -> Result<Vec<Due>, AllocError>
 
 /// How far words go with the grammar. `Err` only where memory runs out.
 pub fn shape_of(alloc: Global, words: WordList<'_, '_>) -> Result<Shape, AllocError>
-    ensures shape { IfOk result (λ shape. IsShapeOf (words_in words.entry) (length shape.roles.items) shape.whole) }
-    ensures roles { IfOk result (λ shape. AreRolesOf (words_in words.entry) (length shape.roles.items) shape.roles.items) }
+    ensures shape { IfOk result
+        (λ shape. IsShapeOf (words_in words.entry) (length shape.roles.items) shape.whole) }
+    ensures roles { IfOk result
+        (λ shape. AreRolesOf (words_in words.entry) (length shape.roles.items) shape.roles.items) }
 {
     let mut stack = script_due(alloc, words.len())?;
     let mut roles = Vec::with_capacity(alloc, words.len())?;
@@ -123,7 +128,8 @@ pub fn roles_are_unique()
     ensures { RolesAreUnique }
 {}
 
-/// The leaves of a script's tree have its words, and words that are all of a script have the leaves of its tree.
+/// The leaves of a script's tree have its words, and words that are all of a script have the leaves
+/// of its tree.
 pub fn leaves_are_of_trees()
     ensures spell { LeavesSpell }
     ensures are { LeavesAreOfTrees }

@@ -8,7 +8,8 @@ use script_words::class::{Class, Number, Sign, Spelled};
 
 /// What is due after a token of this class, in place of what was due, the last first.
 pub fn takes(due: Due, class: Class) -> Option<&'static [Due]>
-    ensures { MatchOption result (spec.takes due class ≡ None) (λ new. spec.takes due class ≡ Some (reverse new.now)) }
+    ensures { MatchOption result (spec.takes due class ≡ None)
+        (λ new. spec.takes due class ≡ Some (reverse new.now)) }
 {
     match (due, class) {
         (Due::Script, Class::Sign(Sign::At)) => Some(&[

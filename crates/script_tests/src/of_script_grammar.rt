@@ -12,7 +12,8 @@ use std::alloc::Global;
 use std::process::Abort;
 use std::test::Fail;
 
-// How many nodes a script has, how many hypotheses and goals, and how many hints that rewrite, liken, cut and halve.
+// How many nodes a script has, how many hypotheses and goals, and how many hints that rewrite,
+// liken, cut and halve.
 type Sizes = (u16, (usize, usize), (usize, usize), (usize, usize));
 
 fn sizes(script: &Script<'_>) -> Sizes {

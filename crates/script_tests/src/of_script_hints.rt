@@ -16,7 +16,8 @@ use std::alloc::Global;
 use std::process::Abort;
 use std::test::Fail;
 
-// What the hints of a text say. The formula `{ x in ? }` isn't read, so that the hints' own nodes come first.
+// What the hints of a text say. The formula `{ x in ? }` isn't read, so that the hints' own nodes
+// come first.
 fn said(alloc: Global, text: &[u8]) -> Result<HintList, Fail>
     requires { length text.now < 1000 }
 {

@@ -7,7 +7,8 @@ use script_words::words::read_words;
 use std::alloc::{AllocError, Global};
 use std::test::Fail;
 
-/// The place of the first word that is not taken, of a byte that begins no token, or of an end that comes too early.
+/// The place of the first word that is not taken, of a byte that begins no token, or of an end that
+/// comes too early.
 fn fault(alloc: Global, text: &[u8]) -> Result<Option<usize>, AllocError>
     requires { length text.now < 2 ^ 32 }
 {

@@ -17,7 +17,8 @@ use Rattle.box_tree.specs.script_claims.Meets.{IsTrueAt}
 use Rattle.script_meets.specs.script_grammar.Names.{IsNode, AreNodes, ClaimIsOf}
 use Rattle.universe.specs.rule_universe.Licensed.{RowIsKnown}
 
--- The second list is the first with more nodes behind it; each node of both is made of earlier ones.
+-- The second list is the first with more nodes behind it; each node of both is made of earlier
+-- ones.
 pub record IsExtended (nodes all : List Node) : Type 0 where
   pub more : List Node
   pub list : all ≡ nodes ++ more
@@ -43,16 +44,20 @@ SlotIsOf n slot.Void = ⊤
 
 -- A fact about its nodes holds over both, or over neither.
 abbrev pub FactsAreKept : List Node → List Node → Assignment → Type 0
-FactsAreKept nodes all a = (f : Fact) → SlotIsOf (length nodes) (slot_of f) → Holds all a f ↔ Holds nodes a f
+FactsAreKept nodes all a = (f : Fact) → SlotIsOf (length nodes) (slot_of f)
+    → Holds all a f ↔ Holds nodes a f
 
 -- The same of lines,
 abbrev pub LinesAreKept : List Node → List Node → Assignment → Type 0
-LinesAreKept nodes all a = (t : Slot) (l : Line) → SlotIsOf (length nodes) t → LineHolds all a t l ↔ LineHolds nodes a t l
+LinesAreKept nodes all a = (t : Slot) (l : Line) → SlotIsOf (length nodes) t
+    → LineHolds all a t l ↔ LineHolds nodes a t l
 
 -- of claims,
 abbrev pub ClaimsAreKept : List Node → List Node → Assignment → Type 0
-ClaimsAreKept nodes all a = (c : Claim) → ClaimIsOf (length nodes) c → IsTrueAt all a c ↔ IsTrueAt nodes a c
+ClaimsAreKept nodes all a = (c : Claim) → ClaimIsOf (length nodes) c
+    → IsTrueAt all a c ↔ IsTrueAt nodes a c
 
 -- and of rows of hints.
 abbrev pub RowsAreKept : List Node → List Node → Assignment → Type 0
-RowsAreKept nodes all a = (row : HintRow) → RowIsKnown (length nodes) row → RowIsTrue all a row ↔ RowIsTrue nodes a row
+RowsAreKept nodes all a = (row : HintRow) → RowIsKnown (length nodes) row
+    → RowIsTrue all a row ↔ RowIsTrue nodes a row

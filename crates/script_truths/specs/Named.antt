@@ -15,12 +15,15 @@ use Rattle.script_truths.specs.Kept.{SlotIsOf}
 
 -- The facts of hypotheses are about nodes of the script;
 abbrev pub FactsAreNamed : Type 0
-FactsAreNamed = (s : View) → NamesNodes s → AllByRecursion (λ (f : Fact). SlotIsOf (length s.nodes) (slot_of f)) (facts_of s.hypotheses)
+FactsAreNamed = (s : View) → NamesNodes s
+    → AllByRecursion (λ (f : Fact). SlotIsOf (length s.nodes) (slot_of f)) (facts_of s.hypotheses)
 
 -- so are its goals,
 abbrev pub GoalsAreNamed : Type 0
-GoalsAreNamed = (s : View) → NamesNodes s → AllByRecursion (λ (g : Goal). SlotIsOf (length s.nodes) g.of) (map goal_of s.goals)
+GoalsAreNamed = (s : View) → NamesNodes s
+    → AllByRecursion (λ (g : Goal). SlotIsOf (length s.nodes) g.of) (map goal_of s.goals)
 
 -- and the rows of its hints.
 abbrev pub RowsAreNamed : Type 0
-RowsAreNamed = (s : View) → IsOrdered s.nodes → NamesNodes s → (rows : List HintRow) → AreRows s.nodes s.hints.rewrites rows → AllByRecursion (RowIsKnown (length s.nodes)) rows
+RowsAreNamed = (s : View) → IsOrdered s.nodes → NamesNodes s → (rows : List HintRow)
+    → AreRows s.nodes s.hints.rewrites rows → AllByRecursion (RowIsKnown (length s.nodes)) rows

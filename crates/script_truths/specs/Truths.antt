@@ -45,13 +45,17 @@ abbrev pub TrueFactsHold : Type 0
 TrueFactsHold = (s : View) (a : Assignment) (claims : List Claim)
     → AreTrue s a claims → AllByRecursion (Holds s.nodes a) (facts_of claims)
 
--- The row of a hint that is checked, its sides being the same by their normal forms, is true of every assignment.
+-- The row of a hint that is checked, its sides being the same by their normal forms, is true of
+-- every assignment.
 abbrev pub CheckedRowsAreTrue : Type 0
-CheckedRowsAreTrue = (nodes : List Node) (h : Hint) (row : HintRow) → IsOrdered nodes → HintIsOf (length nodes) h → IsMarkOf nodes h Checked → IsRowOf nodes h row → (a : Assignment) → RowIsTrue nodes a row
+CheckedRowsAreTrue = (nodes : List Node) (h : Hint) (row : HintRow)
+    → IsOrdered nodes → HintIsOf (length nodes) h → IsMarkOf nodes h Checked → IsRowOf nodes h row
+    → (a : Assignment) → RowIsTrue nodes a row
 
 -- All rows of a script, checked or assumed, are true of each assignment that meets it.
 abbrev pub MetRowsAreTrue : Type 0
-MetRowsAreTrue = (s : View) (a : Assignment) → IsOrdered s.nodes → NamesNodes s → Meets a s → (rows : List HintRow) → AreRows s.nodes s.hints.rewrites rows → RowsAreTrue s.nodes a rows
+MetRowsAreTrue = (s : View) (a : Assignment) → IsOrdered s.nodes → NamesNodes s → Meets a s
+    → (rows : List HintRow) → AreRows s.nodes s.hints.rewrites rows → RowsAreTrue s.nodes a rows
 
 -- ---- over the universe
 
@@ -93,7 +97,8 @@ LiesInWholeBox s claims u a = (depth : ℕ)
 
 -- ---- goals
 
--- Where a fact settles a goal and holds over the universe, the goal is true, with bounds exactly as they are written.
+-- Where a fact settles a goal and holds over the universe, the goal is true, with bounds exactly as
+-- they are written.
 abbrev pub SettledGoalsAreTrue : View → List Claim → World → Assignment → Type 0
 SettledGoalsAreTrue s claims u a = (c : Claim)
     → Has s.goals c → (f : Fact) → Settles (goal_of c) f → Holds u.nodes a f → IsTrueAt s.nodes a c

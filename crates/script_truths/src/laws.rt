@@ -8,8 +8,8 @@ use script_meets::{equal_forms_have_equal_values, met_scripts};
 use theorem_list::values_stay;
 use universe::rows_are_true;
 
-/// Nothing is done. The clauses tell a caller that nodes have their values where more nodes follow; so facts and lines about
-/// them hold, claims and rows are true, over both lists or over neither.
+/// Nothing is done. The clauses tell a caller that nodes have their values where more nodes follow;
+/// so facts and lines about them hold, claims and rows are true, over both lists or over neither.
 pub fn nodes_keep_what_is_said()
     ensures values { OfExtended ValuesAreKept }
     ensures facts { OfExtended FactsAreKept }
@@ -40,15 +40,16 @@ pub fn what_is_written_is_true()
     hypotheses_hold();
 }
 
-/// Nothing is done. The clauses tell a caller that the facts of a script's hypotheses, its goals and the rows of its hints are
-/// about its nodes.
+/// Nothing is done. The clauses tell a caller that the facts of a script's hypotheses, its goals
+/// and the rows of its hints are about its nodes.
 pub fn what_is_written_names_nodes()
     ensures facts { FactsAreNamed }
     ensures goals { GoalsAreNamed }
     ensures rows { RowsAreNamed }
 {}
 
-/// Nothing is done. The clause tells a caller that the nodes of a universe are the script's, with more behind them.
+/// Nothing is done. The clause tells a caller that the nodes of a universe are the script's, with
+/// more behind them.
 pub fn universes_extend()
     ensures { UniversesExtend }
 {}
@@ -68,8 +69,9 @@ pub fn what_is_given_is_true()
     hypotheses_are_in_the_box();
 }
 
-/// Nothing is done. The clauses tell a caller that a goal is true, with bounds as they are written, of each assignment of which
-/// a fact that settles it holds over the universe; and that its line holds over the script where it holds over the universe.
+/// Nothing is done. The clauses tell a caller that a goal is true, with bounds as they are written,
+/// of each assignment of which a fact that settles it holds over the universe; and that its line
+/// holds over the script where it holds over the universe.
 pub fn goals_are_true()
     ensures settled { OfUniverses SettledGoalsAreTrue }
     ensures lines { OfUniverses GoalLinesHold }

@@ -1,4 +1,5 @@
-//! What is true of the assignments that meet a script, over its nodes and over those of its universe.
+//! What is true of the assignments that meet a script, over its nodes and over those of its
+//! universe.
 #![tactic(auto)]
 
 // What callers name of the crates below.

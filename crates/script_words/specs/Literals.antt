@@ -28,7 +28,8 @@ part_len mark r (b ∷ bs) = if b == mark && nat_lt 0 (run_len r bs) then 1 + ru
 abbrev pub signed_len : List ℕ → ℕ
 signed_len [] = 0
 signed_len (b ∷ bs) =
-    if b == 43 || b == 45 then (if nat_lt 0 (run_len Digit bs) then 1 + run_len Digit bs else 0) else run_len Digit (b ∷ bs)
+    if b == 43 || b == 45 then (if nat_lt 0 (run_len Digit bs) then 1 + run_len Digit bs else 0)
+    else run_len Digit (b ∷ bs)
 
 -- an exponent behind its mark, or nothing
 abbrev pub exponent_len : ℕ → List ℕ → ℕ
@@ -48,7 +49,8 @@ is_hex [] = false
 is_hex (a ∷ []) = false
 is_hex (a ∷ (b ∷ bs)) = a == 48 && b == 120 && nat_lt 0 (run_len HexDigit bs)
 
--- the longest literal at the front, which begins with a digit. Digits with `b` and an exponent are a binary one
+-- the longest literal at the front, which begins with a digit. Digits with `b` and an exponent are
+-- a binary one
 unfoldable pub literal_len : List ℕ → ℕ
 literal_len bs =
     if is_hex bs then 2 + scaled_len HexDigit 112 (drop 2 bs)

@@ -35,8 +35,10 @@ word_of (code.Sign g) = sign g
 -- the names of directions: `zr aw dn up od ne no nz na nd nu`
 abbrev pub is_direction : List ℕ → Bool
 is_direction w =
-    bytes_eq w (codes "zr") || bytes_eq w (codes "aw") || bytes_eq w (codes "dn") || bytes_eq w (codes "up")
-    || bytes_eq w (codes "od") || bytes_eq w (codes "ne") || bytes_eq w (codes "no") || bytes_eq w (codes "nz")
+    bytes_eq w (codes "zr") || bytes_eq w (codes "aw") || bytes_eq w (codes "dn")
+    || bytes_eq w (codes "up")
+    || bytes_eq w (codes "od") || bytes_eq w (codes "ne") || bytes_eq w (codes "no")
+    || bytes_eq w (codes "nz")
     || bytes_eq w (codes "na") || bytes_eq w (codes "nd") || bytes_eq w (codes "nu")
 
 -- what a name means where a direction or `FIX` is wanted
@@ -58,7 +60,8 @@ number_of text =
 -- a name that is among the operators' is `rounding`
 abbrev pub name_word : List (List ℕ) → List ℕ → Word
 name_word operators text =
-    if list_any (λ n. bytes_eq n text) operators then rounding (spelled_of text) text else name (spelled_of text) text
+    if list_any (λ n. bytes_eq n text) operators then rounding (spelled_of text) text
+    else name (spelled_of text) text
 
 -- the word of a token with this text, where these names are operators'
 abbrev pub kind_word : List (List ℕ) → TokenKind → List ℕ → Word
@@ -123,7 +126,8 @@ pub record IsWordsOf (text : List ℕ) (ws : List Word) : Type 0 where
 abbrev pub IsOneList : Type 0
 IsOneList = (text : List ℕ) (ws vs : List Word) → IsWordsOf text ws → IsWordsOf text vs → ws ≡ vs
 
--- A word that a token can be: some bytes are one token, and it is that word where these names are operators'.
+-- A word that a token can be: some bytes are one token, and it is that word where these names are
+-- operators'.
 pub record IsToken (w : Word) : Type 0 where
   pub text : List ℕ
   pub kind : TokenKind
@@ -137,4 +141,5 @@ text_cmp a b = slice_cmp nat_cmp a.now b.now
 
 -- the set has these texts and no other
 abbrev pub HasNames : BTreeSet (Bor (List ℕ)) → List (List ℕ) → Type 0
-HasNames set names = (q : Bor (List ℕ)) → contains text_cmp set q ≡ list_any (λ n. bytes_eq n q.now) names
+HasNames set names = (q : Bor (List ℕ))
+    → contains text_cmp set q ≡ list_any (λ n. bytes_eq n q.now) names

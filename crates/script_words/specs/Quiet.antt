@@ -20,5 +20,6 @@ pub record IsQuiet (q : ℕ) : Type 0 where
 
 -- A text that is one token, which begins with a letter, a digit or `_`, is one before such a byte.
 abbrev pub EndsBeforeQuiet : Type 0
-EndsBeforeQuiet = (b q : ℕ) (bs rest : List ℕ) (k : TokenKind) → is_word b ≡ true → IsQuiet q → front (b ∷ bs) ≡ Some (k, length (b ∷ bs))
+EndsBeforeQuiet = (b q : ℕ) (bs rest : List ℕ) (k : TokenKind) → is_word b ≡ true → IsQuiet q
+    → front (b ∷ bs) ≡ Some (k, length (b ∷ bs))
     → front (b ∷ (bs ++ (q ∷ rest))) ≡ Some (k, length (b ∷ bs))

@@ -17,7 +17,8 @@ fn digit(b: u8) -> u8
     }
 }
 
-/// The number that digits write, of any length and with leading zeros; `None` exactly where it reaches the limit.
+/// The number that digits write, of any length and with leading zeros; `None` exactly where it
+/// reaches the limit.
 pub fn number_below(limit: u32, digits: &[u8]) -> Option<u32>
     requires { (0 < limit) × (limit ≤ 2 ^ 16) }
     ensures { SomeIff result (digits_value 10 digits.now < limit) (digits_value 10 digits.now) }

@@ -25,7 +25,8 @@ pub struct Token {
     pub end: u32,
 }
 
-/// A set of bytes, of which a run is measured: those of names, the digits of a decimal number, or those of a hexadecimal one.
+/// A set of bytes, of which a run is measured: those of names, the digits of a decimal number, or
+/// those of a hexadecimal one.
 #[derive(Clone, Copy)]
 pub enum Run {
     Word,

@@ -95,7 +95,8 @@ impl<'w, 'a> WordList<'w, 'a> {
     #[inline]
     pub fn class_at(self, number: usize) -> Class
         requires { number < length (words_in self) }
-        ensures { (d : SpecWord) → class_of (slice_index_or (words_in self.entry) number d) ≡ result }
+        ensures { (d : SpecWord)
+            → class_of (slice_index_or (words_in self.entry) number d) ≡ result }
     {
         self.placed[number].class
     }
@@ -104,7 +105,8 @@ impl<'w, 'a> WordList<'w, 'a> {
     #[inline]
     pub fn at(self, number: usize) -> Word<'a>
         requires { number < length (words_in self) }
-        ensures { drop number (words_in self.entry) ≡ word_of result ∷ drop (number + 1) (words_in self.entry) }
+        ensures { drop number (words_in self.entry)
+            ≡ word_of result ∷ drop (number + 1) (words_in self.entry) }
     {
         word_at(self.text, self.placed[number])
     }

@@ -136,7 +136,8 @@ enum Naming<'a> {
 }
 
 fn naming_after<'a>(naming: Naming<'a>, word: Word<'a>) -> Naming<'a>
-    ensures { spec.naming_of result ≡ spec.naming_after (spec.naming_of naming.entry) (spec.word_of word.entry) }
+    ensures { spec.naming_of result
+        ≡ spec.naming_after (spec.naming_of naming.entry) (spec.word_of word.entry) }
 {
     match (naming, word) {
         (Naming::Pending(_), Word::Sign(Sign::Semicolon)) => Naming::Nothing,
@@ -150,7 +151,8 @@ fn naming_after<'a>(naming: Naming<'a>, word: Word<'a>) -> Naming<'a>
 
 /// The operator whose definition ends with the word.
 fn defined_by<'a>(naming: Naming<'a>, word: Word<'a>) -> Option<&'a [u8]>
-    ensures { option_copied result ≡ spec.defined_by (spec.naming_of naming.entry) (spec.word_of word.entry) }
+    ensures { option_copied result
+        ≡ spec.defined_by (spec.naming_of naming.entry) (spec.word_of word.entry) }
 {
     match (naming, word) {
         (Naming::Pending(name), Word::Sign(Sign::Semicolon)) => Some(name),
@@ -162,7 +164,8 @@ fn defined_by<'a>(naming: Naming<'a>, word: Word<'a>) -> Option<&'a [u8]>
 pub fn read_words<'a>(alloc: Global, text: &'a [u8]) -> Result<Words<'a>, AllocError>
     requires { length text.now < 2 ^ 32 }
     ensures tokens { IfOk result (λ read. Lexes 0 text.now (all_tokens read) read.bad) }
-    ensures words { IfOk result (λ read. all_words read ≡ spec.words_of text.now (all_tokens read)) }
+    ensures words { IfOk result
+        (λ read. all_words read ≡ spec.words_of text.now (all_tokens read)) }
     ensures within { IfOk result (λ read. All (IsWithin text.now) (all_tokens read)) }
 {
     // A word has a byte or more, so none is moved for want of room.

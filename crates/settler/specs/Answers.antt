@@ -1,4 +1,5 @@
--- What is answered to a script: by the script and its options alone. No code and no order of work occurs in it.
+-- What is answered to a script: by the script and its options alone. No code and no order of work
+-- occurs in it.
 use Rattle.std.specs.Prelude.{◌≡◌, ⊤, ℕ, List, [], ◌∷◌, length}
 use Rattle.case_trees.specs.script_claims.declared.claim.Claim.{Claim}
 use Rattle.script_truths.specs.script_grammar.Spells.{View}
@@ -19,7 +20,8 @@ use Rattle.case_trees.specs.declared.outcome.CaseOutcome.TheVariants as cases
 use Rattle.case_trees.specs.Answers.{IsAnswerOfAll}
 use Rattle.settler.specs.Standing.{AreStates}
 
--- How a script is proved: the height of derivations, how often boxes are halved, and how many boxes there may be.
+-- How a script is proved: the height of derivations, how often boxes are halved, and how many boxes
+-- there may be.
 pub record Options : Type 0 where
   pub rounds : ℕ
   pub depth : ℕ
@@ -105,4 +107,5 @@ OutcomesAreOne = (s : View) (o : Options) (found other : CaseOutcome)
 
 -- It has one answer at most.
 abbrev pub AnswersAreOne : Type 0
-AnswersAreOne = (s : View) (o : Options) (answer other : Answer) → IsScriptAnswer s o answer → IsScriptAnswer s o other → answer ≡ other
+AnswersAreOne = (s : View) (o : Options) (answer other : Answer) → IsScriptAnswer s o answer
+    → IsScriptAnswer s o other → answer ≡ other

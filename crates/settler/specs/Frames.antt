@@ -7,11 +7,13 @@ use Rattle.case_trees.specs.box_tree.Plans.{cut_at, piece_at}
 use Rattle.case_trees.specs.box_tree.Regions.{PlanParts}
 
 abbrev pub no_world : World
-no_world = record { nodes = []; pairs = []; goals = []; hypotheses = []; hints = []; instances = [] }
+no_world =
+    record { nodes = []; pairs = []; goals = []; hypotheses = []; hints = []; instances = [] }
 
 abbrev pub no_plan : PlanParts
 no_plan = record { ranges = []; cuts = []; halves = []; depth = 0 }
 
 -- The plan cuts along expressions of the universe: each piece of a box that is cut is of one.
 abbrev pub Fits : World → PlanParts → Type 0
-Fits u plan = (path : List ℕ) (i : ℕ) → i < piece_count (cut_at plan path) → IsSomeAnd (piece_at plan (path ++ i ∷ [])) (λ p. (p.0).0 < length u.nodes)
+Fits u plan = (path : List ℕ) (i : ℕ) → i < piece_count (cut_at plan path)
+    → IsSomeAnd (piece_at plan (path ++ i ∷ [])) (λ p. (p.0).0 < length u.nodes)

@@ -26,7 +26,8 @@ use Rattle.case_trees.specs.bisect.Trees.{Tree, tree_of, IsLeaf}
 use Rattle.case_trees.specs.bisect.Boxes.{IsOpenLeaf}
 use Rattle.settler.specs.Standing.{AreStates}
 
--- Of the assignment all is true that derivations over the universe begin with, and its values lie in the whole box.
+-- Of the assignment all is true that derivations over the universe begin with, and its values lie
+-- in the whole box.
 pub record MeetsUniverse (u : World) (plan : PlanParts) (a : Assignment) : Type 0 where
   pub hypotheses : (f : Fact) → Contains u.hypotheses f → Holds u.nodes a f
   pub rows : RowsAreTrue u.nodes a u.hints
@@ -65,9 +66,11 @@ abbrev pub CasesHold : View → Options → Type 0
 CasesHold s o = (case : ℕ) (claims : List Claim)
     → slice_get (cases_of s) case ≡ Some claims → CaseHolds s o claims
 
--- Each goal has a line in its place, which holds of the assignment; and the goal is true, with bounds exactly as they are written.
+-- Each goal has a line in its place, which holds of the assignment; and the goal is true, with
+-- bounds exactly as they are written.
 abbrev pub AreHeld : View → Assignment → List Line → Type 0
-AreHeld s a lines = (k : ℕ) (c : Claim) → slice_get s.goals k ≡ Some c → (l : Line) × (slice_get lines k ≡ Some l) × LineHolds s.nodes a (slot_of c) l × IsTrueAt s.nodes a c
+AreHeld s a lines = (k : ℕ) (c : Claim) → slice_get s.goals k ≡ Some c → (l : Line)
+    × (slice_get lines k ≡ Some l) × LineHolds s.nodes a (slot_of c) l × IsTrueAt s.nodes a c
 
 -- Where the script is proved, that is so of every assignment that meets it.
 abbrev pub ProvedHolds : View → Options → Type 0

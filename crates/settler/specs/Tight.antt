@@ -23,15 +23,19 @@ use Rattle.case_trees.specs.bisect.Gathered.{with_known}
 use Rattle.settler.specs.Standing.{IsBestKnown, AreStates}
 use Rattle.settler.specs.Answers.{Options, plan_of, tree_by, IsProved}
 
--- What a box gives to a goal's line: its best known fact, which settles the goal. Where VOID is known that is nothing.
+-- What a box gives to a goal's line: its best known fact, which settles the goal. Where VOID is
+-- known that is nothing.
 abbrev pub Gives : Setting → ℕ → List Piece → Goal → Option Fact → Type 0
 Gives u height pieces goal None = Known u height pieces fact.Void
-Gives u height pieces goal (Some f) = (¬ Known u height pieces fact.Void) × IsBestKnown u height pieces goal.of f × Settles goal f
+Gives u height pieces goal (Some f) = (¬ Known u height pieces fact.Void)
+    × IsBestKnown u height pieces goal.of f × Settles goal f
 
 -- one for each of the boxes, in their order
 abbrev pub GiveEach : World → PlanParts → ℕ → Goal → List (List ℕ) → List (Option Fact) → Type 0
 GiveEach u plan height goal [] [] = ⊤
-GiveEach u plan height goal (path ∷ paths) (given ∷ later) = Gives (setting_of u) height (pieces_at plan path) goal given × GiveEach u plan height goal paths later
+GiveEach u plan height goal (path ∷ paths) (given ∷ later) =
+    Gives (setting_of u) height (pieces_at plan path) goal given
+    × GiveEach u plan height goal paths later
 GiveEach u plan height goal _ _ = ⊥
 
 -- the hull of the line and of what is given
@@ -66,10 +70,12 @@ GiveInEach s o (claims ∷ later) leaves goal given = (here behind : List (Optio
 pub record AreTight (s : View) (o : Options) (lines : List Line) : Type 0 where
   pub leaves : LeavesOfEach s o (cases_of s)
   pub count : length lines ≡ length s.goals
-  pub hulls : (k : ℕ) (c : Claim) (l : Line) → slice_get s.goals k ≡ Some c → slice_get lines k ≡ Some l →
-      (given : List (Option Fact))
+  pub hulls : (k : ℕ) (c : Claim) (l : Line) → slice_get s.goals k ≡ Some c
+      → slice_get lines k ≡ Some l
+      → (given : List (Option Fact))
       × GiveInEach s o (cases_of s) leaves (goal_of c) given × (l ≡ hull_over line.Empty given)
 
 -- Where a script is proved, its lines are so.
 abbrev pub ProvedLinesAreTight : Type 0
-ProvedLinesAreTight = (s : View) (o : Options) (lines : List Line) → IsProved s o lines → AreTight s o lines
+ProvedLinesAreTight = (s : View) (o : Options) (lines : List Line)
+    → IsProved s o lines → AreTight s o lines

@@ -41,12 +41,14 @@ impl<'a, F: Frame> Model for Boxes<'a, F> {
 
     ghost view = { λ b. b.rounds };
 
-    ghost invariant = { λ b. (b.universe.now ≡ F.universe) × (b.plan.now ≡ F.plan) × (b.rounds ≡ F.rounds) × Fits F.universe F.plan };
+    ghost invariant = { λ b. (b.universe.now ≡ F.universe) × (b.plan.now ≡ F.plan)
+        × (b.rounds ≡ F.rounds) × Fits F.universe F.plan };
 }
 
 // Adds the table's facts on the slots of the goals.
 fn add_goal_facts(facts: &mut Vec<Fact>, table: &Table, goals: &[Goal]) -> Result<(), AllocError>
-    ensures { OnOk result (facts.new.items ≡ facts.old.items ++ goal_facts (fact_at table.now) goals.now) }
+    ensures { OnOk result (facts.new.items
+        ≡ facts.old.items ++ goal_facts (fact_at table.now) goals.now) }
 {
     match goals {
         [] => Ok(()),
@@ -70,7 +72,8 @@ fn goal_facts(alloc: Global, table: &Table, goals: &[Goal]) -> Result<Items<Fact
 
 // How a box stands that comes to this.
 fn standing(alloc: Global, settled: &Settled, goals: &[Goal]) -> Result<State, AllocError>
-    ensures { IfOk result (λ s. s ≡ state_with (state_of settled.now) (goal_facts (fact_at (table_of settled.now)) goals.now)) }
+    ensures { IfOk result (λ s. s ≡ state_with (state_of settled.now)
+        (goal_facts (fact_at (table_of settled.now)) goals.now)) }
 {
     match settled {
         Settled::Done(table) => Ok(State::Settled(goal_facts(alloc, table, goals)?)),
@@ -147,8 +150,10 @@ impl<'a, F: Frame> Boxes<'a, F> {
     ) -> Result<Settled, AllocError>
         requires path { IsPathOf (λ p. piece_count (cut_at F.plan p)) path.now }
         requires parent { MatchOption parent (path.now ≡ []) (λ e. IsChild e.now path.now) }
-        ensures table { IfOk result (λ r. IsTableAt (setting_of F.universe) F.rounds (pieces_at F.plan path.now) (fact_at (table_of r))) }
-        ensures state { IfOk result (λ r. IsState (setting_of F.universe) F.universe.goals F.rounds (pieces_at F.plan path.now) (state_of r)) }
+        ensures table { IfOk result (λ r. IsTableAt (setting_of F.universe) F.rounds
+            (pieces_at F.plan path.now) (fact_at (table_of r))) }
+        ensures state { IfOk result (λ r. IsState (setting_of F.universe) F.universe.goals F.rounds
+            (pieces_at F.plan path.now) (state_of r)) }
         ensures places { IfOk result (λ r. HasAllPlaces F.universe (table_of r)) }
         ensures marked { IfOk result (λ r. IsMarked (setting_of F.universe) (table_of r)) }
     {
@@ -163,8 +168,10 @@ impl<'a, F: Frame> Boxes<'a, F> {
         path: Path,
         settled: Settled,
     ) -> Result<Verdict<Entry<F>>, AllocError>
-        requires table { IsTableAt (setting_of F.universe) F.rounds (pieces_at F.plan path) (fact_at (table_of settled)) }
-        requires state { IsState (setting_of F.universe) F.universe.goals F.rounds (pieces_at F.plan path) (state_of settled) }
+        requires table { IsTableAt (setting_of F.universe) F.rounds (pieces_at F.plan path)
+            (fact_at (table_of settled)) }
+        requires state { IsState (setting_of F.universe) F.universe.goals F.rounds
+            (pieces_at F.plan path) (state_of settled) }
         requires places { HasAllPlaces F.universe (table_of settled) }
         requires marked { IsMarked (setting_of F.universe) (table_of settled) }
         ensures entry { IfOk result (λ v. v.entry ≡ path) }

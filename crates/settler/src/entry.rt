@@ -40,7 +40,8 @@ impl<F: Frame> Model for Entry<F> {
 impl<F: Frame> Entry<F> {
     // The entry of the box with this best table.
     pub(crate) fn new(path: Path, table: Table) -> Entry<F>
-        requires right { IsTableAt (setting_of F.universe) F.rounds (pieces_at F.plan path) (fact_at table) }
+        requires right { IsTableAt (setting_of F.universe) F.rounds
+            (pieces_at F.plan path) (fact_at table) }
         requires places { HasAllPlaces F.universe table }
         requires marked { IsMarked (setting_of F.universe) table }
         ensures { result ≡ path }
@@ -54,7 +55,8 @@ impl<F: Frame> Entry<F> {
 
     // The box's best table.
     pub(crate) fn table(&self) -> &Table
-        ensures right { IsTableAt (setting_of F.universe) F.rounds (pieces_at F.plan self.now) (fact_at result.now) }
+        ensures right { IsTableAt (setting_of F.universe) F.rounds
+            (pieces_at F.plan self.now) (fact_at result.now) }
         ensures places { HasAllPlaces F.universe result.now }
         ensures marked { IsMarked (setting_of F.universe) result.now }
     {

@@ -5,8 +5,8 @@ ghost use Rattle.settler.specs.Frames.{no_world, no_plan};
 
 use std::marker::Brand;
 
-/// What boxes are settled in: a universe, how boxes are cut, and how many rounds settle one. One type is one frame, so that
-/// boxes of two runs are never taken for each other's.
+/// What boxes are settled in: a universe, how boxes are cut, and how many rounds settle one. One
+/// type is one frame, so that boxes of two runs are never taken for each other's.
 pub trait Frame {
     ghost universe: { World };
 

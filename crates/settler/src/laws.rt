@@ -25,7 +25,8 @@ pub fn plans_fit(universe: &Universe)
     pieces_are_of_hypotheses();
 }
 
-/// Nothing is done. The clauses tell a caller that a script comes to one outcome with its options, so that it has one answer.
+/// Nothing is done. The clauses tell a caller that a script comes to one outcome with its options,
+/// so that it has one answer.
 pub fn answers_are_one()
     ensures outcomes { OutcomesAreOne }
     ensures answers { AnswersAreOne }
@@ -35,8 +36,8 @@ pub fn answers_are_one()
     cases_answer_once();
 }
 
-/// Nothing is done. The clause tells a caller that the lines of a proved script are the hulls of its goals' best known facts over
-/// the leaves of the trees of all its cases.
+/// Nothing is done. The clause tells a caller that the lines of a proved script are the hulls of
+/// its goals' best known facts over the leaves of the trees of all its cases.
 pub fn proved_lines_are_tight()
     ensures { ProvedLinesAreTight }
 {}

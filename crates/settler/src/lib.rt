@@ -1,4 +1,5 @@
-//! The engine on a script's boxes: each is settled by rounds over the script's universe, and so the script has one answer.
+//! The engine on a script's boxes: each is settled by rounds over the script's universe, and so the
+//! script has one answer.
 #![tactic(auto)]
 
 // What callers name of the crates below.

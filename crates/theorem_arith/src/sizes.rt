@@ -65,7 +65,8 @@ pub fn rule_18(dag: &Dag, premises: &[Fact], target: Slot) -> Option<Fact>
     }
 }
 
-/// From ABS(a, [p, q]), ABS(b, [r, s]): ABS of a + b and of a - b in [max(0, p - s, r - q), q + s] (Gappa: `add_aa`, `sub_aa`).
+/// From ABS(a, [p, q]), ABS(b, [r, s]): ABS of a + b and of a - b in [max(0, p - s, r - q), q + s]
+/// (Gappa: `add_aa`, `sub_aa`).
 #[inline(always)]
 pub fn rule_19(dag: &Dag, premises: &[Fact], target: Slot) -> Option<Fact>
     ensures concludes { result ≡ size_of_sum_rule dag.now premises.now target }

@@ -54,8 +54,8 @@ fn both_signs(size: Size) -> Option<Interval>
     Interval::new(size.interval().neg().lo(), size.interval().hi())
 }
 
-/// From BND(x, I), ABS(x, [p, q]): BND(x, [p, q]) where the lower end of I is above -p; BND(x, [-q, -p]) where the
-/// upper end is below p; VOID where both (Gappa: `bnd_of_bnd_abs`).
+/// From BND(x, I), ABS(x, [p, q]): BND(x, [p, q]) where the lower end of I is above -p; BND(x, [-q,
+/// -p]) where the upper end is below p; VOID where both (Gappa: `bnd_of_bnd_abs`).
 #[inline(always)]
 pub fn rule_13(dag: &Dag, premises: &[Fact], target: Slot) -> Option<Fact>
     ensures concludes { result ≡ sign_rule dag.now premises.now target }

@@ -33,7 +33,10 @@ pub record EachRule (P : Rule → Type 0) : Type 0 where
   pub multiple_error : P multiple_error_rule
   pub no_multiple : P no_multiple_rule
 
--- Of rule 28, and 90: from stronger premises the first rule gives a fact that is as strong, or stronger, or the second gives VOID.
+-- Of rule 28, and 90: from stronger premises the first rule gives a fact that is as strong, or
+-- stronger, or the second gives VOID.
 abbrev pub IsIsotoneOrVoid : Rule → Rule → Type 0
-IsIsotoneOrVoid r other = (nodes : List Node) (qs : List Fact) (target : Slot) (ps : List Fact) (c : Fact) → EachStronger ps qs → r nodes qs target ≡ Some c
-    → ((d : Fact) × (r nodes ps target ≡ Some d) × IsStronger d c) ⊎ (other nodes ps slot.Void ≡ Some fact.Void)
+IsIsotoneOrVoid r other = (nodes : List Node) (qs : List Fact) (target : Slot) (ps : List Fact)
+    (c : Fact) → EachStronger ps qs → r nodes qs target ≡ Some c
+    → ((d : Fact) × (r nodes ps target ≡ Some d) × IsStronger d c)
+    ⊎ (other nodes ps slot.Void ≡ Some fact.Void)

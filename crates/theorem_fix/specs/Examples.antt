@@ -26,7 +26,8 @@ eights = record { lsb = pos 3; dir = Zr }
 
 -- x, y, x rounded, its error, its error against y, and the other way round
 abbrev nodes : List Node
-nodes = node.Var 0 ∷ node.Var 1 ∷ node.Round eights (numbered 0) ∷ node.Sub (numbered 2) (numbered 0) ∷ node.Sub (numbered 2) (numbered 1) ∷ node.Sub (numbered 0) (numbered 2) ∷ []
+nodes = node.Var 0 ∷ node.Var 1 ∷ node.Round eights (numbered 0) ∷ node.Sub (numbered 2)
+    (numbered 0) ∷ node.Sub (numbered 2) (numbered 1) ∷ node.Sub (numbered 0) (numbered 2) ∷ []
 
 -- ---- which node is an error
 error_of_x : error_rounding_at nodes (numbered 3) (numbered 0) ≡ Some eights
@@ -51,14 +52,16 @@ down = refl
 nearest : error_range Ne (pos 3) Unknown None ≡ from_to (neg_ℚ (two_to (pos 2))) (two_to (pos 2))
 nearest = refl
 
-toward_zero_from_above : error_range Zr (pos 3) NotNegative None ≡ from_to (neg_ℚ (two_to (pos 3))) zero_ℚ
+toward_zero_from_above : error_range Zr (pos 3) NotNegative None
+    ≡ from_to (neg_ℚ (two_to (pos 3))) zero_ℚ
 toward_zero_from_above = refl
 
 away_from_above : error_range Aw (pos 3) NotNegative None ≡ from_to zero_ℚ (two_to (pos 3))
 away_from_above = refl
 
 -- of multiples of 2, and of 8
-of_even : error_range Dn (pos 3) Unknown (Some (pos 1)) ≡ from_to (neg_ℚ (two_to (pos 3) -ℚ two_to (pos 1))) zero_ℚ
+of_even : error_range Dn (pos 3) Unknown (Some (pos 1))
+    ≡ from_to (neg_ℚ (two_to (pos 3) -ℚ two_to (pos 1))) zero_ℚ
 of_even = refl
 
 of_eights : error_range Dn (pos 3) Unknown (Some (pos 3)) ≡ from_to zero_ℚ zero_ℚ
@@ -80,11 +83,14 @@ nine_down : whole_for Dn (whole (pos 9) *ℚ two_to (negsuc 1)) ≡ pos 2
 unfolding whole_for
 nine_down = simp (whole-mk, two_to-mk, mul-mk, floor-mk)
 
-one_to_nine : shrunk_range (pos 2) (from_to (whole (pos 1)) (whole (pos 9))) ≡ from_to (scaled (pos 1) (pos 2)) (scaled (pos 2) (pos 2))
+one_to_nine : shrunk_range (pos 2) (from_to (whole (pos 1)) (whole (pos 9)))
+    ≡ from_to (scaled (pos 1) (pos 2)) (scaled (pos 2) (pos 2))
 unfolding rounded
-one_to_nine = λ k. record { low = At (scaled (one_up k) (pos 2)); high = At (scaled (nine_down k) (pos 2)) }
+one_to_nine =
+    λ k. record { low = At (scaled (one_up k) (pos 2)); high = At (scaled (nine_down k) (pos 2)) }
 
 -- an infinite end stays
-one_and_above : shrunk_range (pos 2) (record { low = At (whole (pos 1)); high = Above }) ≡ record { low = At (scaled (pos 1) (pos 2)); high = Above }
+one_and_above : shrunk_range (pos 2) (record { low = At (whole (pos 1)); high = Above })
+    ≡ record { low = At (scaled (pos 1) (pos 2)); high = Above }
 unfolding rounded
 one_and_above = λ k. record { low = At (scaled (one_up k) (pos 2)); high = Above }

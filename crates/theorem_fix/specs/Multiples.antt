@@ -1,5 +1,6 @@
--- Rules on multiples of powers of two, numbers 21 to 27 of the list: each row as a function from premises and a target to its
--- conclusion. What fits no row gives nothing. A power above 2^512 is kept as 2^512; below 2^-1024 there is no conclusion.
+-- Rules on multiples of powers of two, numbers 21 to 27 of the list: each row as a function from
+-- premises and a target to its conclusion. What fits no row gives nothing. A power above 2^512 is
+-- kept as 2^512; below 2^-1024 there is no conclusion.
 use Rattle.std.specs.Prelude.{◌==◌, ◌||◌, pos, Bool, List, [], ◌∷◌, Option, Some, None, slice_get, if◌then◌else◌}
 use Rattle.std.specs.Int.RustNames.{int_lt, unsigned_abs}
 use Rattle.rounding.specs.fx_model.Expression.{literal_value}
@@ -35,17 +36,21 @@ literal_multiple_rule nodes _ _ = None
 
 -- 22: from FIX(a, k): FIX(-a, k)   (Gappa: `neg_fix`)
 abbrev pub multiple_of_negation_rule : List Node → List Fact → Slot → Option Fact
-multiple_of_negation_rule nodes (fact.Fix a k ∷ []) (slot.Fix e) = only_if (is_at nodes e (node.Neg a)) (fact.Fix e k)
+multiple_of_negation_rule nodes (fact.Fix a k ∷ []) (slot.Fix e) =
+    only_if (is_at nodes e (node.Neg a)) (fact.Fix e k)
 multiple_of_negation_rule nodes _ _ = None
 
--- 23: from FIX(a, k), FIX(b, n): FIX(a + b) and FIX(a - b) with the lesser of k and n   (`add_fix`, `sub_fix`)
+-- 23: from FIX(a, k), FIX(b, n): FIX(a + b) and FIX(a - b) with the lesser of k and n (`add_fix`,
+-- `sub_fix`)
 abbrev pub multiple_of_sum_rule : List Node → List Fact → Slot → Option Fact
-multiple_of_sum_rule nodes (fact.Fix a k ∷ fact.Fix b n ∷ []) (slot.Fix e) = only_if (is_at nodes e (node.Add a b) || is_at nodes e (node.Sub a b)) (fact.Fix e (lesser_place k n))
+multiple_of_sum_rule nodes (fact.Fix a k ∷ fact.Fix b n ∷ []) (slot.Fix e) = only_if
+    (is_at nodes e (node.Add a b) || is_at nodes e (node.Sub a b)) (fact.Fix e (lesser_place k n))
 multiple_of_sum_rule nodes _ _ = None
 
 -- 24: from FIX(a, k), FIX(b, n): FIX(a * b, k + n)   (`mul_fix`)
 abbrev pub multiple_of_product_rule : List Node → List Fact → Slot → Option Fact
-multiple_of_product_rule nodes (fact.Fix a k ∷ fact.Fix b n ∷ []) (slot.Fix e) = given_if (is_at nodes e (node.Mul a b)) (fix_of e (sum_place k n))
+multiple_of_product_rule nodes (fact.Fix a k ∷ fact.Fix b n ∷ []) (slot.Fix e) =
+    given_if (is_at nodes e (node.Mul a b)) (fix_of e (sum_place k n))
 multiple_of_product_rule nodes _ _ = None
 
 -- the place of a rounding's last digit
@@ -55,7 +60,8 @@ last_place (Some r) = place_from r.lsb
 
 -- 25: from BND(x): FIX(R(x), l)
 abbrev pub rounded_multiple_rule : List Node → List Fact → Slot → Option Fact
-rounded_multiple_rule nodes (fact.Bnd x i ∷ []) (slot.Fix e) = fix_of e (last_place (rounding_at nodes e x))
+rounded_multiple_rule nodes (fact.Bnd x i ∷ []) (slot.Fix e) =
+    fix_of e (last_place (rounding_at nodes e x))
 rounded_multiple_rule nodes _ _ = None
 
 -- the place, where the rounding is to it or a lower one
@@ -65,7 +71,8 @@ untouched k (Some r) = if int_lt k.exponent r.lsb then None else Some k
 
 -- 26: from FIX(x, k), k >= l: FIX(R(x), k)
 abbrev pub untouched_multiple_rule : List Node → List Fact → Slot → Option Fact
-untouched_multiple_rule nodes (fact.Fix x k ∷ []) (slot.Fix e) = fix_of e (untouched k (rounding_at nodes e x))
+untouched_multiple_rule nodes (fact.Fix x k ∷ []) (slot.Fix e) =
+    fix_of e (untouched k (rounding_at nodes e x))
 untouched_multiple_rule nodes _ _ = None
 
 -- the number is 0
@@ -78,10 +85,13 @@ number_place d = kept (if is_zero d then pos 512 else d.exponent)
 
 -- of an interval of one number
 abbrev pub point_place : End → End → Option Place
-point_place (end.At c) (end.At d) = if le_bound (bound_of (end.At d)) (bound_of (end.At c)) then number_place c else None
+point_place (end.At c) (end.At d) =
+    if le_bound (bound_of (end.At d)) (bound_of (end.At c)) then number_place c else None
 point_place _ _ = None
 
--- 27: from BND(x, [p, p]): FIX(x, the exponent of p in its canonical form, 512 for 0)   (`fix_of_singleton_bnd`)
+-- 27: from BND(x, [p, p]): FIX(x, the exponent of p in its canonical form, 512 for 0)
+-- (`fix_of_singleton_bnd`)
 abbrev pub number_multiple_rule : List Node → List Fact → Slot → Option Fact
-number_multiple_rule nodes (fact.Bnd x i ∷ []) (slot.Fix e) = given_if (is_one nodes x e) (fix_of e (point_place i.lo i.hi))
+number_multiple_rule nodes (fact.Bnd x i ∷ []) (slot.Fix e) =
+    given_if (is_one nodes x e) (fix_of e (point_place i.lo i.hi))
 number_multiple_rule nodes _ _ = None

@@ -1,5 +1,5 @@
--- Rules on values other than 0, numbers 31 to 36 of the list: each row as a function from premises and a target to its
--- conclusion. What fits no row gives nothing.
+-- Rules on values other than 0, numbers 31 to 36 of the list: each row as a function from premises
+-- and a target to its conclusion. What fits no row gives nothing.
 use Rattle.std.specs.Prelude.{◌&&◌, ◌||◌, not, Bool, List, [], ◌∷◌, Option, Some, None}
 use Rattle.rounding.specs.fx_model.Fraction.{zero_ℚ}
 use Rattle.rounding.specs.fx_model.declared.ExprId.{ExprId}
@@ -21,17 +21,21 @@ use Rattle.theorem_arith.specs.Shapes.{is_one}
 
 -- 31: from BND(x, I), where 0 isn't in I: NZR(x)   (Gappa: `nzr_of_bnd`)
 abbrev pub nonzero_bound_rule : List Node → List Fact → Slot → Option Fact
-nonzero_bound_rule nodes (fact.Bnd x i ∷ []) (slot.Nzr e) = only_if (is_one nodes x e && not (has_zero (range_of i))) (fact.Nzr e)
+nonzero_bound_rule nodes (fact.Bnd x i ∷ []) (slot.Nzr e) =
+    only_if (is_one nodes x e && not (has_zero (range_of i))) (fact.Nzr e)
 nonzero_bound_rule nodes _ _ = None
 
 -- 32: from ABS(x, I), the lower end above 0: NZR(x)   (`nzr_of_abs`)
 abbrev pub nonzero_size_rule : List Node → List Fact → Slot → Option Fact
-nonzero_size_rule nodes (fact.Abs x s ∷ []) (slot.Nzr e) = only_if (is_one nodes x e && is_below zero_ℚ (range_of s.interval).low) (fact.Nzr e)
+nonzero_size_rule nodes (fact.Abs x s ∷ []) (slot.Nzr e) =
+    only_if (is_one nodes x e && is_below zero_ℚ (range_of s.interval).low) (fact.Nzr e)
 nonzero_size_rule nodes _ _ = None
 
 -- from NZR(a), NZR(b): NZR of what `make` makes of a and b
-abbrev pub nonzero_binary_rule : (ExprId → ExprId → Node) → List Node → List Fact → Slot → Option Fact
-nonzero_binary_rule make nodes (fact.Nzr a ∷ fact.Nzr b ∷ []) (slot.Nzr e) = only_if (is_at nodes e (make a b)) (fact.Nzr e)
+abbrev pub nonzero_binary_rule : (ExprId → ExprId → Node) → List Node
+    → List Fact → Slot → Option Fact
+nonzero_binary_rule make nodes (fact.Nzr a ∷ fact.Nzr b ∷ []) (slot.Nzr e) =
+    only_if (is_at nodes e (make a b)) (fact.Nzr e)
 nonzero_binary_rule make nodes _ _ = None
 
 -- 33: NZR(a * b)   (`mul_nzr`)
@@ -44,7 +48,8 @@ nonzero_quotient_rule = nonzero_binary_rule node.Div
 
 -- 35: from NZR(a): NZR(-a)   (`neg_nzr`)
 abbrev pub nonzero_negation_rule : List Node → List Fact → Slot → Option Fact
-nonzero_negation_rule nodes (fact.Nzr a ∷ []) (slot.Nzr e) = only_if (is_at nodes e (node.Neg a)) (fact.Nzr e)
+nonzero_negation_rule nodes (fact.Nzr a ∷ []) (slot.Nzr e) =
+    only_if (is_at nodes e (node.Neg a)) (fact.Nzr e)
 nonzero_negation_rule nodes _ _ = None
 
 -- z is one of x and y, and e the other
@@ -56,8 +61,11 @@ abbrev pub nonzero_or_void : ExprId → Option RelativeError → Fact
 nonzero_or_void e (Some d) = fact.Nzr e
 nonzero_or_void e None = fact.Void
 
--- 36: from REL(x, y, I), NZR of one of x, y: NZR of the other; VOID where I is `none`   (`nzr_of_nzr_rel`, `nzr_of_nzr_rel_rev`)
+-- 36: from REL(x, y, I), NZR of one of x, y: NZR of the other; VOID where I is `none`
+-- (`nzr_of_nzr_rel`, `nzr_of_nzr_rel_rev`)
 abbrev pub nonzero_side_rule : List Node → List Fact → Slot → Option Fact
-nonzero_side_rule nodes (fact.Rel x y d ∷ fact.Nzr z ∷ []) (slot.Nzr e) = only_if (are_known nodes x y && are_sides x y z e) (nonzero_or_void e d)
-nonzero_side_rule nodes (fact.Rel x y d ∷ fact.Nzr z ∷ []) slot.Void = given_if (are_known nodes x y && (is_same z x || is_same z y)) (void_only (Some (nonzero_or_void z d)))
+nonzero_side_rule nodes (fact.Rel x y d ∷ fact.Nzr z ∷ []) (slot.Nzr e) =
+    only_if (are_known nodes x y && are_sides x y z e) (nonzero_or_void e d)
+nonzero_side_rule nodes (fact.Rel x y d ∷ fact.Nzr z ∷ []) slot.Void = given_if
+    (are_known nodes x y && (is_same z x || is_same z y)) (void_only (Some (nonzero_or_void z d)))
 nonzero_side_rule nodes _ _ = None

@@ -1,5 +1,5 @@
--- Rules on roundings, numbers 41 to 44 of the list: each row as a function from premises and a target to its conclusion.
--- What fits no row gives nothing.
+-- Rules on roundings, numbers 41 to 44 of the list: each row as a function from premises and a
+-- target to its conclusion. What fits no row gives nothing.
 use Rattle.std.specs.Prelude.{ℤ, Bool, true, false, List, [], ◌∷◌, Option, Some, None, if◌then◌else◌}
 use Rattle.rounding.specs.fx_model.Fraction.{zero_ℚ}
 use Rattle.rounding.specs.fx_model.Grid.{Bound, Below, At, Above}
@@ -40,18 +40,21 @@ rounded_interval (Some r) i = outward_of (rounded_range r (range_of i))
 
 -- 41: from BND(x, [p, q]): BND(R(x), [R(p), R(q)])
 abbrev pub rounded_bound_rule : List Node → List Fact → Slot → Option Fact
-rounded_bound_rule nodes (fact.Bnd x i ∷ []) (slot.Bnd e) = bnd_of e (rounded_interval (rounding_at nodes e x) i)
+rounded_bound_rule nodes (fact.Bnd x i ∷ []) (slot.Bnd e) =
+    bnd_of e (rounded_interval (rounding_at nodes e x) i)
 rounded_bound_rule nodes _ _ = None
 
 -- ---- errors
--- the interval of the errors, where this is known of a number's sign and of which power it is a multiple
+-- the interval of the errors, where this is known of a number's sign and of which power it is a
+-- multiple
 abbrev pub errors_of : Option Rounding → Sign → Option ℤ → Option Interval
 errors_of None sign place = None
 errors_of (Some r) sign place = outward_of (error_range r.dir r.lsb sign place)
 
 -- 42: from BND(x): BND(R(x) - x, E), where E is what the direction may be off
 abbrev pub error_rule : List Node → List Fact → Slot → Option Fact
-error_rule nodes (fact.Bnd x i ∷ []) (slot.Bnd e) = bnd_of e (errors_of (error_rounding_at nodes e x) Unknown None)
+error_rule nodes (fact.Bnd x i ∷ []) (slot.Bnd e) =
+    bnd_of e (errors_of (error_rounding_at nodes e x) Unknown None)
 error_rule nodes _ _ = None
 
 -- what an interval tells of the sign of a number in it
@@ -81,13 +84,16 @@ signed_errors_of r NotNegative = errors_of (sided r) NotNegative None
 signed_errors_of r NotPositive = errors_of (sided r) NotPositive None
 signed_errors_of r Zero = errors_of (sided r) Zero None
 
--- 43: from BND(x, I), R toward or away from zero: BND(R(x) - x, E), where I is at or above 0: toward [-2^l, 0], away [0, 2^l];
--- at or below 0 the two exchanged; I = [0, 0]: [0, 0]
+-- 43: from BND(x, I), R toward or away from zero: BND(R(x) - x, E), where I is at or above 0:
+-- toward [-2^l, 0], away [0, 2^l]; at or below 0 the two exchanged; I = [0, 0]: [0, 0]
 abbrev pub signed_error_rule : List Node → List Fact → Slot → Option Fact
-signed_error_rule nodes (fact.Bnd x i ∷ []) (slot.Bnd e) = bnd_of e (signed_errors_of (error_rounding_at nodes e x) (sign_of (range_of i)))
+signed_error_rule nodes (fact.Bnd x i ∷ []) (slot.Bnd e) =
+    bnd_of e (signed_errors_of (error_rounding_at nodes e x) (sign_of (range_of i)))
 signed_error_rule nodes _ _ = None
 
--- 44: from FIX(x, k): BND(R(x) - x, [0, 0]) where k is at least l; else E of rule 42 with 2^l - 2^k for each 2^l
+-- 44: from FIX(x, k): BND(R(x) - x, [0, 0]) where k is at least l; else E of rule 42 with 2^l - 2^k
+-- for each 2^l
 abbrev pub multiple_error_rule : List Node → List Fact → Slot → Option Fact
-multiple_error_rule nodes (fact.Fix x k ∷ []) (slot.Bnd e) = bnd_of e (errors_of (error_rounding_at nodes e x) Unknown (Some k.exponent))
+multiple_error_rule nodes (fact.Fix x k ∷ []) (slot.Bnd e) =
+    bnd_of e (errors_of (error_rounding_at nodes e x) Unknown (Some k.exponent))
 multiple_error_rule nodes _ _ = None

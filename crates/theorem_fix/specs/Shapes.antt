@@ -22,7 +22,8 @@ IsInLimits (Some r) = (negsuc 511 ≤ℤ r.lsb) × (r.lsb ≤ℤ pos 512)
 
 -- the rounding R, where the node is R(x) - x
 abbrev pub error_rounding_of : List Node → Option Node → ExprId → Option Rounding
-error_rounding_of nodes (Some (node.Sub r y)) x = if is_same y x then rounding_at nodes r x else None
+error_rounding_of nodes (Some (node.Sub r y)) x =
+    if is_same y x then rounding_at nodes r x else None
 error_rounding_of nodes _ x = None
 
 -- the rounding R, where the expression is R(x) - x

@@ -1,4 +1,5 @@
-//! Rules on multiples of powers of two, on values other than 0 and on roundings: numbers 21 to 28, 31 to 36, 41 to 44 and 90 of the list.
+//! Rules on multiples of powers of two, on values other than 0 and on roundings: numbers 21 to 28,
+//! 31 to 36, 41 to 44 and 90 of the list.
 #![tactic(auto)]
 
 mod laws;

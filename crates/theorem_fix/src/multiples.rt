@@ -61,7 +61,8 @@ pub fn rule_22(dag: &Dag, premises: &[Fact], target: Slot) -> Option<Fact>
     }
 }
 
-/// From FIX(a, k), FIX(b, n): FIX(a + b) and FIX(a - b) with the lesser of k and n (Gappa: `add_fix`, `sub_fix`).
+/// From FIX(a, k), FIX(b, n): FIX(a + b) and FIX(a - b) with the lesser of k and n (Gappa:
+/// `add_fix`, `sub_fix`).
 #[inline(always)]
 pub fn rule_23(dag: &Dag, premises: &[Fact], target: Slot) -> Option<Fact>
     ensures concludes { result ≡ multiple_of_sum_rule dag.now premises.now target }

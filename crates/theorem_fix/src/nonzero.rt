@@ -115,7 +115,8 @@ pub fn rule_35(dag: &Dag, premises: &[Fact], target: Slot) -> Option<Fact>
     }
 }
 
-/// From REL(x, y, I), NZR of one of x, y: NZR of the other; VOID where I is `none` (Gappa: `nzr_of_nzr_rel`, `nzr_of_nzr_rel_rev`).
+/// From REL(x, y, I), NZR of one of x, y: NZR of the other; VOID where I is `none` (Gappa:
+/// `nzr_of_nzr_rel`, `nzr_of_nzr_rel_rev`).
 #[inline(always)]
 pub fn rule_36(dag: &Dag, premises: &[Fact], target: Slot) -> Option<Fact>
     ensures concludes { result ≡ nonzero_side_rule dag.now premises.now target }

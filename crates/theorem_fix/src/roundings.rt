@@ -73,7 +73,8 @@ fn errors(rounding: Option<Rounding>, sign: Sign, fix: Option<i16>) -> Option<In
     }
 }
 
-/// From BND(x, I), where R is toward or away from zero and I tells the sign of x: BND(R(x) - x, E), where E goes to one side alone.
+/// From BND(x, I), where R is toward or away from zero and I tells the sign of x: BND(R(x) - x, E),
+/// where E goes to one side alone.
 #[inline(always)]
 pub fn rule_43(dag: &Dag, premises: &[Fact], target: Slot) -> Option<Fact>
     ensures concludes { result ≡ signed_error_rule dag.now premises.now target }
@@ -123,7 +124,8 @@ fn signed_errors(rounding: Option<Rounding>, sign: Sign) -> Option<Interval>
     }
 }
 
-/// From FIX(x, k): BND(R(x) - x, E), where E is [0, 0] for k at least l, and else that of rule 42 with 2^l - 2^k for each 2^l.
+/// From FIX(x, k): BND(R(x) - x, E), where E is [0, 0] for k at least l, and else that of rule 42
+/// with 2^l - 2^k for each 2^l.
 #[inline(always)]
 pub fn rule_44(dag: &Dag, premises: &[Fact], target: Slot) -> Option<Fact>
     ensures concludes { result ≡ multiple_error_rule dag.now premises.now target }

@@ -1,5 +1,6 @@
--- Rules from bounds to relative errors and back, numbers 51 to 55 of the list: each row as a function from premises and a
--- target to its conclusion. What fits no row gives nothing. "Both are 0" is what a REL fact says without an interval.
+-- Rules from bounds to relative errors and back, numbers 51 to 55 of the list: each row as a
+-- function from premises and a target to its conclusion. What fits no row gives nothing. "Both are
+-- 0" is what a REL fact says without an interval.
 use Rattle.std.specs.Prelude.{◌&&◌, List, [], ◌∷◌, Option, Some, None, if◌then◌else◌}
 use Rattle.expr_dag.specs.fx_model.Fraction.{zero_ℚ, one_ℚ}
 use Rattle.expr_dag.specs.fx_model.declared.ExprId.{ExprId}
@@ -26,12 +27,14 @@ unit = point_of one_ℚ
 -- ---- rules
 -- 51: from BND(x): REL(x, x, [0, 0])   (Gappa: `rel_refl`)
 abbrev pub relative_to_itself_rule : List Node → List Fact → Slot → Option Fact
-relative_to_itself_rule nodes (fact.Bnd x i ∷ []) (slot.Rel y z) = given_if (is_known nodes x && (is_same x y && is_same x z)) (rel_of y z (error_from (point_of zero_ℚ)))
+relative_to_itself_rule nodes (fact.Bnd x i ∷ []) (slot.Rel y z) = given_if
+    (is_known nodes x && (is_same x y && is_same x z)) (rel_of y z (error_from (point_of zero_ℚ)))
 relative_to_itself_rule nodes _ _ = None
 
 -- 52: from BND(x - y, I), BND(y, J), where 0 isn't in J: REL(x, y, I / J)
 abbrev pub relative_difference_rule : List Node → List Fact → Slot → Option Fact
-relative_difference_rule nodes (fact.Bnd p i ∷ fact.Bnd z j ∷ []) (slot.Rel x y) = given_if (is_at nodes p (node.Sub x y) && is_same z y) (rel_of x y (error_of_part (quotient_of i j)))
+relative_difference_rule nodes (fact.Bnd p i ∷ fact.Bnd z j ∷ []) (slot.Rel x y) = given_if
+    (is_at nodes p (node.Sub x y) && is_same z y) (rel_of x y (error_of_part (quotient_of i j)))
 relative_difference_rule nodes _ _ = None
 
 -- 0 where y, in J, is 0: BND of [0, 0], or VOID where 0 isn't in J
@@ -43,10 +46,13 @@ abbrev pub difference_fact : ExprId → Option RelativeError → Interval → Fa
 difference_fact e None j = zero_or_void e j
 difference_fact e (Some d) j = fact.Bnd e (product_of j d.interval)
 
--- 53: from REL(x, y, I), BND(y, J): BND(x - y, J * I); where both are 0: BND(x - y, [0, 0]), or VOID where 0 isn't in J
+-- 53: from REL(x, y, I), BND(y, J): BND(x - y, J * I); where both are 0: BND(x - y, [0, 0]), or
+-- VOID where 0 isn't in J
 abbrev pub difference_by_error_rule : List Node → List Fact → Slot → Option Fact
-difference_by_error_rule nodes (fact.Rel x y d ∷ fact.Bnd z j ∷ []) (slot.Bnd e) = only_if (is_at nodes e (node.Sub x y) && is_same z y) (difference_fact e d j)
-difference_by_error_rule nodes (fact.Rel x y d ∷ fact.Bnd z j ∷ []) slot.Void = given_if (are_known nodes x y && is_same z y) (void_only (Some (difference_fact x d j)))
+difference_by_error_rule nodes (fact.Rel x y d ∷ fact.Bnd z j ∷ []) (slot.Bnd e) =
+    only_if (is_at nodes e (node.Sub x y) && is_same z y) (difference_fact e d j)
+difference_by_error_rule nodes (fact.Rel x y d ∷ fact.Bnd z j ∷ []) slot.Void =
+    given_if (are_known nodes x y && is_same z y) (void_only (Some (difference_fact x d j)))
 difference_by_error_rule nodes _ _ = None
 
 -- x, for y in J
@@ -54,10 +60,13 @@ abbrev pub value_fact : ExprId → Option RelativeError → Interval → Fact
 value_fact e None j = zero_or_void e j
 value_fact e (Some d) j = fact.Bnd e (product_of j (sum_of unit d.interval))
 
--- 54: from REL(x, y, I), BND(y, J): BND(x, J * ([1, 1] + I)); where both are 0: BND(x, [0, 0]), or VOID where 0 isn't in J
+-- 54: from REL(x, y, I), BND(y, J): BND(x, J * ([1, 1] + I)); where both are 0: BND(x, [0, 0]), or
+-- VOID where 0 isn't in J
 abbrev pub value_by_error_rule : List Node → List Fact → Slot → Option Fact
-value_by_error_rule nodes (fact.Rel x y d ∷ fact.Bnd z j ∷ []) (slot.Bnd e) = only_if (are_known nodes x y && (is_same z y && is_same x e)) (value_fact e d j)
-value_by_error_rule nodes (fact.Rel x y d ∷ fact.Bnd z j ∷ []) slot.Void = given_if (are_known nodes x y && is_same z y) (void_only (Some (value_fact x d j)))
+value_by_error_rule nodes (fact.Rel x y d ∷ fact.Bnd z j ∷ []) (slot.Bnd e) =
+    only_if (are_known nodes x y && (is_same z y && is_same x e)) (value_fact e d j)
+value_by_error_rule nodes (fact.Rel x y d ∷ fact.Bnd z j ∷ []) slot.Void =
+    given_if (are_known nodes x y && is_same z y) (void_only (Some (value_fact x d j)))
 value_by_error_rule nodes _ _ = None
 
 -- x / y, for y other than 0
@@ -67,6 +76,8 @@ quotient_fact e (Some d) = fact.Bnd e (sum_of unit d.interval)
 
 -- 55: from REL(x, y, I), NZR(y): BND(x / y, [1, 1] + I); VOID where both are 0
 abbrev pub quotient_by_error_rule : List Node → List Fact → Slot → Option Fact
-quotient_by_error_rule nodes (fact.Rel x y d ∷ fact.Nzr z ∷ []) (slot.Bnd e) = only_if (is_at nodes e (node.Div x y) && is_same z y) (quotient_fact e d)
-quotient_by_error_rule nodes (fact.Rel x y d ∷ fact.Nzr z ∷ []) slot.Void = given_if (are_known nodes x y && is_same z y) (void_only (Some (quotient_fact x d)))
+quotient_by_error_rule nodes (fact.Rel x y d ∷ fact.Nzr z ∷ []) (slot.Bnd e) =
+    only_if (is_at nodes e (node.Div x y) && is_same z y) (quotient_fact e d)
+quotient_by_error_rule nodes (fact.Rel x y d ∷ fact.Nzr z ∷ []) slot.Void =
+    given_if (are_known nodes x y && is_same z y) (void_only (Some (quotient_fact x d)))
 quotient_by_error_rule nodes _ _ = None

@@ -13,7 +13,8 @@ use crate::parts::error_within;
 use expr_dag::{Dag, ExprId, Node};
 use facts::{Fact, Interval, RelativeError, Slot};
 
-/// From REL(a, c, I), REL(b, d, K): REL(a * b, c * d, (I + K) + I * K); both are 0 where those of a premise are (Gappa: `mul_rr`).
+/// From REL(a, c, I), REL(b, d, K): REL(a * b, c * d, (I + K) + I * K); both are 0 where those of a
+/// premise are (Gappa: `mul_rr`).
 #[inline(always)]
 pub fn rule_56(dag: &Dag, premises: &[Fact], target: Slot) -> Option<Fact>
     ensures concludes { result ≡ relative_product_rule dag.now premises.now target }
@@ -60,7 +61,8 @@ fn jointly(
     }
 }
 
-/// From REL(a, b, I), REL(b, c, K): REL(a, c, (I + K) + I * K); both are 0 where those of a premise are (Gappa: `compose`).
+/// From REL(a, b, I), REL(b, c, K): REL(a, c, (I + K) + I * K); both are 0 where those of a premise
+/// are (Gappa: `compose`).
 #[inline(always)]
 pub fn rule_58(dag: &Dag, premises: &[Fact], target: Slot) -> Option<Fact>
     ensures concludes { result ≡ relative_chain_rule dag.now premises.now target }
@@ -99,8 +101,9 @@ fn is_void(conclusion: Option<Fact>) -> bool
     }
 }
 
-/// From REL(a, c, I), REL(b, d, K), NZR(d): REL(a / b, c / d, ([1, 1] + I) / ([1, 1] + K) - [1, 1]), where 0 isn't in
-/// [1, 1] + K; VOID where b and d are both 0, else both are 0 where a and c are (Gappa: `div_rr`).
+/// From REL(a, c, I), REL(b, d, K), NZR(d): REL(a / b, c / d, ([1, 1] + I) / ([1, 1] + K) - [1,
+/// 1]), where 0 isn't in [1, 1] + K; VOID where b and d are both 0, else both are 0 where a and c
+/// are (Gappa: `div_rr`).
 #[inline(always)]
 pub fn rule_57(dag: &Dag, premises: &[Fact], target: Slot) -> Option<Fact>
     ensures concludes { result ≡ relative_quotient_rule dag.now premises.now target }
@@ -146,8 +149,8 @@ fn less_one(quotient: Option<Interval>) -> Option<Interval>
     }
 }
 
-// ([1, 1] + I) / ([1, 1] + K) - [1, 1]. It stands apart and takes no copies, being long: written out, it would keep what calls it
-// from being written out in turn.
+// ([1, 1] + I) / ([1, 1] + K) - [1, 1]. It stands apart and takes no copies, being long: written
+// out, it would keep what calls it from being written out in turn.
 #[inline(never)]
 fn ratio_error(i: &RelativeError, k: &RelativeError) -> Option<RelativeError>
     ensures { result ≡ error_of_part (over_one (sum_of unit i.now.interval) k.now) }
@@ -173,7 +176,8 @@ fn ratio(
     }
 }
 
-/// From REL(x, y, I): REL(y, x, [1, 1] / ([1, 1] + I) - [1, 1]), where 0 isn't in [1, 1] + I; both are 0 where they are.
+/// From REL(x, y, I): REL(y, x, [1, 1] / ([1, 1] + I) - [1, 1]), where 0 isn't in [1, 1] + I; both
+/// are 0 where they are.
 #[inline(always)]
 pub fn rule_59(dag: &Dag, premises: &[Fact], target: Slot) -> Option<Fact>
     ensures concludes { result ≡ relative_turned_rule dag.now premises.now target }
@@ -231,9 +235,9 @@ pub fn rule_60(dag: &Dag, premises: &[Fact], target: Slot) -> Option<Fact>
     }
 }
 
-/// From REL(a, c, I), REL(b, d, K), BND(c / (c + d), L): REL(a + b, c + d, I * L + K * ([1, 1] - L)). Where a and c alone are
-/// both 0: REL with K if 0 is in L, else VOID. Where b and d alone are: REL with I if 1 is in L, else VOID. VOID where all are
-/// (Gappa: `add_rr`).
+/// From REL(a, c, I), REL(b, d, K), BND(c / (c + d), L): REL(a + b, c + d, I * L + K * ([1, 1] -
+/// L)). Where a and c alone are both 0: REL with K if 0 is in L, else VOID. Where b and d alone
+/// are: REL with I if 1 is in L, else VOID. VOID where all are (Gappa: `add_rr`).
 #[inline(always)]
 pub fn rule_61(dag: &Dag, premises: &[Fact], target: Slot) -> Option<Fact>
     ensures concludes { result ≡ relative_sum_rule dag.now premises.now target }

@@ -46,7 +46,8 @@ pub fn rule_52(dag: &Dag, premises: &[Fact], target: Slot) -> Option<Fact>
     }
 }
 
-/// From REL(x, y, I), BND(y, J): BND(x - y, J * I); where both are 0, BND(x - y, [0, 0]), or VOID where 0 isn't in J.
+/// From REL(x, y, I), BND(y, J): BND(x - y, J * I); where both are 0, BND(x - y, [0, 0]), or VOID
+/// where 0 isn't in J.
 #[inline(always)]
 pub fn rule_53(dag: &Dag, premises: &[Fact], target: Slot) -> Option<Fact>
     ensures concludes { result ≡ difference_by_error_rule dag.now premises.now target }
@@ -94,7 +95,8 @@ fn zero_or_void(e: ExprId, j: Interval) -> Fact
     }
 }
 
-/// From REL(x, y, I), BND(y, J): BND(x, J * ([1, 1] + I)); where both are 0, BND(x, [0, 0]), or VOID where 0 isn't in J.
+/// From REL(x, y, I), BND(y, J): BND(x, J * ([1, 1] + I)); where both are 0, BND(x, [0, 0]), or
+/// VOID where 0 isn't in J.
 #[inline(always)]
 pub fn rule_54(dag: &Dag, premises: &[Fact], target: Slot) -> Option<Fact>
     ensures concludes { result ≡ value_by_error_rule dag.now premises.now target }

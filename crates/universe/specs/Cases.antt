@@ -41,5 +41,6 @@ pub case_has_hypotheses : (s : View) (cases : List (List Claim))
     → AllByRecursion (AreHypotheses s) cases
     → (k : ℕ) (claims : List Claim) → slice_get cases k ≡ Some claims → AreHypotheses s claims
 case_has_hypotheses s [] h k claims e = cc
-case_has_hypotheses s (c ∷ cases) h zero claims e = let same : c ≡ claims = cc in subst (AreHypotheses s) same h.0
+case_has_hypotheses s (c ∷ cases) h zero claims e = let same : c ≡ claims = cc in
+    subst (AreHypotheses s) same h.0
 case_has_hypotheses s (c ∷ cases) h (suc k) claims e = case_has_hypotheses s cases h.1 k claims e

@@ -7,4 +7,5 @@ use Rattle.rewrite_hints.specs.Marks.{AreMarks}
 
 -- Hints have one list of marks.
 abbrev pub MarksAreOne : Type 0
-MarksAreOne = (nodes : List Node) (hints : List Hint) (marks others : List HintMark) → AreMarks nodes hints marks → AreMarks nodes hints others → marks ≡ others
+MarksAreOne = (nodes : List Node) (hints : List Hint) (marks others : List HintMark)
+    → AreMarks nodes hints marks → AreMarks nodes hints others → marks ≡ others

@@ -18,7 +18,8 @@ sides_of _ = []
 abbrev pub whole_difference : List Node → ExprId → List Pair
 whole_difference nodes x = sides_of (slice_get nodes x.0)
 
--- Of a proposition a -/ b: a and b. Of any other, also of @FIX(a - b, k), where its expression is a difference: the sides of that.
+-- Of a proposition a -/ b: a and b. Of any other, also of @FIX(a - b, k), where its expression is a
+-- difference: the sides of that.
 abbrev pub claim_pairs : List Node → Claim → List Pair
 claim_pairs nodes (Bounded x lower upper) = whole_difference nodes x
 claim_pairs nodes (Asked x) = whole_difference nodes x
@@ -42,4 +43,5 @@ hints_pairs nodes (h ∷ hs) = hint_pairs nodes h ++ hints_pairs nodes hs
 
 -- Of each hint a ~ b: a and b; of each hypothesis and goal, and of each hint a -> b, as above.
 abbrev pub starting_pairs : View → List Pair
-starting_pairs s = s.hints.likes ++ (claims_pairs s.nodes s.hypotheses ++ (claims_pairs s.nodes s.goals ++ hints_pairs s.nodes s.hints.rewrites))
+starting_pairs s = s.hints.likes ++ (claims_pairs s.nodes s.hypotheses
+    ++ (claims_pairs s.nodes s.goals ++ hints_pairs s.nodes s.hints.rewrites))

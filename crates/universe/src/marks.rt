@@ -10,7 +10,8 @@ use std::alloc::{AllocError, Global};
 
 /// The mark of each rewriting hint of the script, in order. Want of memory is the only error.
 pub fn classify(alloc: Global, script: &Script<'_>) -> Result<Vec<HintMark>, AllocError>
-    ensures { IfOk result (λ marks. AreMarks script.now.nodes script.now.hints.rewrites marks.items) }
+    ensures { IfOk result (λ marks.
+        AreMarks script.now.nodes script.now.hints.rewrites marks.items) }
 {
     script.laws();
     marks_of(alloc, script.nodes(), script.hints().rewrites.as_slice())

@@ -1,4 +1,5 @@
--- Intervals, the exact results of operations on their fractions, and the best outward interval of a set of fractions.
+-- Intervals, the exact results of operations on their fractions, and the best outward interval of a
+-- set of fractions.
 use Rattle.std.specs.Prelude.{◌≡◌, ⊤}
 use Rattle.std.specs.Prelude.{ℤ}
 use Rattle.fx_model.specs.Fraction.{Fraction, ◌+ℚ◌, ◌-ℚ◌, ◌*ℚ◌, ◌/ℚ◌, neg_ℚ, abs_ℚ, ◌≤ℚ◌, zero_ℚ}
@@ -29,12 +30,14 @@ Set = Fraction → Type 0
 
 -- the greatest grid number that is at most every member, or minus infinity where there is none
 abbrev pub IsInfimum : (Fraction → Type 0) → Bound → Type 0
-IsInfimum S (At g) = IsOnGrid g × ((x : Fraction) → S x → g ≤ℚ x) × ((h : Fraction) → IsOnGrid h → ((x : Fraction) → S x → h ≤ℚ x) → h ≤ℚ g)
+IsInfimum S (At g) = IsOnGrid g × ((x : Fraction) → S x → g ≤ℚ x)
+    × ((h : Fraction) → IsOnGrid h → ((x : Fraction) → S x → h ≤ℚ x) → h ≤ℚ g)
 IsInfimum S Below = (h : Fraction) → IsOnGrid h → ¬ ((x : Fraction) → S x → h ≤ℚ x)
 IsInfimum S Above = ⊥
 
 abbrev pub IsSupremum : (Fraction → Type 0) → Bound → Type 0
-IsSupremum S (At g) = IsOnGrid g × ((x : Fraction) → S x → x ≤ℚ g) × ((h : Fraction) → IsOnGrid h → ((x : Fraction) → S x → x ≤ℚ h) → g ≤ℚ h)
+IsSupremum S (At g) = IsOnGrid g × ((x : Fraction) → S x → x ≤ℚ g)
+    × ((h : Fraction) → IsOnGrid h → ((x : Fraction) → S x → x ≤ℚ h) → g ≤ℚ h)
 IsSupremum S Above = (h : Fraction) → IsOnGrid h → ¬ ((x : Fraction) → S x → x ≤ℚ h)
 IsSupremum S Below = ⊥
 
@@ -76,7 +79,8 @@ IsFinite r = (g : Fraction) × (h : Fraction) × (r.low ≡ At g) × (r.high ≡
 abbrev pub whole_line : Range
 whole_line = record { low = Below; high = Above }
 
--- The best interval of each operation. A product or quotient with an infinite end is the whole line.
+-- The best interval of each operation. A product or quotient with an infinite end is the whole
+-- line.
 abbrev pub IsNegation : Range → Range → Type 0
 IsNegation r t = IsEnclosure (Negations r) t
 

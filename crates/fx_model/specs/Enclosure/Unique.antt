@@ -1,4 +1,5 @@
--- A set has one enclosure, and intervals have one product. The product holds each product of members.
+-- A set has one enclosure, and intervals have one product. The product holds each product of
+-- members.
 use Rattle.std.specs.Prelude.{◌≡◌, ◌⊎◌}
 use Rattle.std.proofs.Common.{refl, sym, ap, ◌∙◌, subst, inl, inr, ⊎_elim}
 use Rattle.fx_model.specs.Fraction.{Fraction, ◌*ℚ◌, le_antisymm}
@@ -27,8 +28,10 @@ supremum_unique S Below c i j = absurd i
 abbrev from_ends : Bound → Bound → Range
 from_ends low high = record { low = low; high = high }
 
-pub enclosure_unique : (S : Fraction → Type 0) (r s : Range) → IsEnclosure S r → IsEnclosure S s → r ≡ s
-enclosure_unique S r s i j = ap (λ b. from_ends b r.high) (infimum_unique S r.low s.low i.low j.low) ∙ ap (λ b. from_ends s.low b) (supremum_unique S r.high s.high i.high j.high)
+pub enclosure_unique : (S : Fraction → Type 0) (r s : Range) → IsEnclosure S r
+    → IsEnclosure S s → r ≡ s
+enclosure_unique S r s i j = ap (λ b. from_ends b r.high) (infimum_unique S r.low s.low i.low j.low)
+    ∙ ap (λ b. from_ends s.low b) (supremum_unique S r.high s.high i.high j.high)
 
 -- an interval is finite, or it isn't
 pub finite_or : (r : Range) → IsFinite r ⊎ (¬ (IsFinite r))
@@ -42,10 +45,15 @@ finite_or r = by r.low r.high
     by Above c = inr (λ f. let e = f.2 in cc)
 
 pub both_or : (r s : Range) → (IsFinite r × IsFinite s) ⊎ (¬ (IsFinite r × IsFinite s))
-both_or r s = ⊎_elim (λ f. ⊎_elim (λ g. inl (f, g)) (λ n. inr (λ p. n p.1)) (finite_or s)) (λ n. inr (λ p. n p.0)) (finite_or r)
+both_or r s = ⊎_elim (λ f. ⊎_elim (λ g. inl (f, g)) (λ n. inr (λ p. n p.1)) (finite_or s))
+    (λ n. inr (λ p. n p.0)) (finite_or r)
 
 pub product_unique : (r s t u : Range) → IsProduct r s t → IsProduct r s u → t ≡ u
-product_unique r s t u i j = ⊎_elim (λ f. enclosure_unique (Products r s) t u (i.finite f.0 f.1) (j.finite f.0 f.1)) (λ n. i.infinite n ∙ sym (j.infinite n)) (both_or r s)
+product_unique r s t u i j = ⊎_elim (λ f. enclosure_unique (Products r s) t u (i.finite f.0 f.1)
+    (j.finite f.0 f.1)) (λ n. i.infinite n ∙ sym (j.infinite n)) (both_or r s)
 
-pub product_holds : (r s t : Range) (x y : Fraction) → IsProduct r s t → Lies r x → Lies s y → Lies t (x *ℚ y)
-product_holds r s t x y i a b = ⊎_elim (λ f. in_enclosure (Products r s) t (x *ℚ y) (i.finite f.0 f.1) (x, y, a, b, refl)) (λ n. subst (λ u. Lies u (x *ℚ y)) (sym (i.infinite n)) (tt, tt)) (both_or r s)
+pub product_holds : (r s t : Range) (x y : Fraction) → IsProduct r s t → Lies r x
+    → Lies s y → Lies t (x *ℚ y)
+product_holds r s t x y i a b =
+    ⊎_elim (λ f. in_enclosure (Products r s) t (x *ℚ y) (i.finite f.0 f.1) (x, y, a, b, refl))
+    (λ n. subst (λ u. Lies u (x *ℚ y)) (sym (i.infinite n)) (tt, tt)) (both_or r s)

@@ -17,29 +17,37 @@ two_three = of_ratio (count 2) ∷ (of_ratio (count 3) ∷ [])
 abbrev id : ℕ → ExprId
 id n = record { 0 = n }
 
-product : value (Var 0 ∷ (Var 1 ∷ (Mul (id 0) (id 1) ∷ []))) two_three (id 2) ≡ Some (of_ratio (count 6))
+product : value (Var 0 ∷ (Var 1 ∷ (Mul (id 0) (id 1) ∷ []))) two_three (id 2)
+    ≡ Some (of_ratio (count 6))
 unfolding values_after
-product = ap Some (mul-mk (count 2) (count 3) ∙ sound {r = Same} {a = mul_ratio (count 2) (count 3)} {b = count 6} refl)
+product = ap Some (mul-mk (count 2) (count 3)
+    ∙ sound {r = Same} {a = mul_ratio (count 2) (count 3)} {b = count 6} refl)
 
 -- a quotient by zero has no value
-by_zero : value (Var 0 ∷ (Var 1 ∷ (Sub (id 1) (id 1) ∷ (Div (id 0) (id 2) ∷ [])))) two_three (id 3) ≡ None
+by_zero : value (Var 0 ∷ (Var 1 ∷ (Sub (id 1) (id 1) ∷ (Div (id 0) (id 2) ∷ [])))) two_three (id 3)
+    ≡ None
 unfolding values_after
 by_zero = ap (λ y. quotient (Some (of_ratio (count 2))) (Some y)) (add-neg (of_ratio (count 3)))
     ∙ ap (λ b. if b then None else Some (of_ratio (count 2) /ℚ zero_ℚ)) is_zero-zero
 
 -- ten_to (-2) is 1/100
-hundredth : ten_to (negsuc 1) ≡ of_ratio (record { plus = 1; minus = 0; den = 100; positive = lit< tt })
+hundredth : ten_to (negsuc 1)
+    ≡ of_ratio (record { plus = 1; minus = 0; den = 100; positive = lit< tt })
 hundredth = ap inverse_ℚ (whole-mk (pos 100)) ∙ inverse-mk (whole_ratio (pos 100))
-    ∙ sound {r = Same} {a = inverse_ratio (whole_ratio (pos 100))} {b = record { plus = 1; minus = 0; den = 100; positive = lit< tt }} refl
+    ∙ sound {r = Same} {a = inverse_ratio (whole_ratio (pos 100))} {b =
+    record { plus = 1; minus = 0; den = 100; positive = lit< tt }} refl
 
 -- 125 * 2^0 * 10^-1 is 25/2
-twelve_and_a_half : literal_value (record { num = 125; two = pos 0; ten = negsuc 0 }) ≡ of_ratio (record { plus = 25; minus = 0; den = 2; positive = lit< tt })
+twelve_and_a_half : literal_value (record { num = 125; two = pos 0; ten = negsuc 0 })
+    ≡ of_ratio (record { plus = 25; minus = 0; den = 2; positive = lit< tt })
 twelve_and_a_half =
     let n : Ratio = mul_ratio (whole_ratio (pos 125)) (two_to_ratio (pos 0)) in
     let t : Ratio = inverse_ratio (whole_ratio (pos 10)) in
     ap (λ x. (x *ℚ two_to (pos 0)) *ℚ ten_to (negsuc 0)) (whole-mk (pos 125))
     ∙ ap (λ y. (of_ratio (whole_ratio (pos 125)) *ℚ y) *ℚ ten_to (negsuc 0)) (two_to-mk (pos 0))
     ∙ ap (λ x. x *ℚ ten_to (negsuc 0)) (mul-mk (whole_ratio (pos 125)) (two_to_ratio (pos 0)))
-    ∙ ap (λ y. of_ratio n *ℚ y) (ap inverse_ℚ (whole-mk (pos 10)) ∙ inverse-mk (whole_ratio (pos 10)))
+    ∙ ap (λ y. of_ratio n *ℚ y) (ap inverse_ℚ (whole-mk (pos 10))
+    ∙ inverse-mk (whole_ratio (pos 10)))
     ∙ mul-mk n t
-    ∙ sound {r = Same} {a = mul_ratio n t} {b = record { plus = 25; minus = 0; den = 2; positive = lit< tt }} refl
+    ∙ sound {r = Same} {a = mul_ratio n t} {b =
+    record { plus = 25; minus = 0; den = 2; positive = lit< tt }} refl

@@ -10,7 +10,8 @@ add_comm = same_2 (λ x y. x +ℚ y) (λ x y. y +ℚ x) (λ a b. sound {r = Same
 
 pub add_assoc : (x y z : Fraction) → (x +ℚ y) +ℚ z ≡ x +ℚ (y +ℚ z)
 unfolding ◌+ℚ◌
-add_assoc = same_3 (λ x y z. (x +ℚ y) +ℚ z) (λ x y z. x +ℚ (y +ℚ z)) (λ a b c. sound {r = Same} (omega arith))
+add_assoc = same_3 (λ x y z. (x +ℚ y) +ℚ z) (λ x y z. x +ℚ (y +ℚ z))
+    (λ a b c. sound {r = Same} (omega arith))
 
 pub zero-add : (x : Fraction) → zero_ℚ +ℚ x ≡ x
 unfolding ◌+ℚ◌ zero_ℚ
@@ -26,7 +27,8 @@ mul_comm = same_2 (λ x y. x *ℚ y) (λ x y. y *ℚ x) (λ a b. sound {r = Same
 
 pub mul_assoc : (x y z : Fraction) → (x *ℚ y) *ℚ z ≡ x *ℚ (y *ℚ z)
 unfolding ◌*ℚ◌
-mul_assoc = same_3 (λ x y z. (x *ℚ y) *ℚ z) (λ x y z. x *ℚ (y *ℚ z)) (λ a b c. sound {r = Same} (omega arith))
+mul_assoc = same_3 (λ x y z. (x *ℚ y) *ℚ z) (λ x y z. x *ℚ (y *ℚ z))
+    (λ a b c. sound {r = Same} (omega arith))
 
 pub one-mul : (x : Fraction) → one_ℚ *ℚ x ≡ x
 unfolding ◌*ℚ◌ one_ℚ
@@ -38,15 +40,18 @@ zero-mul = same_1 (λ x. zero_ℚ *ℚ x) (λ x. zero_ℚ) (λ a. sound {r = Sam
 
 pub mul-add : (x y z : Fraction) → x *ℚ (y +ℚ z) ≡ (x *ℚ y) +ℚ (x *ℚ z)
 unfolding ◌+ℚ◌ ◌*ℚ◌
-mul-add = same_3 (λ x y z. x *ℚ (y +ℚ z)) (λ x y z. (x *ℚ y) +ℚ (x *ℚ z)) (λ a b c. sound {r = Same} (omega arith))
+mul-add = same_3 (λ x y z. x *ℚ (y +ℚ z)) (λ x y z. (x *ℚ y) +ℚ (x *ℚ z))
+    (λ a b c. sound {r = Same} (omega arith))
 
 pub neg-mul : (x y : Fraction) → neg_ℚ x *ℚ y ≡ neg_ℚ (x *ℚ y)
 unfolding ◌*ℚ◌ neg_ℚ
-neg-mul = same_2 (λ x y. neg_ℚ x *ℚ y) (λ x y. neg_ℚ (x *ℚ y)) (λ a b. sound {r = Same} (omega arith))
+neg-mul =
+    same_2 (λ x y. neg_ℚ x *ℚ y) (λ x y. neg_ℚ (x *ℚ y)) (λ a b. sound {r = Same} (omega arith))
 
 pub neg-add : (x y : Fraction) → neg_ℚ (x +ℚ y) ≡ neg_ℚ x +ℚ neg_ℚ y
 unfolding ◌+ℚ◌ neg_ℚ
-neg-add = same_2 (λ x y. neg_ℚ (x +ℚ y)) (λ x y. neg_ℚ x +ℚ neg_ℚ y) (λ a b. sound {r = Same} (omega arith))
+neg-add = same_2 (λ x y. neg_ℚ (x +ℚ y)) (λ x y. neg_ℚ x +ℚ neg_ℚ y)
+    (λ a b. sound {r = Same} (omega arith))
 
 pub neg-neg : (x : Fraction) → neg_ℚ (neg_ℚ x) ≡ x
 unfolding neg_ℚ
