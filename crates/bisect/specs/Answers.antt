@@ -16,5 +16,7 @@ IsAnswerOf t limit boxes (outcome.Unproved count path goal) =
 IsAnswerOf t limit boxes (outcome.Leaves count leaves) = (length boxes ≤ limit)
     × (first_open t boxes ≡ None) × (count ≡ length boxes) × (leaves ≡ leaves_of t boxes)
 
+-- The answer of the tree where at most so many boxes are allowed: that of its boxes, in the order
+-- of their paths.
 abbrev pub IsAnswer : Tree → ℕ → Outcome → Type 0
 IsAnswer t limit found = (boxes : List (List ℕ)) × AreBoxes t boxes × IsAnswerOf t limit boxes found

@@ -12,6 +12,7 @@ use Rattle.bisect.specs.declared.settler.State.{State}
 use Rattle.bisect.specs.declared.settler.State.TheVariants as state
 use Rattle.bisect.specs.declared.outcome.Leaf.{Leaf}
 
+-- The line with what one leaf knows of the goal, if anything.
 abbrev pub with_known : Line → Option Fact → Line
 with_known l None = l
 with_known l (Some f) = joined l f
@@ -22,6 +23,7 @@ abbrev pub with_state : ℕ → Line → State → Line
 with_state k l (state.Settled facts) = with_known l (slice_get facts k)
 with_state k l _ = l
 
+-- The line of the goal number k, from this one on, with what each of these leaves knows.
 abbrev pub line_with : ℕ → Line → List Leaf → Line
 line_with k l [] = l
 line_with k l (x ∷ xs) = line_with k (with_state k l x.state) xs

@@ -13,6 +13,7 @@ pub record Tree : Type 0 where
   pub cut_at : List ℕ → Cut
   pub state_at : List ℕ → State
 
+-- The tree in which each box has this cut and stands so.
 abbrev pub tree_of : (List ℕ → Cut) → (List ℕ → State) → Tree
 tree_of cuts states = record { cut_at = cuts; state_at = states }
 
@@ -24,6 +25,7 @@ children (cut.Forced x points) s = length points + 1
 children (cut.Half x m) (state.Open goal) = 2
 children _ _ = 0
 
+-- Into how many boxes the one at the path is cut; 0 where it is a leaf.
 abbrev pub child_count : Tree → List ℕ → ℕ
 child_count t path = children (t.cut_at path) (t.state_at path)
 

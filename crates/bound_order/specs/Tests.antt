@@ -32,5 +32,6 @@ number_at Above = None
 abbrev pub down_number : Fraction → Option Fraction
 down_number x = number_at (down x)
 
+-- The least number of the grid that isn't below x, or none where there is no such number.
 abbrev pub up_number : Fraction → Option Fraction
 up_number x = number_at (up x)

@@ -16,6 +16,7 @@ taken_by who at [] = []
 taken_by who at (e ∷ es) =
     cond (e.0 == who) ((at, e.1) ∷ taken_by who (at + 1) es) (taken_by who (at + 1) es)
 
+-- The paths of what left a lane, first to last.
 abbrev pub paths_of : List Gone → List (List ℕ)
 paths_of es = map (λ e. e.1) es
 
@@ -44,6 +45,7 @@ pub record Tells (v : View) (waiting : List (List ℕ)) : Type 0 where
   pub returned : (k : ℕ) → k < length v.back
       → slice_index_or v.back k [] ≡ taken_by (k + 1) 0 history
 
+-- Once as many passes are back as were made, the owner knows the history where these paths wait.
 abbrev pub Alone : View → List (List ℕ) → Type 0
 Alone v waiting = v.party ≡ 0 → v.made ≡ length v.back → Tells v waiting
 
@@ -70,6 +72,8 @@ module _ {T : Type 0} (place : T → ℕ) (path : T → List ℕ) (fits : T → 
   Waits n [] = Unit {0}
   Waits n (t ∷ ts) = (place t ≡ n) × fits t × Waits (n + 1) ts
 
+  -- The lane keeps its rule: these tasks wait in it, its pushes are within its capacity, and what
+  -- each live pass knows fits.
   pub record Kept (items : List T) (views : List View) : Type 0 where
     pub history : List Gone
     pub pushed : List (List ℕ)
@@ -92,6 +96,7 @@ module _ {T : Type 0} (place : T → ℕ) (path : T → List ℕ) (fits : T → 
   Takes1 v (x ∷ []) w = (w ≡ taking v (place x) (path x)) × fits x × (length v.takes ≤ place x)
       × (place x < capacity) × WasFirst v (place x) (path x)
 
+  -- A push adds one task, and the pass knows its path as the last that was pushed.
   abbrev pub Adds : View → List T → View → Type 0
   Adds v [] w = ⊥
   Adds v (x ∷ y ∷ xs) w = ⊥

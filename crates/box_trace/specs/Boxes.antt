@@ -27,6 +27,7 @@ IsBox u height (Some piece) (Some parent) pieces = (above : List Piece) × (piec
     × IsTableAt (setting_of u) height above (known_at u parent.now)
 IsBox u height piece parent pieces = ⊥
 
+-- Whether a piece and what is known at a parent are those of some box; the root has neither.
 abbrev pub IsSomeBox : World → ℕ → Option Piece → Option (Bor Known) → Type 0
 IsSomeBox u height piece parent = (pieces : List Piece) × IsBox u height piece parent pieces
 
@@ -72,10 +73,14 @@ abbrev pub IsTracedIn : World → Option Fact → Numbered → Log → Type 0
 IsTracedIn u cut s log = IsTraced (givens_of (setting_of u) u.hints cut) s log.steps.items
     (known_at u log.known) (place_in u log.known) × HaveFields log.steps.items
 
+-- The root's steps are accepted in each section where they may stand, with no cut, where what
+-- derivations use can be written.
 abbrev pub AreRootSteps : World → ℕ → Log → Type 0
 AreRootSteps u first log = IsWritable (setting_of u) u.hints → (s : Numbered) → IsNext first s
     → IsTracedIn u None s log
 
+-- The same of a box below another: in each section where the parent's facts may be cited and the
+-- cut leaves this piece.
 abbrev pub AreStepsBelow : World → Piece → Known → ℕ → Log → Type 0
 AreStepsBelow u piece parent first log = IsWritable (setting_of u) u.hints
     → (s : Numbered) (p : Fact) → IsSectionBelow u piece parent first s p
@@ -96,6 +101,7 @@ pub record BeginsWithin (u : World) (first most : ℕ) (log : Log) : Type 0 wher
   pub few : length log.steps.items ≤ most
   pub steps : AreRootSteps u first log
 
+-- The root begins with no more steps than one for each hypothesis and node.
 abbrev pub BeginsRoot : World → ℕ → Log → Type 0
 BeginsRoot u first log = BeginsWithin u first (length u.hypotheses + length u.nodes) log
 

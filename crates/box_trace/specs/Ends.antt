@@ -21,6 +21,8 @@ IsLowError d None = ⊤
 IsLowError None (Some e) = ⊥
 IsLowError (Some d) (Some e) = IsLow d.interval e.interval
 
+-- The same at the upper end: the first one's isn't below the second's, and that both sides are 0 is
+-- furthest in.
 abbrev pub IsHighError : Option RelativeError → Option RelativeError → Type 0
 IsHighError d None = ⊤
 IsHighError None (Some e) = ⊥

@@ -85,6 +85,7 @@ abbrev pub one_if_variable : Node → ℕ
 one_if_variable (Var v) = 1
 one_if_variable _ = 0
 
+-- How many of the nodes are variables.
 abbrev pub variable_count : List Node → ℕ
 variable_count [] = 0
 variable_count (n ∷ nodes) = one_if_variable n + variable_count nodes
@@ -115,6 +116,7 @@ abbrev pub AreItsRounds : World → Option (Bor Known) → ℕ → ℕ → List 
 AreItsRounds u parent height first steps =
     AreByRounds u (IsOfParent u parent) (most_given u parent) height first steps
 
+-- The steps of a box below one with these facts: the piece's at most, and then the rounds.
 abbrev pub AreRoundsBelow : World → Known → ℕ → ℕ → List StepRow → Type 0
 AreRoundsBelow u parent height first steps = AreByRounds u (IsStepIn u parent) 1 height first steps
 
@@ -140,6 +142,8 @@ pub record BeginsBy (u : World) (Given : ℕ → Type 0) (most first : ℕ) (log
   pub known : (n : ℕ) → IsStepIn u log.known n
       → IsEarlier Given first (first + length log.steps.items) n
 
+-- The root's log has at most so many steps, all of them given, and what is known has its steps
+-- among them.
 abbrev pub BeginsRootBy : World → ℕ → ℕ → Log → Type 0
 BeginsRootBy u most first log = BeginsBy u (IsOfParent u None) most first log
 

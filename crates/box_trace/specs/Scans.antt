@@ -29,6 +29,7 @@ abbrev pub held : Option (Option Ends) → Option Ends
 held None = None
 held (Some o) = o
 
+-- The ends that stand at a place of the list, if any; none where the place is outside.
 abbrev pub ends_in : List (Option Ends) → ℕ → Option Ends
 ends_in rows p = held (slice_get rows p)
 

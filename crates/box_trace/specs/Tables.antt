@@ -23,6 +23,7 @@ pair_number x y [] = None
 pair_number x y (p ∷ ps) =
     if is_same p.0 x && is_same p.1 y then Some 0 else one_later (pair_number x y ps)
 
+-- The place of the slot of the pair k: behind the four blocks, which have n slots each.
 abbrev pub behind_blocks : ℕ → Option ℕ → Option ℕ
 behind_blocks n None = None
 behind_blocks n (Some k) = Some (4 * n + k)
@@ -41,14 +42,17 @@ abbrev pub flat : Option (Option Cited) → Option Cited
 flat None = None
 flat (Some o) = o
 
+-- What stands in the row at this place; nothing without a place, or where the place is outside.
 abbrev pub row_in : List (Option Cited) → Option ℕ → Option Cited
 row_in rows None = None
 row_in rows (Some p) = flat (slice_get rows p)
 
+-- The fact that stands in a row, if any.
 abbrev pub fact_of : Option Cited → Option Fact
 fact_of None = None
 fact_of (Some row) = Some row.fact
 
+-- The number of the step of the fact that stands in a row, if any.
 abbrev pub number_of : Option Cited → Option ℕ
 number_of None = None
 number_of (Some row) = Some row.number
@@ -66,6 +70,7 @@ cited_at u k s = row_in k.rows.items (row_of (length u.nodes) u.pairs s)
 abbrev pub known_at : World → Known → Slot → Option Fact
 known_at u k s = fact_of (cited_at u k s)
 
+-- The number of the step of the fact that is known on the slot, if any.
 abbrev pub step_at : World → Known → Slot → Option ℕ
 step_at u k s = number_of (cited_at u k s)
 

@@ -20,6 +20,7 @@ pub record HasFields (row : StepRow) : Type 0 where
   pub rule : row.rule < 256
   pub arg : IsShort row.arg
 
+-- The parts of each of these steps have room in their fields.
 abbrev pub HaveFields : List StepRow → Type 0
 HaveFields [] = ⊤
 HaveFields (row ∷ rows) = HasFields row × HaveFields rows

@@ -27,10 +27,12 @@ use Rattle.box_traces.specs.Traces.{IsCutTo}
 -- A box that isn't cut, or is cut along a variable at some points, with a box for each piece in
 -- order, and what its range is there.
 mutual
+  -- A box that isn't cut, or one that is cut along a variable at some points into these pieces.
   pub data Tree : Type 0 where
     leaf : Tree
     cut : ExprId → List Dyadic → Trees → Tree
 
+  -- The pieces of a cut in order, each with the variable's range in it and the tree of its box.
   pub data Trees : Type 0 where
     last : Trees
     next : Interval → Tree → Trees → Trees

@@ -29,6 +29,7 @@ use Rattle.box_traces.specs.Writing.{givens_of}
 use Rattle.box_traces.specs.Traces.{Trace}
 use Rattle.box_traces.specs.Trees.{Trees, cut_of, AreProved, lines_of_trees, steps_in_each}
 
+-- The steps that may be cited in a context, and the number of the next step.
 abbrev pub numbered : Context → Numbered
 numbered c = record { rows = c.steps; next = c.next }
 

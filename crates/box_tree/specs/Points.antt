@@ -37,6 +37,8 @@ abbrev pub parts_from : SplitRange → ℕ → ℕ → ℕ → List Dyadic
 parts_from r n i zero = []
 parts_from r n i (suc left) = part_at r i n ∷ parts_from r n (i + 1) left
 
+-- The points that a cutting asks for in a range, before any is dropped: those between n equal
+-- parts, or those it lists.
 abbrev pub asked_points : SplitRange → Cutting → List Dyadic
 asked_points r (cutting.Pieces n) = parts_from r n 1 (n - 1)
 asked_points r (cutting.Points points) = points
@@ -50,6 +52,7 @@ is_above_last points p = length points == 0 || is_less (point_of points (length 
 abbrev pub with_point : SplitRange → List Dyadic → Dyadic → List Dyadic
 with_point r points p = if is_inside r p && is_above_last points p then points ++ p ∷ [] else points
 
+-- The points that stay once these others have come, one by one in their order.
 abbrev pub with_points : SplitRange → List Dyadic → List Dyadic → List Dyadic
 with_points r points [] = points
 with_points r points (p ∷ ps) = with_points r (with_point r points p) ps
@@ -63,6 +66,8 @@ cut_points r c = with_points r [] (asked_points r c)
 abbrev pub above_or : SplitRange → Dyadic → Dyadic → Dyadic
 above_or r down up = if is_less r.low down then down else up
 
+-- The middle of a range on the grid: rounded down where that is above the lower end, else rounded
+-- up.
 abbrev pub middle : SplitRange → Dyadic
 middle r = above_or r (down_or r.low (halfway (value_of r.low) (value_of r.high)))
     (up_or r.high (halfway (value_of r.low) (value_of r.high)))

@@ -23,6 +23,7 @@ abbrev pub range_by : ExprId → Option Fact → Option SplitRange
 range_by x (Some (fact.Bnd y i)) = if is_same y x then finite_range x i.lo i.hi else None
 range_by x _ = None
 
+-- The range, or the later one where there is none.
 abbrev pub or_later : Option SplitRange → Option SplitRange → Option SplitRange
 or_later None later = later
 or_later (Some r) later = Some r
@@ -32,6 +33,7 @@ abbrev pub split_range : List Claim → ExprId → Option SplitRange
 split_range [] x = None
 split_range (c ∷ cs) x = or_later (range_by x (hypothesis_fact c)) (split_range cs x)
 
+-- The ranges with this one first, where it is there.
 abbrev pub with_range : Option SplitRange → List SplitRange → List SplitRange
 with_range None later = later
 with_range (Some r) later = r ∷ later

@@ -137,13 +137,18 @@ abbrev pub has_room : ℕ → ℕ → ℤ → ℕ → ℕ → ℤ → Bool
 has_room base digits low high num e = not (int_lt e low)
     && (nat_lt (over high e) (digits + 1) && nat_lt num (base ^ (digits - over high e)))
 
+-- whether the literal is 0, with no exponent
 abbrev pub is_zero : Literal → Bool
 is_zero l = l.num == 0 && (int_eq l.two (pos 0) && int_eq l.ten (pos 0))
 
+-- whether it is a decimal number in normal form: no power of two, a last digit other than 0, and an
+-- exponent within the limits
 abbrev pub is_decimal : Literal → Bool
 is_decimal l =
     int_eq l.two (pos 0) && (not (l.num % 10 == 0) && has_room 10 30 (negsuc 29) 8 l.num l.ten)
 
+-- whether it is a binary or hexadecimal number in normal form: no power of ten, an odd number, and
+-- an exponent within the limits
 abbrev pub is_binary : Literal → Bool
 is_binary l =
     int_eq l.ten (pos 0) && (not (l.num % 2 == 0) && has_room 2 100 (negsuc 511) 512 l.num l.two)

@@ -28,6 +28,7 @@ pub record IsRead (d : Due) (c next : Cursor) (i : Item) : Type 0 where
   pub bytes : c.rest ≡ spell.spelling i style ++ next.rest
   pub behind : AreBytes next.rest
 
+-- Before the end was read, an item that is read of bytes is one that is due, with its spelling.
 abbrev pub ItemsReadOut : Type 0
 ItemsReadOut = (d : Due) (c next : Cursor) (i : Item) → AreBytes c.rest → ¬ (d ≡ Done)
     → item_at d c ≡ Ok (i, next) → IsRead d c next i

@@ -60,11 +60,13 @@ abbrev pub Read : Type 0 → Type 0
 Read A = Result (A × Cursor) CertFault
 
 infixl 10 ◌>>=◌
+-- goes on with what was read, or stays at the first fault
 abbrev pub ◌>>=◌ : {A B : Type 0} → Result A CertFault
     → (A → Result B CertFault) → Result B CertFault
 (Ok x) >>= f = f x
 (Err e) >>= f = Err e
 
+-- the fault of this kind at this byte
 abbrev pub fault : {A : Type 0} → CertKind → ℕ → Result A CertFault
 fault kind at = Err (record { kind = kind; at = at })
 
@@ -81,6 +83,7 @@ next_byte style at [] = fault Truncated at
 next_byte style at (b ∷ rest) = if nat_le 17592186044416 at then fault TooLong 17592186044416
     else Ok (b, record { style = style; at = at + 1; rest = rest })
 
+-- the next byte
 unfoldable pub byte_at : Cursor → Read ℕ
 byte_at c = next_byte c.style c.at c.rest
 
@@ -89,6 +92,7 @@ unfoldable pub bytes_at : ℕ → ℕ → Cursor → Read ℕ
 bytes_at zero value c = Ok (value, c)
 bytes_at (suc n) value c = byte_at c >>= λ b. bytes_at n (256 * value + b.0) b.1
 
+-- a number of n bytes, the high ones first
 abbrev pub number_at : ℕ → Cursor → Read ℕ
 number_at n c = bytes_at n 0 c
 
@@ -113,6 +117,8 @@ at_most most (Some n) = if nat_le n most then Some n else None
 unfoldable pub limited_at : ℕ → ℕ → ℕ → ℕ → Cursor → Read (Option ℕ)
 limited_at n most weight value c = digits_at n weight value c >>= λ o. Ok (at_most most o.0, o.1)
 
+-- A number in base 128, of so many bytes at most and up to `most`. It is BadNumber where there is
+-- none.
 unfoldable pub based_at : ℕ → ℕ → Cursor → Read ℕ
 based_at bytes most c = limited_at bytes most 1 0 c >>= λ n. numbered c.at n.0 n.1
 
@@ -130,9 +136,11 @@ sized_at width bytes most c = sized_by c.style width bytes most c
 abbrev pub tiny_at : Cursor → Read ℕ
 tiny_at c = sized_at 1 10 255 c
 
+-- up to 2^16 - 1
 abbrev pub short_at : Cursor → Read ℕ
 short_at c = sized_at 2 10 65535 c
 
+-- up to 2^64 - 1
 abbrev pub long_at : Cursor → Read ℕ
 long_at c = sized_at 8 10 18446744073709551615 c
 
@@ -145,6 +153,7 @@ abbrev pub step_by : Style → ℕ → ℕ
 step_by First n = n
 step_by (Second seen) n = distance seen.steps n
 
+-- the number of a step
 unfoldable pub reference_at : Cursor → Read ℕ
 reference_at c = long_at c >>= λ n. Ok (step_by c.style n.0, n.1)
 
@@ -157,12 +166,15 @@ abbrev pub signed_by : Style → Width → ℕ → ℤ
 signed_by First w n = cast_signed w n
 signed_by (Second seen) w n = unzigzag n
 
+-- a signed number that has two bytes in version 1
 unfoldable pub signed_short_at : Cursor → Read ℤ
 signed_short_at c = short_at c >>= λ n. Ok (signed_by c.style w16 n.0, n.1)
 
+-- a signed number that has eight bytes in version 1
 unfoldable pub signed_long_at : Cursor → Read ℤ
 signed_long_at c = long_at c >>= λ n. Ok (signed_by c.style w64 n.0, n.1)
 
+-- an expression's number
 unfoldable pub expr_at : Cursor → Read ExprId
 expr_at c = short_at c >>= λ n. Ok (record { 0 = n.0 }, n.1)
 
@@ -174,6 +186,7 @@ both_at f g c = do
   y ← g x.1
   Ok ((x.0, y.0), y.1)
 
+-- two expressions, one behind the other
 abbrev pub pair_at : Cursor → Read (ExprId × ExprId)
 pair_at = both_at expr_at expr_at
 
@@ -184,6 +197,7 @@ point_at c = do
   e ← signed_short_at m.1
   numbered c.at (number_from m.0 e.0) e.1
 
+-- an end of an interval: its kind, and the point where it is finite
 unfoldable pub end_at : Cursor → Read End
 end_at c = do
   tag ← byte_at c
@@ -192,6 +206,7 @@ end_at c = do
       else if tag.0 == 2 then Ok (High, tag.1)
       else fault BadTag c.at
 
+-- an interval: its lower end, and its upper one; BadNumber where no interval has these ends
 unfoldable pub interval_at : Cursor → Read Interval
 interval_at c = do
   lo ← end_at c
@@ -200,12 +215,15 @@ interval_at c = do
 
 -- ---- facts
 
+-- the interval of an absolute value; BadNumber where it isn't one
 unfoldable pub size_at : Cursor → Read Size
 size_at c = interval_at c >>= λ i. numbered c.at (size_from i.0) i.1
 
+-- the interval of a relative error; BadNumber where it isn't one
 unfoldable pub relative_at : Cursor → Read RelativeError
 relative_at c = interval_at c >>= λ i. numbered c.at (error_from i.0) i.1
 
+-- a tag, and behind a 0 the interval of relative errors; a 1 says that both are 0
 unfoldable pub error_at : Cursor → Read (Option RelativeError)
 error_at c = do
   tag ← byte_at c
@@ -213,24 +231,31 @@ error_at c = do
       else if tag.0 == 1 then Ok (None, tag.1)
       else fault BadTag c.at
 
+-- the power of two of a FIX fact; BadNumber where it is out of range
 unfoldable pub place_at : Cursor → Read Place
 place_at c = signed_short_at c >>= λ k. numbered c.at (place_from k.0) k.1
 
+-- a BND fact: its expression, and the interval
 unfoldable pub bnd_at : Cursor → Read Fact
 bnd_at c = both_at expr_at interval_at c >>= λ v. Ok (fact.Bnd v.0.0 v.0.1, v.1)
 
+-- an ABS fact: its expression, and the interval of the absolute value
 unfoldable pub abs_at : Cursor → Read Fact
 abs_at c = both_at expr_at size_at c >>= λ v. Ok (fact.Abs v.0.0 v.0.1, v.1)
 
+-- a REL fact: its two expressions, and the relative error
 unfoldable pub rel_at : Cursor → Read Fact
 rel_at c = both_at pair_at error_at c >>= λ v. Ok (fact.Rel v.0.0.0 v.0.0.1 v.0.1, v.1)
 
+-- a FIX fact: its expression, and the power of two
 unfoldable pub fix_at : Cursor → Read Fact
 fix_at c = both_at expr_at place_at c >>= λ v. Ok (fact.Fix v.0.0 v.0.1, v.1)
 
+-- an NZR fact: its expression
 unfoldable pub nzr_at : Cursor → Read Fact
 nzr_at c = expr_at c >>= λ x. Ok (fact.Nzr x.0, x.1)
 
+-- a fact: its tag, from 1 to 6, and its fields
 unfoldable pub fact_at : Cursor → Read Fact
 fact_at c = do
   tag ← byte_at c
@@ -244,6 +269,7 @@ fact_at c = do
 
 -- ---- nodes
 
+-- the rounding direction of a byte; none from 11 on
 abbrev pub direction_from : ℕ → Option Direction
 direction_from n =
     if n == 0 then Some Zr else (if n == 1 then Some Aw
@@ -253,10 +279,12 @@ direction_from n =
     else (if n == 8 then Some Na
     else (if n == 9 then Some Nd else (if n == 10 then Some Nu else None))))))))))
 
+-- the value, or BadTag at the first byte of its field
 abbrev pub tagged : {A : Type 0} → ℕ → Option A → Cursor → Read A
 tagged at None c = fault BadTag at
 tagged at (Some x) c = Ok (x, c)
 
+-- a rounding direction
 unfoldable pub direction_at : Cursor → Read Direction
 direction_at c = byte_at c >>= λ b. tagged c.at (direction_from b.0) b.1
 
@@ -265,9 +293,11 @@ unfoldable pub lsb_at : Cursor → Read ℤ
 lsb_at c = signed_short_at c >>= λ k. if int_lt k.0 (negsuc 511) then fault BadNumber c.at
     else (if int_lt (pos 512) k.0 then fault BadNumber c.at else Ok k)
 
+-- a literal's powers of two and of ten
 abbrev pub exponents_at : Cursor → Read (ℤ × ℤ)
 exponents_at = both_at signed_short_at signed_short_at
 
+-- a literal in normal form: its number and its powers; else BadNumber
 unfoldable pub literal_at : Cursor → Read Literal
 literal_at c = do
   num ← wide_at c
@@ -275,24 +305,30 @@ literal_at c = do
   if is_normal (record { num = num.0; two = e.0.0; ten = e.0.1 })
       then Ok (record { num = num.0; two = e.0.0; ten = e.0.1 }, e.1) else fault BadNumber c.at
 
+-- a node with one operand
 unfoldable pub one_at : (ExprId → Node) → Cursor → Read Node
 one_at op c = expr_at c >>= λ x. Ok (op x.0, x.1)
 
+-- a node with two operands
 unfoldable pub two_at : (ExprId → ExprId → Node) → Cursor → Read Node
 two_at op c = pair_at c >>= λ x. Ok (op x.0.0 x.0.1, x.1)
 
+-- a rounding: its direction, and its power
 unfoldable pub rounding_at : Cursor → Read Rounding
 rounding_at c = do
   dir ← direction_at c
   lsb ← lsb_at dir.1
   Ok (record { lsb = lsb.0; dir = dir.0 }, lsb.1)
 
+-- a rounded expression: the rounding, and the operand
 unfoldable pub round_at : Cursor → Read Node
 round_at c = both_at rounding_at expr_at c >>= λ v. Ok (node.Round v.0.0 v.0.1, v.1)
 
+-- a variable, by its number
 unfoldable pub var_at : Cursor → Read Node
 var_at c = short_at c >>= λ n. Ok (node.Var n.0, n.1)
 
+-- a literal as a node
 unfoldable pub lit_at : Cursor → Read Node
 lit_at c = literal_at c >>= λ l. Ok (node.Lit l.0, l.1)
 
@@ -305,6 +341,7 @@ late_node_at start tag c =
     else if tag == 8 then round_at c
     else fault BadTag start
 
+-- a node, by its tag; BadTag at `start` where no node has it
 unfoldable pub node_by : ℕ → ℕ → Cursor → Read Node
 node_by start tag c =
     if tag == 0 then var_at c
@@ -314,6 +351,7 @@ node_by start tag c =
     else if tag == 4 then two_at node.Sub c
     else late_node_at start tag c
 
+-- a node: its tag, from 0 to 8, and its parts
 unfoldable pub node_at : Cursor → Read Node
 node_at c = byte_at c >>= λ tag. node_by c.at tag.0 tag.1
 
@@ -328,6 +366,7 @@ references_at (suc n) ns c = reference_at c >>= λ x. references_at n (ns ++ x.0
 unfoldable pub counted_at : Cursor → Read (List ℕ)
 counted_at c = short_at c >>= λ n. references_at n.0 [] n.1
 
+-- a flag, and behind a 1 the number of a step
 unfoldable pub optional_at : Cursor → Read (Option ℕ)
 optional_at c = do
   flag ← byte_at c
@@ -339,12 +378,15 @@ optional_at c = do
 abbrev pub rule_at : Cursor → Read (ℕ × ℕ)
 rule_at = both_at byte_at short_at
 
+-- what a step claims: its rule, what the rule is taken of, and the fact
 abbrev pub claim_at : Cursor → Read ((ℕ × ℕ) × Fact)
 claim_at = both_at rule_at fact_at
 
+-- what a step rests on: the step that it meets, and its premises
 abbrev pub cited_at : Cursor → Read (Option ℕ × List ℕ)
 cited_at = both_at optional_at counted_at
 
+-- a step: what it claims, and what it rests on
 unfoldable pub step_at : Cursor → Read StepRow
 step_at c = do
   claim ← claim_at c
@@ -387,21 +429,26 @@ cut_head_at c = do
   n ← count_at x.1
   Ok ((x.0, n.0), n.1)
 
+-- a cut: its variable, and the points, which rise
 unfoldable pub cut_at : Cursor → Read Item
 cut_at c = do
   head ← cut_head_at c
   ds ← points_at head.0.1 [] head.1
   Ok (item.Cut head.0.0 ds.0, ds.1)
 
+-- a step as an item
 unfoldable pub step_item_at : Cursor → Read Item
 step_item_at c = step_at c >>= λ s. Ok (item.Step s.0, s.1)
 
+-- a leaf: the steps that it names
 unfoldable pub leaf_at : Cursor → Read Item
 leaf_at c = counted_at c >>= λ refs. Ok (item.Leaf refs.0, refs.1)
 
+-- a dead end: the step that it names
 unfoldable pub dead_at : Cursor → Read Item
 dead_at c = reference_at c >>= λ r. Ok (item.Dead r.0, r.1)
 
+-- an item of a section, by its tag; BadTag at `start` where none has it
 unfoldable pub section_by : ℕ → ℕ → Cursor → Read Item
 section_by start tag c =
     if tag == 1 then step_item_at c
@@ -410,6 +457,7 @@ section_by start tag c =
     else if tag == 4 then dead_at c
     else fault BadTag start
 
+-- an item of a section: its tag, from 1 to 4, and its fields
 unfoldable pub section_item_at : Cursor → Read Item
 section_item_at c = byte_at c >>= λ tag. section_by c.at tag.0 tag.1
 
@@ -420,12 +468,15 @@ unfoldable pub case_count_at : Cursor → Read ℕ
 case_count_at c = tiny_at c >>= λ n. if nat_lt n.0 2 then fault BadNumber c.at else
     (if nat_lt 64 n.0 then fault BadNumber c.at else Ok n)
 
+-- the number of cases as an item
 unfoldable pub cases_at : Cursor → Read Item
 cases_at c = case_count_at c >>= λ n. Ok (item.Cases n.0, n.1)
 
+-- what follows the marks, by its tag: the number of cases, or an item of the one section
 unfoldable pub root_by : ℕ → ℕ → Cursor → Read Item
 root_by start tag c = if tag == 5 then cases_at c else section_by start tag c
 
+-- what follows the marks: its tag, from 1 to 5, and its fields
 unfoldable pub root_item_at : Cursor → Read Item
 root_item_at c = byte_at c >>= λ tag. root_by c.at tag.0 tag.1
 
@@ -443,24 +494,29 @@ version_at c = do
       else if n.0 == 2 then Ok (tt, styled (Second none_seen) n.1)
       else fault BadVersion c.at
 
+-- what each certificate begins with: the four bytes, and the version
 unfoldable pub preamble_at : Cursor → Read ⊤
 preamble_at c = do
   magic ← magic_at c
   version ← version_at magic.1
   Ok (tt, version.1)
 
+-- the first item: what each certificate begins with, and the number of nodes
 unfoldable pub head_at : Cursor → Read Item
 head_at c = do
   preamble ← preamble_at c
   n ← short_at preamble.1
   Ok (item.Nodes n.0, n.1)
 
+-- a node as an item
 unfoldable pub node_item_at : Cursor → Read Item
 node_item_at c = node_at c >>= λ node. Ok (item.Node node.0, node.1)
 
+-- the number of marks
 unfoldable pub marks_at : Cursor → Read Item
 marks_at c = short_at c >>= λ n. Ok (item.Marks n.0, n.1)
 
+-- a mark: 0 for checked, 1 for assumed
 unfoldable pub mark_at : Cursor → Read Item
 mark_at c = do
   b ← byte_at c
@@ -468,6 +524,7 @@ mark_at c = do
       else if b.0 == 1 then Ok (item.Mark Assumed, b.1)
       else fault BadTag c.at
 
+-- whether there are bytes
 abbrev pub is_some : List ℕ → Bool
 is_some [] = false
 is_some (b ∷ rest) = true
@@ -476,6 +533,7 @@ is_some (b ∷ rest) = true
 unfoldable pub more_at : Cursor → Read Bool
 more_at c = Ok (is_some c.rest, c)
 
+-- the end, where no bytes follow; else TrailingBytes
 unfoldable pub end_item_at : Cursor → Read Item
 end_item_at c = more_at c >>= λ more.
     if more.0 then fault TrailingBytes c.at else Ok (item.End, more.1)
@@ -484,6 +542,7 @@ end_item_at c = more_at c >>= λ more.
 unfoldable pub same_count_at : ℕ → Cursor → Read ⊤
 same_count_at n c = long_at c >>= λ k. if k.0 == n then Ok (tt, k.1) else fault BadCount c.at
 
+-- the numbers of sections and of steps, which are those that were seen
 unfoldable pub counts_at : Seen → Cursor → Read ⊤
 counts_at seen c = do
   sections ← same_count_at seen.sections c
@@ -504,12 +563,15 @@ closed_by (Second seen) c = trailer_at seen c >>= λ trailer. end_item_at traile
 unfoldable pub closed_at : Cursor → Read Item
 closed_at c = closed_by c.style c
 
+-- a node, where n more are due; behind the last the number of marks
 unfoldable pub node_or_marks_at : ℕ → Cursor → Read Item
 node_or_marks_at n c = if n == 0 then marks_at c else node_item_at c
 
+-- a mark, where n more are due; behind the last the first item of the sections
 unfoldable pub mark_or_section_at : ℕ → Cursor → Read Item
 mark_or_section_at n c = if n == 0 then root_item_at c else mark_at c
 
+-- an item of a section, where n sections are open; behind the last the end
 unfoldable pub section_or_end_at : ℕ → Cursor → Read Item
 section_or_end_at n c = if n == 0 then closed_at c else section_item_at c
 

@@ -51,6 +51,7 @@ unfoldable pub tiny : ℕ → Style → List ℕ
 tiny n First = n ∷ []
 tiny n (Second seen) = based n
 
+-- up to 65535
 unfoldable pub short : ℕ → Style → List ℕ
 short n First = to_be_bytes w16 n
 short n (Second seen) = based n
@@ -60,10 +61,12 @@ unfoldable pub reference : ℕ → Style → List ℕ
 reference n First = to_be_bytes w64 n
 reference n (Second seen) = based (distance seen.steps n)
 
+-- a signed number that has two bytes in version 1
 unfoldable pub signed_short : ℤ → Style → List ℕ
 signed_short z First = to_be_bytes w16 (cast_unsigned w16 z)
 signed_short z (Second seen) = based (zigzag z)
 
+-- a signed number that has eight bytes in version 1
 unfoldable pub signed_long : ℤ → Style → List ℕ
 signed_long z First = to_be_bytes w64 (cast_unsigned w64 z)
 signed_long z (Second seen) = based (zigzag z)
@@ -115,6 +118,7 @@ fact_bytes fact.Void style = 6 ∷ []
 
 -- ---- nodes
 
+-- the byte of a rounding direction
 abbrev pub direction_byte : Direction → ℕ
 direction_byte Zr = 0
 direction_byte Aw = 1
@@ -142,6 +146,7 @@ node_bytes (Abs x) style = 7 ∷ short x.0 style
 node_bytes (Round r x) style =
     8 ∷ direction_byte r.dir ∷ (signed_short r.lsb style ++ short x.0 style)
 
+-- the byte of a mark
 abbrev pub mark_byte : HintMark → ℕ
 mark_byte Checked = 0
 mark_byte Assumed = 1

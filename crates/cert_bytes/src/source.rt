@@ -168,7 +168,7 @@ impl Source {
         Ok(())
     }
 
-    // Whether a further byte is there. It is then read ahead.
+    /// Whether a further byte is there, which is then read ahead. It fails where the folder does.
     #[inline(always)]
     pub fn ready<F: Folder>(&mut self, folder: &mut F) -> Result<bool, Failed>
         requires agrees { (all : List ℕ)

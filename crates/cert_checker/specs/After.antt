@@ -68,6 +68,8 @@ new_cut c x ps = record { var = x; points = ps; entered = 1; around = length c.s
 
 -- ---- lines
 
+-- The line joined with the fact that a leaf cites for it; where there is no such fact, the line as
+-- it was.
 abbrev pub with_cited : Line → Option Fact → Line
 with_cited l None = l
 with_cited l (Some f) = joined l f
@@ -80,6 +82,8 @@ lines_with steps lines _ = lines
 
 -- ---- items
 
+-- What an item by itself makes of the context; that sections begin with it, or that it is the end,
+-- isn't noted yet.
 abbrev pub changed_by : Context → Item → Context
 changed_by c (item.Nodes n) = c
 changed_by c (item.Node n) = record c { nodes = c.nodes ++ n ∷ [] }

@@ -89,6 +89,8 @@ pub record Refuses (all : List ℕ) (c : Standing) (r : Progress) (f : CheckFaul
 abbrev pub IsUnread : List ℕ → Progress → CertFault → Type 0
 IsUnread all r f = item_at r.due (cursor_of all r.ahead) ≡ Err f
 
+-- What a turn answers: an item is taken, or, where the bytes are told, the fault is that of reading
+-- or of the item read.
 abbrev pub Turns : {X : Type 0} → Option (List ℕ) → Standing → Standing → Progress → Progress
     → Result X CheckStop → Type 0
 Turns told c d r q (Ok x) = TakesNext told c d r q

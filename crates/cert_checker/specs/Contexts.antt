@@ -59,6 +59,8 @@ first s = record {
 abbrev pub low_end : List Dyadic → ℕ → End
 low_end points k = if k == 0 then Low else At (point_of points (k - 1))
 
+-- The upper end of piece `k`, counted from 0: the point behind it, and plus infinity for the last
+-- piece.
 abbrev pub high_end : List Dyadic → ℕ → End
 high_end points k = if k == length points then High else At (point_of points k)
 

@@ -92,6 +92,8 @@ JudgesStep g steps next r (Some (BadStep k)) =
     (k ≡ next) × IsCiting steps r × ¬ IsConcluded g steps r
 JudgesStep g steps next r (Some _) = ⊥
 
+-- A cut must go along a variable, in a section fewer than 64 cuts deep; else its fault names the
+-- section.
 abbrev pub JudgesCut : List Node → ℕ → ℕ → ExprId → Option CheckFault → Type 0
 JudgesCut nodes depth section x None = MayBeCut nodes depth x
 JudgesCut nodes depth section x (Some (BadCut k)) = (k ≡ section) × ¬ MayBeCut nodes depth x
@@ -104,6 +106,8 @@ JudgesLeaf steps goals section refs (Some (GoalMissing k (suc g))) =
     (k ≡ section) × IsFirstMissing steps goals refs g
 JudgesLeaf steps goals section refs (Some _) = ⊥
 
+-- A dead end must cite a step whose fact is VOID; else its fault names the section, with 0 as the
+-- goal.
 abbrev pub JudgesDead : List Citable → ℕ → ℕ → Option CheckFault → Type 0
 JudgesDead steps section r None = step_fact steps r ≡ Some fact.Void
 JudgesDead steps section r (Some (GoalMissing k zero)) =

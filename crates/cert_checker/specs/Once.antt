@@ -17,6 +17,7 @@ abbrev pub LeadsOnce : Type 0
 LeadsOnce = (s : Subject) (c : Context) (items : List Item) (end other : Context)
     → LeadsTo s c items end → LeadsTo s c items other → end ≡ other
 
+-- Items with which nothing is wrong have no first fault.
 abbrev pub LeadsOrFails : Type 0
 LeadsOrFails = (s : Subject) (c : Context) (items : List Item) (end : Context) (f : CheckFault)
     → LeadsTo s c items end → ¬ FailsWith s c items f

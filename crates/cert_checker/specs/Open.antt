@@ -9,19 +9,24 @@ pub record Numbered : Type 0 where
   pub rows : List Citable
   pub next : ℕ
 
+-- No step may be cited yet, and the first one gets number 0.
 abbrev pub none_open : Numbered
 none_open = record { rows = []; next = 0 }
 
+-- One more step with this fact, the last, under the next number.
 abbrev pub with_step : Numbered → Fact → Numbered
 with_step s f =
     record { rows = s.rows ++ record { number = s.next; fact = f } ∷ []; next = s.next + 1 }
 
+-- The first `n` steps stay, the others may no longer be cited; numbers go on where they were.
 abbrev pub cut_back : Numbered → ℕ → Numbered
 cut_back s n = record s { rows = take n s.rows }
 
+-- What stands where there is no step.
 abbrev pub nowhere : Citable
 nowhere = record { number = 0; fact = fact.Void }
 
+-- The number of the step at place `i` of the list, from 0.
 abbrev pub number_at : List Citable → ℕ → ℕ
 number_at rows i = (slice_index_or rows i nowhere).number
 

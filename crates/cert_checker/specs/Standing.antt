@@ -15,6 +15,7 @@ pub record Standing : Type 0 where
   pub context : Context
   pub fault : Option CheckFault
 
+-- Before the first item, with no fault found.
 abbrev pub begun : Subject → Standing
 begun s = record { subject = s; context = first s; fault = None }
 
@@ -52,6 +53,8 @@ abbrev pub TakesBehind : {X : Type 0} → Option CheckFault → Standing → Ite
 TakesBehind None old i result new = TakesFresh old i result new
 TakesBehind (Some f) old i result new = (result ≡ Err (Check f)) × (new ≡ old)
 
+-- What taking an item answers, and the standing behind it; a fault that was found before is
+-- answered again, and nothing changes.
 abbrev pub Takes : {X : Type 0} → Standing → Item → Result X TakeStop → Standing → Type 0
 Takes old i result new = TakesBehind old.fault old i result new
 

@@ -22,6 +22,7 @@ abbrev pub step_fact : List Citable → ℕ → Option Fact
 step_fact [] n = None
 step_fact (s ∷ steps) n = if s.number == n then Some s.fact else step_fact steps n
 
+-- The fact in front of the others, where it and all of them were found.
 abbrev pub before : Option Fact → Option (List Fact) → Option (List Fact)
 before (Some f) (Some fs) = Some (f ∷ fs)
 before _ _ = None
@@ -69,9 +70,11 @@ AreKnown nodes (fact.Fix x k) = x.0 < length nodes
 AreKnown nodes (fact.Nzr x) = x.0 < length nodes
 AreKnown nodes fact.Void = ⊤
 
+-- The node of the expression, or none where its number is outside the list.
 abbrev pub node_of : List Node → ExprId → Option Node
 node_of nodes x = slice_get nodes x.0
 
+-- Fact number `k` of the list, from 0, or none behind its end.
 abbrev pub fact_of : List Fact → ℕ → Option Fact
 fact_of facts k = slice_get facts k
 
@@ -80,6 +83,7 @@ abbrev pub variable_fact : ExprId → Option Node → Option Fact
 variable_fact x (Some (Var n)) = Some (fact.Bnd x whole_interval)
 variable_fact x _ = None
 
+-- The first fact where there is one, else the second.
 abbrev pub or_else : Option Fact → Option Fact → Option Fact
 or_else (Some f) o = Some f
 or_else None o = o
@@ -99,6 +103,7 @@ abbrev pub without : List Fact → Option Fact → Option Fact
 without [] o = o
 without (p ∷ ps) o = None
 
+-- The fact of a rule that takes no argument: none unless the step states 0 for it.
 abbrev pub only_for : ℕ → Option Fact → Option Fact
 only_for arg o = if arg == 0 then o else None
 
@@ -120,6 +125,8 @@ pub record Givens : Type 0 where
   pub nodes : List Node
   pub piece : Option Fact
 
+-- What rules draw on in this context: the facts of the case and the piece that are open, the nodes,
+-- and the subject's hints.
 abbrev pub givens : Subject → Context → Givens
 givens s c = record {
   facts = case_facts s.cases c.case;

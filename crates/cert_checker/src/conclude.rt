@@ -208,7 +208,7 @@ fn is_void(fact: &Fact) -> bool
     matches!(*fact, Fact::Void)
 }
 
-// Whether the stated fact and the one that it is met with are on one slot, or one is VOID.
+/// Whether the stated fact and the one that it is met with are on one slot, or one is VOID.
 pub fn is_like(fact: &Fact, with: Option<Fact>) -> bool
     ensures { IsTrue result ↔ IsLike fact.now with }
 {
@@ -218,7 +218,7 @@ pub fn is_like(fact: &Fact, with: Option<Fact>) -> bool
     }
 }
 
-// What the step is met with, if anything; None where it can't be cited.
+/// What the step is met with, if anything; None where it can't be cited.
 pub fn with_fact(steps: &OpenSteps, with: Option<u64>) -> Option<Option<Fact>>
     ensures { MatchOption result ((f : Option Fact) → ¬ IsMetWith steps.now.rows with f)
         (λ f. IsMetWith steps.now.rows with f) }

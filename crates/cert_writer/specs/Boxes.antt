@@ -39,6 +39,7 @@ refs_in u k goals = map (λ (g : Goal). place_in u k g.of) goals
 abbrev pub IsSettled : At → Goal → Type 0
 IsSettled at g = (f : Fact) × (at g.of ≡ Some f) × Settles g f
 
+-- VOID is known at the box, so that nothing needs to be shown there.
 abbrev pub KnowsVoid : At → Type 0
 KnowsVoid at = at slot.Void ≡ Some fact.Void
 

@@ -59,6 +59,8 @@ course u plan height target lines states = record {
   states = states;
 }
 
+-- What derivations use in all boxes of a course: the rules, nodes, hypotheses and instances of its
+-- universe.
 abbrev pub setting : Course → Setting
 setting c = setting_of c.aim.world
 

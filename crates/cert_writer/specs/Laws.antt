@@ -29,6 +29,8 @@ use Rattle.cert_writer.specs.Standing.{Aim, IsAim, IsWhole, IsBegun, Place, IsAt
 abbrev pub OfAims : (Aim → Type 0) → Type 0
 OfAims P = (t : Aim) → IsAim t → P t
 
+-- From its head to its end, what is written box by box stays a front of an accepted certificate,
+-- which at last is whole.
 pub record WritingGoesOn : Type 0 where
   -- Behind the head the root section of the first case is to begin, with step 0, where its tree is
   -- proved and there are no more than 8,192 boxes of all cases.

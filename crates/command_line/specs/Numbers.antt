@@ -3,13 +3,16 @@ use Rattle.std.specs.Prelude.{ℕ, ◌+◌, ◌*◌, ◌-◌, ◌==◌, ◌&&◌
 use Rattle.std.specs.List.{list_all}
 use Rattle.std.specs.Option.{option_map_or}
 
+-- Whether a byte is one of the ASCII digits `0` to `9`.
 abbrev pub is_digit : ℕ → Bool
 is_digit b = nat_le 48 b && nat_le b 57
 
+-- Whether a text is digits alone, at least one, and begins with `0` only where it is `0` itself.
 abbrev pub is_plain_decimal : List ℕ → Bool
 is_plain_decimal ds = list_all is_digit ds
     && (length ds == 1 || (nat_lt 1 (length ds) && not (slice_index ds 0 == 48)))
 
+-- The number that digits spell, the highest first; no digits spell 0.
 abbrev pub value_of : List ℕ → ℕ
 value_of ds = fold (λ v d. 10 * v + (d - 48)) 0 ds
 

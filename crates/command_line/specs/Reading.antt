@@ -8,6 +8,8 @@ use Rattle.command_line.specs.declared.prove.Request.{Request}
 
 -- ---- the command, as clap sees it
 
+-- The command `prove` as clap sees it: a script's name that has to be there, `--cert`, and the
+-- options of a proof.
 abbrev pub prove_app : App
 prove_app = with_options
     (with_rule (with_rule (bare_app (codes "prove")) (name_rule (codes "script")))

@@ -33,6 +33,7 @@ are_names script (Some cert) =
 -- ---- the reading
 
 infixl 10 ◌>>=◌
+-- What the second step makes of what the first gives; nothing where the first gives nothing.
 abbrev pub ◌>>=◌ : {A B : Type 0} → Option A → (A → Option B) → Option B
 None >>= f = None
 (Some x) >>= f = f x

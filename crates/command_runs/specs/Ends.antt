@@ -39,10 +39,12 @@ IsLinePut s lines old new before after result =
 abbrev pub IsPutBy : Status → Bytes → Run → Type 0
 IsPutBy s lines r = IsPut s lines r.before.taken r.after.taken r.before.puts r.after.puts r.status
 
+-- In the run the lines were put, or memory ran out before they were made.
 abbrev pub IsLinePutBy : Status → Bytes → Run → Type 0
 IsLinePutBy s lines r =
     IsLinePut s lines r.before.taken r.after.taken r.before.puts r.after.puts r.status
 
+-- In the run it was put why a file of this name wasn't read, or memory ran out.
 abbrev pub IsStopPutBy : ReadStop → Bytes → Run → Type 0
 IsStopPutBy why name r =
     IsStopPut why name r.before.taken r.after.taken r.before.puts r.after.puts r.status

@@ -64,6 +64,8 @@ pub data Ending : Type 0 where
   Cut : Ending
   Starved : Ending
 
+-- The way in which a run of this status ends; each comes to its end but for a write fault and want
+-- of memory.
 abbrev pub ending : Status → Ending
 ending status.WriteFault = Cut
 ending status.OutOfMemory = Starved
@@ -77,6 +79,7 @@ EndsBy Done s name P r =
 EndsBy Cut s name P r = BreaksOff name P r
 EndsBy Starved s name P r = IsUntouched r ⊎ BreaksOff name P r
 
+-- How a run of this status ends, in the way that the status has.
 abbrev pub EndsIn : Status → Option Bytes → Fate → Run → Type 0
 EndsIn s name P r = EndsBy (ending s) s name P r
 

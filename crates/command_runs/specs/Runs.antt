@@ -5,6 +5,7 @@ use Rattle.fx_edge.specs.Outside.{Rose}
 use Rattle.whole_texts.specs.Pieces.{AppendsFront}
 use Rattle.command_runs.specs.declared.status.Status.{Status}
 
+-- Bytes as numbers: a file's, a name's, or those of lines that are put.
 abbrev pub Bytes : Type 0
 Bytes = List ℕ
 
@@ -21,6 +22,7 @@ pub record Seen : Type 0 where
   pub writes : ℕ
   pub puts : ℕ
 
+-- What is seen at one time: what is told, and these counts of reads, writes and puts that failed.
 abbrev pub seen : Told → Option Bytes → ℕ → ℕ → ℕ → Seen
 seen told taken reads writes puts =
     record { told = told; taken = taken; reads = reads; writes = writes; puts = puts }
@@ -31,6 +33,7 @@ pub record Run : Type 0 where
   pub after : Seen
   pub status : Status
 
+-- The run between these two times, with this status.
 abbrev pub run : Seen → Seen → Status → Run
 run before after status = record { before = before; after = after; status = status }
 
@@ -38,9 +41,11 @@ run before after status = record { before = before; after = after; status = stat
 abbrev pub ReadFailed : Run → Type 0
 ReadFailed r = Rose r.before.reads r.after.reads
 
+-- A write of the folder failed in this run.
 abbrev pub WriteFailed : Run → Type 0
 WriteFailed r = Rose r.before.writes r.after.writes
 
+-- A put of the sink failed in this run.
 abbrev pub PutFailed : Run → Type 0
 PutFailed r = Rose r.before.puts r.after.puts
 
@@ -52,8 +57,10 @@ IsKept r name = r.after.told name ≡ r.before.told name
 abbrev pub IsSilent : Run → Type 0
 IsSilent r = Keeps r.before.taken r.after.taken
 
+-- The sink took these lines whole, and nothing else.
 abbrev pub Puts : Run → Bytes → Type 0
 Puts r lines = Appends r.before.taken r.after.taken lines
 
+-- The sink took a front of these lines, which may be nothing.
 abbrev pub PutsFront : Run → Bytes → Type 0
 PutsFront r lines = AppendsFront r.before.taken r.after.taken lines

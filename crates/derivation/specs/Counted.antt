@@ -18,11 +18,13 @@ use Rattle.derivation.specs.Decided.{is_within}
 abbrev pub same_interval : Interval → Interval → Bool
 same_interval i j = is_within i j && is_within j i
 
+-- Whether two REL facts have the same error: none in both, or the same interval in both.
 abbrev pub same_error : Option RelativeError → Option RelativeError → Bool
 same_error None None = true
 same_error (Some d) (Some e) = same_interval d.interval e.interval
 same_error _ _ = false
 
+-- Whether two facts are of one kind, about the same expressions, and say exactly as much.
 abbrev pub same_fact : Fact → Fact → Bool
 same_fact (fact.Bnd x i) (fact.Bnd y j) = is_same x y && same_interval i j
 same_fact (fact.Abs x s) (fact.Abs y t) = is_same x y && same_interval s.interval t.interval
@@ -32,6 +34,8 @@ same_fact (fact.Nzr x) (fact.Nzr y) = is_same x y
 same_fact fact.Void fact.Void = true
 same_fact _ _ = false
 
+-- Whether what two tables have on a slot differs: a fact in one alone, or two facts that aren't the
+-- same.
 abbrev pub differ : Option Fact → Option Fact → Bool
 differ None None = false
 differ (Some f) (Some g) = not (same_fact f g)

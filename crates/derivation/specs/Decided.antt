@@ -13,6 +13,7 @@ use Rattle.goals.specs.declared.goal.Want.TheVariants.{Ask, Inside}
 use Rattle.goals.specs.declared.goal.Goal.{Goal}
 use Rattle.derivation.specs.Settled.{State, settled, void, unsettled}
 
+-- Whether the end of a range is finite.
 abbrev pub is_number : Bound → Bool
 is_number (At g) = true
 is_number _ = false
@@ -43,6 +44,7 @@ answers want _ = false
 abbrev pub is_met : (Slot → Option Fact) → Goal → Bool
 is_met at goal = answers goal.want (at goal.of)
 
+-- The number of a goal of a list, if any, where one goal more stands before the list.
 abbrev pub one_later : Option ℕ → Option ℕ
 one_later None = None
 one_later (Some k) = Some (suc k)
@@ -53,6 +55,8 @@ first_unmet at [] = None
 first_unmet at (goal ∷ goals) =
     if is_met at goal then one_later (first_unmet at goals) else Some zero
 
+-- What a box comes to, by its VOID fact, if it has one, and by its first goal that isn't met, if
+-- any.
 abbrev pub state_by : Option Fact → Option ℕ → State
 state_by (Some f) o = void
 state_by None None = settled

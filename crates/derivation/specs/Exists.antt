@@ -47,6 +47,7 @@ written_is at k = record {
   others = λ s d. choose_other (slot_cases s (slot_of k)) (Some k) (at s) d;
 }
 
+-- The fact that is there, or else the other.
 abbrev pub or_else : Option Fact → Fact → Fact
 or_else (Some k) g = k
 or_else None g = g
@@ -78,6 +79,7 @@ abbrev pub with_conclusion : At → Option Fact → At
 with_conclusion new None = new
 with_conclusion new (Some c) = with_fact new c
 
+-- What the instance, if there is one, concludes from the table.
 abbrev pub conclusion_of : Setting → At → Option Instance → Option Fact
 conclusion_of u at None = None
 conclusion_of u at (Some i) = conclusion u.rules at i
@@ -162,10 +164,12 @@ after_rounds-best u lawful closed start p (suc h) =
 abbrev pub blank : At
 blank s = None
 
+-- The table to which the first n hypotheses have come, one by one.
 abbrev pub with_hypotheses : List Fact → ℕ → At
 with_hypotheses hyps zero = blank
 with_hypotheses hyps (suc n) = with_conclusion (with_hypotheses hyps n) (slice_get hyps n)
 
+-- The fact of node n where it is a variable: it has some value; none of other nodes.
 abbrev pub line_of : ℕ → Option Node → Option Fact
 line_of n (Some (node.Var v)) = Some (fact.Bnd (record { 0 = n }) whole_interval)
 line_of n _ = None

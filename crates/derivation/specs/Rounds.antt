@@ -12,9 +12,11 @@ use Rattle.derivation.specs.Derivations.{Setting, At, Beats, IsBest}
 abbrev pub IsProper : At → Type 0
 IsProper at = (s : Slot) (f : Fact) → at s ≡ Some f → slot_of f ≡ s
 
+-- The two tables have the same on each slot.
 abbrev pub IsSame : At → At → Type 0
 IsSame at new = (s : Slot) → new s ≡ at s
 
+-- The table has no fact on any slot.
 abbrev pub IsBlank : At → Type 0
 IsBlank at = (s : Slot) → at s ≡ None
 
@@ -25,6 +27,7 @@ Reads at [] [] = Unit {0}
 Reads at (s ∷ ss) (p ∷ ps) = (at s ≡ Some p) × Reads at ss ps
 Reads at _ _ = ⊥
 
+-- The facts with one more before them; none where that one or the others are missing.
 abbrev pub with_first : Option Fact → Option (List Fact) → Option (List Fact)
 with_first (Some p) (Some ps) = Some (p ∷ ps)
 with_first _ _ = None
@@ -34,6 +37,7 @@ abbrev pub all_at : At → List Slot → Option (List Fact)
 all_at at [] = Some []
 all_at at (s ∷ ss) = with_first (at s) (all_at at ss)
 
+-- What the rule of the instance gives from these premises; nothing where some are missing.
 abbrev pub concluded : RuleList → Instance → Option (List Fact) → Option Fact
 concluded rules i (Some ps) = rules i.rule i.arg ps i.target
 concluded rules i None = None
@@ -53,6 +57,7 @@ abbrev pub IsKept : Option Fact → Fact → Fact → Type 0
 IsKept None c k = k ≡ c
 IsKept (Some g) c k = (IsStronger g c × (k ≡ g)) ⊎ (meet_of g c ≡ Some k)
 
+-- The new table is the old one after fact c came to it: on its slot stands k, which was kept.
 pub record Improves (at new : At) (c k : Fact) : Type 0 where
   pub kept : IsKept (at (slot_of c)) c k
   pub written : IsWritten at new k

@@ -8,6 +8,7 @@ use Rattle.dyadic.specs.declared.number.End.{End}
 use Rattle.dyadic.specs.declared.number.End.TheVariants.{Low, At, High}
 use Rattle.dyadic.specs.Values.{value_of, same_value}
 
+-- the end as a bound of fractions: a value, or beyond all on one side
 abbrev pub bound_of : End → Bound
 bound_of Low = grid.Below
 bound_of (At d) = grid.At (value_of d)

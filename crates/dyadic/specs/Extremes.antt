@@ -13,6 +13,7 @@ use Rattle.dyadic.specs.Compared.{BoundLe_in, BoundLe_out}
 abbrev pub greater_end : End → End → End
 greater_end a b = if le_bound (bound_of a) (bound_of b) then b else a
 
+-- the lesser of two ends, the first where they are equal
 abbrev pub lesser_end : End → End → End
 lesser_end a b = if le_bound (bound_of a) (bound_of b) then a else b
 

@@ -24,6 +24,7 @@ abbrev pub IsAboveLast : List Dyadic → Dyadic → Type 0
 IsAboveLast points p = 0 < length points
     → value_of (point_of points (length points - 1)) <ℚ value_of p
 
+-- the points that are in use
 abbrev pub points_in : Inside → List Dyadic
 points_in p = take p.len p.numbers
 
@@ -34,6 +35,7 @@ pub record IsPadded (p : Inside) : Type 0 where
   pub rest : p.numbers ≡ take p.len p.numbers ++ replicate (63 - p.len) zero_number
   pub rising : IsRising (take p.len p.numbers)
 
+-- the list in fields for 63 points, with zeros behind
 abbrev pub fields_of : List Dyadic → Inside
 fields_of points =
     record { numbers = points ++ replicate (63 - length points) zero_number; len = length points }

@@ -15,8 +15,8 @@ use crate::products::is_negative;
 use crate::reciprocal::{Lifted, divided};
 use crate::shift::{lowered, raised};
 
-// digits * 2^two, or something between that and the next, where there are more digits than the grid
-// has.
+/// digits * 2^two, or something between that and the next, where there are more digits than the
+/// grid has.
 #[derive(Clone, Copy)]
 pub struct Floor {
     pub digits: i64,
@@ -87,7 +87,7 @@ fn high_product(a: i64, b: i64) -> i64
 }
 
 impl Floor {
-    // The greatest grid number that is at most the value.
+    /// The greatest grid number that is at most the value.
     #[inline(always)]
     pub fn rounded(self) -> Dyadic
         requires low { negsuc 511 ≤ℤ self.two }
@@ -97,7 +97,7 @@ impl Floor {
         self.without(surplus(self.digits))
     }
 
-    // The same, of a number that is 0 or long.
+    /// The same as `rounded`, for digits that are 0 or at least 2^60 in size.
     #[inline(always)]
     pub fn long_rounded(self) -> Dyadic
         requires long { IsLong self.digits }
@@ -121,7 +121,7 @@ impl Floor {
         reduced(lowered(self.digits, lost), self.two + lost as i32)
     }
 
-    // The sum of two numbers, unless its place is too high or they lie too far apart.
+    /// The sum of two numbers, unless its place is too high or they lie too far apart.
     #[inline(always)]
     pub fn sum(a: Dyadic, b: Dyadic) -> Option<Floor>
         ensures { IfSome result (IsFloor (value_of a +ℚ value_of b)) }
@@ -162,7 +162,7 @@ impl Floor {
         })
     }
 
-    // The product of two numbers, unless its place is too low or too high.
+    /// The product of two numbers, unless its place is too low or too high.
     #[inline(always)]
     pub fn product(a: Dyadic, b: Dyadic) -> Option<Floor>
         ensures floor { IfSome result (IsFloor (value_of a *ℚ value_of b)) }
@@ -185,7 +185,7 @@ impl Floor {
         })
     }
 
-    // The quotient of two numbers, unless its place is too low or too high.
+    /// The quotient of two numbers, unless its place is too low or too high.
     #[inline(always)]
     pub fn quotient(a: Dyadic, b: Dyadic) -> Option<Floor>
         requires { value_of b ≢ zero_ℚ }
@@ -200,7 +200,7 @@ impl Floor {
         )
     }
 
-    // n * 2^two / d, unless a number has more than 64 bits or the place is too low or too high.
+    /// n * 2^two / d, unless a number has more than 64 bits or the place is too low or too high.
     #[inline(always)]
     pub fn ratio(n: i128, d: u128, two: i32) -> Option<Floor>
         requires not_zero { 0 < d }

@@ -25,8 +25,8 @@ pub enum End {
     High,
 }
 
-// The same end, taken apart and made anew: one that a call returned by memory then lies in
-// registers, as one that was made here.
+/// The same end, taken apart and made anew: one that a call returned by memory then lies in
+/// registers, as one that was made here.
 #[inline(always)]
 pub fn again(end: End) -> End
     ensures { result ≡ end }

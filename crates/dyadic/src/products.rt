@@ -13,13 +13,14 @@ use crate::floor::Floor;
 use crate::number::{Dyadic, End, again};
 use crate::rounding::{down, up};
 
-// A value as its sign and its size.
+/// A value as its sign and its size.
 #[derive(Clone, Copy)]
 pub struct Signed {
     pub negative: bool,
     pub size: Cut,
 }
 
+/// Whether the number is below 0.
 pub fn is_negative(a: Dyadic) -> bool
     ensures { result ≡ int_lt a.mantissa (pos 0) }
 {

@@ -3,7 +3,7 @@
 ghost use Rattle.std.specs.Prelude.{◌≡◌, ◌≤◌, ◌<◌, ◌*◌, ◌+◌, ◌^◌, pos, true, false};
 ghost use lib.IntN.{neg_ℤ};
 
-// A number without the zeros before its first digit: number * 2^places.
+/// A number without the zeros before its first digit: number * 2^places.
 #[derive(Clone, Copy)]
 pub struct Lifted {
     pub digits: u64,
@@ -11,6 +11,7 @@ pub struct Lifted {
 }
 
 impl Lifted {
+    /// The number, which is above 0, shifted up until its highest bit is set.
     #[inline(always)]
     pub fn of(number: u64) -> Lifted
         requires { 0 < number }
@@ -26,7 +27,7 @@ impl Lifted {
     }
 }
 
-// A quotient and what is left.
+/// A quotient and what is left.
 #[derive(Clone, Copy)]
 pub struct Quotient {
     pub digits: u64,
@@ -34,7 +35,7 @@ pub struct Quotient {
 }
 
 impl Quotient {
-    // The value or its negative, rounded down to a whole number.
+    /// The value or its negative, rounded down to a whole number.
     #[inline(always)]
     pub fn floor(self, negative: bool) -> i64
         requires { self.digits < 4611686018427387904 }
@@ -51,7 +52,7 @@ impl Quotient {
     }
 }
 
-// n * 2^61 divided by d, which both have 64 bits: a quotient of 61 or 62 bits.
+/// n * 2^61 divided by d, which both have 64 bits: a quotient of 61 or 62 bits.
 #[inline(always)]
 pub fn divided(n: u64, d: u64) -> Quotient
     requires n_long { 9223372036854775808 ≤ n }

@@ -31,7 +31,7 @@ fn with_sign(negative: bool, size: Dyadic) -> Dyadic
     if negative { size.neg() } else { size }
 }
 
-// The rounding down of a value.
+/// The greatest grid number that is at most the value, or minus infinity where there is none.
 #[inline(always)]
 pub fn down(value: Signed) -> End
     requires long { value.size.inexact ≡ true → IsLong value.size }
@@ -45,7 +45,7 @@ pub fn down(value: Signed) -> End
     }
 }
 
-// The rounding up of a value.
+/// The least grid number that is at least the value, or plus infinity where there is none.
 #[inline(always)]
 pub fn up(value: Signed) -> End
     requires long { value.size.inexact ≡ true → IsLong value.size }
@@ -98,7 +98,7 @@ fn from_zero(cut: Cut) -> Option<Dyadic>
     }
 }
 
-// The rounding down of a cut value with a sign.
+/// The same as `down`, of a value of this sign whose size is long already.
 #[inline(always)]
 pub fn round_down(negative: bool, cut: Cut) -> End
     requires long { IsLong cut }
@@ -116,7 +116,7 @@ pub fn round_down(negative: bool, cut: Cut) -> End
     }
 }
 
-// The rounding up of a cut value with a sign.
+/// The same as `up`, of a value of this sign whose size is long already.
 #[inline(always)]
 pub fn round_up(negative: bool, cut: Cut) -> End
     requires long { IsLong cut }

@@ -3,7 +3,7 @@ ghost use Rattle.std.specs.Prelude.{◌≡◌, ◌≤◌, ◌<◌, ◌*◌, ◌^
 ghost use Rattle.std.specs.Int.RustNames.{unsigned_abs};
 ghost use Rattle.std.specs.Int.Signed.{shr_z};
 
-// number * 2^places
+/// `number * 2^places`, for a number below 2^66 in size and at most 60 places.
 pub fn shifted(number: i128, places: u32) -> i128
     requires small { unsigned_abs number < 73786976294838206464 }
     requires few { places ≤ 60 }
@@ -20,7 +20,7 @@ fn power_of_two(places: u32) -> i128
     1i128 << places
 }
 
-// mantissa * 2^places, of up to 62 bits
+/// `mantissa * 2^places`, where that is below 2^62 in size.
 #[inline(always)]
 pub fn raised(mantissa: i64, places: u32) -> i64
     requires small { unsigned_abs mantissa * 2 ^ places < 4611686018427387904 }
@@ -37,7 +37,7 @@ fn long_power_of_two(places: u32) -> i64
     1i64 << places
 }
 
-// The number without its last places, rounded down.
+/// The number without its last `places` binary digits, rounded down.
 #[inline(always)]
 pub fn lowered(number: i64, places: u32) -> i64
     requires { places ≤ 63 }

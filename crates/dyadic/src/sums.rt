@@ -15,7 +15,7 @@ use crate::products::Signed;
 use crate::rounding::{down, up};
 use crate::shift::shifted;
 
-// m * 2^e, with a mantissa of up to 66 bits.
+/// m * 2^e, with a mantissa of up to 66 bits.
 #[derive(Clone, Copy)]
 pub struct Term {
     pub mantissa: i128,
@@ -47,7 +47,7 @@ impl Term {
     }
 }
 
-// The sum of two terms. What lies far below the first digits is only known to be there.
+/// The sum of two terms. What lies far below the first digits is only known to be there.
 #[inline(always)]
 pub fn sum(a: Term, b: Term) -> Signed
     requires a_small { unsigned_abs a.mantissa < 73786976294838206464 }
@@ -214,6 +214,7 @@ fn far_sum(top: u128, low: u128, lost: u32, minus: bool, base: i32) -> Cut
     }
 }
 
+/// The number as a term, of the same mantissa and exponent.
 pub fn term_of(a: Dyadic) -> Term
     ensures mantissa { result.mantissa ≡ a.mantissa }
     ensures exponent { result.exponent ≡ a.exponent }

@@ -17,15 +17,20 @@ use Rattle.exact_fractions.specs.Divisors.{gcd, gcd_is, gcd_positive, AreCoprime
 abbrev pub size : Ratio → ℕ
 size a = (a.plus - a.minus) + (a.minus - a.plus)
 
+-- The number by which a fraction as written is reduced: the greatest that divides its numerator's
+-- size and its denominator.
 abbrev pub divisor : Ratio → ℕ
 divisor a = gcd (size a) a.den
 
+-- The number of this size, below 0 where the flag is true; 0 has no sign.
 abbrev pub signed_number : Bool → ℕ → ℤ
 signed_number negative n = if negative then neg_ℤ (pos n) else pos n
 
+-- The numerator in lowest terms of a fraction as it is written, with the fraction's sign.
 abbrev pub numerator_ratio : Ratio → ℤ
 numerator_ratio a = signed_number (nat_lt a.plus a.minus) (size a / divisor a)
 
+-- The denominator in lowest terms of a fraction as it is written, which has no sign.
 abbrev pub denominator_ratio : Ratio → ℕ
 denominator_ratio a = a.den / divisor a
 

@@ -10,6 +10,7 @@ use Rattle.exact_fractions.specs.Narrow.{is_narrow}
 use Rattle.exact_fractions.specs.Divisors.{gcd}
 use Rattle.exact_fractions.specs.Reduced.{numerator, denominator}
 
+-- Whether all the numbers that an operation takes are below 2^127 in absolute value.
 abbrev pub are_narrow : List ℤ → Bool
 are_narrow zs = list_all is_narrow zs
 

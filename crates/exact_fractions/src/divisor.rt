@@ -1,7 +1,7 @@
 ghost use Rattle.std.specs.Prelude.{◌≡◌};
 ghost use Rattle.exact_fractions.specs.Divisors.{gcd};
 
-// The greatest common divisor, by Euclid's steps.
+/// The greatest number that divides both; where one of them is 0 it is the other.
 pub fn greatest_divisor(a: u128, b: u128) -> u128
     ensures { result ≡ gcd a b }
 {

@@ -13,7 +13,7 @@ fn is_narrow(z: i128) -> bool
     z.unsigned_abs() < LIMIT
 }
 
-// a * b, where it is below 2^127.
+/// The exact product of a number and a size; `None` where its size is 2^127 or more.
 pub fn product(a: i128, b: u128) -> Option<i128>
     requires { b < 2 ^ 127 }
     ensures { GivesNumber (a *ℤ pos b) result }
@@ -22,7 +22,7 @@ pub fn product(a: i128, b: u128) -> Option<i128>
     if is_narrow(z) { Some(z) } else { None }
 }
 
-// a * b, where it is below 2^127.
+/// The exact product of two numbers; `None` where its size is 2^127 or more.
 pub fn signed_product(a: i128, b: i128) -> Option<i128>
     ensures { GivesNumber (a *ℤ b) result }
 {
@@ -30,7 +30,7 @@ pub fn signed_product(a: i128, b: i128) -> Option<i128>
     if is_narrow(z) { Some(z) } else { None }
 }
 
-// a + b, where it is below 2^127.
+/// The exact sum of two numbers; `None` where its size is 2^127 or more.
 pub fn sum(a: i128, b: i128) -> Option<i128>
     ensures { GivesNumber (a +ℤ b) result }
 {
@@ -38,7 +38,7 @@ pub fn sum(a: i128, b: i128) -> Option<i128>
     if is_narrow(z) { Some(z) } else { None }
 }
 
-// a * b, where it is below 2^127.
+/// The exact product of two sizes; `None` where it is 2^127 or more.
 pub fn size_product(a: u128, b: u128) -> Option<u128>
     ensures { GivesSize (a * b) result }
 {

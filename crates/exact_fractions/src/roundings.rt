@@ -13,8 +13,7 @@ ghost use Rattle.exact_fractions.specs.Wide.{rounding_numbers};
 use crate::exact::{Exact, is_negative, signed};
 use fx_model::{Direction, Rounding};
 
-// The whole numbers next to a fraction that isn't below 0: below and above it, and the nearest,
-// which differ at a tie.
+/// The whole numbers that roundings of a fraction from 0 on may take, all one where it is whole.
 #[derive(Clone, Copy)]
 pub struct Sizes {
     pub floor: u128,
@@ -23,7 +22,7 @@ pub struct Sizes {
     pub near_high: u128,
 }
 
-// The same of a fraction with a sign.
+/// The whole numbers that roundings of any fraction may take, all one where it is whole.
 #[derive(Clone, Copy)]
 pub struct Wholes {
     pub floor: i128,

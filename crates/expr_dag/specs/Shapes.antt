@@ -8,6 +8,7 @@ use Rattle.literal.specs.fx_model.Expression.{Assignment, IsOrdered, value, node
 use Rattle.expr_dag.specs.Nodes.{same_node}
 use Rattle.expr_dag.specs.Same.{same}
 
+-- whether there is a node, and it is n
 abbrev pub is_node : Option Node → Node → Bool
 is_node None n = false
 is_node (Some m) n = same_node m n

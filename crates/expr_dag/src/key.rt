@@ -10,7 +10,7 @@ use literal::Node;
 use std::hash::{Hash, Hasher};
 use std::marker::Model;
 
-// A node that is found by its hash.
+/// A node that is found by its hash.
 #[derive(Clone, Copy, PartialEq, Eq)]
 pub struct Key {
     node: Node,
@@ -27,14 +27,15 @@ impl Model for Key {
 }
 
 impl Key {
+    /// The key of a node.
     pub fn new(node: Node) -> Key
         ensures { result ≡ node }
     {
         Key { node }
     }
 
-    // Whether it is of this node. Where the kind is known when the program is built, that is three
-    // comparisons.
+    /// Whether it is of this node. Where the kind is known when the program is built, that is three
+    /// comparisons.
     #[inline(always)]
     pub fn is(&self, node: &Node) -> bool
         ensures { result ≡ same_node self.now node.now }
@@ -53,6 +54,7 @@ impl Key {
         }
     }
 
+    /// The node that the key is of.
     pub fn node(self) -> Node
         ensures { result ≡ self }
     {

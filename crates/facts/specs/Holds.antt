@@ -12,6 +12,7 @@ use Rattle.facts.specs.declared.relative.RelativeError.{RelativeError}
 use Rattle.facts.specs.declared.fact.Fact.{Fact}
 use Rattle.facts.specs.declared.fact.Fact.TheVariants.{Bnd, Abs, Rel, Fix, Nzr, Void}
 
+-- Both sides of a relative error are 0.
 abbrev pub AreZero : Fraction → Fraction → Type 0
 AreZero x y = (x ≡ zero_ℚ) × (y ≡ zero_ℚ)
 

@@ -52,6 +52,7 @@ abbrev pub bounded : ExprId → Option Interval → Fact
 bounded x (Some i) = fact.Bnd x i
 bounded x None = fact.Void
 
+-- The ABS fact of two facts' common sizes; with none in common nothing is left, which is VOID.
 abbrev pub sized : ExprId → Option Size → Fact
 sized x (Some s) = fact.Abs x s
 sized x None = fact.Void

@@ -94,6 +94,7 @@ abbrev pub size_of_part : Option Interval → Option Size
 size_of_part None = None
 size_of_part (Some i) = size_from i
 
+-- The common interval as a relative error; none where there is none, or it isn't wholly above -1.
 abbrev pub error_of_part : Option Interval → Option RelativeError
 error_of_part None = None
 error_of_part (Some i) = error_from i

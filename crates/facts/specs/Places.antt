@@ -60,5 +60,6 @@ kept k = place_from (if int_lt (pos 512) k then pos 512 else k)
 abbrev pub sum_place : Place → Place → Option Place
 sum_place k n = kept (k.exponent +ℤ n.exponent)
 
+-- The lesser of two exponents: what is a multiple of either power of two is one of its power.
 abbrev pub lesser_place : Place → Place → Place
 lesser_place k n = if int_lt k.exponent n.exponent then k else n

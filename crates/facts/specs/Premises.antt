@@ -57,6 +57,7 @@ first_premise [] q qs s = absurd s
 first_premise (p ∷ ps) q qs s =
     (p, ps, record { is = refl; not_void = s.0; first = s.1; others = s.2 })
 
+-- The premises are this one fact alone, which isn't VOID and is as strong as `q` or stronger.
 pub record IsOne (p : Fact) (ps : List Fact) (q : Fact) : Type 0 where
   pub is : ps ≡ p ∷ []
   pub not_void : ¬ (p ≡ fact.Void)

@@ -12,12 +12,15 @@ use Rattle.fixprog.specs.declared.fault.ProgKind.TheVariants as faulty
 use Rattle.fixprog.specs.Faults.{Fault, program_faults}
 use Rattle.fixprog.specs.Turned.{script_of}
 
+-- The bytes of the name that the examples give to their input.
 abbrev pub x : List ℕ
 x = codes "x"
 
+-- The bytes of the name that the examples give to a square.
 abbrev pub y : List ℕ
 y = codes "y"
 
+-- The input `in x : s16.15 [0,0.5];`.
 abbrev pub input_x : Input
 input_x = record {
   name = x;
@@ -28,6 +31,7 @@ input_x = record {
       record { mark = mark.Unmarked; text = codes "0.5" };
 }
 
+-- The step `y : s16.15 dn = x * x;`, whose operands are both the input.
 abbrev pub square : Step
 square = record {
   name = y;
@@ -37,6 +41,7 @@ square = record {
       product (named x) (named x);
 }
 
+-- A whole program of one input, the square of it as its one step, and that square as its output.
 abbrev pub squares : Program
 squares = record { inputs = input_x ∷ []; steps = square ∷ []; output = y; more_outputs = [] }
 

@@ -22,6 +22,7 @@ pub data Outcome : Type 0 where
   wraps : Name → Outcome
   values : Values → Outcome
 
+-- The value where there is one; zero stands in where there is none.
 abbrev pub value_or_zero : Option Fraction → Fraction
 value_or_zero (Some x) = x
 value_or_zero None = zero_ℚ
@@ -47,6 +48,7 @@ AreInRange _ _ = ⊥
 
 -- ---- steps
 
+-- The exact value of an operand in a run: of its name among those so far, or of its literal.
 abbrev pub operand_value : Values → Operand → Fraction
 operand_value vs (named text) = name_value vs text
 operand_value vs (given text) = literal_value (literal_of text)
@@ -81,5 +83,7 @@ run_steps vs (x ∷ xs) =
     if is_within (format_of x.format) (step_value vs x)
     then run_steps ((x.name, step_value vs x) ∷ vs) xs else wraps x.name
 
+-- The outcome of a program's run on a word for each input, in their order: its first wrap, or all
+-- values.
 abbrev pub execution_of : Program → List ℤ → Outcome
 execution_of p words = run_steps (input_values p.inputs words) p.steps

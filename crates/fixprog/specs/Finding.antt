@@ -18,57 +18,81 @@ use Rattle.fixprog.specs.Standing.{Part, part_words, between, input_name, input_
 -- A fault is made of its kind, and of whether it is one of the first word of a bound, or of the
 -- word itself.
 module _ {A : Type 0} (make : Bool → ProgKind → A) where
+  -- One fault of this kind at the word itself where the test holds, and none otherwise.
   abbrev pub one_if : Bool → ProgKind → List A
   one_if b k = if b then make false k ∷ [] else []
 
+  -- A limit's fault where the statements so far and one of this weight weigh more than 128.
   abbrev pub weight_finds : Before → ℕ → List A
   weight_finds b weight = one_if (nat_lt 128 (b.weight + weight)) kind.Limit
 
+  -- What a new name tells: it is used already, too long, or begins a statement beyond the limit; no
+  -- name tells nothing.
   abbrev pub new_name_finds : Before → ℕ → Option Name → List A
   new_name_finds b weight None = []
   new_name_finds b weight (Some text) = (one_if (is_among b.names text) kind.NameUsed
       ++ one_if (nat_lt 32 (length text)) kind.Limit) ++ weight_finds b weight
 
+  -- What a mentioned name tells: it is no input's and no earlier step's, or longer than 32 bytes.
   abbrev pub known_name_finds : Before → Name → List A
   known_name_finds b text = one_if (not (is_among b.names text)) kind.Undefined
       ++ one_if (nat_lt 32 (length text)) kind.Limit
 
+  -- What an output's name tells: what any mentioned name does, and that the output is beyond the
+  -- limit; no name tells nothing.
   abbrev pub output_finds : Before → Option Name → List A
   output_finds b None = []
   output_finds b (Some text) = known_name_finds b text ++ weight_finds b 1
 
+  -- What a literal tells, which can only be that it exceeds its limits.
   abbrev pub literal_finds : List ℕ → List A
   literal_finds text = one_if (not (is_literal text)) kind.LiteralLimit
 
+  -- What a word in the place of a format tells: that its numbers exceed their limits; what is no
+  -- format tells nothing.
   abbrev pub format_finds : Option (List ℕ) → List A
   format_finds None = []
   format_finds (Some text) = one_if (not (is_format (format_of text))) kind.BadFormat
 
+  -- What the literal of an end tells: where `bad`, a fault at the end's first word, and its own
+  -- limits at itself.
   abbrev pub bound_finds : Bool → List ℕ → List A
   bound_finds bad text = (if bad then make true kind.BadRange ∷ [] else []) ++ literal_finds text
 
+  -- What the literal of a lower end tells, with the sign before it and the input's format; no
+  -- literal tells nothing.
   abbrev pub lower_finds : Head → Mark → Option (List ℕ) → List A
   lower_finds h m None = []
   lower_finds h m (Some text) = bound_finds (is_outside (format_of h.format) (bound_of m text)) text
 
+  -- What the literal of an upper end tells, with its sign, the format and the lower end `a`; no
+  -- literal tells nothing.
   abbrev pub upper_finds : Head → Bound → Mark → Option (List ℕ) → List A
   upper_finds h a m None = []
   upper_finds h a m (Some text) = bound_finds (is_outside (format_of h.format) (bound_of m text)
       || is_crossed a (bound_of m text)) text
 
+  -- What a word in the place of a direction tells: that it is none of the eleven; one that can't
+  -- stand there tells nothing.
   abbrev pub way_finds : Option Way → List A
   way_finds None = []
   way_finds (Some v) = one_if (not (is_way v)) kind.BadDirection
 
+  -- What a word in the place of an operand tells, as a mentioned name or a literal; any other tells
+  -- nothing.
   abbrev pub operand_finds : Before → Option Operand → List A
   operand_finds b None = []
   operand_finds b (Some (named text)) = known_name_finds b text
   operand_finds b (Some (given text)) = literal_finds text
 
+  -- What the digits of a shift tell: that it is by more than 63 places; what isn't digits tells
+  -- nothing.
   abbrev pub places_finds : Option Digits → List A
   places_finds None = []
   places_finds (Some k) = one_if (nat_lt 63 (digits_value 10 k.text)) kind.Limit
 
+  -- The faults that a word tells behind this part of a statement; a word that is only punctuation
+  -- there tells none.
   abbrev pub finds : Before → Part → Word → List A
   finds b between w = new_name_finds b 1 (name_in w)
   finds b input_name w = new_name_finds b 2 (name_in w)
@@ -94,6 +118,7 @@ bound_at (lower_marked h m) last at = last
 bound_at (upper_marked h a m) last at = last
 bound_at p last at = at
 
+-- A fault of the word at the byte `at`, or, where `e` holds, of the bound that begins at `first`.
 abbrev pub at_byte : ℕ → ℕ → Bool → ProgKind → ProgFault
 at_byte first at e k = fault k (if e then first else at)
 
@@ -106,6 +131,8 @@ abbrev pub earlier : Option ProgFault → ProgFault → Option ProgFault
 earlier None f = Some f
 earlier (Some first) f = if is_before f first then Some f else Some first
 
+-- The first of the fault so far and these, by byte and then by number; none where there is none at
+-- all.
 abbrev pub first_from : Option ProgFault → List ProgFault → Option ProgFault
 first_from o [] = o
 first_from o (f ∷ fs) = first_from (earlier o f) fs
@@ -131,6 +158,8 @@ due i (step_places b a k) = i + 5 + 2
 due i output_name = i + 1
 due i p = i + length (part_words p)
 
+-- The number of the first word of the bound that the due word is in; outside of bounds, the due
+-- word's own.
 abbrev pub bound_due : ℕ → Part → ℕ
 bound_due i (lower h) = i + 5
 bound_due i (lower_marked h m) = i + 5
@@ -138,9 +167,12 @@ bound_due i (upper h a) = i + 5 + length (bound_words a) + 1
 bound_due i (upper_marked h a m) = i + 5 + length (bound_words a) + 1
 bound_due i p = due i p
 
+-- A fault by the byte at which its word's token begins, in place of the word's number.
 abbrev pub placed : List Token → Fault → ProgFault
 placed tokens f = fault f.kind (start_of tokens f.word)
 
+-- A fault of the due word, or, where `e` holds, of its bound's first word; it is the due word that
+-- tells it.
 abbrev pub at_word : ℕ → Part → Bool → ProgKind → Fault
 at_word i p e k = record { kind = k; word = if e then bound_due i p else due i p; told = due i p }
 
@@ -150,10 +182,14 @@ pub record Course : Type 0 where
   pub begin : ℕ
   pub faults : List Fault
 
+-- The number of the first word of the statement under way, after one that began at `i` has ended or
+-- hasn't.
 abbrev pub begin_after : ℕ → Option Statement → ℕ
 begin_after i None = i
 begin_after i (Some x) = i + length (statement_words x)
 
+-- The course with one more word and the faults that it tells; none where the word has no place
+-- there.
 abbrev pub course_after : Course → Word → Option Course
 course_after c w =
     option_map (λ s. record {
@@ -162,6 +198,7 @@ course_after c w =
       faults = c.faults ++ finds (at_word c.begin c.stands.part) c.stands.before c.stands.part w;
     }) (stands_after c.stands w)
 
+-- The course with one more word; where an earlier word had no place, there is none anymore.
 abbrev pub goes_on : Option Course → Word → Option Course
 goes_on None w = None
 goes_on (Some c) w = course_after c w
@@ -171,5 +208,6 @@ abbrev pub course_of : Option Course → List Word → Option Course
 course_of o [] = o
 course_of o (w ∷ ws) = course_of (goes_on o w) ws
 
+-- The course before the first word, without a statement and without a fault.
 abbrev pub nothing_judged : Course
 nothing_judged = record { stands = nothing_read; begin = 0; faults = [] }

@@ -16,6 +16,7 @@ use Rattle.fixprog.specs.Faults.{Fault, program_faults}
 
 -- ---- words that are a program, or begin one
 
+-- The words are the whole of a program, be it faultless or not.
 abbrev pub IsProgram : List Word → Type 0
 IsProgram ws = (p : Program) × (program_words p ≡ ws)
 
@@ -26,6 +27,7 @@ pub record Begins (ws : List Word) (p : Program) : Type 0 where
   pub words : program_words p ≡ ws ++ more
   pub spelled : All IsToken more
 
+-- The words are a program or can still become one, by more words that tokens can be.
 abbrev pub BeginsProgram : List Word → Type 0
 BeginsProgram ws = (p : Program) × Begins ws p
 
@@ -47,6 +49,7 @@ pub record IsReadingOf (text : List ℕ) (r : Reading) : Type 0 where
 
 -- ---- faults
 
+-- The fault of this kind at this byte, counted from 0.
 abbrev pub fault : ProgKind → ℕ → ProgFault
 fault k at = record { kind = k; at = at }
 
@@ -86,6 +89,7 @@ abbrev pub is_before : ProgFault → ProgFault → Bool
 is_before one other = nat_lt one.at other.at || (one.at == other.at
     && nat_lt (number one.kind) (number other.kind))
 
+-- The bytes are UTF-8 and at most 2^16, so that the words of the text are judged.
 abbrev pub IsReadable : List ℕ → Type 0
 IsReadable text = (length text ≤ 2 ^ 16) × IsUtf8 text
 
@@ -115,6 +119,7 @@ abbrev pub FirstsAreUnique : Type 0
 FirstsAreUnique = (text : List ℕ) (a b : Option ProgFault) → IsFirstFault text a
     → IsFirstFault text b → a ≡ b
 
+-- No text spells two different programs.
 abbrev pub SpellsOnce : Type 0
 SpellsOnce = (text : List ℕ) (p q : Program) → Spells text p → Spells text q → p ≡ q
 
@@ -130,6 +135,8 @@ SpelledAreFaultless = (text : List ℕ) (p : Program) → Spells text p → prog
 abbrev pub IsAlone : TokenKind → List ℕ → Type 0
 IsAlone k t = script_front t ≡ Some (k, length t)
 
+-- The word, if it is a name or a literal, is one token of scripts by itself; of other words nothing
+-- is asked.
 abbrev pub IsAloneWord : Word → Type 0
 IsAloneWord (name t) = IsAlone script.Name t
 IsAloneWord (literal t) = IsAlone script.Literal t

@@ -25,6 +25,7 @@ is_format f = nat_lt 0 f.width && nat_lt f.width 61 && nat_lt f.places 61
 abbrev pub least : Format → ℤ
 least f = if f.signed then neg_ℤ (pos (2 ^ (f.width - 1))) else pos 0
 
+-- The greatest word of a format, as a whole number; where it is signed, one bit is the sign's.
 abbrev pub greatest : Format → ℤ
 greatest f = if f.signed then pos (2 ^ (f.width - 1) - 1) else pos (2 ^ f.width - 1)
 
@@ -40,5 +41,6 @@ word_value f w = scaled w (last_place f)
 abbrev pub is_within : Format → Fraction → Bool
 is_within f x = le_ℚ (word_value f (least f)) x && le_ℚ x (word_value f (greatest f))
 
+-- The format where its width and places are within their limits, or none.
 abbrev pub within_limits : Format → Option Format
 within_limits f = if is_format f then Some f else None

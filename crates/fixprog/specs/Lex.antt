@@ -13,10 +13,13 @@ use Rattle.fixprog.specs.Words.{Word, kind_of, kind_word}
 abbrev pub digits_len : List ℕ → ℕ
 digits_len bs = prefix_len is_ascii_digit bs
 
+-- The length of a point and the digits behind it at the front, or 0 where no digit is behind it.
 abbrev pub point_len : List ℕ → ℕ
 point_len [] = 0
 point_len (b ∷ bs) = if b == 46 && nat_lt 0 (digits_len bs) then 1 + digits_len bs else 0
 
+-- The length of digits, a point and digits at the front, or 0 where a digit is lacking on either
+-- side.
 abbrev pub pointed_len : List ℕ → ℕ
 pointed_len bs =
     let whole = digits_len bs in
@@ -80,6 +83,7 @@ pub record SameLexing (ts us : List Token) (a b : Option ℕ) : Type 0 where
   pub tokens : ts ≡ us
   pub bad : a ≡ b
 
+-- The word that a token of this text is, by its kind and the bytes at its place.
 abbrev pub token_word : List ℕ → Token → Word
 token_word text t = kind_word t.kind (slice_range text t.start t.end)
 

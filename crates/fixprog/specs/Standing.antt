@@ -19,34 +19,41 @@ use Rattle.fixprog.specs.Faults.{Before, after}
 
 -- ---- what a word can be
 
+-- The name that a word is, or none where it is another kind of word.
 abbrev pub name_in : Word → Option Name
 name_in (name text) = Some text
 name_in w = None
 
+-- The text of a literal, or none for any other word.
 abbrev pub literal_in : Word → Option (List ℕ)
 literal_in (literal text) = Some text
 literal_in w = None
 
+-- The text of a format, whose limits aren't judged here, or none for any other word.
 abbrev pub format_in : Word → Option (List ℕ)
 format_in (format text) = Some text
 format_in w = None
 
+-- The operand that a name or a literal stands for, or none for any other word.
 abbrev pub operand_in : Word → Option Operand
 operand_in (name text) = Some (named text)
 operand_in (literal text) = Some (given text)
 operand_in w = None
 
+-- The mark before an end of a range, `+` or `-`, or none for any other word.
 abbrev pub mark_in : Word → Option Mark
 mark_in (sign s.Plus) = Some mark.Plus
 mark_in (sign s.Minus) = Some mark.Minus
 mark_in w = None
 
+-- The joint that a word puts between two operands, `+`, `-` or `*`, or none for any other word.
 abbrev pub joint_in : Word → Option Joint
 joint_in (sign s.Plus) = Some joint.Plus
 joint_in (sign s.Minus) = Some joint.Minus
 joint_in (sign s.Star) = Some joint.Times
 joint_in w = None
 
+-- The shift that a word stands for, `>>` or `<<`, or none for any other word.
 abbrev pub shift_in : Word → Option Shift
 shift_in right = Some shift.Right
 shift_in left = Some shift.Left
@@ -57,9 +64,12 @@ abbrev pub digits_if : (text : List ℕ) (b : Bool) → list_all is_ascii_digit 
 digits_if text true e = Some (record { text = text; decimal = e })
 digits_if text false e = None
 
+-- The text as decimal digits, or none where another byte is among them; an empty text counts as
+-- digits.
 abbrev pub digits_of : List ℕ → Option Digits
 digits_of text = digits_if text (list_all is_ascii_digit text) refl
 
+-- The number of places that a word gives to a shift: a literal of decimal digits alone, or none.
 abbrev pub digits_in : Word → Option Digits
 digits_in (literal text) = digits_of text
 digits_in w = None
@@ -69,44 +79,55 @@ abbrev pub reserved_if : (g : Sign) (b : Bool) → is_reserved g ≡ b → Optio
 reserved_if g true e = Some (reserved (record { sign = g; reserved = e }))
 reserved_if g false e = None
 
+-- What a word is in a direction's place: any name or reserved word, `out` among them, and none for
+-- others.
 abbrev pub way_in : Word → Option Way
 way_in (name text) = Some (called text)
 way_in (sign g) = reserved_if g (is_reserved g) refl
 way_in out = Some reserved_out
 way_in w = None
 
+-- Whether the word is `in`, which begins an input.
 abbrev pub is_in : Word → Bool
 is_in (sign s.In) = true
 is_in w = false
 
+-- Whether the word is `out`, which begins an output.
 abbrev pub is_out : Word → Bool
 is_out out = true
 is_out w = false
 
+-- Whether the word is the `:` between a name and its format.
 abbrev pub is_colon : Word → Bool
 is_colon colon = true
 is_colon w = false
 
+-- Whether the word is the `[` before an input's range.
 abbrev pub is_open : Word → Bool
 is_open (sign s.OpenBracket) = true
 is_open w = false
 
+-- Whether the word is the `,` between the ends of an input's range.
 abbrev pub is_comma : Word → Bool
 is_comma (sign s.Comma) = true
 is_comma w = false
 
+-- Whether the word is the `]` behind an input's range.
 abbrev pub is_close : Word → Bool
 is_close (sign s.CloseBracket) = true
 is_close w = false
 
+-- Whether the word is the `;` that ends each statement.
 abbrev pub is_semicolon : Word → Bool
 is_semicolon (sign s.Semicolon) = true
 is_semicolon w = false
 
+-- Whether the word is the `=` before a step's operation.
 abbrev pub is_equal : Word → Bool
 is_equal (sign s.Equal) = true
 is_equal w = false
 
+-- Whether the word is `-`, which negates an operand where it stands before one.
 abbrev pub is_minus : Word → Bool
 is_minus (sign s.Minus) = true
 is_minus w = false
@@ -124,6 +145,8 @@ pub record Begun : Type 0 where
   pub format : List ℕ
   pub way : Way
 
+-- How far a statement that isn't ended has come: each case is named after what is due next, and
+-- `between` has no word yet.
 pub data Part : Type 0 where
   between : Part
   input_name : Part
@@ -150,11 +173,13 @@ pub data Part : Type 0 where
   output_name : Part
   output_end : Name → Part
 
+-- How a joint is spelled in a program: always one sign.
 abbrev pub joint_words : Joint → List Word
 joint_words joint.Plus = sign s.Plus ∷ []
 joint_words joint.Minus = sign s.Minus ∷ []
 joint_words joint.Times = sign s.Star ∷ []
 
+-- How a shift is spelled in a program: always one word, `>>` or `<<`.
 abbrev pub shift_words : Shift → List Word
 shift_words shift.Right = right ∷ []
 shift_words shift.Left = left ∷ []
@@ -163,9 +188,11 @@ shift_words shift.Left = left ∷ []
 abbrev pub head_words : Name → List ℕ → List Word → List Word
 head_words n f more = name n ∷ (colon ∷ (format f ∷ more))
 
+-- The words of an input up to the `[` of its range, with `more` behind them.
 abbrev pub range_words : Head → List Word → List Word
 range_words h more = sign s.In ∷ head_words h.name h.format (sign s.OpenBracket ∷ more)
 
+-- The words of a step up to its direction, with `more` behind them.
 abbrev pub begun_words : Begun → List Word → List Word
 begun_words b more = head_words b.name b.format (way_words b.way ++ more)
 
@@ -201,30 +228,39 @@ part_words (output_end text) = out ∷ (name text ∷ [])
 
 -- ---- the part behind a word
 
+-- The part behind a word that is the one due, and none behind any other.
 abbrev pub some_if : Bool → Part → Option Part
 some_if true p = Some p
 some_if false p = None
 
+-- The head of a statement with this name and this text of a format.
 abbrev pub headed : Name → List ℕ → Head
 headed n f = record { name = n; format = f }
 
+-- The beginning of a step, by its head and the word in its direction's place, which may still be no
+-- direction.
 abbrev pub directed : Head → Way → Begun
 directed h v = record { name = h.name; format = h.format; way = v }
 
+-- The end of a range that is written as this mark and this text of a literal.
 abbrev pub bound_of : Mark → List ℕ → Bound
 bound_of m text = record { mark = m; text = text }
 
+-- The input with this head and these ends of its range, whose order isn't judged here.
 abbrev pub ranged : Head → Bound → Bound → Input
 ranged h a b = record { name = h.name; format = h.format; lower = a; upper = b }
 
+-- The step that begins like this and has this operation.
 abbrev pub stepped : Begun → Operation → Step
 stepped b o = record { name = b.name; format = b.format; way = b.way; operation = o }
 
+-- The operation that a joint makes of the operand on its left and the one on its right.
 abbrev pub joined : Operand → Joint → Operand → Operation
 joined a joint.Plus b = sum a b
 joined a joint.Minus b = difference a b
 joined a joint.Times b = product a b
 
+-- The operation that shifts an operand by this number of places.
 abbrev pub shifted : Operand → Shift → Digits → Operation
 shifted a shift.Right k = shift_right a k
 shifted a shift.Left k = shift_left a k
@@ -234,26 +270,37 @@ pub record Opening : Type 0 where
   pub inputs : Bool
   pub steps : Bool
 
+-- The part behind a first word that isn't an input's: `out` begins an output, and a name a step
+-- where `steps` allows it.
 abbrev pub begun_otherwise : Bool → Word → Option Part
 begun_otherwise steps w = if is_out w then Some output_name else if steps
     then option_map step_colon (name_in w) else None
 
+-- The part behind the first word of a statement, or none where no statement may begin with it.
 abbrev pub begun : Opening → Word → Option Part
 begun o w = if o.inputs && is_in w then Some input_name else begun_otherwise o.steps w
 
+-- The part behind the first word of a range's lower end: a mark, or else a literal without one, or
+-- none for others.
 abbrev pub lower_next : Head → Option Mark → Option (List ℕ) → Option Part
 lower_next h (Some m) t = Some (lower_marked h m)
 lower_next h None t = option_map (λ text. comma h (bound_of mark.Unmarked text)) t
 
+-- The part behind the first word of a range's upper end: a mark, or else a literal without one, or
+-- none for others.
 abbrev pub upper_next : Head → Bound → Option Mark → Option (List ℕ) → Option Part
 upper_next h a (Some m) t = Some (upper_marked h a m)
 upper_next h a None t = option_map (λ text. input_close (ranged h a (bound_of mark.Unmarked text)))
     t
 
+-- The part behind the word after a step's `=`: a minus (`true`), or else an operand, or none for
+-- others.
 abbrev pub operand_next : Begun → Bool → Option Operand → Option Part
 operand_next b true a = Some (step_negated b)
 operand_next b false a = option_map (step_operator b) a
 
+-- The part behind the word after a step's first operand: a joint, or else a shift, or none for
+-- others.
 abbrev pub operator_next : Begun → Operand → Option Joint → Option Shift → Option Part
 operator_next b a (Some j) k = Some (step_second b a j)
 operator_next b a None k = option_map (step_places b a) k
@@ -296,11 +343,14 @@ ending (step_end x) = Some (step x)
 ending (output_end text) = Some (output text)
 ending p = None
 
+-- The statement that a word ends, which only a `;` does, and only behind a part that may end there.
 abbrev pub ended : Part → Word → Option Statement
 ended p w = if is_semicolon w then ending p else None
 
 -- ---- the whole statements, and the part
 
+-- The inputs, steps and outputs that are read whole, the names and weight they leave behind, and
+-- the part that isn't ended.
 pub record Standing : Type 0 where
   pub inputs : List Input
   pub steps : List Step
@@ -308,13 +358,17 @@ pub record Standing : Type 0 where
   pub before : Before
   pub part : Part
 
+-- Whether a list has no items.
 abbrev pub is_none : {A : Type 0} → List A → Bool
 is_none [] = true
 is_none (x ∷ xs) = false
 
+-- An input may begin until there is a step or an output, and a step until there is an output.
 abbrev pub opening_of : Standing → Opening
 opening_of s = record { inputs = is_none s.steps && is_none s.outputs; steps = is_none s.outputs }
 
+-- Where the reading stands once this statement is whole: it goes last among those of its form, and
+-- no part is left.
 abbrev pub with_statement : Standing → Statement → Standing
 with_statement s (input x) = record s {
   inputs = s.inputs ++ (x ∷ []);
@@ -335,9 +389,12 @@ with_statement s (output text) = record s {
   part = between;
 }
 
+-- The same whole statements, with this part of the next one.
 abbrev pub with_part : Standing → Part → Standing
 with_part s p = record s { part = p }
 
+-- Where the reading stands behind a word that ends a statement, or else adds to a part; none where
+-- it does neither.
 abbrev pub stands_by : Standing → Option Statement → Option Part → Option Standing
 stands_by s (Some x) o = Some (with_statement s x)
 stands_by s None o = option_map (with_part s) o
@@ -346,6 +403,7 @@ stands_by s None o = option_map (with_part s) o
 abbrev pub stands_after : Standing → Word → Option Standing
 stands_after s w = stands_by s (ended s.part w) (next_part (opening_of s) s.part w)
 
+-- Where the reading stands before a program's first word.
 abbrev pub nothing_read : Standing
 nothing_read = record {
   inputs = [];

@@ -10,11 +10,13 @@ use Rattle.fixprog.specs.Grammar.{Operand, named, given, Operation, copy, negati
 use Rattle.fixprog.specs.Formats.{Format, format_of, least, greatest, last_place}
 use Rattle.fixprog.specs.Execution.{way_text}
 
+-- A text of a script, by its bytes.
 abbrev pub Bytes : Type 0
 Bytes = List ℕ
 
 -- ---- definitions of steps
 
+-- An operand in a script: its name or its literal, as the program has it.
 abbrev pub operand_text : Operand → Bytes
 operand_text (named text) = text
 operand_text (given text) = text
@@ -44,14 +46,17 @@ step_line x =
 
 -- ---- propositions
 
+-- The sign before an end of a range in a script; nothing where the program has none.
 abbrev pub mark_text : Mark → Bytes
 mark_text mark.Unmarked = []
 mark_text mark.Plus = codes "+"
 mark_text mark.Minus = codes "-"
 
+-- An end of a range in a script: its sign and its literal, as the program has them.
 abbrev pub bound_text : Bound → Bytes
 bound_text b = mark_text b.mark ++ b.text
 
+-- The proposition that the value of a name lies in a range, whose ends are given by their texts.
 abbrev pub range_text : Name → Bytes → Bytes → Bytes
 range_text name lower upper = name ++ (codes " in ["
     ++ (lower ++ (codes ", " ++ (upper ++ codes "]"))))
@@ -73,9 +78,11 @@ format_goal x =
     let f = format_of x.format in
     range_text x.name (word_text f (least f)) (word_text f (greatest f))
 
+-- The goal that asks in which range an output lies.
 abbrev pub output_goal : Name → Bytes
 output_goal text = text ++ codes " in ?"
 
+-- Propositions with `/\` between each two; nothing where there are none.
 abbrev pub joined : List Bytes → Bytes
 joined [] = []
 joined (p ∷ ps) = p ++ flat_map (λ q. codes " /\\ " ++ q) ps
@@ -85,6 +92,8 @@ abbrev pub hypotheses_text : List Input → Bytes
 hypotheses_text [] = []
 hypotheses_text (x ∷ xs) = joined (map input_text (x ∷ xs)) ++ codes " -> "
 
+-- The goals of a script's formula: that each step's value lies in its format, then the outputs'
+-- ranges that are asked for.
 abbrev pub goals_text : Program → Bytes
 goals_text p = joined (map format_goal p.steps ++ map output_goal (outputs p))
 
@@ -94,6 +103,7 @@ goals_text p = joined (map format_goal p.steps ++ map output_goal (outputs p))
 abbrev pub lines_of : List Step → Bytes
 lines_of xs = flat_map step_line xs
 
+-- The script that a program is turned into: a line for each step, and the formula in braces.
 abbrev pub script_of : Program → Bytes
 script_of p = lines_of p.steps ++ (codes "{ "
     ++ (hypotheses_text p.inputs ++ (goals_text p ++ codes " }\n")))

@@ -28,6 +28,7 @@ use Rattle.fixprog.specs.Words.{Name, Word, name, literal, format, sign, colon, 
 use Rattle.fixprog.specs.Grammar as g
 use Rattle.fixprog.specs.Standing as st
 
+-- A word of the code, as definitions have it.
 abbrev pub word_of : CodeWord → Word
 word_of (word.Name text) = name text.now
 word_of (word.Literal text) = literal text.now
@@ -38,13 +39,16 @@ word_of word.Right = right
 word_of word.Left = left
 word_of word.Out = out
 
+-- An operand of the code, as the grammar has it.
 abbrev pub operand_of : CodeOperand → g.Operand
 operand_of (operand.Named text) = g.named text.now
 operand_of (operand.Given text) = g.given text.now
 
+-- Digits of the code, as the grammar has them, with the fact that they are digits.
 abbrev pub digits_seen : CodeDigits → g.Digits
 digits_seen k = record { text = k.text.now; decimal = k.decimal }
 
+-- An operation of the code, as the grammar has it.
 abbrev pub operation_of : CodeOperation → g.Operation
 operation_of (operation.Copy a) = g.copy (operand_of a)
 operation_of (operation.Negation a) = g.negation (operand_of a)
@@ -54,9 +58,11 @@ operation_of (operation.Product a b) = g.product (operand_of a) (operand_of b)
 operation_of (operation.Right a k) = g.shift_right (operand_of a) (digits_seen k)
 operation_of (operation.Left a k) = g.shift_left (operand_of a) (digits_seen k)
 
+-- An end of a range in the code, as the grammar has it.
 abbrev pub bound_of : CodeBound → g.Bound
 bound_of b = record { mark = b.mark; text = b.text.now }
 
+-- An input of the code, as the grammar has it.
 abbrev pub input_of : CodeInput → g.Input
 input_of x = record {
   name = x.name.now;
@@ -66,6 +72,7 @@ input_of x = record {
       bound_of x.upper;
 }
 
+-- What stands for a direction, or the reserved word `out` where nothing does.
 abbrev pub or_out : Option g.Way → g.Way
 or_out (Some v) = v
 or_out None = g.reserved_out
@@ -76,6 +83,7 @@ way_of (way.Called text) = g.called text.now
 way_of (way.Reserved x) = or_out (st.way_in (sign x))
 way_of way.Out = g.reserved_out
 
+-- A step of the code, as the grammar has it.
 abbrev pub step_of : CodeStep → g.Step
 step_of x = record {
   name = x.name.now;
@@ -85,17 +93,21 @@ step_of x = record {
       operation_of x.operation;
 }
 
+-- A statement of the code, as the grammar has it.
 abbrev pub statement_of : CodeStatement → g.Statement
 statement_of (statement.Input x) = g.input (input_of x)
 statement_of (statement.Step x) = g.step (step_of x)
 statement_of (statement.Output text) = g.output text.now
 
+-- A name and format that the code has read, as the front of a statement.
 abbrev pub head_of : CodeHead → st.Head
 head_of h = record { name = h.name.now; format = h.format.now }
 
+-- A name, format and direction that the code has read, as the front of a step.
 abbrev pub begun_of : CodeBegun → st.Begun
 begun_of b = record { name = b.name.now; format = b.format.now; way = way_of b.way }
 
+-- The code's part of a statement that isn't ended, as definitions have it.
 abbrev pub part_of : CodePart → st.Part
 part_of part.Between = st.between
 part_of part.InputName = st.input_name
@@ -122,12 +134,16 @@ part_of (part.StepEnd x) = st.step_end (step_of x)
 part_of part.OutputName = st.output_name
 part_of (part.OutputEnd text) = st.output_end text.now
 
+-- Which statements the code lets begin beside an output, as definitions have it.
 abbrev pub opening_of : CodeOpening → st.Opening
 opening_of o = record { inputs = o.inputs; steps = o.steps }
 
+-- The names and the weight that the code keeps, as those of the statements before.
 abbrev pub before_seen : Names → Before
 before_seen n = record { names = map (λ t. t.now) n.names.items; weight = n.weight }
 
+-- How far the code's reader has come, without its faults: its whole statements, and the part of one
+-- that isn't ended.
 abbrev pub standing_of : Reader → st.Standing
 standing_of r = record {
   inputs = map input_of r.program.inputs.items;
@@ -153,6 +169,7 @@ program_with inputs steps (o ∷ os) = Some (record {
   more_outputs = os;
 })
 
+-- The program that the code's lists make up; none where there is no output.
 abbrev pub program_of : CodeProgram → Option g.Program
 program_of p = program_with (map input_of p.inputs.items) (map step_of p.steps.items)
     (map (λ t. t.now) p.outputs.items)

@@ -87,6 +87,7 @@ fn has_name(names: &[&[u8]], name: &[u8]) -> bool
 }
 
 impl<'a> Names<'a> {
+    /// Before the first statement: no names, and a weight of 0.
     pub fn new(alloc: Global) -> Names<'a>
         ensures { before_seen result ≡ record { names = []; weight = 0 } }
     {

@@ -68,6 +68,7 @@ pub struct Opening {
     pub steps: bool,
 }
 
+/// The text of a name; `None` for any other word, reserved words among them.
 pub fn name_in<'a>(word: Word<'a>) -> Option<&'a [u8]>
     ensures { option_copied result ≡ spec.name_in (word_of word.entry) }
 {
@@ -77,6 +78,7 @@ pub fn name_in<'a>(word: Word<'a>) -> Option<&'a [u8]>
     }
 }
 
+/// The text of a literal; `None` for any other word.
 pub fn literal_in<'a>(word: Word<'a>) -> Option<&'a [u8]>
     ensures { option_copied result ≡ spec.literal_in (word_of word.entry) }
 {
@@ -86,6 +88,7 @@ pub fn literal_in<'a>(word: Word<'a>) -> Option<&'a [u8]>
     }
 }
 
+/// The text of a format, be its numbers within their limits or not; `None` for any other word.
 pub fn format_in<'a>(word: Word<'a>) -> Option<&'a [u8]>
     ensures { option_copied result ≡ spec.format_in (word_of word.entry) }
 {
@@ -95,6 +98,7 @@ pub fn format_in<'a>(word: Word<'a>) -> Option<&'a [u8]>
     }
 }
 
+/// The operand that a name or a literal is; `None` for any other word.
 pub fn operand_in<'a>(word: Word<'a>) -> Option<Operand<'a>>
     ensures { option_map operand_of result ≡ spec.operand_in (word_of word.entry) }
 {

@@ -35,6 +35,7 @@ pub struct Digits<'a> {
     ghost decimal: { list_all is_ascii_digit text.now ≡ true },
 }
 
+/// What a step computes before its value is rounded.
 #[derive(Clone, Copy)]
 pub enum Operation<'a> {
     Copy(Operand<'a>),
@@ -56,12 +57,14 @@ pub enum Mark {
     Minus,
 }
 
+/// An end of an input's range: the sign before it, and the text of its literal.
 #[derive(Clone, Copy)]
 pub struct Bound<'a> {
     pub mark: Mark,
     pub text: &'a [u8],
 }
 
+/// An input: its name, the text of its format, and the two ends of its range.
 #[derive(Clone, Copy)]
 pub struct Input<'a> {
     pub name: &'a [u8],
@@ -78,6 +81,7 @@ pub enum Way<'a> {
     Out,
 }
 
+/// A step: its name, the text of its format, its direction, and what it computes.
 #[derive(Clone, Copy)]
 pub struct Step<'a> {
     pub name: &'a [u8],
@@ -86,6 +90,7 @@ pub struct Step<'a> {
     pub operation: Operation<'a>,
 }
 
+/// What ends with a semicolon in a program; an output is given by its name.
 #[derive(Clone, Copy)]
 pub enum Statement<'a> {
     Input(Input<'a>),

@@ -34,6 +34,7 @@ impl Buffer {
         Ok(Buffer { bytes, room })
     }
 
+    /// The bytes that are there, which are never more than the room.
     pub fn bytes(&self) -> &[u8]
         ensures bytes { result.now ≡ self.now.bytes }
         ensures within { length self.now.bytes ≤ self.now.room }
@@ -59,6 +60,7 @@ impl Buffer {
         Some(count)
     }
 
+    /// Takes out all bytes; the room stays.
     pub fn clear(&mut self)
         ensures { self.new ≡ emptied self.old }
     {

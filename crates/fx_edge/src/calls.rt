@@ -25,6 +25,7 @@ impl Model for Calls {
 }
 
 impl Calls {
+    /// No call yet. Those with a number of `failing` fail, and one moves at most `most` bytes.
     pub fn new(failing: Vec<u64>, most: usize) -> Calls
         requires { 1 ≤ most }
         ensures { result ≡ no_calls failing.items most }

@@ -17,6 +17,8 @@ pub struct Files {
 }
 
 impl Files {
+    /// These files, each with room for `room` bytes, or for its own, if these are more. Of two with
+    /// one name, the last counts.
     pub fn new(
         alloc: Global,
         files: Vec<(String, Vec<u8>)>,

@@ -23,6 +23,7 @@ abbrev pub ten_to : ℤ → Fraction
 ten_to (pos k) = whole (pos (10 ^ k))
 ten_to (negsuc k) = inverse_ℚ (whole (pos (10 ^ (k + 1))))
 
+-- num * 2^two * 10^ten
 abbrev pub literal_value : Literal → Fraction
 literal_value l = (whole (pos l.num) *ℚ two_to l.two) *ℚ ten_to l.ten
 
@@ -31,6 +32,7 @@ abbrev pub lift₁ : (Fraction → Fraction) → Option Fraction → Option Frac
 lift₁ f None = None
 lift₁ f (Some x) = Some (f x)
 
+-- the result of two values; none where either is none
 abbrev pub lift₂ : (Fraction → Fraction → Fraction) → Option Fraction
     → Option Fraction → Option Fraction
 lift₂ f None y = None

@@ -9,6 +9,7 @@ use lib.IntN.{neg_ℤ}
 use Rattle.fx_model.specs.Fraction.{Fraction, ◌*ℚ◌, ◌≤ℚ◌, le_antisymm, neg_ℚ, neg-le, neg-neg, neg-mul, mul_comm, mul_assoc}
 use Rattle.fx_model.specs.Powers.{scaled, two_to, whole, whole-neg, whole-mul, two_to-add, IsMultiple}
 
+-- 2^60
 abbrev pub mantissa_limit : ℤ
 mantissa_limit = pos 1152921504606846976
 
@@ -34,6 +35,7 @@ IsDown x (At g) = IsOnGrid g × (g ≤ℚ x) × ((h : Fraction) → IsOnGrid h �
 IsDown x Below = (h : Fraction) → IsOnGrid h → ¬ (h ≤ℚ x)
 IsDown x Above = ⊥
 
+-- The least grid number that isn't below x. Where there is none, the end is Above.
 abbrev pub IsUp : Fraction → Bound → Type 0
 IsUp x (At g) = IsOnGrid g × (x ≤ℚ g) × ((h : Fraction) → IsOnGrid h → x ≤ℚ h → g ≤ℚ h)
 IsUp x Above = (h : Fraction) → IsOnGrid h → ¬ (x ≤ℚ h)
@@ -54,6 +56,7 @@ pub record Binary : Type 0 where
   pub mantissa : ℤ
   pub exponent : ℤ
 
+-- mantissa * 2^exponent
 abbrev pub value_of : Binary → Fraction
 value_of b = scaled b.mantissa b.exponent
 

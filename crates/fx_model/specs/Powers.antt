@@ -21,6 +21,7 @@ two_to k =
 abbrev pub whole_ratio : ℤ → Ratio
 whole_ratio z = record { plus = up z; minus = down z; den = 1; positive = lit< tt }
 
+-- 2^k
 abbrev pub two_to_ratio : ℤ → Ratio
 two_to_ratio k =
     record { plus = 2 ^ up k; minus = 0; den = 2 ^ down k; positive = pow_pos (down k) }

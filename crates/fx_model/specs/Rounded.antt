@@ -9,12 +9,15 @@ use Rattle.fx_model.specs.Powers.{two_to, whole, scaled}
 use Rattle.fx_model.specs.declared.Direction.{Direction}
 use Rattle.fx_model.specs.declared.Direction.TheVariants.{Zr, Aw, Dn, Up, Od, Ne, No, Nz, Na, Nd, Nu}
 
+-- the greatest whole number that isn't above s
 abbrev pub floor : Fraction → ℤ
 floor s = floor_ℚ s
 
+-- the least whole number that isn't below s
 abbrev pub ceiling : Fraction → ℤ
 ceiling s = neg_ℤ (floor_ℚ (neg_ℚ s))
 
+-- 1/2
 abbrev pub half : Fraction
 half = two_to (negsuc 0)
 
@@ -22,12 +25,15 @@ half = two_to (negsuc 0)
 abbrev pub near_low : Fraction → ℤ
 near_low s = ceiling (s -ℚ half)
 
+-- The nearest whole number; of two that are as near, the upper.
 abbrev pub near_high : Fraction → ℤ
 near_high s = floor (s +ℚ half)
 
+-- whether z is a multiple of 2
 abbrev pub is_even : ℤ → Bool
 is_even z = unsigned_abs z % 2 == 0
 
+-- whether s is at least 0
 abbrev pub is_positive_or_zero : Fraction → Bool
 is_positive_or_zero s = le_ℚ zero_ℚ s
 

@@ -13,6 +13,7 @@ use Rattle.command_line.specs.Upgrade.{AskedUpgrade, asked_upgrade, upgrade_of}
 use Rattle.fx_top.specs.declared.wanted.Wanted.{Wanted}
 use Rattle.fx_top.specs.declared.wanted.Wanted.TheVariants as wanted
 
+-- One word of the command line, as its bytes.
 abbrev pub Bytes : Type 0
 Bytes = List ℕ
 

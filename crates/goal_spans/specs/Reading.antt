@@ -53,6 +53,8 @@ connected w st = begun (with_goal st)
 abbrev pub closed : State → State
 closed st = record (with_goal st) { stage = stage.Hints }
 
+-- What a word within the formula does to the reading, by the part of the grammar that it is read
+-- as.
 abbrev pub in_formula : Due → Word → State → State
 in_formula d.Relation w st = related w st
 in_formula d.In w st = parted st
@@ -61,6 +63,8 @@ in_formula d.Connective w st = connected w st
 in_formula d.CloseBrace w st = closed st
 in_formula r w st = st
 
+-- What a word does to the reading; before the formula only its brace counts, and among hints
+-- nothing does.
 abbrev pub at_stage : Stage → Due → Word → State → State
 at_stage stage.Definitions r w st = opened r w st
 at_stage stage.Formula r w st = in_formula r w st
@@ -68,16 +72,20 @@ at_stage stage.Hints r w st = st
 
 -- ---- words, each counted
 
+-- The reading one word further, which is counted whatever it is.
 unfoldable pub read_word : Due → Word → State → State
 read_word r w st = record (at_stage st.stage r w st) { at = st.at + 1 }
 
+-- The reading behind all these words, each with the part of the grammar that it is read as.
 unfoldable pub read_words : List Leaf → State → State
 read_words [] st = st
 read_words (l ∷ ls) st = read_words ls (read_word l.role l.word st)
 
+-- Where the reading stands before the first word, which has number 0, with no goal found.
 abbrev pub start : State
 start = record { stage = stage.Definitions; at = 0; first = 0; end = 0; spans = [] }
 
+-- The spans of goals that reading these words from the left finds, in order.
 abbrev pub spans_read : List Leaf → List Span
 spans_read ls = (read_words ls start).spans
 

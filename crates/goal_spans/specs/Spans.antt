@@ -37,5 +37,6 @@ abbrev pub script_spans : ℕ → Script → List Span
 script_spans n (formula f h) = formula_spans (n + 1) f
 script_spans n (define x rest) = script_spans (n + length (definition_words x)) rest
 
+-- The span of each goal of a script, in order, with the script's first word counted as 0.
 abbrev pub goal_spans : Script → List Span
 goal_spans tree = script_spans 0 tree

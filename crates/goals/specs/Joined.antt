@@ -7,6 +7,8 @@ use Rattle.facts.specs.declared.fact.Fact.TheVariants as fact
 use Rattle.goals.specs.declared.line.Line.{Line}
 use Rattle.goals.specs.declared.line.Line.TheVariants as line
 
+-- The line with one interval more: the hull of both, or the new interval alone where the line has
+-- none yet.
 abbrev pub with_interval : Line → Interval → Line
 with_interval (line.In j) i = line.In (hull_of j i)
 with_interval line.None i = line.In i

@@ -9,6 +9,7 @@ pub record IsUpSide (x : Fraction) : Type 0 where
   pub from : zero_ℚ ≤ℚ x
   pub is : abs_ℚ x ≡ x
 
+-- The number is 0 or below, and its absolute value is its negative.
 pub record IsDownSide (x : Fraction) : Type 0 where
   pub to : x ≤ℚ zero_ℚ
   pub is : abs_ℚ x ≡ neg_ℚ x

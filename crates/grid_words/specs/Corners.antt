@@ -6,9 +6,11 @@ use Rattle.fx_model.specs.Enclosure.{Range, IsEnclosure, infimum_at, supremum_at
 use Rattle.grid_words.specs.Nearest.{down, up, down_is, up_is}
 use Rattle.grid_words.specs.Signs.{times_up, times_down, factor_down}
 
+-- The lesser of two numbers, either where they are equal.
 abbrev pub lesser : Fraction → Fraction → Fraction
 lesser x y = cond (le_ℚ x y) x y
 
+-- The greater of two numbers, either where they are equal.
 abbrev pub greater : Fraction → Fraction → Fraction
 greater x y = cond (le_ℚ x y) y x
 
@@ -16,6 +18,7 @@ greater x y = cond (le_ℚ x y) y x
 abbrev pub least_corner : Fraction → Fraction → Fraction → Fraction → Fraction
 least_corner a b p q = lesser (lesser (a *ℚ p) (a *ℚ q)) (lesser (b *ℚ p) (b *ℚ q))
 
+-- The greatest product of a or b with p or q.
 abbrev pub greatest_corner : Fraction → Fraction → Fraction → Fraction → Fraction
 greatest_corner a b p q = greater (greater (a *ℚ p) (a *ℚ q)) (greater (b *ℚ p) (b *ℚ q))
 

@@ -13,6 +13,7 @@ down_end Below = Below
 down_end (At g) = down g
 down_end Above = Above
 
+-- The end rounded up to the grid; an infinite one stays.
 abbrev pub up_end : Bound → Bound
 up_end Below = Below
 up_end (At g) = up g

@@ -8,10 +8,13 @@ use Rattle.grid_words.specs.Signs.{inverse_falls}
 use Rattle.grid_words.specs.Corners.{corners, corners_are}
 use Rattle.fx_model.specs.Enclosure.Unique.{both_or}
 
+-- The best interval of the products of numbers between the first two ends and between the last two;
+-- the whole line where one is infinite.
 abbrev pub product_ends : Bound → Bound → Bound → Bound → Range
 product_ends (At a) (At b) (At c) (At d) = corners a b c d
 product_ends i j k l = whole_line
 
+-- The same of the quotients, for divisors between the last two ends, where 0 doesn't lie.
 abbrev pub quotient_ends : Bound → Bound → Bound → Bound → Range
 quotient_ends (At a) (At b) (At c) (At d) = corners a b (inverse_ℚ d) (inverse_ℚ c)
 quotient_ends i j k l = whole_line

@@ -17,6 +17,7 @@ le_bound Above Below = false
 le_bound Above (At h) = false
 le_bound Above Above = true
 
+-- The greater of two ends; infinite ones are below or above all numbers.
 abbrev pub greater_end : Bound → Bound → Bound
 greater_end b c = cond (le_bound b c) c b
 

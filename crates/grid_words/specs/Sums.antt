@@ -15,6 +15,7 @@ low_sum (At g) Above = Below
 low_sum Below c = Below
 low_sum Above c = Below
 
+-- The upper end of the sums, rounded up; infinite where an end is.
 abbrev pub high_sum : Bound → Bound → Bound
 high_sum (At g) (At h) = up (g +ℚ h)
 high_sum (At g) Below = Above

@@ -8,6 +8,7 @@ use Rattle.dyadic.specs.declared.number.End.{End}
 use Rattle.dyadic.specs.Values.{value_of}
 use Rattle.dyadic.specs.Ends.{bound_of}
 
+-- the fractions from one end to the other
 abbrev pub range_from : End → End → Range
 range_from lo hi = record { low = bound_of lo; high = bound_of hi }
 

@@ -7,6 +7,7 @@ use Rattle.dyadic.specs.Ends.{same_bound}
 use Rattle.interval.specs.declared.interval.Interval.{Interval}
 use Rattle.interval.specs.Ends.{AreEnds, AreEnds-prop, range_from}
 
+-- the fractions of an interval
 abbrev pub range_of : Interval → Range
 range_of i = range_from i.lo i.hi
 

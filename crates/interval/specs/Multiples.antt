@@ -24,6 +24,7 @@ IsEndDown k (At x) (At m) = IsMultipleDown k x m
 IsEndDown k (At x) Above = ⊥
 IsEndDown k Above b = b ≡ Above
 
+-- the least multiple of 2^k that isn't below a finite end; an infinite end stays
 abbrev pub IsEndUp : ℤ → Bound → Bound → Type 0
 IsEndUp k Below b = b ≡ Below
 IsEndUp k (At x) Below = ⊥

@@ -7,6 +7,7 @@ use Rattle.interval.specs.declared.interval.Interval.{Interval}
 use Rattle.interval.specs.declared.span.Span.{Span}
 use Rattle.interval.specs.Intervals.{range_of}
 
+-- the fractions of a span
 abbrev pub span_of : Span → Range
 span_of s = record { low = grid.At (value_of s.low); high = grid.At (value_of s.high) }
 

@@ -10,7 +10,7 @@ ghost use Rattle.interval.specs.Ends.{IsNumberOf};
 
 use dyadic::{Dyadic, End, add_down, add_up, mul_down, mul_up};
 
-// The number at a finite end.
+/// The number at a finite end; `None` at an infinite one.
 #[inline(always)]
 pub fn finite(end: End) -> Option<Dyadic>
     ensures { IsNumberOf (bound_of end) result }
@@ -33,7 +33,7 @@ pub fn opposite(end: End) -> End
     }
 }
 
-// The lower end of a sum.
+/// The lower end of a sum, rounded down; minus infinity where an end is infinite.
 #[inline(always)]
 pub fn low_sum(a: End, b: End) -> End
     ensures { LowSum (bound_of a) (bound_of b) (bound_of result) }
@@ -47,7 +47,7 @@ pub fn low_sum(a: End, b: End) -> End
     }
 }
 
-// The upper end of a sum.
+/// The upper end of a sum, rounded up; plus infinity where an end is infinite.
 #[inline(always)]
 pub fn high_sum(a: End, b: End) -> End
     ensures { HighSum (bound_of a) (bound_of b) (bound_of result) }
@@ -61,7 +61,7 @@ pub fn high_sum(a: End, b: End) -> End
     }
 }
 
-// The lower end of a square, from the lower end of the sizes.
+/// The lower end of a square, from the lower end of the sizes.
 pub fn low_square(a: End) -> End
     ensures { LowSquare (bound_of a) (bound_of result) }
 {
@@ -71,7 +71,7 @@ pub fn low_square(a: End) -> End
     }
 }
 
-// The upper end of a square, from the upper end of the sizes.
+/// The upper end of a square, from the upper end of the sizes.
 pub fn high_square(a: End) -> End
     ensures { HighSquare (bound_of a) (bound_of result) }
 {
@@ -81,7 +81,7 @@ pub fn high_square(a: End) -> End
     }
 }
 
-// The end 0.
+/// The end 0.
 #[inline(always)]
 pub fn zero() -> End
     ensures { bound_of result ≡ grid.At zero_ℚ }
@@ -89,7 +89,7 @@ pub fn zero() -> End
     End::At(Dyadic::zero())
 }
 
-// The end 1.
+/// The end 1.
 #[inline(always)]
 pub fn one() -> End
     ensures { bound_of result ≡ grid.At one_ℚ }

@@ -9,7 +9,7 @@ ghost use Rattle.interval.specs.Ends.{AreEnds};
 
 use dyadic::{Dyadic, End};
 
-// Whether a number is 0 or above.
+/// Whether a number is 0 or above.
 #[inline(always)]
 pub fn not_negative(a: Dyadic) -> bool
     ensures { IsTrue result ↔ zero_ℚ ≤ℚ value_of a }
@@ -17,7 +17,7 @@ pub fn not_negative(a: Dyadic) -> bool
     a.mantissa() >= 0
 }
 
-// Whether a number is 0 or below.
+/// Whether a number is 0 or below.
 #[inline(always)]
 pub fn not_positive(a: Dyadic) -> bool
     ensures { IsTrue result ↔ value_of a ≤ℚ zero_ℚ }
@@ -25,7 +25,7 @@ pub fn not_positive(a: Dyadic) -> bool
     a.mantissa() <= 0
 }
 
-// Whether an end is 0 or above.
+/// Whether an end is 0 or above.
 #[inline(always)]
 pub fn from_zero(end: &End) -> bool
     ensures { IsTrue result ↔ BoundLe (grid.At zero_ℚ) (bound_of end.now) }
@@ -37,7 +37,7 @@ pub fn from_zero(end: &End) -> bool
     }
 }
 
-// Whether an end is 0 or below.
+/// Whether an end is 0 or below.
 #[inline(always)]
 pub fn up_to_zero(end: &End) -> bool
     ensures { IsTrue result ↔ BoundLe (bound_of end.now) (grid.At zero_ℚ) }
@@ -49,7 +49,8 @@ pub fn up_to_zero(end: &End) -> bool
     }
 }
 
-// Whether two ends make an interval.
+/// Whether two ends make an interval: they are in order, the lower isn't plus infinity, and the
+/// upper isn't minus infinity.
 #[inline(always)]
 pub fn in_order(lo: &End, hi: &End) -> bool
     ensures { IsTrue result ↔ AreEnds lo.now hi.now }

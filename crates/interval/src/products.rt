@@ -8,7 +8,7 @@ use crate::order::{not_negative, not_positive};
 use crate::span::Span;
 use dyadic::{End, lesser, mul_down};
 
-// The lower end of the product.
+/// The lower end of the products of two intervals, rounded down.
 #[inline(always)]
 pub fn low_product(x: &Span, y: &Span) -> End
     ensures { IsInfimum (Products (span_of x.now) (span_of y.now)) (bound_of result) }
@@ -34,7 +34,7 @@ pub fn low_product(x: &Span, y: &Span) -> End
     lesser(mul_down(x.low, y.high), mul_down(x.high, y.low))
 }
 
-// The upper end: the lower end of the products with the negatives, on the other side of 0.
+/// The upper end of the products of two intervals, rounded up.
 #[inline(always)]
 pub fn high_product(x: &Span, y: &Span) -> End
     ensures { IsSupremum (Products (span_of x.now) (span_of y.now)) (bound_of result) }

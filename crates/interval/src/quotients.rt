@@ -10,7 +10,7 @@ use crate::order::{not_negative, not_positive};
 use crate::span::Span;
 use dyadic::{End, div_down};
 
-// Two intervals with the same quotients, the second of numbers above 0.
+/// Two intervals with the same quotients, the second of numbers above 0.
 #[inline(always)]
 pub fn rising(x: &Span, y: &Span) -> (Span, Span)
     requires { ¬ Lies (span_of y.now) zero_ℚ }
@@ -25,7 +25,7 @@ pub fn rising(x: &Span, y: &Span) -> (Span, Span)
     }
 }
 
-// The lower end of the quotient.
+/// The lower end of the quotients by numbers above 0, rounded down.
 #[inline(always)]
 pub fn low_quotient(x: &Span, y: &Span) -> End
     requires { zero_ℚ <ℚ value_of y.now.low }
@@ -35,7 +35,7 @@ pub fn low_quotient(x: &Span, y: &Span) -> End
     div_down(x.low, divisor)
 }
 
-// The upper end: the lower end of the quotients of the negatives, on the other side of 0.
+/// The upper end of the quotients by numbers above 0, rounded up.
 #[inline(always)]
 pub fn high_quotient(x: &Span, y: &Span) -> End
     requires { zero_ℚ <ℚ value_of y.now.low }

@@ -5,7 +5,7 @@ ghost use Rattle.dyadic.specs.Values.{value_of};
 
 use dyadic::Dyadic;
 
-// An interval with two finite ends.
+/// An interval with two finite ends.
 #[derive(Clone, Copy)]
 pub struct Span {
     pub low: Dyadic,
@@ -17,7 +17,7 @@ pub struct Span {
 impl Span {
     ghost use Rattle.interval.specs.Spans.{span_of};
 
-    // The negatives of its numbers.
+    /// The interval of the negatives of its numbers.
     #[inline(always)]
     pub fn neg(self) -> Span
         ensures range { span_of result ≡ mirror (span_of self) }

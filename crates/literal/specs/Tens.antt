@@ -55,9 +55,11 @@ ten_step (negsuc (suc k)) =
     (whole (pos (10 ^ (k + 1)))) (whole (pos (10 ^ (suc k + 1)))) (ap (λ n. whole (pos (10 ^ n))) e
     ∙ whole_step (k + 1)) (ten_positive (k + 1)) (ten_positive (suc k + 1))
 
+-- n * 10^e
 abbrev pub decimal : ℕ → ℤ → Literal
 decimal n e = record { num = n; two = pos 0; ten = e }
 
+-- n * 2^e
 abbrev pub binary : ℕ → ℤ → Literal
 binary n e = record { num = n; two = e; ten = pos 0 }
 

@@ -7,7 +7,7 @@ ghost use Rattle.literal.specs.Normal.{IsNormal, IsNormalOf, IsSmall, TakesTensO
 use crate::scan::Form;
 use fx_model::Literal;
 
-// The normal form of a number within the limits.
+/// The normal form of a number within the limits.
 pub fn normal_form(form: Form, number: Literal) -> Literal
     requires { IsSmall form number }
     ensures same { IsNormalOf form number result }

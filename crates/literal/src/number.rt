@@ -17,8 +17,8 @@ const HEXADECIMAL_LIMIT: u128 = 0x10_0000_0000_0000_0000_0000_0000;
 // No number of digits behind a point makes up for an exponent of this size.
 const POWER_LIMIT: u128 = 100_000_000_000_000_000_000;
 
-// The number of a spelling, with the point removed into the exponent; `None` exactly where it is
-// past the limits.
+/// The number of a spelling, with the point removed into the exponent; `None` exactly where it is
+/// past the limits.
 pub fn written(parts: &Parts) -> Option<Literal>
     requires { IsSpelling (spelling_of parts.now) }
     ensures written { GivesWritten (spelling_of parts.now) result }

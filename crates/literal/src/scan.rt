@@ -28,14 +28,14 @@ pub enum Mark {
     Minus,
 }
 
-// An exponent as it is written.
+/// An exponent as it is written.
 #[derive(Clone, Copy)]
 pub struct Power<'a> {
     pub mark: Mark,
     pub digits: &'a [u8],
 }
 
-// A literal as it is written; where it has no point, it has no digits behind one.
+/// A literal as it is written; where it has no point, it has no digits behind one.
 #[derive(Clone, Copy)]
 pub struct Parts<'a> {
     pub form: Form,
@@ -44,14 +44,14 @@ pub struct Parts<'a> {
     pub power: Option<Power<'a>>,
 }
 
-// What a literal ends with.
+/// What a literal ends with: its exponent, if any, and the form that it gives the literal.
 #[derive(Clone, Copy)]
 pub struct End<'a> {
     pub form: Form,
     pub power: Option<Power<'a>>,
 }
 
-// The parts of a text that spells a literal; `None` exactly where it spells none.
+/// The parts of a text that spells a literal; `None` exactly where it spells none.
 pub fn parts_of(text: &[u8]) -> Option<Parts<'_>>
     ensures { FindsParts text.now result }
 {
@@ -232,7 +232,7 @@ fn base_of(hexadecimal: bool) -> u32
     if hexadecimal { 16 } else { 10 }
 }
 
-// What a digit counts, and 36 for what is none.
+/// What a digit counts, and 36 for what is none.
 pub fn digit(b: u8) -> u8
     ensures value { result ≡ digit_value b }
     ensures small { result ≤ 36 }

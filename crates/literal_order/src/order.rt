@@ -79,7 +79,7 @@ fn is_one(negative: bool, first: bool, second: bool) -> bool
     negative && (first || second)
 }
 
-// Whether the first literal, or its negative, is below the second, or its negative.
+/// Whether the first literal, or its negative, is below the second, or its negative.
 pub fn is_below(a: &Literal, a_negative: bool, b: &Literal, b_negative: bool) -> bool
     requires first { IsNormal a.now }
     requires second { IsNormal b.now }

@@ -3,13 +3,14 @@
 ghost use Rattle.std.specs.Prelude.{◌≡◌, ◌↔◌, ◌<◌, ◌*◌, ◌+◌, ◌/◌, ◌^◌, IsTrue};
 ghost use Rattle.literal_order.specs.Sizes.{size_of};
 
-// The number high * 2^128 + low.
+/// The number high * 2^128 + low.
 #[derive(Clone, Copy)]
 pub struct Wide {
     pub high: u128,
     pub low: u128,
 }
 
+/// The product of two numbers, which always fits.
 pub fn product(a: u128, b: u128) -> Wide
     ensures { size_of result ≡ a * b }
 {
@@ -17,7 +18,7 @@ pub fn product(a: u128, b: u128) -> Wide
     Wide { high, low }
 }
 
-// Whether the first is below the second.
+/// Whether the first is below the second.
 pub fn is_less(a: Wide, b: Wide) -> bool
     ensures { IsTrue result ↔ size_of a < size_of b }
 {
@@ -95,14 +96,14 @@ fn one_less(number: Wide) -> Wide
     }
 }
 
-// Whether the first is below the second times a power of two.
+/// Whether the first is below the second times a power of two.
 pub fn is_below_raised(a: Wide, b: Wide, places: u32) -> bool
     ensures { IsTrue result ↔ size_of a < size_of b * 2 ^ places }
 {
     is_less(shifted(a, places), b)
 }
 
-// Whether the first times a power of two is below the second.
+/// Whether the first times a power of two is below the second.
 pub fn is_raised_below(a: Wide, places: u32, b: Wide) -> bool
     ensures { IsTrue result ↔ size_of a * 2 ^ places < size_of b }
 {

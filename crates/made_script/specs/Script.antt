@@ -2,6 +2,7 @@
 use Rattle.std.specs.Prelude.{◌≡◌, ℕ, zero, suc, ◌+◌, ◌-◌, ◌*◌, ◌%◌, ◌<◌, ◌++◌, nat_lt, codes, List, if◌then◌else◌}
 use Rattle.std.specs.Fmt.{decimal}
 
+-- The text of a script, byte by byte.
 abbrev pub Bytes : Type 0
 Bytes = List ℕ
 
@@ -9,6 +10,7 @@ Bytes = List ℕ
 abbrev pub coefficient : ℕ → ℕ
 coefficient i = (37 * i + 11) % 64
 
+-- The factor of the power i as the script writes it: a whole number times 2^-6.
 abbrev pub literal : ℕ → Bytes
 literal i = decimal (coefficient i) ++ codes "b-6"
 
@@ -49,6 +51,8 @@ EndsInALiteral = (n : ℕ) → polynomial n n ≡ literal n
 abbrev pub factor : ℕ → ℕ → Bytes → Bytes
 factor n i text = if nat_lt (i + 1) n then codes "(" ++ text ++ codes ")" else text
 
+-- Below power n the polynomial is the one from the next power on, times x, plus the literal of its
+-- own power.
 abbrev pub AreNested : Type 0
 AreNested = (n i : ℕ) → i < n
     → polynomial n i ≡ factor n i (polynomial n (i + 1)) ++ codes " * x + " ++ literal i

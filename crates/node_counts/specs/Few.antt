@@ -16,6 +16,7 @@ abbrev pub hints_behind : Script → Known → HintList
 hints_behind (formula f h) k = (with_hints h ((formula_claims f k).known, no_hints)).1
 hints_behind (define x rest) k = hints_behind rest (definition_value x k)
 
+-- The hints of each kind are within the limit of their kind, and so are the pieces of each cut.
 pub record HasFewHints (l : HintList) : Type 0 where
   pub rewrites : length l.rewrites ≤ 64
   pub likes : length l.likes ≤ 64

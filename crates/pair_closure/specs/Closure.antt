@@ -9,6 +9,7 @@ use Rattle.expr_dag.specs.fx_model.declared.Node.TheVariants.{Neg, Add, Sub, Mul
 use Rattle.expr_dag.specs.Nodes.{IsAt}
 use Rattle.pair_closure.specs.Reached.{IsReached, Has, IsEachOnce, IsListOf}
 
+-- Two expressions that are compared, by their numbers; which one is first matters.
 abbrev pub Pair : Type 0
 Pair = ExprId × ExprId
 
@@ -61,6 +62,7 @@ AreBelow n ps = (p : Pair) → Has ps p → ((p.0).0 < n) × ((p.1).0 < n)
 abbrev pub IsKnownPair : List Node → Pair → Type 0
 IsKnownPair nodes p = ((p.0).0 < length nodes) × ((p.1).0 < length nodes)
 
+-- Both sides of every pair in the list are numbers of these nodes.
 abbrev pub AreKnown : List Node → List Pair → Type 0
 AreKnown nodes ps = AreBelow (length nodes) ps
 
@@ -124,6 +126,7 @@ abbrev pub AreRising : List Pair → Type 0
 AreRising ps = (i j : ℕ) (p q : Pair) → slice_get ps i ≡ Some p → slice_get ps j ≡ Some q
     → i < j → rank p < rank q
 
+-- The node that stands for a pair's first side less its second.
 abbrev pub difference_of : Pair → Node
 difference_of p = Sub p.0 p.1
 

@@ -10,7 +10,7 @@ use expr_dag::ExprId;
 use std::hash::{Hash, Hasher};
 use std::marker::Model;
 
-// Two expressions that are compared, found by their hash.
+/// Two expressions that are compared; which one is first matters.
 #[derive(Clone, Copy, PartialEq, Eq)]
 pub struct Pair {
     first: ExprId,
@@ -28,19 +28,21 @@ impl Model for Pair {
 }
 
 impl Pair {
+    /// The pair of these expressions, in this order.
     pub fn new(first: ExprId, second: ExprId) -> Pair
         ensures { result ≡ (first, second) }
     {
         Pair { first, second }
     }
 
+    /// The two expressions, the first one first.
     pub fn sides(self) -> (ExprId, ExprId)
         ensures { result ≡ self }
     {
         (self.first, self.second)
     }
 
-    // Its place among all pairs.
+    /// Its place in the order of all pairs: by first sides, then by second ones.
     pub fn rank(&self) -> u32
         ensures { result ≡ rank self.now }
     {

@@ -27,6 +27,7 @@ pub record Gathering (variables : List Name) (text : List ℕ) (tokens rest : Li
   pub once : (j k : ℕ) (d e : Entry) → slice_get entries j ≡ Some d → slice_get entries k ≡ Some e
       → d.variable ≡ e.variable → j ≡ k
 
+-- The reading has gathered these rows from the tokens before those that are left.
 pub data Gathered (variables : List Name) (text : List ℕ) (tokens rest : List Token) (rows :
     List (Option Row)) : Type 0 where
   gathered : Gathering variables text tokens rest rows → Gathered variables text tokens rest rows

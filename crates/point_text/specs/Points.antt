@@ -24,6 +24,7 @@ pub data Part : Type 0 where
   semicolon : Part
   other : Part
 
+-- The part that a token of this kind with this text is; a sign that no point has is another part.
 abbrev pub part_of : TokenKind → List ℕ → Part
 part_of kind.Name text = name text
 part_of kind.Literal text = literal text
@@ -34,6 +35,7 @@ part_of (kind.Sign s.Slash) text = slash
 part_of (kind.Sign s.Semicolon) text = semicolon
 part_of (kind.Sign g) text = other
 
+-- The tokens of a text as parts, in order.
 abbrev pub parts_of : List ℕ → List Token → List Part
 parts_of text tokens = map (λ t. part_of t.kind (token_text text t)) tokens
 
@@ -50,21 +52,25 @@ pub record Entry : Type 0 where
   pub number : List ℕ
   pub divisor : Option (List ℕ)
 
+-- The sign before an entry's number, where one is written.
 abbrev pub mark_parts : Mark → List Part
 mark_parts unmarked = []
 mark_parts with_plus = plus ∷ []
 mark_parts with_minus = minus ∷ []
 
+-- The slash and the literal of an entry's divisor, if it has one.
 abbrev pub divisor_parts : Option (List ℕ) → List Part
 divisor_parts None = []
 divisor_parts (Some text) = slash ∷ (literal text ∷ [])
 
+-- The parts that spell an entry, from its variable to its semicolon.
 abbrev pub entry_parts : Entry → List Part
 entry_parts e =
     name e.variable
     ∷ (equal ∷ (mark_parts e.mark
     ++ (literal e.number ∷ (divisor_parts e.divisor ++ (semicolon ∷ [])))))
 
+-- The parts that spell the entries, one after the other.
 abbrev pub entries_parts : List Entry → List Part
 entries_parts [] = []
 entries_parts (e ∷ es) = entry_parts e ++ entries_parts es
@@ -91,6 +97,7 @@ IsDivisorOf (Some text) (Some l) = IsReading text l × (l.num ≢ 0)
 IsDivisorOf None (Some l) = ⊥
 IsDivisorOf (Some text) None = ⊥
 
+-- The row is what the entry says: its number with its sign, and its divisor, which isn't 0.
 pub record IsRowOf (e : Entry) (row : Row) : Type 0 where
   pub sign : row.0.negative ≡ is_minus e.mark
   pub number : IsReading e.number row.0.literal

@@ -24,6 +24,7 @@ abbrev pub of_value : (Fraction → List ℤ) → Option Fraction → List ℤ
 of_value f None = []
 of_value f (Some x) = f x
 
+-- The numbers that a pair of values makes; none where either value is missing.
 abbrev pub of_values : (Fraction → Fraction → List ℤ) → Option Fraction → Option Fraction → List ℤ
 of_values f None y = []
 of_values f (Some x) None = []
@@ -43,6 +44,8 @@ product_numbers x y = numbers_of (x *ℚ y)
 abbrev pub quotient_numbers : Fraction → Fraction → List ℤ
 quotient_numbers x y = if is_zero_ℚ y then [] else numbers_of (x /ℚ y)
 
+-- The numbers made for a node's value from those of its parts; a variable, a negative and an
+-- absolute value make none.
 abbrev pub node_numbers : (ExprId → Option Fraction) → Node → List ℤ
 node_numbers v (Var n) = []
 node_numbers v (Lit l) = numbers_of (literal_value l)
@@ -59,6 +62,7 @@ abbrev pub side_numbers : Written → Option Fraction → List ℤ
 side_numbers w o = numbers_of (written_value w)
     ++ of_value (λ x. comparison_numbers x (written_value w)) o
 
+-- The numbers of a bound and of the value's comparison with it; none where no bound is written.
 abbrev pub bound_numbers : Option Written → Option Fraction → List ℤ
 bound_numbers None o = []
 bound_numbers (Some w) o = side_numbers w o
@@ -75,6 +79,7 @@ abbrev pub difference_with_one : Fraction → Fraction → List ℤ
 difference_with_one x y = if is_zero_ℚ y then [] else numbers_of (x /ℚ y)
     ++ difference_numbers (x /ℚ y) one_ℚ
 
+-- The numbers made for x / y - 1; none where a side has no value or y is 0.
 abbrev pub error_numbers : Option Fraction → Option Fraction → List ℤ
 error_numbers x y = of_values difference_with_one x y
 
@@ -98,6 +103,8 @@ constraint_numbers v (constraint.NotZero x) = []
 constraint_numbers v (constraint.Below x w strict) = side_numbers w (v x)
 constraint_numbers v (constraint.Above x w strict) = side_numbers w (v x)
 
+-- The numbers of all constraints of a hint, also of those after one that fails; comparing its two
+-- sides needs none.
 abbrev pub hint_numbers : (ExprId → Option Fraction) → Hint → List ℤ
 hint_numbers v h = flat_map (constraint_numbers v) h.constraints
 

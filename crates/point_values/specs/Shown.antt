@@ -7,6 +7,8 @@ use Rattle.point_values.specs.declared.claims.Judged.{Judged}
 use Rattle.point_values.specs.Known.{fraction_of}
 use Rattle.point_values.specs.Text.{Bytes, value_text}
 
+-- The text of what is shown of a claim: its value, if any, or `zero` where both sides of a relative
+-- claim are 0.
 abbrev pub shown_text : Shown → Bytes
 shown_text (shown.Value v) = value_text (fraction_of v)
 shown_text shown.Zero = codes "zero"

@@ -23,6 +23,7 @@ abbrev pub with_value : (Fraction → Bool) → Option Fraction → Bool
 with_value f None = false
 with_value f (Some x) = f x
 
+-- Whether the test is true of both values; false where either is missing.
 abbrev pub with_values : (Fraction → Fraction → Bool) → Option Fraction → Option Fraction → Bool
 with_values f None y = false
 with_values f (Some x) None = false
@@ -33,6 +34,7 @@ abbrev pub is_below : Written → Bool → Fraction → Bool
 is_below w true x = not (le_ℚ (written_value w) x)
 is_below w false x = le_ℚ x (written_value w)
 
+-- Whether x lies above the bound, or also on it where the bound isn't strict.
 abbrev pub is_above : Written → Bool → Fraction → Bool
 is_above w true x = not (le_ℚ x (written_value w))
 is_above w false x = le_ℚ (written_value w) x
@@ -42,6 +44,7 @@ abbrev pub is_from : Option Written → Fraction → Bool
 is_from None x = true
 is_from (Some w) x = is_above w false x
 
+-- Whether x isn't above the upper bound; always true where none is written.
 abbrev pub is_to : Option Written → Fraction → Bool
 is_to None x = true
 is_to (Some w) x = is_below w false x

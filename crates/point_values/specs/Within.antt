@@ -12,6 +12,7 @@ use Rattle.script_hints.specs.declared.hint.Hint.{Hint}
 abbrev pub IsWithin : ℕ → ExprId → Type 0
 IsWithin n x = x.0 < n
 
+-- Each expression that the claim names is one of the first n nodes.
 abbrev pub ClaimIsWithin : ℕ → Claim → Type 0
 ClaimIsWithin n (claim.Bounded x lower upper) = IsWithin n x
 ClaimIsWithin n (claim.Asked x) = IsWithin n x
@@ -21,11 +22,14 @@ ClaimIsWithin n (claim.Above x w) = IsWithin n x
 ClaimIsWithin n (claim.Below x w) = IsWithin n x
 ClaimIsWithin n (claim.Multiple x k) = IsWithin n x
 
+-- The expression that the constraint names is one of the first n nodes.
 abbrev pub ConstraintIsWithin : ℕ → Constraint → Type 0
 ConstraintIsWithin n (constraint.NotZero x) = IsWithin n x
 ConstraintIsWithin n (constraint.Below x w strict) = IsWithin n x
 ConstraintIsWithin n (constraint.Above x w strict) = IsWithin n x
 
+-- Both sides of the hint, and the expressions that its constraints name, are among the first n
+-- nodes.
 pub record HintIsWithin (n : ℕ) (h : Hint) : Type 0 where
   pub left : IsWithin n h.left
   pub right : IsWithin n h.right

@@ -23,6 +23,7 @@ constant z = record { polynomial = polynomial.constant z; weight = unsigned_abs 
 abbrev pub atom : ℕ → Side
 atom i = record { polynomial = polynomial.atom i; weight = 1; degree = 1 }
 
+-- The sum of two sides: weights add up, and the degree is the greater of the two.
 abbrev pub sum : Side → Side → Side
 sum p q = record {
   polynomial = polynomial.sum p.polynomial q.polynomial;
@@ -30,6 +31,7 @@ sum p q = record {
   degree = max p.degree q.degree;
 }
 
+-- The side with its sign turned; weight and degree stay.
 abbrev pub negation : Side → Side
 negation p =
     record { polynomial = polynomial.negation p.polynomial; weight = p.weight; degree = p.degree }
@@ -38,6 +40,7 @@ negation p =
 abbrev pub difference : Side → Side → Side
 difference p q = sum p (negation q)
 
+-- The product of two sides: weights are multiplied, and degrees add up.
 abbrev pub product : Side → Side → Side
 product p q = record {
   polynomial = polynomial.product p.polynomial q.polynomial;
@@ -60,6 +63,8 @@ common_divisor_to (suc n) a b =
 abbrev pub literal_top : Literal → ℕ
 literal_top l = (l.num * 2 ^ up l.two) * 10 ^ up l.ten
 
+-- The denominator of a literal before it is reduced: its powers of two and ten with negative
+-- exponents.
 abbrev pub literal_bottom : Literal → ℕ
 literal_bottom l = 2 ^ down l.two * 10 ^ down l.ten
 
@@ -74,27 +79,34 @@ literal_form l = record {
   bottom = constant (pos (literal_bottom l / literal_divisor l));
 }
 
+-- Atom `i`, over 1.
 abbrev pub atom_form : ℕ → Form
 atom_form i = record { top = atom i; bottom = constant (pos 1) }
 
+-- The quotient with its sign turned: the numerator is negated, and the denominator stays.
 abbrev pub negation_form : Form → Form
 negation_form f = record { top = negation f.top; bottom = f.bottom }
 
+-- The sum of two quotients, over the product of their denominators and not reduced.
 abbrev pub sum_form : Form → Form → Form
 sum_form f g = record {
   top = sum (product f.top g.bottom) (product g.top f.bottom);
   bottom = product f.bottom g.bottom;
 }
 
+-- The difference of two quotients, over the product of their denominators and not reduced.
 abbrev pub difference_form : Form → Form → Form
 difference_form f g = record {
   top = difference (product f.top g.bottom) (product g.top f.bottom);
   bottom = product f.bottom g.bottom;
 }
 
+-- The product of two quotients, numerator by numerator and denominator by denominator, not reduced.
 abbrev pub product_form : Form → Form → Form
 product_form f g = record { top = product f.top g.top; bottom = product f.bottom g.bottom }
 
+-- The first quotient times the second turned upside down, not reduced; a divisor that is zero isn't
+-- told apart.
 abbrev pub quotient_form : Form → Form → Form
 quotient_form f g = record { top = product f.top g.bottom; bottom = product f.bottom g.top }
 

@@ -38,6 +38,7 @@ constant_side width n = record {
   degree = 0;
 }
 
+-- The atom at this place as a row of `width` powers; it weighs 1, and has degree 1.
 abbrev pub atom_side : ℕ → ℕ → Side
 atom_side width place = record {
   polynomial = record { coefficient = pos 1; monomial = unit_row width place } ∷ [];

@@ -32,6 +32,7 @@ pub data IsPart (nodes : List Node) (x : ExprId) : ExprId → Type 0 where
 abbrev pub IsTooLarge : Side → Type 0
 IsTooLarge p = (2 ^ 127 ≤ p.weight) ⊎ (4096 < p.degree) ⊎ (256 < term_count p.polynomial)
 
+-- The numerator or the denominator passes a limit.
 abbrev pub HasTooLarge : Form → Type 0
 HasTooLarge f = IsTooLarge f.top ⊎ IsTooLarge f.bottom
 
@@ -39,6 +40,7 @@ HasTooLarge f = IsTooLarge f.top ⊎ IsTooLarge f.bottom
 abbrev pub left_product : List Node → ExprId → ExprId → Side
 left_product nodes a b = product (form nodes a).top (form nodes b).bottom
 
+-- The numerator of `b` times the denominator of `a`.
 abbrev pub right_product : List Node → ExprId → ExprId → Side
 right_product nodes a b = product (form nodes b).top (form nodes a).bottom
 

@@ -35,10 +35,13 @@ spread (false ∷ bs) row = with_power 0 (spread bs row)
 spread (true ∷ bs) [] = []
 spread (true ∷ bs) (k ∷ row) = with_power k (spread bs row)
 
+-- The polynomial over all nodes that one over rows stands for: each power goes to the place of its
+-- atom.
 abbrev pub spread_polynomial : List Bool → Polynomial → Polynomial
 spread_polynomial bs p =
     map (λ t. record { coefficient = t.coefficient; monomial = spread bs t.monomial }) p
 
+-- The same for a side, whose weight and degree stay.
 abbrev pub spread_side : List Bool → Side → Side
 spread_side bs s =
     record { polynomial = spread_polynomial bs s.polynomial; weight = s.weight; degree = s.degree }
@@ -47,5 +50,6 @@ spread_side bs s =
 abbrev pub zero_row : ℕ → List ℕ
 zero_row width = replicate width 0
 
+-- The row of the atom at this place alone: power 1 there, and 0 elsewhere.
 abbrev pub unit_row : ℕ → ℕ → List ℕ
 unit_row width place = slice_set (zero_row width) place 1

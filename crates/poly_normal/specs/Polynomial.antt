@@ -52,18 +52,23 @@ occurs p m = not (unsigned_abs (coefficient_of p m) == 0)
 abbrev pub term_count : Polynomial → ℕ
 term_count p = distinct_count same_monomial (filter (occurs p) (map (λ t. t.monomial) p))
 
+-- The whole number as a polynomial: one term without atoms, also where it is zero.
 abbrev pub constant : ℤ → Polynomial
 constant z = record { coefficient = z; monomial = [] } ∷ []
 
+-- The atom with number `i` as a polynomial: one term, with coefficient 1.
 abbrev pub atom : ℕ → Polynomial
 atom i = record { coefficient = pos 1; monomial = atom_monomial i } ∷ []
 
+-- The terms of both, one list behind the other; like terms aren't joined.
 abbrev pub sum : Polynomial → Polynomial → Polynomial
 sum p q = p ++ q
 
+-- The same terms, each with its coefficient negated.
 abbrev pub negation : Polynomial → Polynomial
 negation p = map (λ t. record { coefficient = neg_ℤ t.coefficient; monomial = t.monomial }) p
 
+-- The product of two terms: coefficients are multiplied, and powers add up.
 abbrev pub term_product : Term → Term → Term
 term_product s t = record {
   coefficient = s.coefficient *ℤ t.coefficient;

@@ -28,10 +28,12 @@ abbrev pub IsKnown : ℕ → Option Quotient → Type 0
 IsKnown width None = ⊥
 IsKnown width (Some q) = HasRows width q
 
+-- The fraction of two whole numbers, over rows of `width` powers.
 abbrev pub constant_form : ℕ → ℕ → ℕ → Form
 constant_form width top bottom =
     record { top = constant_side width top; bottom = constant_side width bottom }
 
+-- The atom at this place over 1, in rows of `width` powers.
 abbrev pub atom_row_form : ℕ → ℕ → Form
 atom_row_form width place = record { top = atom_side width place; bottom = constant_side width 1 }
 

@@ -10,6 +10,7 @@ use Rattle.poly_normal.specs.declared.literals.Ratio.{Ratio}
 abbrev pub IsPlain : Literal → Type 0
 IsPlain l = ((l.two ≡ pos 0) × (negsuc 37 ≤ℤ l.ten)) ⊎ ((l.ten ≡ pos 0) × (l.num % 2 ≢ 0))
 
+-- A node that is a literal has a plain one; nothing is asked of other nodes.
 abbrev pub IsPlainNode : Node → Type 0
 IsPlainNode (Lit l) = IsPlain l
 IsPlainNode n = ⊤
@@ -22,6 +23,7 @@ ArePlain nodes = (i : ℕ) (n : Node) → i < length nodes → IsPlainNode (slic
 abbrev pub reduced_top : Literal → ℕ
 reduced_top l = literal_top l / literal_divisor l
 
+-- The denominator of the literal once it is reduced.
 abbrev pub reduced_bottom : Literal → ℕ
 reduced_bottom l = literal_bottom l / literal_divisor l
 

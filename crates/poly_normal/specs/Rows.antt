@@ -40,6 +40,7 @@ size_of (t ∷ p) = unsigned_abs t.coefficient + size_of p
 abbrev pub IsRow : ℕ → ℕ → Monomial → Type 0
 IsRow width degree m = (length m ≡ width) × AllByRecursion (λ k. k ≤ degree) m
 
+-- The monomial of each term has `width` powers, none above `degree`.
 abbrev pub AllRows : ℕ → ℕ → Polynomial → Type 0
 AllRows width degree p = AllByRecursion (λ t. IsRow width degree t.monomial) p
 

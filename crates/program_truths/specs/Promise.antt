@@ -46,6 +46,8 @@ abbrev pub hypothesis_names : List Input → List Name
 hypothesis_names [] = []
 hypothesis_names (x ∷ xs) = x.name ∷ (x.name ∷ hypothesis_names xs)
 
+-- The names that the goals are about, in their order: those of all steps, then those of the
+-- outputs.
 abbrev pub goal_names : Program → List Name
 goal_names p = map (λ x. x.name) p.steps ++ outputs p
 

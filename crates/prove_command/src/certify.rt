@@ -20,8 +20,8 @@ use std::alloc::{AllocError, Global};
 use std::sync::Wait;
 use std::thread::Threads;
 
-// What came of a text: the status and all lines, and whether the writing of its certificate came to
-// its end.
+/// What came of a text: the status and all lines, and whether the writing of its certificate came
+/// to its end.
 #[derive(Drop)]
 pub struct Certified {
     pub status: Status,

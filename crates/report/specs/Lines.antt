@@ -11,6 +11,7 @@ use Rattle.script_grammar.specs.script_judge.declared.refusal.RefusalKind.{Refus
 use Rattle.script_grammar.specs.script_judge.declared.refusal.RefusalKind.TheVariants as kind
 use Rattle.script_grammar.specs.script_judge.declared.refusal.Refusal.{Refusal}
 
+-- Text as it is read or printed, byte by byte.
 abbrev pub Bytes : Type 0
 Bytes = List ℕ
 
@@ -24,6 +25,7 @@ token_text text t = slice_range text t.start t.end
 abbrev pub joined : Bytes → List Token → Bytes
 joined text tokens = join_by (token_text text) (codes " ") tokens
 
+-- An interval as answers print it: its two ends in brackets, with a comma between.
 abbrev pub interval_text : Interval → Bytes
 interval_text i = codes "[" ++ end_text i.lo ++ codes ", " ++ end_text i.hi ++ codes "]"
 
@@ -56,6 +58,8 @@ kind_text kind.BadSplit = codes "BadSplit"
 kind_text kind.LiteralLimit = codes "LiteralLimit"
 kind_text (kind.Limit k) = codes "Limit(" ++ limit_text k ++ codes ")"
 
+-- What is printed of a script that is refused: the kind of its fault, and at which byte, counted
+-- from 0.
 abbrev pub refusal_line : Refusal → Bytes
 refusal_line r = codes "script: " ++ kind_text r.kind ++ codes " at " ++ decimal r.at ++ codes "\n"
 

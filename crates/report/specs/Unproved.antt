@@ -11,6 +11,7 @@ use Rattle.box_tree.specs.Regions.{PlanParts}
 use Rattle.box_tree.specs.Plans.{range_at}
 use Rattle.report.specs.Lines.{Bytes, interval_text}
 
+-- A variable's name as it is printed: nothing at all where it has none.
 abbrev pub name_or_empty : Option Name → Bytes
 name_or_empty (Some name) = name
 name_or_empty None = []

@@ -15,12 +15,15 @@ use Rattle.rounding.specs.declared.sign.Sign.TheVariants.{Unknown, NotNegative, 
 abbrev pub leftward : Fraction → Range
 leftward u = record { low = At (neg_ℚ u); high = At zero_ℚ }
 
+-- The errors of a rounding that moves a number at most u up, and never down.
 abbrev pub rightward : Fraction → Range
 rightward u = record { low = At zero_ℚ; high = At u }
 
+-- The errors of a rounding that moves a number at most u, up or down.
 abbrev pub sideward : Fraction → Range
 sideward u = record { low = At (neg_ℚ u); high = At u }
 
+-- The only error of a rounding that leaves a number as it is, which is 0.
 abbrev pub nowhere : Range
 nowhere = record { low = At zero_ℚ; high = At zero_ℚ }
 
@@ -51,6 +54,7 @@ signed_errors Zero Zr u h = nowhere
 signed_errors Zero Aw u h = nowhere
 signed_errors Zero d u h = errors d u h
 
+-- Half the unit 2^l, the most that a rounding to nearest moves a number.
 abbrev pub half_of : ℤ → Fraction
 half_of l = two_to (l +ℤ negsuc 0)
 
@@ -66,6 +70,7 @@ HasSign NotNegative x = zero_ℚ ≤ℚ x
 HasSign NotPositive x = x ≤ℚ zero_ℚ
 HasSign Zero x = x ≡ zero_ℚ
 
+-- The number is a whole multiple of 2^k where k is known; where none is, any number will do.
 abbrev pub HasPlace : Option ℤ → Fraction → Type 0
 HasPlace None x = ⊤
 HasPlace (Some k) x = IsMultiple k x

@@ -5,6 +5,7 @@ use Rattle.rounding.specs.declared.bounds.Span.{Span}
 use Rattle.rounding.specs.declared.bounds.Span.TheVariants.{Nowhere, Leftward, Rightward, Sideward, Near}
 use Rattle.rounding.specs.Errors.{leftward, rightward, sideward, nowhere}
 
+-- The errors that a side stands for, where u is the unit and h half of it.
 abbrev pub spanned : Span → Fraction → Fraction → Range
 spanned Nowhere u h = nowhere
 spanned Leftward u h = leftward u

@@ -9,7 +9,7 @@ ghost use Rattle.rounding.specs.Chosen.{AreNeighbours, chosen};
 
 use interval::Direction;
 
-// The whole numbers next to a number: below and above it, and the nearest, which differ at a tie.
+/// The whole numbers that roundings of a number may take, whatever their direction.
 #[derive(Clone, Copy)]
 pub struct Neighbours {
     pub floor: i64,
@@ -38,7 +38,7 @@ fn near_high_of(m: i64, places: u32) -> i64
 }
 
 impl Neighbours {
-    // Those of m / 2^places.
+    /// The neighbours of `m / 2^places`, for `m` below 2^60 in size and `places` above 0.
     pub fn of(m: i64, places: u32) -> Neighbours
         requires size { unsigned_abs m < 1152921504606846976 }
         requires places { 0 < places }
@@ -52,7 +52,7 @@ impl Neighbours {
         }
     }
 
-    // The one that a direction takes.
+    /// The neighbour that a rounding in this direction takes, also at a tie.
     pub fn chosen(self, dir: Direction) -> i64
         ensures { result ≡ chosen dir self }
     {

@@ -6,7 +6,7 @@ ghost use Rattle.interval.specs.dyadic.Values.{value_of};
 
 use interval::Dyadic;
 
-// The number m * 2^place.
+/// The number `m * 2^place`, which has to be on the grid.
 pub fn number(m: i64, place: i32) -> Dyadic
     requires { IsOnGrid (scaled m place) }
     ensures { value_of result ≡ scaled m place }
@@ -17,7 +17,7 @@ pub fn number(m: i64, place: i32) -> Dyadic
     }
 }
 
-// 2^place.
+/// The number `2^place`, for a place from -512 to 512.
 pub fn power(place: i32) -> Dyadic
     requires low { negsuc 511 ≤ℤ place }
     requires high { place ≤ℤ pos 512 }

@@ -20,7 +20,7 @@ pub fn round_grid(r: Rounding, x: Dyadic) -> Dyadic
     number(Neighbours::of(x.mantissa(), places).chosen(r.dir), lsb)
 }
 
-// How far a place is below another.
+/// By how many places `place` lies below `lsb`; it has to be below it, so this is above 0.
 pub fn places_below(place: i32, lsb: i32) -> u32
     requires low { negsuc 511 ≤ℤ place }
     requires high { lsb ≤ℤ pos 512 }

@@ -35,6 +35,8 @@ abbrev pub error_rules : ExprId → ExprId → Bool → List Instance
 error_rules x a sided = (rule 42 (Bnd a ∷ []) (Bnd x) ∷ rule 44 (Fix a ∷ []) (Bnd x) ∷ [])
     ++ given sided (rule 43 (Bnd a ∷ []) (Bnd x))
 
+-- What the difference `x` of the node `m` and `a` gives where `m` is a rounding of `a`; nothing
+-- elsewhere.
 abbrev pub at_error : ExprId → Node → ExprId → List Instance
 at_error x (node.Round r e) a = if is_same e a then error_rules x a (is_sided r.dir) else []
 at_error x _ a = []
@@ -57,6 +59,8 @@ abbrev pub past_left : List Node → ExprId → ExprId → ExprId → ExprId →
 past_left nodes x a c b = both_found (place_of nodes (node.Sub a b)) (place_of nodes (node.Sub b c))
     (λ p q. rule 75 (Bnd p ∷ Bnd q ∷ []) (Bnd x) ∷ [])
 
+-- What the difference `x` of `a` and `c` gives from `a - b` and `c - b`, where both are among the
+-- nodes.
 abbrev pub past_right : List Node → ExprId → ExprId → ExprId → ExprId → List Instance
 past_right nodes x a c b = both_found (place_of nodes (node.Sub a b))
     (place_of nodes (node.Sub c b)) (λ p q. rule 76 (Bnd p ∷ Bnd q ∷ []) (Bnd x) ∷ [])
@@ -76,6 +80,8 @@ abbrev pub difference_rules : ExprId → ExprId → ExprId → List Instance
 difference_rules x y d =
     rule 52 (Bnd d ∷ Bnd y ∷ []) (Rel x y) ∷ rule 53 (Rel x y ∷ Bnd y ∷ []) (Bnd d) ∷ []
 
+-- What the pair's difference `d` gives about each side from the other; nothing for an expression
+-- paired with itself.
 abbrev pub apart_rules : ExprId → ExprId → Bool → ExprId → List Instance
 apart_rules x y true d = []
 apart_rules x y false d =

@@ -18,6 +18,7 @@ abbrev pub each_at : {A : Type 0} → (ℕ → A → List Instance) → ℕ → 
 each_at f k [] = []
 each_at f k (x ∷ xs) = f k x ++ each_at f (k + 1) xs
 
+-- The id of expression number k.
 abbrev pub id_at : ℕ → ExprId
 id_at k = record { 0 = k }
 
@@ -34,6 +35,7 @@ abbrev pub past_of : List Pair → ExprId → ExprId → ℕ → ExprId → List
 past_of pairs x y k c = past_pair pairs x y c
 
 module _ (nodes : List Node) where
+  -- The node of an expression; a variable stands in where there is none.
   abbrev pub node_of : ExprId → Node
   node_of x = slice_index_or nodes x.0 (node.Var 0)
 
@@ -41,6 +43,8 @@ module _ (nodes : List Node) where
   abbrev pub one_left : ExprId → ExprId → ExprId → ℕ → ExprId → List Instance
   one_left x a c k b = if apart a b c then past_left nodes x a c b else []
 
+  -- What the difference `x` of `a` and `c` gives past `b`, with which `c` is paired, where the
+  -- three differ.
   abbrev pub one_right : ExprId → ExprId → ExprId → ℕ → ExprId → List Instance
   one_right x a c k b = if apart a b c then past_right nodes x a c b else []
 

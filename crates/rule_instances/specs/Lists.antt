@@ -17,14 +17,20 @@ abbrev pub any_sizes : ExprId → List Instance
 any_sizes x = rule 11 (Bnd x ∷ []) (Abs x) ∷ rule 12 (Abs x ∷ []) (Bnd x)
     ∷ rule 13 (Bnd x ∷ Abs x ∷ []) (Bnd x) ∷ []
 
+-- The instances on multiples that any expression gives: from its bounds, back to its bounds, and to
+-- a contradiction.
 abbrev pub any_multiples : ExprId → List Instance
 any_multiples x = rule 27 (Bnd x ∷ []) (Fix x) ∷ rule 28 (Bnd x ∷ Fix x ∷ []) (Bnd x)
     ∷ rule 90 (Bnd x ∷ Fix x ∷ []) Void ∷ []
 
+-- The instances on being other than 0 that any expression gives: from its bounds or its size, and
+-- to a contradiction.
 abbrev pub any_nonzero : ExprId → List Instance
 any_nonzero x = rule 31 (Bnd x ∷ []) (Nzr x) ∷ rule 32 (Abs x ∷ []) (Nzr x)
     ∷ rule 91 (Bnd x ∷ Nzr x ∷ []) Void ∷ []
 
+-- All instances that an expression gives whatever its node is: on sizes, on multiples and on being
+-- other than 0.
 abbrev pub at_any : ExprId → List Instance
 at_any x = any_sizes x ++ (any_multiples x ++ any_nonzero x)
 
@@ -33,10 +39,12 @@ abbrev pub difference_rules : ExprId → ExprId → ExprId → List Instance
 difference_rules x a b = rule 4 (Bnd a ∷ Bnd b ∷ []) (Bnd x) ∷ rule 19 (Abs a ∷ Abs b ∷ []) (Abs x)
     ∷ rule 23 (Fix a ∷ Fix b ∷ []) (Fix x) ∷ []
 
+-- What the product `x` of `a` and `b` gives, be the operands one expression or two.
 abbrev pub product_rules : ExprId → ExprId → ExprId → List Instance
 product_rules x a b = rule 6 (Bnd a ∷ Bnd b ∷ []) (Bnd x) ∷ rule 17 (Abs a ∷ Abs b ∷ []) (Abs x)
     ∷ rule 24 (Fix a ∷ Fix b ∷ []) (Fix x) ∷ rule 33 (Nzr a ∷ Nzr b ∷ []) (Nzr x) ∷ []
 
+-- What the quotient `x` of `a` by `b` gives, be the operands one expression or two.
 abbrev pub quotient_rules : ExprId → ExprId → ExprId → List Instance
 quotient_rules x a b = rule 8 (Bnd a ∷ Bnd b ∷ []) (Bnd x) ∷ rule 9 (Bnd a ∷ Nzr b ∷ []) (Bnd x)
     ∷ rule 18 (Abs a ∷ Abs b ∷ []) (Abs x) ∷ rule 34 (Nzr a ∷ Nzr b ∷ []) (Nzr x) ∷ []

@@ -26,7 +26,7 @@ fn add_node(rows: &mut Rows, x: ExprId, node: Node) -> Result<(), AllocError>
     add_operation(rows, x, node)
 }
 
-// Adds those of all expressions.
+/// Adds the instances that each expression has by itself, in the order of their numbers.
 pub fn add_nodes(rows: &mut Rows, nodes: &Dag) -> Result<(), AllocError>
     ensures { OnOk result (rows.new ≡ rows.old ++ each_at of_node 0 nodes.now) }
 {

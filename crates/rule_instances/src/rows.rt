@@ -9,7 +9,7 @@ use fx_edge::Items;
 use std::alloc::{AllocError, Global};
 use std::marker::Model;
 
-// The instances so far.
+/// The instances so far, in the order in which they were added.
 #[derive(Drop)]
 pub struct Rows {
     alloc: Global,
@@ -26,6 +26,7 @@ impl Model for Rows {
 }
 
 impl Rows {
+    /// No instances.
     pub fn new(alloc: Global) -> Rows
         ensures { result ≡ [] }
     {
@@ -35,12 +36,12 @@ impl Rows {
         }
     }
 
-    // Where memory comes from.
+    /// Where memory comes from.
     pub fn alloc(&self) -> Global {
         self.alloc
     }
 
-    // Adds one of a rewriting hint, whose number this is.
+    /// Adds an instance of the rewriting hint with this number.
     pub fn add_rewriting(
         &mut self,
         number: u16,
@@ -64,6 +65,7 @@ impl Rows {
         Ok(())
     }
 
+    /// The instances, in the order in which they were added.
     pub fn into_vec(self) -> Vec<Instance>
         ensures { result.items ≡ self }
     {
@@ -71,7 +73,7 @@ impl Rows {
         list
     }
 
-    // Adds one.
+    /// Adds an instance of the rule with this number.
     pub fn add(&mut self, number: u8, premises: &[Slot], target: Slot) -> Result<(), AllocError>
         ensures { OnOk result (self.new ≡ self.old ++ (rule number premises.now target ∷ [])) }
     {
@@ -85,7 +87,7 @@ impl Rows {
         Ok(())
     }
 
-    // Adds one, where the test holds.
+    /// Adds an instance of the rule with this number, where the test holds.
     pub fn add_if(
         &mut self,
         test: bool,

@@ -28,14 +28,14 @@ const DIV: u16 = 6;
 
 const RND: u16 = 7;
 
-// Ends from here on, on both sides, are infinite.
+/// Ends from here on, on both sides, are infinite.
 pub const INF: i64 = 100;
 
 pub use Given::{No, One, Two};
 pub use Said::{A, B, Equal, F, N, Near, Nil, V};
 
-// A fact with whole ends, or nothing. `Near` is a relative error from 0 to 1, `Equal` that both
-// sides are 0.
+/// A fact with whole ends, or nothing. `Near` is a relative error from 0 to 1, `Equal` that both
+/// sides are 0.
 #[derive(Clone, Copy)]
 pub enum Said {
     B(u16, i64, i64),
@@ -48,7 +48,7 @@ pub enum Said {
     Nil,
 }
 
-// Premises.
+/// The premises of a row: none, one or two.
 #[derive(Clone, Copy)]
 pub enum Given {
     No,
@@ -146,10 +146,12 @@ fn found(rt: &impl Abort, dag: &Dag, number: u8, given: Given, target: Slot) -> 
     }
 }
 
+/// The slot of the bounds of expression `x`.
 pub fn bnd(x: u16) -> Slot {
     Slot::Bnd(ExprId(x))
 }
 
+/// The slot of what expression `x` is a multiple of.
 pub fn fix(x: u16) -> Slot {
     Slot::Fix(ExprId(x))
 }
@@ -158,6 +160,8 @@ fn nzr(x: u16) -> Slot {
     Slot::Nzr(ExprId(x))
 }
 
+/// Tries each row: the rule with this number, from these premises and at this target, gives what is
+/// said.
 pub fn try_rows(rt: &impl Abort, dag: &Dag, rows: &[(u8, Given, Slot, Said)]) {
     for (number, given, target, wanted) in rows {
         let given = found(rt, dag, *number, *given, *target);

@@ -16,6 +16,7 @@ pub record AreUpTo (k : ℕ) (row : List ℕ) : Type 0 where
   pub rising : AreRising row
   pub most : (j : ℕ) → Has row j → j ≤ k
 
+-- Each row is rising and has no instance number above k.
 abbrev pub RowsUpTo : ℕ → List (List ℕ) → Type 0
 RowsUpTo k rows = (p : ℕ) (row : List ℕ) → slice_get rows p ≡ Some row → AreUpTo k row
 

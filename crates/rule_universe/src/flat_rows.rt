@@ -38,8 +38,8 @@ fn part<T>(items: &[T], start: usize, end: usize) -> &[T]
 }
 
 impl<T> FlatRows<T> {
-    // The rows of these elements that begin at these numbers, of which the last is where the last
-    // row ends.
+    /// The rows of these elements that begin at these numbers, of which the last is where the last
+    /// row ends.
     pub fn from_parts(starts: Vec<u32>, items: Vec<T>) -> FlatRows<T>
         requires { IsFlat (length items.items) starts.items }
         ensures { result ≡ rows_in items.items starts.items }
@@ -65,7 +65,7 @@ impl<T> FlatRows<T> {
     }
 }
 
-// Ends a row behind so many elements.
+/// Ends a row behind `count` elements in all. It fails past 2^32 - 1 elements or without memory.
 pub fn end_row(starts: &mut Vec<u32>, count: usize) -> Result<(), AllocError>
     ensures { OnOk result (starts.new.items ≡ starts.old.items ++ count ∷ []) }
 {
@@ -76,7 +76,7 @@ pub fn end_row(starts: &mut Vec<u32>, count: usize) -> Result<(), AllocError>
     Ok(())
 }
 
-// The same rows, one behind another.
+/// The same rows, one behind another.
 pub fn flat_rows(alloc: Global, rows: &[Vec<u32>]) -> Result<FlatRows<u32>, AllocError>
     ensures { IfOk result (λ flat. flat ≡ map (λ row. row.items) rows.now) }
 {

@@ -21,7 +21,7 @@ pub struct Placed {
     pub place: u16,
 }
 
-// The place of a slot of these nodes and pairs.
+/// The place of a slot that is known to be one of these nodes and pairs.
 pub fn known_place(nodes: &Dag, pairs: &PairIndex, s: Slot) -> u16
     requires few { length pairs.now ≤ 1024 }
     requires slot { IsSlot (length nodes.now) pairs.now s }
@@ -53,7 +53,7 @@ fn add_placed(
     Ok(())
 }
 
-// By instance, its premises with their places.
+/// By instance, its premises with their places.
 pub fn placed_premises(
     alloc: Global,
     nodes: &Dag,
@@ -75,7 +75,7 @@ pub fn placed_premises(
     Ok(FlatRows::from_parts(starts, items))
 }
 
-// By instance, the place of its target.
+/// By instance, the place of its target.
 pub fn target_places(
     alloc: Global,
     nodes: &Dag,

@@ -106,7 +106,7 @@ fn blank_rows(alloc: Global, nodes: &Dag, pairs: &PairIndex) -> Result<Vec<Vec<u
     Ok(rows)
 }
 
-// A row for each place, with the numbers of the instances that have a premise there.
+/// A row for each place, with the numbers of the instances that have a premise there.
 pub fn user_rows(
     alloc: Global,
     nodes: &Dag,

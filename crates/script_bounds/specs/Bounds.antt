@@ -15,6 +15,7 @@ abbrev pub low_of : Option Written → Bound
 low_of None = Below
 low_of (Some w) = At (written_value w)
 
+-- The upper bound exactly as it is written, and open above where none is.
 abbrev pub high_of : Option Written → Bound
 high_of None = Above
 high_of (Some w) = At (written_value w)
@@ -29,6 +30,7 @@ down_end Below = end.Low
 down_end (At x) = (point_of x).lo
 down_end Above = end.High
 
+-- The bound rounded up to the grid, as an end of an interval; an open side stays infinite.
 abbrev pub up_end : Bound → End
 up_end Below = end.Low
 up_end (At x) = (point_of x).hi

@@ -18,6 +18,8 @@ abbrev pub below_of : Written → Bool → End × Bool
 below_of w strict =
     ((point_of (written_value w)).lo, strict && is_point (point_of (written_value w)))
 
+-- At least this end, and above it where the flag is true: where the bound is strict and a number of
+-- the grid.
 abbrev pub above_of : Written → Bool → End × Bool
 above_of w strict =
     ((point_of (written_value w)).hi, strict && is_point (point_of (written_value w)))

@@ -13,6 +13,7 @@ use Rattle.cert_checker.specs.declared.subject.Subject.{Subject}
 abbrev pub goal_of : Claim → Goal
 goal_of c = record { of = slot_of c; want = want_of c }
 
+-- The facts with one more before them, where a hypothesis gives one.
 abbrev pub with_fact : Option Fact → List Fact → List Fact
 with_fact (Some f) facts = f ∷ facts
 with_fact None facts = facts

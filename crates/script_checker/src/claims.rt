@@ -10,7 +10,7 @@ use rewrite_hints::Fact;
 use script_meets::Claim;
 use std::alloc::{AllocError, Global};
 
-// What the claims want as goals, in their order.
+/// What the claims want as goals, in their order.
 pub fn goals_of(alloc: Global, claims: &[Claim]) -> Result<Vec<Goal>, AllocError>
     requires { AllByRecursion HasNormalBounds claims.now }
     ensures { IfOk result (λ goals. goals.items ≡ map spec.goal_of claims.now) }
@@ -27,7 +27,7 @@ pub fn goals_of(alloc: Global, claims: &[Claim]) -> Result<Vec<Goal>, AllocError
     Ok(goals)
 }
 
-// The facts that the claims give as hypotheses, in their order.
+/// The facts that the claims give as hypotheses, in their order.
 pub fn facts_of(alloc: Global, claims: &[Claim]) -> Result<Vec<Fact>, AllocError>
     requires { AllByRecursion HasNormalBounds claims.now }
     ensures { IfOk result (λ facts. facts.items ≡ spec.facts_of claims.now) }

@@ -22,20 +22,27 @@ at_most_1025 n = if nat_lt n 1025 then n else 1025
 unfoldable pub exponent_size : List ℕ → ℕ
 exponent_size text = at_most_1025 (digits_value 10 text)
 
+-- The exponent that a multiple claim writes, with its sign; one of a size past 1025 counts as 1025
+-- or -1025.
 abbrev pub exponent_of : Whole → ℤ
 exponent_of (natural d) = pos (exponent_size (digits_text d))
 exponent_of (opposite d) = neg_ℤ (pos (exponent_size (digits_text d)))
 
 -- ---- propositions
 
+-- The claim that an expression lies in the range, or the question for its range where `?` stands
+-- there.
 abbrev pub ranged : Range → ExprId → Claim
 ranged asked x = Asked x
 ranged (between a b) x = Bounded x (Some (bound_written a)) (Some (bound_written b))
 
+-- The claim that an expression's relative error against another lies in the range, or the question
+-- for it where `?` stands there.
 abbrev pub relative : Range → ExprId → ExprId → Claim
 relative asked x y = RelativeAsked x y
 relative (between a b) x y = Relative x y (bound_written a) (bound_written b)
 
+-- The claim about an expression that has been placed among the nodes, with what is known behind it.
 abbrev pub of_value : (ExprId → Claim) → Placed → Known × Claim
 of_value claim p = (p.0, claim p.1)
 
@@ -79,9 +86,12 @@ pub record Sides : Type 0 where
   pub goals : List Claim
   pub parts : Parts Claim
 
+-- The claims before the first proposition: none, in no part.
 abbrev pub no_sides : Sides
 no_sides = record { hypotheses = []; goals = []; parts = nothing }
 
+-- The sides with one claim more, which is a goal until an arrow follows, and which joins the
+-- conjunction in hand.
 abbrev pub with_goal : Sides → Claim → Sides
 with_goal s c = record {
   hypotheses = s.hypotheses;
@@ -106,6 +116,7 @@ pub record Claims : Type 0 where
   pub known : Known
   pub sides : Sides
 
+-- What is known behind a proposition, and the claims with that of the proposition as the last goal.
 abbrev pub then_goal : Sides → Known × Claim → Claims
 then_goal s p = record { known = p.0; sides = with_goal s p.1 }
 
@@ -117,9 +128,12 @@ then_claimed p cs = then_goal cs.sides (stated_claim p cs.known)
 abbrev pub then_or : Claims → Claims
 then_or cs = record { known = cs.known; sides = behind_or_sign cs.sides }
 
+-- The claims behind the arrow of a formula: nothing new is known, and the goals before it have
+-- become hypotheses.
 abbrev pub then_arrow : Claims → Claims
 then_arrow cs = record { known = cs.known; sides = behind_arrow cs.sides }
 
+-- The claims before a formula's first proposition, where this much is known already.
 abbrev pub no_claims : Known → Claims
 no_claims k = record { known = k; sides = no_sides }
 

@@ -39,6 +39,8 @@ rel_of x y (Some e) = Some (fact.Rel x y (Some e))
 abbrev pub relative_fact : ExprId → ExprId → Option Interval → Option Fact
 relative_fact x y i = rel_of x y (error_of_part i)
 
+-- The fact of a hypothesis, bounds rounded outward; none for questions, bounds out of order,
+-- relative bounds reaching -1, and exponents out of range.
 abbrev pub hypothesis_fact : Claim → Option Fact
 hypothesis_fact (Bounded x lower upper) = bnd_of x (outward_of (written_range lower upper))
 hypothesis_fact (Asked x) = None

@@ -24,6 +24,8 @@ sign_behind s.LessEqual x p = AtMost x
 sign_behind s.GreaterEqual x p = AtLeast x
 sign_behind g x p = p
 
+-- What the word between an expression and its bounds makes of the part; a word that is no sign
+-- changes nothing.
 abbrev pub relation_behind : Word → ExprId → Part → Part
 relation_behind (sign g) x p = sign_behind g x p
 relation_behind w x p = p
@@ -39,6 +41,8 @@ questioned (In x) = Made (claim.Asked x)
 questioned (RelativeIn x y) = Made (claim.RelativeAsked x y)
 questioned p = p
 
+-- What the word that opens a range makes of the part: `?` ends it as a question, and others leave
+-- it.
 abbrev pub range_opened : Word → Part → Part
 range_opened (sign s.Ask) p = questioned p
 range_opened w p = p
@@ -73,6 +77,8 @@ magnitude_read (literal k text) p =
     record p { part = bounded (record { literal = literal_of text; negative = p.negative }) p.part }
 magnitude_read w p = p
 
+-- The proposition with the whole number that the literal writes as its exponent, 1025 at most;
+-- another word changes nothing.
 abbrev pub whole_read : Word → Proposition → Proposition
 whole_read (literal k text) p = record p { exponent = pos (exponent_size text) }
 whole_read w p = p

@@ -27,14 +27,18 @@ pub record State : Type 0 where
 abbrev pub state_of : Reading → Sides → State
 state_of r sides = record { reading = r; proposition = nothing_read; sides = sides }
 
+-- The state between propositions with these claims so far, where no expression is begun.
 abbrev pub from_claims : Claims → State
 from_claims cs = state_of (record { known = cs.known; waits = [] }) cs.sides
 
 -- ---- an expression ends, and its number goes to the proposition
 
+-- The proposition with its part changed, and its exponent and its signs kept.
 abbrev pub with_part : (Part → Part) → Proposition → Proposition
 with_part f p = record p { part = f p.part }
 
+-- The state in which the proposition has the number of the expression that ended, if one did; else
+-- nothing changes.
 abbrev pub taken : (ExprId → Part → Part) → State → Option Complete → State
 taken f st (Some c) = record st {
   reading = record { known = c.0.0; waits = c.1 };
@@ -42,6 +46,7 @@ taken f st (Some c) = record st {
 }
 taken f st None = st
 
+-- The state behind the end of the expression in hand, whose number the proposition takes.
 abbrev pub expr_taken : (ExprId → Part → Part) → State → State
 expr_taken f st = taken f st (expr_done None st.reading st.reading.waits)
 
@@ -54,6 +59,8 @@ ended_with st Nothing (Some c) = state_of (record { known = c.0.0; waits = c.1 }
     (with_goal st.sides (stated st.proposition.denied (Multiple c.0.1 st.proposition.exponent)))
 ended_with st p o = state_of st.reading st.sides
 
+-- The state behind the end of the proposition in hand: its claim, where it is whole, is the last
+-- goal, and none is begun.
 abbrev pub ended : State → State
 ended st = ended_with st st.proposition.part (expr_done None st.reading st.reading.waits)
 
@@ -77,6 +84,7 @@ at_role r w st = record st { proposition = proposition_read r w st.proposition }
 unfoldable pub read_claim : Due → Word → State → State
 read_claim r w st = at_role r w (record st { reading = read None r w st.reading })
 
+-- The state behind all these words, read one by one from the left.
 unfoldable pub read_claims : List Leaf → State → State
 read_claims [] st = st
 read_claims (l ∷ ls) st = read_claims ls (read_claim l.role l.word st)

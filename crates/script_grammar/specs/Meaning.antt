@@ -19,6 +19,8 @@ pub record Meaning : Type 0 where
   pub parts : Parts Claim
   pub hints : HintList
 
+-- The meaning of a script whose formula claims this, with what hints say and what is known behind
+-- them.
 abbrev pub with_hints_of : Claims → HintsSoFar → Meaning
 with_hints_of cs s = record {
   known = s.0;
@@ -28,6 +30,7 @@ with_hints_of cs s = record {
   hints = s.1;
 }
 
+-- The meaning of a formula with these claims and of the hints behind it.
 abbrev pub body_meaning : Claims → Hints → Meaning
 body_meaning cs h = with_hints_of cs (with_hints h (cs.known, no_hints))
 
@@ -36,5 +39,6 @@ abbrev pub meaning_from : Script → Known → Meaning
 meaning_from (formula f h) k = body_meaning (formula_claims f k) h
 meaning_from (define x rest) k = meaning_from rest (definition_value x k)
 
+-- What the script says, where nothing is known before its first word.
 abbrev pub meaning_of : Script → Meaning
 meaning_of tree = meaning_from tree nothing_known

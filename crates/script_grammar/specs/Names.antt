@@ -14,6 +14,7 @@ use Rattle.script_grammar.specs.Spells.{View, Spells}
 abbrev pub IsNode : ℕ → ExprId → Type 0
 IsNode n x = x.0 < n
 
+-- Both are numbers of n nodes.
 abbrev pub AreNodes : ℕ → ExprId × ExprId → Type 0
 AreNodes n p = IsNode n p.0 × IsNode n p.1
 
@@ -38,6 +39,8 @@ pub record HintIsOf (n : ℕ) (h : Hint) : Type 0 where
   pub sides : AreNodes n (h.left, h.right)
   pub constraints : AllByRecursion (ConstraintIsOf n) h.constraints
 
+-- Each expression that hints name is one of n nodes: of rewritings, near pairs, cuts, halves and
+-- their order.
 pub record HintsAreOf (n : ℕ) (l : HintList) : Type 0 where
   pub rewrites : AllByRecursion (HintIsOf n) l.rewrites
   pub likes : AllByRecursion (AreNodes n) l.likes

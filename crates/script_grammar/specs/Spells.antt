@@ -30,6 +30,7 @@ pub record View : Type 0 where
   pub spans : List Span
   pub hints : HintList
 
+-- The script of this text with these tokens that says this, and whose goals are at these spans.
 abbrev pub view_of : List ℕ → List Token → Meaning → List Span → View
 view_of text tokens m spans = record {
   text = text;

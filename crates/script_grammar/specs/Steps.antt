@@ -27,6 +27,8 @@ abbrev pub closes_formula : Due → Bool
 closes_formula d.CloseBrace = true
 closes_formula r = false
 
+-- Where the reading stands behind the formula: its claims stay as they are, and no hint has been
+-- read.
 abbrev pub hints_begun : State → Step
 hints_begun st = hinting st.sides (record { reading = st.reading; draft = fresh no_hints })
 
@@ -38,10 +40,12 @@ read_word r w (claiming st) =
     if closes_formula r then hints_begun (read_claim r w st) else claiming (read_claim r w st)
 read_word r w (hinting sides h) = hinting sides (read_hint r w h)
 
+-- What stands behind these words, read one after the other.
 unfoldable pub read_words : List Leaf → Step → Step
 read_words [] st = st
 read_words (l ∷ ls) st = read_words ls (read_word l.role l.word st)
 
+-- Before the first word: in the definitions, and nothing is known.
 abbrev pub start : Step
 start = defining (between nothing_known)
 

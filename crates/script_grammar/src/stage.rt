@@ -14,7 +14,7 @@ use node_counts::{
 };
 use std::alloc::Global;
 
-// Where the reading stands, with what was read.
+/// The stage of a script's reading: in its definitions, in its formula, or in its hints.
 #[derive(Drop)]
 pub enum Stage<'a> {
     Definitions(Definitions<'a>),

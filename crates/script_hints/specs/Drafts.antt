@@ -36,6 +36,7 @@ fresh l = record {
   list = l;
 }
 
+-- the same at this stage
 abbrev pub staged : Draft → Stage → Draft
 staged h t = record h { stage = t }
 
@@ -53,9 +54,11 @@ abbrev pub needs_opened_as : Stage → ExprId → Draft → Draft
 needs_opened_as (stage.Right a) x h = staged h (stage.Sides a x)
 needs_opened_as t x h = h
 
+-- The draft behind a `{`: where `x` is the right side of a rewriting, its constraints come next.
 abbrev pub needs_opened : ExprId → Draft → Draft
 needs_opened x h = needs_opened_as h.stage x h
 
+-- one more constraint, the last
 abbrev pub with_constraint : Draft → Constraint → Draft
 with_constraint h c = record h { constraints = h.constraints ++ (c ∷ []) }
 
@@ -70,6 +73,7 @@ related g x h = h
 
 -- ---- bounds
 
+-- a minus makes the bound that follows negative
 abbrev pub bound_signed : Sign → Draft → Draft
 bound_signed s.Minus h = record h { negative = true }
 bound_signed g h = h
@@ -78,6 +82,8 @@ bound_signed g h = h
 abbrev pub bound_read : Draft → Draft
 bound_read h = record h { bounded = bounded.Point; negative = false }
 
+-- A bound that was read is put to its use: it is a point of a cut, or completes the constraint that
+-- waits for it.
 abbrev pub bounded_as : Bounded → Written → Draft → Draft
 bounded_as bounded.Point w h = record h { points = with_point h.points w }
 bounded_as (bounded.Below x strict) w h = with_constraint h (constraint.Below x w strict)
@@ -93,6 +99,8 @@ with_bound w h = bound_read (bounded_as h.bounded w h)
 abbrev pub cut_begun : Draft → Draft
 cut_begun h = staged h stage.Cuts
 
+-- A variable that was read: a cut goes along it, into four pieces until more is said, or it is one
+-- that is halved.
 abbrev pub with_variable_as : Stage → ExprId → Draft → Draft
 with_variable_as stage.Cuts x h = record h { stage = stage.Pieces x 4; list = ordered h.list x }
 with_variable_as stage.Halves x h = record h { list = halved h.list x }
@@ -102,6 +110,7 @@ with_variable_as t x h = h
 abbrev pub with_split_variable : ExprId → Draft → Draft
 with_split_variable x h = with_variable_as h.stage x h
 
+-- The cut goes into this many pieces, 64 at most; at another stage nothing changes.
 abbrev pub cut_into_as : Stage → ℕ → Draft → Draft
 cut_into_as (stage.Pieces x m) n h = staged h (stage.Pieces x (piece_count n))
 cut_into_as t n h = h
@@ -110,6 +119,8 @@ cut_into_as t n h = h
 abbrev pub cut_into : ℕ → Draft → Draft
 cut_into n h = cut_into_as h.stage n h
 
+-- From here the points of a cut are read, in place of its number of pieces; at another stage
+-- nothing changes.
 abbrev pub points_begun_as : Stage → Draft → Draft
 points_begun_as (stage.Pieces x m) h = staged h (stage.Points x)
 points_begun_as t h = h
@@ -120,13 +131,17 @@ points_begun h = points_begun_as h.stage h
 
 -- ---- the end of a hint
 
+-- One more rewriting of `x` to `y` with its constraints, the last.
 abbrev pub rewriting_added : ExprId → ExprId → List Constraint → HintList → HintList
 rewriting_added x y cs l =
     record l { rewrites = l.rewrites ++ (record { left = x; right = y; constraints = cs } ∷ []) }
 
+-- one more likeness, the last
 abbrev pub like_added : ExprId → ExprId → HintList → HintList
 like_added x y l = record l { likes = l.likes ++ ((x, y) ∷ []) }
 
+-- The hints with the one that ends here, whose last expression is `x`; halved variables were added
+-- when they were read.
 abbrev pub added_as : Stage → ExprId → Draft → HintList
 added_as stage.Front x h = h.list
 added_as (stage.Right a) x h = rewriting_added a x h.constraints h.list

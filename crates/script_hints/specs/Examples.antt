@@ -9,21 +9,27 @@ use Rattle.script_hints.specs.declared.hint.Constraint.TheVariants as constraint
 use Rattle.script_hints.specs.declared.hint.Cutting.TheVariants as cutting
 use Rattle.script_hints.specs.Hints.{HintsSoFar, no_hints, with_hints}
 
+-- The text as a plain name, as splits and halvings write it.
 abbrev pub name_of : Name → AnyName
 name_of text = plain spelled.Plain text
 
+-- The expression that is the variable with this name alone.
 abbrev pub expression_of : Name → Expr
 expression_of text = term (factor (atom (variable spelled.Plain text)))
 
+-- The expression with number `n` in the list of nodes.
 abbrev pub number : ℕ → ExprId
 number n = record { 0 = n }
 
+-- The name of the variable `x`.
 abbrev pub x : Name
 x = codes "x"
 
+-- The name of the variable `y`.
 abbrev pub y : Name
 y = codes "y"
 
+-- The names `x` and `y`, in this order.
 abbrev pub two_variables : List Name
 two_variables = x ∷ (y ∷ [])
 

@@ -10,5 +10,6 @@ abbrev pub HasFewPieces : Cutting → Type 0
 HasFewPieces (cutting.Pieces n) = n ≤ 64
 HasFewPieces (cutting.Points points) = length points ≤ 63
 
+-- each cut has 64 pieces at most
 abbrev pub HaveFewPieces : List Split → Type 0
 HaveFewPieces cuts = AllByRecursion (λ c. HasFewPieces c.cut) cuts

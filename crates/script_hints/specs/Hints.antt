@@ -27,9 +27,12 @@ use Rattle.script_hints.specs.declared.hint.HintList.{HintList}
 abbrev pub NeedsSoFar : Type 0
 NeedsSoFar = Known × List Constraint
 
+-- one more need: the constraint f of the expression, the last
 abbrev pub one_more : (ExprId → Constraint) → Placed → List Constraint → NeedsSoFar
 one_more f p ns = (p.0, ns ++ (f p.1 ∷ []))
 
+-- One more need as a constraint, the last, with the nodes of its expression; its bound stays as it
+-- is written.
 abbrev pub with_need : Need → NeedsSoFar → NeedsSoFar
 with_need (nonzero e zero_text) s = one_more constraint.NotZero (expr_value None e s.0) s.1
 with_need (below e b) s =
@@ -41,10 +44,12 @@ with_need (above e b) s =
 with_need (not_below e b) s =
     one_more (λ x. constraint.Above x (bound_written b) false) (expr_value None e s.0) s.1
 
+-- the needs of the list, in order
 abbrev pub with_need_list : NeedList → NeedsSoFar → NeedsSoFar
 with_need_list (last_need n) s = with_need n s
 with_need_list (more_needs n l) s = with_need_list l (with_need n s)
 
+-- the needs of a rewriting; none where it has none
 abbrev pub needs_value : Needs → Known → NeedsSoFar
 needs_value always k = (k, [])
 needs_value (provided l) k = with_need_list l (k, [])
@@ -58,9 +63,12 @@ with_end ps end.Low = ps
 with_end ps (end.At x) = ps ++ (x ∷ [])
 with_end ps end.High = ps
 
+-- One more point: the bound rounded down to the grid, or none where no number of the grid is that
+-- low.
 abbrev pub with_point : List Dyadic → Written → List Dyadic
 with_point ps w = with_end ps (point_of (written_value w)).lo
 
+-- The points so far and those of the list, in the order of writing.
 abbrev pub with_points : Points → List Dyadic → List Dyadic
 with_points (last_point b) ps = with_point ps (bound_written b)
 with_points (more_points b l) ps = with_points l (with_point ps (bound_written b))
@@ -69,6 +77,7 @@ with_points (more_points b l) ps = with_points l (with_point ps (bound_written b
 abbrev pub piece_count : ℕ → ℕ
 piece_count n = if nat_lt n 64 then n else 64
 
+-- four pieces where none is asked for, so many pieces, or the points
 abbrev pub cutting_of : Cut → Cutting
 cutting_of in_four = cutting.Pieces 4
 cutting_of (pieces n) = cutting.Pieces (piece_count (number_of (digits_text n)))
@@ -76,6 +85,7 @@ cutting_of (at_points l) = cutting.Points (with_points l [])
 
 -- ---- split variables
 
+-- whether they are one expression
 abbrev pub same_number : ExprId → ExprId → Bool
 same_number x y = x.0 == y.0
 
@@ -87,39 +97,51 @@ with_variable xs x = if list_any (same_number x) xs then xs else xs ++ (x ∷ []
 abbrev pub HintsSoFar : Type 0
 HintsSoFar = Known × HintList
 
+-- The variable is noted in the order of split variables, unless it is there already.
 abbrev pub ordered : HintList → ExprId → HintList
 ordered l x = record l { order = with_variable l.order x }
 
+-- The variable is halved and noted in the order of split variables; each list has it once, at its
+-- first place.
 abbrev pub halved : HintList → ExprId → HintList
 halved l x = record l { halves = with_variable l.halves x; order = with_variable l.order x }
 
+-- one more variable is halved, with what is known behind it
 abbrev pub halved_at : Placed → HintList → HintsSoFar
 halved_at p l = (p.0, halved l p.1)
 
+-- One more variable is halved, found by its name; a name that has a value stands for that.
 abbrev pub with_halved : AnyName → HintsSoFar → HintsSoFar
 with_halved n s = halved_at (named s.0 (name_text n)) s.1
 
+-- All variables of the list are halved, in the order of writing.
 abbrev pub with_names : Names → HintsSoFar → HintsSoFar
 with_names (last_name n) s = with_halved n s
 with_names (more_names n l) s = with_names l (with_halved n s)
 
 -- ---- hints
 
+-- One more rewriting of `x` to `y` with these constraints, the last, and what is known behind them.
 abbrev pub rewrites_to : ExprId → ExprId → NeedsSoFar → HintList → HintsSoFar
 rewrites_to x y ns l = (
   ns.0,
   record l { rewrites = l.rewrites ++ (record { left = x; right = y; constraints = ns.1 } ∷ []) },
 )
 
+-- One more rewriting of `x` to the placed expression, the last; its needs are read behind both
+-- sides.
 abbrev pub rewrites_left : ExprId → Placed → Needs → HintList → HintsSoFar
 rewrites_left x b n l = rewrites_to x b.1 (needs_value n b.0) l
 
+-- one more likeness of x and b, the last
 abbrev pub likens : ExprId → Placed → HintList → HintsSoFar
 likens x b l = (b.0, record l { likes = l.likes ++ ((x, b.1) ∷ []) })
 
+-- one more cut of x, the last
 abbrev pub with_cut : HintList → ExprId → Cutting → HintList
 with_cut l x c = record l { cuts = l.cuts ++ (record { var = x; cut = c } ∷ []) }
 
+-- One more cut along the placed variable, which is also noted in the order of split variables.
 abbrev pub cuts_along : Placed → Cut → HintList → HintsSoFar
 cuts_along p c l = (p.0, with_cut (ordered l p.1) p.1 (cutting_of c))
 
@@ -128,6 +150,7 @@ abbrev pub with_halving : Halving → HintsSoFar → HintsSoFar
 with_halving (halved_by e n) s = with_names n ((expr_value None e s.0).0, s.1)
 with_halving (with_goal e h) s = with_halving h ((expr_value None e s.0).0, s.1)
 
+-- The hints so far and one more, with the nodes of its expressions, read in the order of writing.
 abbrev pub with_hint : Hint → HintsSoFar → HintsSoFar
 with_hint (rewrite a b n) s =
     rewrites_left (expr_value None a s.0).1 (expr_value None b (expr_value None a s.0).0) n s.1

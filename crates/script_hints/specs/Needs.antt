@@ -14,6 +14,7 @@ HasNormalBound (NotZero x) = ⊤
 HasNormalBound (Below x w strict) = IsWritten (Some w)
 HasNormalBound (Above x w strict) = IsWritten (Some w)
 
+-- the bound of each of the hint's constraints is in normal form
 abbrev pub HasNormalBounds : Hint → Type 0
 HasNormalBounds h = All HasNormalBound h.constraints
 

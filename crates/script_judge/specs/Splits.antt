@@ -20,6 +20,7 @@ pub record Ends : Type 0 where
   pub low : Fraction
   pub high : Fraction
 
+-- A range with two finite ends that a hypothesis gives a variable.
 pub record SplitRange : Type 0 where
   pub variable : Name
   pub ends : Ends
@@ -112,6 +113,8 @@ is_no_split cut before (Some x) = not (splits_at cut before (down_number x))
 
 -- ---- what stands before a token
 
+-- The expression so far, the aliases, the ranges of hypotheses, those of the split variable by
+-- cases, and the point before.
 pub record SplitsSeen : Type 0 where
   pub subject : Subject
   pub aliases : List Alias
@@ -137,6 +140,7 @@ splits_after x ended defined arrow_behind ends number r w = record {
 
 -- ---- what is refused
 
+-- Whether a variable has no range in a case.
 abbrev pub is_none : Option Ends → Bool
 is_none None = true
 is_none (Some ends) = false

@@ -40,6 +40,8 @@ abbrev pub signed_subject : Subject → Sign → Subject
 signed_subject old s.OpenParen = old
 signed_subject old g = other
 
+-- What an expression is behind one more word of an operand: a name may make it a variable's node,
+-- and an open parenthesis changes nothing.
 abbrev pub operand_subject : Subject → List Alias → Bool → Word → Subject
 operand_subject old aliases defined (name k text) = first_name old aliases defined text
 operand_subject old aliases defined (sign g) = signed_subject old g

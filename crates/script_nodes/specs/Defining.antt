@@ -26,17 +26,21 @@ between k = record { name = None; rounds = None; reading = record { known = k; w
 
 -- ---- the name, and what rounds the operations
 
+-- the name that a word gives
 abbrev pub named_by : Word → Option Name
 named_by (name k text) = Some text
 named_by (rounding k text) = Some text
 named_by w = None
 
+-- the same with the word's name
 abbrev pub with_name : Defining → Word → Defining
 with_name p w = record { name = named_by w; rounds = p.rounds; reading = p.reading }
 
+-- the same with this rounding, and this reading
 abbrev pub with_rounds : Defining → Rounding → Reading → Defining
 with_rounds p r reading = record { name = p.name; rounds = Some r; reading = reading }
 
+-- the same with this reading
 abbrev pub with_reading : Defining → Reading → Defining
 with_reading p r = record { name = p.name; rounds = p.rounds; reading = r }
 
@@ -46,6 +50,7 @@ operator_begun (sign s.Fixed) r = then_waits (wait.Operator no_rounding) r
 operator_begun (sign s.Int) r = then_waits (wait.Operator no_rounding) r
 operator_begun w r = r
 
+-- a named operator rounds the operations; the word of a written one begins it
 abbrev pub defined_by : Defining → Word → Defining
 defined_by p (rounding k text) = with_rounds p (operator_named p.reading.known text) p.reading
 defined_by p w = with_reading p (operator_begun w p.reading)
@@ -58,6 +63,7 @@ operator_closed p ws = p
 
 -- ---- the end
 
+-- the name gets the finished expression's value, where there is one
 abbrev pub value_joined : Name → Reading → Option Complete → Reading
 value_joined text r (Some c) = record { known = with_value text c.0; waits = c.1 }
 value_joined text r None = r
@@ -67,10 +73,12 @@ abbrev pub joined : Option Rounding → Name → Reading → List Waits → Read
 joined q text r (wait.Call o ∷ ws) = record { known = with_operator text o r.known; waits = ws }
 joined q text r ws = value_joined text r (expr_done q r ws)
 
+-- the name, where there is one, gets the operator or the value that was read
 abbrev pub name_joined : Option Rounding → Option Name → Reading → Reading
 name_joined q (Some text) r = joined q text r r.waits
 name_joined q None r = r
 
+-- the definition is made, and none is begun
 abbrev pub ended : Defining → Defining
 ended p = record { name = None; rounds = None; reading = name_joined p.rounds p.name p.reading }
 
@@ -91,6 +99,7 @@ abbrev pub is_open_brace : Word → Bool
 is_open_brace (sign s.OpenBrace) = true
 is_open_brace w = false
 
+-- whether the brace comes with which the formula begins
 abbrev pub opens_formula : Due → Word → Bool
 opens_formula d.Script w = is_open_brace w
 opens_formula r w = false
@@ -101,6 +110,7 @@ define_all [] p = p
 define_all (l ∷ ls) p =
     if opens_formula l.role l.word then p else define_all ls (define_word l.role l.word p)
 
+-- what the words from a script's begin make known
 abbrev pub read_from_start : List Leaf → Defining
 read_from_start leaves = define_all leaves (between nothing_known)
 

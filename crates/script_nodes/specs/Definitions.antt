@@ -6,6 +6,7 @@ use Rattle.script_nodes.specs.Operators.{rounding_of}
 use Rattle.script_nodes.specs.Known.{Name, Known, Placed, with_entry, operator_named}
 use Rattle.script_nodes.specs.Values.{expr_value}
 
+-- the text of a name
 abbrev pub name_text : AnyName → Name
 name_text (plain k text) = text
 name_text (operator k text) = text
@@ -21,6 +22,7 @@ rounding_by k (rounded_joined o) = Some (rounding_of o)
 abbrev pub with_value : Name → Placed → Known
 with_value text p = record p.0 { values = with_entry p.0.values text p.1 }
 
+-- the name gets this rounding
 abbrev pub with_operator : Name → Rounding → Known → Known
 with_operator text r k = record k { operators = with_entry k.operators text r }
 

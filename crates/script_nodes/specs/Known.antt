@@ -58,6 +58,7 @@ abbrev pub name_put : Known → Name → Option ExprId → Placed
 name_put k text (Some x) = (k, x)
 name_put k text None = variable_put k text
 
+-- what is known with this name, and the number of what it stands for
 unfoldable pub named : Known → Name → Placed
 named k text = name_put k text (entry_of k.values text)
 
@@ -66,6 +67,7 @@ named k text = name_put k text (entry_of k.values text)
 abbrev pub no_rounding : Rounding
 no_rounding = record { lsb = pos 0; dir = Zr }
 
+-- the rounding, or that of no operator where there is none
 abbrev pub or_none : Option Rounding → Rounding
 or_none (Some r) = r
 or_none None = no_rounding

@@ -17,6 +17,7 @@ abbrev pub front : ℕ → List ℕ → List ℕ
 front radix [] = []
 front radix (b ∷ bs) = if nat_lt (digit_value b) radix then b ∷ front radix bs else []
 
+-- what follows the digits at the front
 abbrev pub behind : ℕ → List ℕ → List ℕ
 behind radix [] = []
 behind radix (b ∷ bs) = if nat_lt (digit_value b) radix then behind radix bs else b ∷ bs
@@ -26,6 +27,7 @@ abbrev pub fraction_at : ℕ → List ℕ → List ℕ
 fraction_at radix [] = []
 fraction_at radix (b ∷ bs) = if b == 46 then front radix bs else []
 
+-- what follows the point and the digits behind it; all where no point is first
 abbrev pub behind_fraction : ℕ → List ℕ → List ℕ
 behind_fraction radix [] = []
 behind_fraction radix (b ∷ bs) = if b == 46 then behind radix bs else b ∷ bs
@@ -49,6 +51,7 @@ form_at true bs = Hexadecimal
 form_at false [] = Decimal
 form_at false (b ∷ bs) = if b == 98 then Binary else Decimal
 
+-- the parts, from the digits and what follows them, of a hexadecimal text or another
 abbrev pub body_at : Bool → List ℕ → List ℕ → Spelling
 body_at h bs rest = record {
   form = form_at h (behind_fraction (base h) rest);
@@ -63,9 +66,11 @@ opens_hexadecimal [] = false
 opens_hexadecimal (a ∷ []) = false
 opens_hexadecimal (a ∷ (b ∷ bs)) = if b == 120 then a == 48 else false
 
+-- the text without its first two bytes where it is hexadecimal
 abbrev pub without_opening : Bool → List ℕ → List ℕ
 without_opening h bs = if h then drop 2 bs else bs
 
+-- the parts of a text behind its opening, hexadecimal or not
 abbrev pub parts_as : Bool → List ℕ → Spelling
 parts_as h bs = body_at h bs (behind (base h) bs)
 
@@ -81,6 +86,7 @@ tens_out zero n e = record { num = n; two = pos 0; ten = e }
 tens_out (suc k) n e = if n % 10 == 0 then tens_out k (n / 10) (e +ℤ pos 1)
     else record { num = n; two = pos 0; ten = e }
 
+-- n * 2^e, with at most k factors of two taken out of the number
 unfoldable pub twos_out : ℕ → ℕ → ℤ → Literal
 twos_out zero n e = record { num = n; two = e; ten = pos 0 }
 twos_out (suc k) n e =
@@ -94,28 +100,34 @@ normal_of Hexadecimal l = if l.num == 0 then nought else twos_out 100 l.num l.tw
 
 -- ---- which texts are read
 
+-- whether each byte is a digit of this base
 abbrev pub all_digits : ℕ → List ℕ → Bool
 all_digits radix [] = true
 all_digits radix (c ∷ cs) = nat_lt (digit_value c) radix && all_digits radix cs
 
+-- whether there are digits, and nothing else
 abbrev pub is_numeral : ℕ → List ℕ → Bool
 is_numeral radix ds = nat_lt 0 (length ds) && all_digits radix ds
 
+-- whether the form may have these digits behind the point
 abbrev pub is_fraction : Form → List ℕ → Bool
 is_fraction Binary [] = true
 is_fraction Binary (d ∷ ds) = false
 is_fraction Decimal ds = all_digits 10 ds
 is_fraction Hexadecimal ds = all_digits 16 ds
 
+-- whether the form may have this exponent
 abbrev pub is_exponent : Option Exponent → Form → Bool
 is_exponent None Binary = false
 is_exponent None Decimal = true
 is_exponent None Hexadecimal = true
 is_exponent (Some e) form = is_numeral 10 e.digits
 
+-- whether low ≤ z ≤ high
 abbrev pub is_between : ℤ → ℤ → ℤ → Bool
 is_between low high z = not (int_lt z low) && not (int_lt high z)
 
+-- whether the literal, whose whole digits are w, is within the limits of its form
 abbrev pub is_within : Form → List ℕ → Literal → Bool
 is_within Decimal w l = nat_lt l.num (10 ^ 30) && is_between (negsuc 29) (pos 8) l.ten
 is_within Binary w l = nat_lt (length w) 31 && is_between (negsuc 511) (pos 512) l.two

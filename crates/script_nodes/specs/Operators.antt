@@ -31,14 +31,17 @@ stopped n = if nat_lt n 512 then n else 512
 unfoldable pub number_of : List ℕ → ℕ
 number_of text = stopped (digits_value 10 text)
 
+-- the text of `FIX`, or of a direction
 abbrev pub special_text : Special → List ℕ
 special_text (free text) = text
 special_text (defined text) = text
 
+-- the text of digits
 abbrev pub digits_text : Digits → List ℕ
 digits_text (zero_alone text) = text
 digits_text (digits text) = text
 
+-- the value of a whole number
 abbrev pub whole_value : Whole → ℤ
 whole_value (natural d) = pos (number_of (digits_text d))
 whole_value (opposite d) = neg_ℤ (pos (number_of (digits_text d)))

@@ -15,9 +15,11 @@ abbrev pub then_rounded : Option Rounding → Placed → Placed
 then_rounded None p = p
 then_rounded (Some r) p = put p.0 (Round r p.1)
 
+-- the operation's node behind those of its operand
 abbrev pub one_operand : (ExprId → Node) → Placed → Placed
 one_operand op a = put a.0 (op a.1)
 
+-- the node of the operation behind those of its operands, and its rounding
 abbrev pub two_operands : Option Rounding → (ExprId → ExprId → Node) → ExprId → Placed → Placed
 two_operands q op a b = then_rounded q (put b.0 (op a b.1))
 
@@ -25,9 +27,11 @@ two_operands q op a b = then_rounded q (put b.0 (op a b.1))
 abbrev pub product_sum : Option Rounding → Placed → ExprId → Placed
 product_sum q p c = then_rounded q (put p.0 (Add p.1 c))
 
+-- the node of the product a * b behind those of c, the node of its sum with c, and its rounding
 abbrev pub fused_sum : Option Rounding → ExprId → ExprId → Placed → Placed
 fused_sum q a b c = product_sum q (put c.0 (Mul a b)) c.1
 
+-- the last operand's nodes behind those of the first two, and then the product and the sum
 abbrev pub fused_last : Option Rounding → ExprId → Placed → (Known → Placed) → Placed
 fused_last q x y c = fused_sum q x y.1 (c y.0)
 

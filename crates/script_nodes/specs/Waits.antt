@@ -17,13 +17,16 @@ use Rattle.script_nodes.specs.Literals.{literal_of}
 use Rattle.script_nodes.specs.Known.{Known, Placed, put, named, no_rounding, operator_named}
 use Rattle.script_nodes.specs.Values.{one_operand, two_operands, fused_sum}
 
+-- what is known so far, and what waits, the last first
 pub record Reading : Type 0 where
   pub known : Known
   pub waits : List Waits
 
+-- this waits, too
 abbrev pub then_waits : Waits → Reading → Reading
 then_waits w r = record { known = r.known; waits = w ∷ r.waits }
 
+-- the same with another list of what waits
 abbrev pub with_waits : Reading → List Waits → Reading
 with_waits r ws = record { known = r.known; waits = ws }
 
@@ -37,6 +40,7 @@ abbrev pub is_minus_first : List Waits → Bool
 is_minus_first (wait.Minus ∷ ws) = true
 is_minus_first ws = false
 
+-- an operand that is read waits as a term
 abbrev pub waiting : Placed → List Waits → Reading
 waiting p ws = record { known = p.0; waits = wait.Term p.1 ∷ ws }
 
@@ -62,6 +66,7 @@ parting p (wait.Fma ∷ ws) = record { known = p.0; waits = wait.FmaWithOne p.1 
 parting p (wait.FmaWithOne a ∷ ws) = record { known = p.0; waits = wait.FmaWithTwo a p.1 ∷ ws }
 parting p ws = waiting p ws
 
+-- where a comma follows the expression; the same where none is finished
 abbrev pub parted : Reading → Option Complete → Reading
 parted r (Some c) = parting c.0 c.1
 parted r None = r
@@ -79,6 +84,8 @@ sign_operand g r = r
 module _ (q : Option Rounding) where
   -- ---- a factor is complete, a term, an expression
 
+  -- What a factor makes: it is negated where signs wait for it, and then it ends the product or the
+  -- quotient that waits for it.
   abbrev pub factor_done : List Waits → Placed → Reading
   factor_done [] p = waiting p []
   factor_done (wait.Minus ∷ ws) p = factor_done ws (one_operand Neg p)
@@ -86,11 +93,13 @@ module _ (q : Option Rounding) where
   factor_done (wait.Quotient u ∷ ws) p = waiting (two_operands q Div u p) ws
   factor_done (w ∷ ws) p = waiting p (w ∷ ws)
 
+  -- what a term makes: it is added or subtracted, where that waits for it
   abbrev pub term_done : Known → ExprId → List Waits → Complete
   term_done k v (wait.Sum u ∷ ws) = (two_operands q Add u (k, v), ws)
   term_done k v (wait.Difference u ∷ ws) = (two_operands q Sub u (k, v), ws)
   term_done k v ws = ((k, v), ws)
 
+  -- the expression that its last term finishes, and what waits behind it
   abbrev pub expr_done : Reading → List Waits → Option Complete
   expr_done r (wait.Term v ∷ ws) = Some (term_done r.known v ws)
   expr_done r ws = None
@@ -103,18 +112,21 @@ module _ (q : Option Rounding) where
   closing p (wait.FmaWithTwo a b ∷ ws) = factor_done ws (fused_sum q a b p)
   closing p ws = waiting p ws
 
+  -- where a sign closes the expression; the same where none is finished
   abbrev pub closed : Reading → Option Complete → Reading
   closed r (Some c) = closing c.0 c.1
   closed r None = r
 
   -- ---- words, by their roles
 
+  -- what a word makes where an operand is due
   abbrev pub operand : Word → Reading → Reading
   operand (literal k text) r = factor_done r.waits (put r.known (Lit (literal_of text)))
   operand (name k text) r = factor_done r.waits (named r.known text)
   operand (rounding k text) r = then_waits (wait.Call (operator_named r.known text)) r
   operand (sign g) r = sign_operand g r
 
+  -- what a word makes where an operation is due
   abbrev pub operation : Word → Reading → Reading
   operation (sign s.Plus) r = then_operation wait.Sum r (expr_done r r.waits)
   operation (sign s.Minus) r = then_operation wait.Difference r (expr_done r r.waits)
@@ -135,6 +147,7 @@ module _ (q : Option Rounding) where
   read d.Greater w r = with_waits r (operator_ended r.waits)
   read _ w r = r
 
+  -- what the words make, one after the other
   unfoldable pub read_all : List Leaf → Reading → Reading
   read_all [] r = r
   read_all (l ∷ ls) r = read_all ls (read l.role l.word r)

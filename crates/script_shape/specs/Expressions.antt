@@ -15,6 +15,7 @@ pub data AnyName : Type 0 where
   plain : Spelled → List ℕ → AnyName
   operator : Spelled → List ℕ → AnyName
 
+-- the word of a name, which may be an operator's
 abbrev pub name_words : AnyName → List Word
 name_words (plain k text) = name k text ∷ []
 name_words (operator k text) = rounding k text ∷ []
@@ -24,6 +25,7 @@ pub data Special : Type 0 where
   free : List ℕ → Special
   defined : List ℕ → Special
 
+-- the word `FIX`, or that of a direction; an operator may have this name, too
 abbrev pub special_words : Spelled → Special → List Word
 special_words k (free text) = name k text ∷ []
 special_words k (defined text) = rounding k text ∷ []
@@ -33,23 +35,28 @@ pub data Digits : Type 0 where
   zero_alone : List ℕ → Digits
   digits : List ℕ → Digits
 
+-- the word of a number without a sign
 abbrev pub digits_words : Digits → List Word
 digits_words (zero_alone text) = literal digits_kind.Zero text ∷ []
 digits_words (digits text) = literal digits_kind.Digits text ∷ []
 
+-- a whole number: digits, or a minus and digits
 pub data Whole : Type 0 where
   natural : Digits → Whole
   opposite : Digits → Whole
 
+-- the words of a whole number
 abbrev pub whole_words : Whole → List Word
 whole_words (natural d) = digits_words d
 whole_words (opposite d) = sign s.Minus ∷ digits_words d
 
+-- a bound: a number, which may have a sign
 pub data Bound : Type 0 where
   unsigned : Number → List ℕ → Bound
   positive : Number → List ℕ → Bound
   negative : Number → List ℕ → Bound
 
+-- the words of a bound
 abbrev pub bound_words : Bound → List Word
 bound_words (unsigned k text) = literal k text ∷ []
 bound_words (positive k text) = sign s.Plus ∷ (literal k text ∷ [])
@@ -57,10 +64,12 @@ bound_words (negative k text) = sign s.Minus ∷ (literal k text ∷ [])
 
 -- ---- operators, without the sign that closes them
 
+-- `fixed<l,d` or `int<d`
 pub data Operator : Type 0 where
   fixed : Whole → Special → Operator
   int : Special → Operator
 
+-- the words of an operator
 abbrev pub operator_words : Operator → List Word
 operator_words (fixed l d) = sign s.Fixed
     ∷ (sign s.Less ∷ (whole_words l ++ (sign s.Comma ∷ special_words spelled.Direction d)))
@@ -69,20 +78,24 @@ operator_words (int d) = sign s.Int ∷ (sign s.Less ∷ special_words spelled.D
 -- ---- expressions
 
 mutual
+  -- an expression: a term, or a sum or difference of an expression and a term
   pub data Expr : Type 0 where
     term : Term → Expr
     sum : Expr → Term → Expr
     difference : Expr → Term → Expr
 
+  -- a term: a factor, or a product or quotient of a term and a factor
   pub data Term : Type 0 where
     factor : Factor → Term
     product : Term → Factor → Term
     quotient : Term → Factor → Term
 
+  -- a factor: an atom, or the negation of a factor
   pub data Factor : Type 0 where
     negation : Factor → Factor
     atom : Atom → Factor
 
+  -- a number, a name, an expression in brackets or bars, or a call
   pub data Atom : Type 0 where
     number : Number → List ℕ → Atom
     variable : Spelled → List ℕ → Atom

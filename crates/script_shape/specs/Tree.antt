@@ -17,26 +17,31 @@ pub data How : Type 0 where
   rounded_apart : Operator → How
   rounded_joined : Operator → How
 
+-- the words between a defined name and its expression
 abbrev pub how_words : How → List Word
 how_words exactly = sign s.Equal ∷ []
 how_words (rounded_by k text) = rounding k text ∷ (sign s.Equal ∷ [])
 how_words (rounded_apart o) = operator_words o ++ (sign s.Greater ∷ (sign s.Equal ∷ []))
 how_words (rounded_joined o) = operator_words o ++ (sign s.GreaterEqual ∷ [])
 
+-- a name for an operator, or for an expression's value
 pub data Definition : Type 0 where
   names_operator : AnyName → Operator → Definition
   names_value : AnyName → How → Expr → Definition
 
+-- the words of a definition
 abbrev pub definition_words : Definition → List Word
 definition_words (names_operator n o) = sign s.At ∷ (name_words n
     ++ (sign s.Equal ∷ (operator_words o ++ (sign s.Greater ∷ (sign s.Semicolon ∷ [])))))
 definition_words (names_value n h e) =
     name_words n ++ (how_words h ++ (expr_words e ++ (sign s.Semicolon ∷ [])))
 
+-- definitions, and then the formula with the hints
 pub data Script : Type 0 where
   formula : Formula → Hints → Script
   define : Definition → Script → Script
 
+-- the words of a script
 abbrev pub script_words : Script → List Word
 script_words (formula f h) =
     sign s.OpenBrace ∷ (formula_words f ++ (sign s.CloseBrace ∷ hints_words h))

@@ -10,6 +10,7 @@ use Rattle.script_words.specs.Placed.{words_at, tokens_of}
 abbrev pub words_in : WordList → List Word
 words_in w = words_at w.text.now w.placed.now
 
+-- The tokens of a list's words in order, with their places in the text.
 abbrev pub tokens_in : WordList → List Token
 tokens_in w = tokens_of w.placed.now
 
@@ -17,5 +18,6 @@ tokens_in w = tokens_of w.placed.now
 abbrev pub all_words : Words → List Word
 all_words w = words_at w.text.now w.placed.items
 
+-- The tokens of all words of a text that was read, in order.
 abbrev pub all_tokens : Words → List Token
 all_tokens w = tokens_of w.placed.items

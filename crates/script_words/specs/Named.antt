@@ -73,6 +73,7 @@ kind_word operators (kind.Sign g) text = sign g
 abbrev pub token_text : List ℕ → Token → List ℕ
 token_text text t = slice_range text t.start t.end
 
+-- The word that a token of the text stands for, where these names are operators'.
 abbrev pub token_word : List ℕ → List (List ℕ) → Token → Word
 token_word text operators t = kind_word operators t.kind (token_text text t)
 

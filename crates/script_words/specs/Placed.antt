@@ -27,9 +27,11 @@ kind_of (class.Sign g) = kind.Sign g
 abbrev pub word_text : List ℕ → Placed → List ℕ
 word_text text p = slice_range text p.start p.end
 
+-- The word that was kept by class and place, with its text cut from the whole text.
 abbrev pub word_at : List ℕ → Placed → Word
 word_at text p = word_with p.class (word_text text p)
 
+-- The words that were kept by class and place in this text, in order.
 abbrev pub words_at : List ℕ → List Placed → List Word
 words_at text ps = map (word_at text) ps
 
@@ -37,6 +39,7 @@ words_at text ps = map (word_at text) ps
 abbrev pub token_of : Placed → Token
 token_of p = record { kind = kind_of p.class; start = p.start; end = p.end }
 
+-- The tokens of kept words, in order, each with its place in the text.
 abbrev pub tokens_of : List Placed → List Token
 tokens_of ps = map token_of ps
 

@@ -13,6 +13,8 @@ pub data Word : Type 0 where
   literal : Number → (text : List ℕ) → Word
   sign : Sign → Word
 
+-- What is kept of a word beside its text: whether it is a name, rounding, literal or sign, and of
+-- which kind.
 abbrev pub class_of : Word → Class
 class_of (name k text) = class.Name k
 class_of (rounding k text) = class.Rounding k

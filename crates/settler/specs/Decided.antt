@@ -14,6 +14,7 @@ use Rattle.case_trees.specs.box_tree.Regions.{PlanParts}
 use Rattle.case_trees.specs.bisect.declared.settler.State.{State}
 use Rattle.case_trees.specs.bisect.declared.settler.State.TheVariants as state
 
+-- The facts with one more in front, where a table has it.
 abbrev pub with_found : Option Fact → List Fact → List Fact
 with_found None fs = fs
 with_found (Some f) fs = f ∷ fs

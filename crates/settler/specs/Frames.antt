@@ -6,10 +6,12 @@ use Rattle.case_trees.specs.box_tree.Pieces.{piece_count}
 use Rattle.case_trees.specs.box_tree.Plans.{cut_at, piece_at}
 use Rattle.case_trees.specs.box_tree.Regions.{PlanParts}
 
+-- The universe of a frame that was given none: no expressions, goals, hypotheses or instances.
 abbrev pub no_world : World
 no_world =
     record { nodes = []; pairs = []; goals = []; hypotheses = []; hints = []; instances = [] }
 
+-- The plan of a frame that was given none: no ranges, and the whole box is never cut.
 abbrev pub no_plan : PlanParts
 no_plan = record { ranges = []; cuts = []; halves = []; depth = 0 }
 

@@ -30,6 +30,7 @@ rounded_end r Below = Below
 rounded_end r (At x) = At (rounded r.dir r.lsb x)
 rounded_end r Above = Above
 
+-- The range between the rounded ends; a side without an end stays open.
 abbrev pub rounded_range : Rounding → Range → Range
 rounded_range r s = record { low = rounded_end r s.low; high = rounded_end r s.high }
 
@@ -64,6 +65,7 @@ sign_by true false = NotNegative
 sign_by false true = NotPositive
 sign_by false false = Unknown
 
+-- What a range tells of the sign of a number in it; unknown where it reaches to both sides of 0.
 abbrev pub sign_of : Range → Sign
 sign_of r = sign_by (le_bound (At zero_ℚ) r.low) (le_bound r.high (At zero_ℚ))
 
@@ -73,6 +75,8 @@ is_sided Zr = true
 is_sided Aw = true
 is_sided d = false
 
+-- The rounding, where a number's sign tells the side of its error: toward or away from zero. Others
+-- give none.
 abbrev pub sided : Option Rounding → Option Rounding
 sided None = None
 sided (Some r) = if is_sided r.dir then Some r else None

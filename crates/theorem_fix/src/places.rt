@@ -4,7 +4,7 @@ ghost use Rattle.theorem_arith.specs.facts.Places.{kept, sum_place, lesser_place
 
 use theorem_arith::Place;
 
-// The exponent, or 512 where it is above. None below -1024.
+/// The place with this exponent, lowered to 512 where it is above; `None` below -1024.
 pub fn keep(exponent: i32) -> Option<Place>
     requires low { negsuc 2047 ≤ℤ exponent }
     requires high { exponent ≤ℤ pos 1024 }
@@ -17,13 +17,14 @@ pub fn keep(exponent: i32) -> Option<Place>
     }
 }
 
-// Of which power a product of multiples is one.
+/// The place of a product, by those of its factors; `None` where it is below -1024.
 pub fn product_place(k: Place, n: Place) -> Option<Place>
     ensures { result ≡ sum_place k n }
 {
     keep(k.exponent() as i32 + n.exponent() as i32)
 }
 
+/// The lesser place: what is a multiple of either power of two is one of its power.
 pub fn lesser(k: Place, n: Place) -> Place
     ensures { result ≡ lesser_place k n }
 {

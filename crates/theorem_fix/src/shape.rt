@@ -4,7 +4,7 @@ ghost use Rattle.theorem_fix.specs.Shapes.{IsInLimits, rounding_at, error_roundi
 
 use theorem_arith::{Dag, ExprId, Node, Rounding};
 
-// The rounding by which an expression is made of x.
+/// The rounding R, where `e` is R(x); `None` where it is anything else.
 pub fn rounding(dag: &Dag, e: ExprId, x: ExprId) -> Option<Rounding>
     ensures is { result ≡ rounding_at dag.now e x }
     ensures limits { IsInLimits result }
@@ -16,7 +16,7 @@ pub fn rounding(dag: &Dag, e: ExprId, x: ExprId) -> Option<Rounding>
     }
 }
 
-// The rounding R, where the expression is R(x) - x.
+/// The rounding R, where `e` is R(x) - x, its error; `None` where it is anything else.
 pub fn error_rounding(dag: &Dag, e: ExprId, x: ExprId) -> Option<Rounding>
     ensures is { result ≡ error_rounding_at dag.now e x }
     ensures limits { IsInLimits result }

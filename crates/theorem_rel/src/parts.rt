@@ -4,7 +4,7 @@ ghost use Rattle.facts.specs.Parts.{error_of_part};
 
 use facts::{Interval, RelativeError};
 
-// The interval, where there is one, as relative errors.
+/// The interval, where there is one, as relative errors.
 #[inline(always)]
 pub fn error_within(part: Option<Interval>) -> Option<RelativeError>
     ensures { result ≡ error_of_part part }

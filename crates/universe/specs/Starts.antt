@@ -29,6 +29,7 @@ claim_pairs nodes (Multiple x k) = whole_difference nodes x
 claim_pairs nodes (Above x n) = whole_difference nodes x
 claim_pairs nodes (Below x n) = whole_difference nodes x
 
+-- The pairs that these claims name, claim by claim in order; one that is named twice stands twice.
 abbrev pub claims_pairs : List Node → List Claim → List Pair
 claims_pairs nodes [] = []
 claims_pairs nodes (c ∷ cs) = claim_pairs nodes c ++ claims_pairs nodes cs
@@ -37,6 +38,7 @@ claims_pairs nodes (c ∷ cs) = claim_pairs nodes c ++ claims_pairs nodes cs
 abbrev pub hint_pairs : List Node → Hint → List Pair
 hint_pairs nodes h = whole_difference nodes h.left ++ whole_difference nodes h.right
 
+-- The pairs that these hints name, hint by hint in order; one that is named twice stands twice.
 abbrev pub hints_pairs : List Node → List Hint → List Pair
 hints_pairs nodes [] = []
 hints_pairs nodes (h ∷ hs) = hint_pairs nodes h ++ hints_pairs nodes hs

@@ -20,6 +20,7 @@ use Rattle.universe.specs.Cases.{AreHypotheses}
 abbrev pub goal_of : Claim → Goal
 goal_of c = record { of = slot_of c; want = want_of c }
 
+-- The facts with that of a claim in front, where the claim gives one.
 abbrev pub with_fact : Option Fact → List Fact → List Fact
 with_fact (Some f) facts = f ∷ facts
 with_fact None facts = facts

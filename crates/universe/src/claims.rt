@@ -9,7 +9,7 @@ use rule_universe::{Fact, Goal};
 use script_grammar::Claim;
 use std::alloc::{AllocError, Global};
 
-// What the claims want as goals, in their order.
+/// One goal for each claim, in their order; an error only where memory runs out.
 pub fn goals_of(alloc: Global, claims: &[Claim]) -> Result<Vec<Goal>, AllocError>
     requires { AllByRecursion HasNormalBounds claims.now }
     ensures { IfOk result (λ goals. goals.items ≡ map spec.goal_of claims.now) }
@@ -26,7 +26,8 @@ pub fn goals_of(alloc: Global, claims: &[Claim]) -> Result<Vec<Goal>, AllocError
     Ok(goals)
 }
 
-// The facts that the claims give as hypotheses, in their order.
+/// The facts that hypotheses give, in their order; a claim that gives none is left out.
+/// An error only where memory runs out.
 pub fn facts_of(alloc: Global, claims: &[Claim]) -> Result<Vec<Fact>, AllocError>
     requires { AllByRecursion HasNormalBounds claims.now }
     ensures { IfOk result (λ facts. facts.items ≡ spec.facts_of claims.now) }

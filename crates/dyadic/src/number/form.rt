@@ -33,7 +33,7 @@ impl Dyadic {
     }
 }
 
-// The number digits * 2^two in its canonical form.
+/// The number digits * 2^two in its canonical form.
 #[inline(always)]
 pub fn canonical(digits: u64, two: i32) -> Dyadic
     requires { IsOnGrid (scaled (pos digits) two) }
@@ -49,7 +49,7 @@ pub fn canonical(digits: u64, two: i32) -> Dyadic
     }
 }
 
-// The number digits * 2^two, of either sign, in its canonical form.
+/// The number digits * 2^two, of either sign, in its canonical form.
 #[inline(always)]
 pub fn reduced(digits: i64, two: i32) -> Dyadic
     requires { IsOnGrid (scaled digits two) }

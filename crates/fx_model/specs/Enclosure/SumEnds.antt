@@ -49,6 +49,8 @@ LowSum (At g) Above b = b ≡ Below
 LowSum Below c b = b ≡ Below
 LowSum Above c b = b ≡ Below
 
+-- The third is the upper end for sums of ranges with the first two as upper ends: infinite where
+-- either is, else rounded up.
 abbrev pub HighSum : Bound → Bound → Bound → Type 0
 HighSum (At g) (At h) b = IsUp (g +ℚ h) b
 HighSum (At g) Below b = b ≡ Above

@@ -32,12 +32,14 @@ pub record Ratio : Type 0 where
 abbrev pub Same : Ratio → Ratio → Type 0
 Same x y = x.plus * y.den + y.minus * x.den ≡ y.plus * x.den + x.minus * y.den
 
+-- An exact fraction of unbounded whole numbers: ratios with equal cross products are one fraction.
 abbrev pub Fraction : Type 0
 Fraction = Quot Same
 
 pub positive-mul : (a b : ℕ) → 0 < a → 0 < b → 0 < a * b
 positive-mul a b h k = grind arith
 
+-- The sum of two ratios, over the product of their denominators.
 abbrev pub add_ratio : Ratio → Ratio → Ratio
 add_ratio x y = record {
   plus = x.plus * y.den + y.plus * x.den;
@@ -46,6 +48,7 @@ add_ratio x y = record {
   positive = positive-mul x.den y.den x.positive y.positive;
 }
 
+-- The product of two ratios, over the product of their denominators.
 abbrev pub mul_ratio : Ratio → Ratio → Ratio
 mul_ratio x y = record {
   plus = x.plus * y.plus + x.minus * y.minus;
@@ -54,6 +57,7 @@ mul_ratio x y = record {
   positive = positive-mul x.den y.den x.positive y.positive;
 }
 
+-- The negative of a ratio: the two parts of its numerator change places.
 abbrev pub neg_ratio : Ratio → Ratio
 neg_ratio x = record { plus = x.minus; minus = x.plus; den = x.den; positive = x.positive }
 
@@ -97,6 +101,7 @@ neg_ℚ x = lift (Quot-set {r = Same}) (λ a. mk (neg_ratio a))
     (λ a b h. sound {r = Same} (neg_same a b h)) x
 
 infixl 6 ◌-ℚ◌
+-- The difference of two fractions, exactly.
 abbrev pub ◌-ℚ◌ : Fraction → Fraction → Fraction
 x -ℚ y = x +ℚ neg_ℚ y
 
@@ -118,9 +123,11 @@ T_true false t = absurd t
 pub cancel_le : (k a b : ℕ) → 0 < k → k * a ≤ k * b → a ≤ b
 cancel_le k a b p h = grind arith
 
+-- Whether the first ratio is at most the second, as a test of the cross products.
 abbrev pub le_ratio : Ratio → Ratio → Bool
 le_ratio x y = leb (x.plus * y.den + y.minus * x.den) (y.plus * x.den + x.minus * y.den)
 
+-- The first ratio is at most the second, by the cross products.
 abbrev pub LeRatio : Ratio → Ratio → Type 0
 LeRatio x y = x.plus * y.den + y.minus * x.den ≤ y.plus * x.den + x.minus * y.den
 
@@ -148,10 +155,12 @@ pub le_ℚ : Fraction → Fraction → Bool
 le_ℚ x y = lift₂ Bool-set le_ratio le_left le_right x y
 
 infix 4 ◌≤ℚ◌
+-- The fraction x is at most y.
 pub record ◌≤ℚ◌ (x y : Fraction) : Type 0 where
   pub le : IsTrue (le_ℚ x y)
 
 infix 4 ◌<ℚ◌
+-- The fraction x is less than y: y isn't at most x.
 pub record ◌<ℚ◌ (x y : Fraction) : Type 0 where
   pub lt : IsFalse (le_ℚ y x)
 
@@ -176,12 +185,15 @@ pub same_3 : (f g : Fraction → Fraction → Fraction → Fraction) → ((a b c
 same_3 f g h x y z =
     same_1 (λ x. f x y z) (λ x. g x y z) (λ a. same_2 (f (mk a)) (g (mk a)) (h a) y z) x
 
+-- The fraction that is written as this ratio; other ratios may write it too.
 abbrev pub of_ratio : Ratio → Fraction
 of_ratio a = mk a
 
+-- The fraction 0, written as 0 / 1.
 unfoldable pub zero_ℚ : Fraction
 zero_ℚ = mk (record { plus = 0; minus = 0; den = 1; positive = lit< tt })
 
+-- The fraction 1, written as 1 / 1.
 unfoldable pub one_ℚ : Fraction
 one_ℚ = mk (record { plus = 1; minus = 0; den = 1; positive = lit< tt })
 

@@ -17,6 +17,7 @@ abbrev pub floor_ratio : Ratio → ℤ
 floor_ratio x = cond (leb x.minus x.plus) (pos ((x.plus - x.minus) / x.den))
     (neg_ℤ (pos ((x.minus - x.plus + x.den - 1) / x.den)))
 
+-- The whole number z is the greatest that isn't above the ratio.
 abbrev pub FloorRatio : Ratio → ℤ → Type 0
 FloorRatio x z = (up z * x.den + x.minus ≤ x.plus + down z * x.den)
     × (x.plus + down z * x.den < x.minus + up z * x.den + x.den)
