@@ -13,7 +13,8 @@ use std::thread::Threads;
 // What `n` has before a run.
 const OLD: &[u8] = b"old";
 
-const PRODUCT: &str = "{ x in [1,2] /\\ y in [3,5] -> x * y in ? }";
+/// The script of the worked certificate.
+pub(crate) const PRODUCT: &str = "{ x in [1,2] /\\ y in [3,5] -> x * y in ? }";
 
 /// The worked certificate in version 1.
 const FIRST: [u8; 143] = [
@@ -31,7 +32,7 @@ const FIRST: [u8; 143] = [
 ];
 
 /// The same in version 2.
-const SECOND: [u8; 61] = [
+pub(crate) const SECOND: [u8; 61] = [
     0x46, 0x58, 0x50, 0x43, 2, // the head
     3, 0, 0, 0, 1, 5, 0, 1, // three nodes: x, y, x * y
     0, // no marks

@@ -1,5 +1,6 @@
 // Certificates that `prove` writes to `c`. What is written is judged by `check`. Expected lines
 // were worked out by hand, or by a plain program of the definitions.
+use crate::made_files::{PRODUCT, SECOND};
 use crate::runs::{Ended, Outside, run_ends, run_on, sound};
 use crate::words::USAGE;
 use fx_top::Status;
@@ -142,6 +143,22 @@ fn what_is_written_is_accepted(rt: HostRuntime) -> Result<(), Fail> {
         run_ends(&rt, rt.alloc(), CHECK, &after, Status::Answered, lines)?;
     }
     Ok(())
+}
+
+// A box that isn't cut has no step that its end doesn't need: with all its steps it has more bytes.
+#[test]
+fn no_unused_step_of_a_leaf_is_written(rt: HostRuntime) -> Result<(), Fail> {
+    let files = [("a", PRODUCT.as_bytes()), ("c", OLD)];
+    let outside = sound(&files, 4096);
+    ends_with(
+        &rt,
+        rt.alloc(),
+        WRITE,
+        &outside,
+        Status::Answered,
+        "x * y in [3, 5b1]\n",
+        &SECOND,
+    )
 }
 
 // How many workers there are, and the most bytes that a call moves.
