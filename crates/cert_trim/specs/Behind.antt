@@ -46,9 +46,9 @@ with_next c n = record c { next = n }
 
 -- ---- what is promised
 
--- Where nothing is wrong with a section that isn't cut, its items cite earlier steps alone, nothing
--- is wrong without its unused steps, and behind it all is as it was but the number of the next
--- step.
+-- Where a section is open here and isn't cut, and nothing is wrong with it, its items cite earlier
+-- steps alone. Without its unused steps nothing is wrong either, and behind it all is as it was but
+-- the number of the next step.
 abbrev pub LeavesAreTrimmed : Type 0
 LeavesAreTrimmed = (s : Subject) (c end : Context) (rows : List StepRow) (last : Item)
     → IsOpenAt c → IsLeafOrDead last → LeadsTo s c (section_of rows last) end
@@ -62,8 +62,8 @@ CertificatesStaySo = (used : ℕ → Bool) (n : ℕ) (before items later : List 
     → AreCertificate (before ++ (items ++ later))
     → AreCertificate (before ++ (trimmed_by used n items ++ later))
 
--- They have no more steps than before, wherever their numbers begin, and no more bytes; and
--- spellings where they had.
+-- Without some of their steps items have no more steps and items, wherever their numbers begin.
+-- The bound of their bytes is no greater, and they have spellings where they had.
 pub record AreFewer : Type 0 where
   pub steps : (used : ℕ → Bool) (n k : ℕ) (items : List Item)
       → (k ≤ number_behind_all k (trimmed_by used n items))

@@ -18,8 +18,8 @@ pub(crate) struct Left {
     pub(crate) next: u64,
 }
 
-// They are gone over three times: for flags from the last one, for new numbers, and to be moved. So
-// many steps are their own, from start on.
+// They are gone over twice: for flags from the last one, and to be moved. Between, the flags give
+// new numbers. So many steps are their own, from start on.
 pub(crate) fn left_behind(
     alloc: Global,
     items: Vec<Item>,

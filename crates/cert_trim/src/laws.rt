@@ -16,7 +16,8 @@ pub fn trimmed_are_accepted()
 
 /// Nothing is done. The clauses tell a caller that a section that isn't cut has nothing wrong
 /// without its unused steps, and that all is the same behind it but the number of the next step;
-/// that a certificate stays one where steps go; and that what is left is no more than before.
+/// that a certificate stays one where steps go; and that what is left has no more items and steps,
+/// and no greater bound of its bytes.
 pub fn leaves_are_trimmed()
     ensures leaves { LeavesAreTrimmed }
     ensures order { CertificatesStaySo }

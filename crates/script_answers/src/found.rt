@@ -87,8 +87,8 @@ pub fn found_of(
 }
 
 /// What is found of a script over its universe, by so many workers. The universe stays the
-/// script's, with what was assumed last, also where memory runs out, which is the only error. It
-/// may wait.
+/// script's, with some claims assumed, also where memory runs out, which is the only error. It may
+/// wait.
 pub fn prove_over<G: Gate, R: Threads + Wait + Sync>(
     rt: &R,
     alloc: Global,

@@ -35,10 +35,11 @@ new_bytes items = certificate_of (trimmed items)
 abbrev pub line_of : List Item → Bytes
 line_of items = trimmed_line (step_count (trimmed items)) (step_count items)
 
--- The items are those of a certificate that is accepted for the script with these lines: whatever
--- its bytes are, nothing is wrong with any of them, and their leaves show the lines. Where the
--- bytes are told, the items are read from them to their end; they are what the bytes spell, and the
--- new bytes are accepted for the script with the same lines. Each step that is left is used.
+-- Whatever the certificate's bytes are, nothing is wrong with any of the items for the script, and
+-- their leaves show these lines. (That they are a whole certificate's is said of told bytes alone.)
+-- Where the bytes are told, the items are read from them to their end; they are what the bytes
+-- spell, and the new bytes are accepted for the script with the same lines. Each step that is left
+-- is used.
 pub record AreTrimmable (s : View) (cert : Option Bytes) (items : List Item) : Type 0 where
   pub shown : List Line
   pub led : (t : Subject) × IsSubjectOf s t
@@ -51,8 +52,8 @@ pub record AreTrimmable (s : View) (cert : Option Bytes) (items : List Item) : T
   pub kept : WhereTold cert (λ all. AreBytes all → AreAcceptedFor s (new_bytes items) shown)
   pub used : AreAllUsed (trimmed items)
 
--- The text spells a script, and the certificate's items, which are accepted for it, were written
--- without unused steps, in 2^44 bytes at most.
+-- The text spells a script, and items of the certificate, as above, were written without unused
+-- steps, in 2^44 bytes at most.
 pub record IsTrimmed (text : Bytes) (cert : Option Bytes) (lines : Bytes) (left : Left)
     : Type 0 where
   pub script : View
