@@ -10,6 +10,7 @@ pub mod Made
 pub mod Middle
 pub mod Odd
 pub mod Order
+pub mod Places
 pub mod Rising
 pub mod SmallNumbers
 pub mod Texts

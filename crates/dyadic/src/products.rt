@@ -1,5 +1,5 @@
 // Products and quotients.
-ghost use Rattle.std.specs.Prelude.{◌≡◌, ◌≢◌, ◌⊎◌, ◌≤◌, ◌<◌, ◌≤ℤ◌, pos, negsuc, true, false};
+ghost use Rattle.std.specs.Prelude.{◌≡◌, ◌≢◌, ◌≤◌, ◌<◌, ◌≤ℤ◌, pos, negsuc, true, false};
 ghost use Rattle.std.specs.Int.RustNames.{unsigned_abs, int_lt};
 ghost use Rattle.fx_model.specs.Fraction.{Fraction, ◌*ℚ◌, ◌/ℚ◌, zero_ℚ};
 ghost use Rattle.fx_model.specs.Powers.{whole, scaled};
@@ -7,6 +7,7 @@ ghost use Rattle.fx_model.specs.Grid.{IsDown, IsUp};
 ghost use Rattle.dyadic.specs.Cut.{IsLong, IsSigned};
 ghost use Rattle.dyadic.specs.Ends.{bound_of};
 ghost use Rattle.dyadic.specs.Values.{value_of};
+ghost use Rattle.dyadic.specs.Places.{IsRatio};
 
 use crate::cut::Cut;
 use crate::floor::Floor;
@@ -148,11 +149,7 @@ pub fn div_up(a: Dyadic, b: Dyadic) -> End
 // n * 2^two / d, with enough digits to be rounded.
 #[inline(always)]
 fn ratio(n: i128, d: u128, two: i32) -> Signed
-    requires numerator { unsigned_abs n ≤ 100000000000000000000000000000000000000 }
-    requires not_zero { 0 < d }
-    requires divisor { d ≤ 1000000000000000000000000000000 }
-    requires low { negsuc 611 ≤ℤ two }
-    requires high { two ≤ℤ pos 612 }
+    requires { IsRatio n d two }
     ensures cuts { (x : Fraction) → whole (pos d) *ℚ x ≡ scaled n two → IsSigned result x }
     ensures long { result.size.inexact ≡ true → IsLong result.size }
     ensures low { negsuc 2999 ≤ℤ result.size.two }

@@ -1,5 +1,5 @@
 // Sums, whose parts may lie far apart.
-ghost use Rattle.std.specs.Prelude.{◌≡◌, ◌≢◌, ◌⊎◌, ◌+◌, ◌-◌, ◌*◌, ◌^◌, ◌≤◌, ◌<◌, ◌≤ℤ◌, ◌+ℤ◌, pos, negsuc, true, false, not};
+ghost use Rattle.std.specs.Prelude.{◌≡◌, ◌+◌, ◌-◌, ◌*◌, ◌^◌, ◌≤◌, ◌<◌, ◌≤ℤ◌, ◌+ℤ◌, pos, negsuc, true, false, not};
 ghost use Rattle.std.specs.Int.RustNames.{unsigned_abs, int_lt};
 ghost use Rattle.fx_model.specs.Fraction.{Fraction, ◌+ℚ◌};
 ghost use Rattle.fx_model.specs.Powers.{scaled};
@@ -7,6 +7,7 @@ ghost use Rattle.fx_model.specs.Grid.{IsDown, IsUp, signed};
 ghost use Rattle.dyadic.specs.Cut.{IsPlenty, IsSigned, IsSize, term_value};
 ghost use Rattle.dyadic.specs.Ends.{bound_of};
 ghost use Rattle.dyadic.specs.Values.{value_of};
+ghost use Rattle.dyadic.specs.Places.{IsShort, IsFar};
 
 use crate::cut::{Cut, split};
 use crate::floor::Floor;
@@ -50,12 +51,8 @@ impl Term {
 /// The sum of two terms. What lies far below the first digits is only known to be there.
 #[inline(always)]
 pub fn sum(a: Term, b: Term) -> Signed
-    requires a_small { unsigned_abs a.mantissa < 73786976294838206464 }
-    requires b_small { unsigned_abs b.mantissa < 73786976294838206464 }
-    requires a_low { negsuc 511 ≤ℤ a.exponent }
-    requires a_high { a.exponent ≤ℤ pos 572 }
-    requires b_low { negsuc 511 ≤ℤ b.exponent }
-    requires b_high { b.exponent ≤ℤ pos 572 }
+    requires a_short { IsShort a }
+    requires b_short { IsShort b }
     ensures cuts { IsSigned result (term_value a +ℚ term_value b) }
     ensures long { IsPlenty result.size }
     ensures low { negsuc 511 ≤ℤ result.size.two }
@@ -88,12 +85,8 @@ fn alone(a: Term) -> Signed
 // The sum where the first term isn't 0 and has the greater exponent.
 #[inline(always)]
 fn ordered_sum(a: Term, b: Term) -> Signed
-    requires a_small { unsigned_abs a.mantissa < 73786976294838206464 }
-    requires b_small { unsigned_abs b.mantissa < 73786976294838206464 }
-    requires a_low { negsuc 511 ≤ℤ a.exponent }
-    requires a_high { a.exponent ≤ℤ pos 572 }
-    requires b_low { negsuc 511 ≤ℤ b.exponent }
-    requires b_high { b.exponent ≤ℤ pos 572 }
+    requires a_short { IsShort a }
+    requires b_short { IsShort b }
     requires a_some { 0 < unsigned_abs a.mantissa }
     requires ordered { b.exponent ≤ℤ a.exponent }
     ensures cuts { IsSigned result (term_value a +ℚ term_value b) }
@@ -179,13 +172,7 @@ fn near_sum(negative: bool, minus: bool, high: u128, low: u128, base: i32) -> Si
 
 // `top * 2^lost` with `low` added or taken away, all at 2^base, down to the place of `top`.
 fn far_sum(top: u128, low: u128, lost: u32, minus: bool, base: i32) -> Cut
-    requires top_long { 42535295865117307932921825928971026432 ≤ top }
-    requires top_small { top < 85070591730234615865843651857942052864 }
-    requires low_small { low < 73786976294838206464 }
-    requires lost_small { lost ≤ 2000 }
-    requires lost_some { 0 < lost }
-    requires base_low { negsuc 511 ≤ℤ base }
-    requires base_high { base ≤ℤ pos 572 }
+    requires { IsFar top low lost base }
     ensures plus { minus ≡ false → (x : Fraction)
         → x ≡ scaled (pos (top * 2 ^ lost + low)) base → IsSize result x }
     ensures minus { minus ≡ true → (x : Fraction)
