@@ -135,7 +135,7 @@ inside_by v x points i rs (Some r) e a w h y =
     subst (λ o. LiesInRange o (v y)) (sym m) (some-and (v y) (Has (piece_of r points i)) (Has r) (λ k h. piece_inside r points i k (range_ordered x rs r e a) w h) u))
     (λ t s u. u) refl q
 
-next_within : (plan : PlanParts) (g : Region) → IsWithinNext g.ranges (next_of plan g)
+pub next_within : (plan : PlanParts) (g : Region) → IsWithinNext g.ranges (next_of plan g)
 next_within plan g = at_option (next_forced g.ranges g.done (drop g.done plan.cuts)) (λ o. IsWithinNext g.ranges (else_next o (half_of plan g)))
     (λ _. half_within plan g) (λ n e. forced_within g.ranges g.done (drop g.done plan.cuts) n e)
 
@@ -149,14 +149,15 @@ point_rising : (r : SplitRange) (points : List Dyadic) (p : Dyadic) → IsRising
 point_rising r points p u = at_bool (is_inside r p && is_above_last points p) (λ b. IsRising (if b then points ++ p ∷ [] else points))
     (λ t. rising_more points p u (above_in points p (and_parts (is_inside r p) (is_above_last points p) t).1)) (λ f. u)
 
-points_rising : (r : SplitRange) (points more : List Dyadic) → IsRising points → IsRising (with_points r points more)
+pub points_rising : (r : SplitRange) (points more : List Dyadic) → IsRising points
+    → IsRising (with_points r points more)
 points_rising r points [] u = u
 points_rising r points (p ∷ ps) u = points_rising r (with_point r points p) ps (point_rising r points p u)
 
-none_rising : IsRising []
+pub none_rising : IsRising []
 none_rising i j l m = absurd (omega (arith, m))
 
-one_rising : (m : Dyadic) → IsRising (m ∷ [])
+pub one_rising : (m : Dyadic) → IsRising (m ∷ [])
 one_rising m i j l k = absurd (omega (arith, l, k))
 
 in_rising : (o : Option SplitRange) (c : Cutting) → IsRising (points_in o c)

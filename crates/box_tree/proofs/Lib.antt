@@ -2,6 +2,7 @@ pub mod Cover
 pub mod Depth
 pub mod Near
 pub mod Put
+pub mod Staying
 pub mod Turns
 pub mod Within
 pub mod WholeBox

@@ -47,7 +47,8 @@ point_within : (r : SplitRange) (points : List Dyadic) (p : Dyadic) → AllByRec
 point_within r points p w = at_bool (is_inside r p && is_above_last points p) (λ b. AllByRecursion (IsWithin r) (if b then points ++ p ∷ [] else points))
     (λ t. append_within r points p w (inside_within r p (and_parts (is_inside r p) (is_above_last points p) t).0)) (λ f. w)
 
-points_within : (r : SplitRange) (points more : List Dyadic) → AllByRecursion (IsWithin r) points → AllByRecursion (IsWithin r) (with_points r points more)
+pub points_within : (r : SplitRange) (points more : List Dyadic)
+    → AllByRecursion (IsWithin r) points → AllByRecursion (IsWithin r) (with_points r points more)
 points_within r points [] w = w
 points_within r points (p ∷ ps) w = points_within r (with_point r points p) ps (point_within r points p w)
 

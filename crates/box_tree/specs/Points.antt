@@ -1,5 +1,5 @@
 -- The points at which a range is cut, and its pieces.
-use Rattle.std.specs.Prelude.{ℕ, zero, suc, ◌+◌, ◌-◌, Bool, ◌==◌, ◌&&◌, ◌||◌, List, [], ◌∷◌, ◌++◌, length, slice_index_or, Option, Some, None, if◌then◌else◌}
+use Rattle.std.specs.Prelude.{ℕ, zero, suc, ◌+◌, ◌-◌, Bool, true, false, ◌==◌, ◌&&◌, ◌||◌, List, [], ◌∷◌, ◌++◌, length, slice_index_or, Option, Some, None, if◌then◌else◌}
 use Rattle.script_hints.specs.fx_model.Fraction.{Fraction}
 use Rattle.script_hints.specs.dyadic.declared.number.Dyadic.{Dyadic}
 use Rattle.script_hints.specs.dyadic.declared.number.End.{End}
@@ -56,6 +56,17 @@ with_point r points p = if is_inside r p && is_above_last points p then points +
 abbrev pub with_points : SplitRange → List Dyadic → List Dyadic → List Dyadic
 with_points r points [] = points
 with_points r points (p ∷ ps) = with_points r (with_point r points p) ps
+
+-- The points that stay, found without a list of them: each lies strictly inside what is left
+-- of the range above the one before.
+abbrev pub staying : SplitRange → List Dyadic → List Dyadic
+staying r [] = []
+staying r (p ∷ ps) = if is_inside r p then p ∷ staying (record r { low = p }) ps else staying r ps
+
+-- whether there are any
+abbrev pub are_any : List Dyadic → Bool
+are_any [] = false
+are_any (p ∷ ps) = true
 
 -- where the cutting cuts the range
 abbrev pub cut_points : SplitRange → Cutting → List Dyadic
