@@ -3,8 +3,8 @@
 #![tactic(auto)]
 
 // What callers name of the crates below.
-pub use script_checker::{Script, subject_of};
-pub use settler::{Cut, Plan, assume};
+pub use script_checker::Script;
+pub use settler::{Case, Cut, Plan, assume};
 
 mod laws;
 mod room;

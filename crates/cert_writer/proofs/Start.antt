@@ -4,6 +4,7 @@ use Rattle.std.specs.List.{AllByRecursion}
 use Rattle.std.proofs.Common.{sym, ◌∙◌, ap, subst, arith}
 use Rattle.std.proofs.lemmas.List.{length-map}
 use Rattle.std.proofs.lemmas.Nat.{mul-le}
+use Rattle.goals.specs.facts.declared.hint.HintMark.{HintMark}
 use Rattle.goals.specs.declared.goal.Goal.{Goal}
 use Rattle.goals.specs.declared.line.Line.{Line}
 use Rattle.goals.specs.declared.line.Line.TheVariants as line
@@ -11,10 +12,14 @@ use Rattle.answer_certificates.specs.script_claims.declared.claim.Claim.{Claim}
 use Rattle.answer_certificates.specs.script_grammar.Cases.{cases_of}
 use Rattle.answer_certificates.specs.script_grammar.Spells.{View}
 use Rattle.box_trace.specs.rule_universe.Worlds.{World}
+use Rattle.answer_certificates.specs.settler.declared.cases.Case.{Case}
+use Rattle.answer_certificates.specs.settler.Cases.{AreCases, as_many}
 use Rattle.answer_certificates.specs.settler.Answers.{Options, options, IsProved}
+use Rattle.answer_certificates.specs.universe.Universes.{IsUniverse}
 use Rattle.box_trace.specs.saturate.Universes.{setting_of}
 use Rattle.cert_trim.specs.cert_bytes.declared.item.Item.{Item}
 use Rattle.box_trace.specs.cert_checker.declared.subject.Subject.{Subject}
+use Rattle.answer_certificates.specs.script_checker.rewrite_hints.Marks.{AreMarks}
 use Rattle.answer_certificates.specs.script_checker.Subjects.{IsSubjectOf, facts_of}
 use Rattle.box_trace.specs.box_traces.Roots.{Root, AreRoots, IsRoot, steps_in_roots, lines_of_roots}
 use Rattle.box_trace.specs.box_traces.Trees.{Tree}
@@ -27,12 +32,34 @@ use Rattle.box_trace.specs.Short.{bytes_a_box}
 use Rattle.answer_certificates.specs.Universes.{UniversesAreSmall}
 use Rattle.cert_writer.specs.Heads.{head_items}
 use Rattle.cert_writer.specs.Standing.{Aim, IsAim, at_root, steps_needed}
-use Rattle.cert_writer.specs.Cases.{bare, Task, task, plan_in, aim_of, StandsAt, StandsBefore}
+use Rattle.cert_writer.specs.Cases.{bare, subject_in, Task, task, plan_in, aim_of, StandsAt, StandsBefore}
 use Rattle.cert_writer.specs.Laws.{WritingGoesOn}
 use Rattle.cert_trim.specs.cert_bytes.Styles.{none_seen}
 use Rattle.cert_writer.proofs.NextCase.{drop_none}
 use Rattle.cert_writer.proofs.Seen.{head_seen}
 
+-- ---- what it is judged against
+-- universe and marks of a script say its subject
+pub is_subject : (s : View) (before : List Claim) (u : World) (marks : List HintMark)
+    → IsUniverse s before u → AreMarks s.nodes s.hints.rewrites marks
+    → IsSubjectOf s (subject_in s u marks)
+is_subject s before u marks is marked = record {
+  nodes = refl;
+  variables = refl;
+  cases = refl;
+  goals = refl;
+  marks = marked;
+  hints = is.hints;
+}
+
+-- it has as many cases as were planned
+pub as_planned : (s : View) (depth : ℕ) (cases : List Case) (u : World) (marks : List HintMark)
+    → AreCases s depth (cases_of s) cases
+    → length cases ≡ length (subject_in s u marks).cases
+as_planned s depth cases u marks are =
+    sym (as_many s depth (cases_of s) cases are) ∙ sym (length-map (cases_of s) facts_of)
+
+-- ---- where it begins
 -- what stands before the root sections
 abbrev pub head_of : Task → List Item
 head_of w = head_items w.world.nodes w.subject.marks (length w.subject.cases)

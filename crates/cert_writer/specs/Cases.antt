@@ -1,9 +1,11 @@
 -- The walk over a script's cases, which writes the root section of each: where it stands.
-use Rattle.std.specs.Prelude.{◌≡◌, ℕ, List, [], ◌∷◌, ◌++◌, drop, Option}
+use Rattle.std.specs.Prelude.{◌≡◌, ℕ, List, [], ◌∷◌, ◌++◌, drop, length, map, Option}
+use Rattle.goals.specs.facts.declared.hint.HintMark.{HintMark}
 use Rattle.goals.specs.declared.line.Line.{Line}
 use Rattle.answer_certificates.specs.script_claims.declared.claim.Claim.{Claim}
 use Rattle.answer_certificates.specs.script_grammar.Cases.{cases_of}
 use Rattle.answer_certificates.specs.script_grammar.Spells.{View}
+use Rattle.answer_certificates.specs.script_checker.Subjects.{facts_of, goal_of}
 use Rattle.box_trace.specs.rule_universe.Assumed.{assuming}
 use Rattle.box_trace.specs.rule_universe.Worlds.{World}
 use Rattle.answer_certificates.specs.box_tree.Regions.{PlanParts}
@@ -27,6 +29,17 @@ use Rattle.cert_writer.specs.Courses.{Grew, GrewToFront}
 -- the universe with nothing assumed
 abbrev pub bare : World → World
 bare u = assuming u []
+
+-- what certificates of a script are judged against, by its universe and its marks
+abbrev pub subject_in : View → World → List HintMark → Subject
+subject_in s u marks = record {
+  nodes = s.nodes;
+  variables = length s.variables;
+  cases = map facts_of (cases_of s);
+  goals = map goal_of s.goals;
+  marks = marks;
+  hints = u.hints;
+}
 
 -- A certificate of the script with these lines: over its universe, judged against this subject,
 -- where a box is settled in so many rounds, and halved so often at most.

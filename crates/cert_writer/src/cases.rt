@@ -1,7 +1,8 @@
 //! The sections of a script's cases, one after the other.
-ghost use Rattle.std.specs.Prelude.{◌≡◌, ◌≢◌, ◌<◌, ◌≤◌, ◌+◌, ℕ, List, length, IfOk, OnOk, OnErr};
+ghost use Rattle.std.specs.Prelude.{◌≡◌, ◌≢◌, ◌<◌, ◌+◌, ℕ, List, length, IfOk, OnOk, OnErr};
 ghost use Rattle.answer_certificates.specs.script_claims.declared.claim.Claim.{Claim};
 ghost use Rattle.answer_certificates.specs.script_grammar.Cases.{cases_of};
+ghost use Rattle.answer_certificates.specs.settler.Cases.{AreCases};
 ghost use Rattle.answer_certificates.specs.universe.Universes.{IsUniverse};
 ghost use Rattle.std.specs.Io.KnownBytes.{Appends};
 ghost use Rattle.cert_trim.specs.cert_bytes.declared.item.Item.TheVariants as item;
@@ -13,7 +14,7 @@ ghost use Rattle.cert_writer.specs.Cases.{bare, Stands, OfStanding, GoesOn, IsCo
 
 use crate::laws::writing_goes_on;
 use crate::walk::{WriteStop, write_box};
-use answer_certificates::{Plan, Script, assume, script_has_room};
+use answer_certificates::{Case, Script, assume, script_has_room};
 use box_trace::Universe;
 use cert_trim::{Item, Seen, write_item2};
 use fx_edge::{Folder, Path};
@@ -26,6 +27,7 @@ fn write_case<F: Folder>(
     alloc: Global,
     script: &Script<'_>,
     universe: &mut Universe,
+    cases: &[Case],
     rounds: u8,
     depth: u8,
     folder: &mut F,
@@ -34,8 +36,8 @@ fn write_case<F: Folder>(
     seen: Seen,
 ) -> Result<Seen, WriteStop>
     requires universe { (before : List Claim) × IsUniverse script.now before universe.old }
-    requires number { number < length (cases_of script.now) }
-    requires depth { depth ≤ 32 }
+    requires cases { AreCases script.now depth (cases_of script.now) cases.now }
+    requires number { number < length cases.now }
     requires stands { Stands script.now (bare universe.old) rounds depth number seen }
     ensures ok { IfOk result (λ next.
         OfStanding script.now (bare universe.old) rounds depth number seen
@@ -52,17 +54,16 @@ fn write_case<F: Folder>(
     ensures quiet { F.read_faults folder.new ≡ F.read_faults folder.old }
 {
     writing_goes_on();
-    script.laws();
-    let claims = script.case(alloc, number)?;
-    let plan = Plan::new(alloc, &claims, script.hints(), depth)?;
-    assume(alloc, universe, script, &claims)?;
-    plan.laws();
+    let _ = depth;
+    let case = &cases[number];
+    assume(alloc, universe, script, case.claims.as_slice())?;
+    case.plan.laws();
     universe.laws();
     script_has_room(script, universe);
     let next = write_box(
         alloc,
         universe,
-        &plan,
+        &case.plan,
         rounds,
         folder,
         name,
@@ -73,18 +74,19 @@ fn write_case<F: Folder>(
     Ok(next)
 }
 
-// Writes the root sections of all cases, in order. It answers what was seen.
+// Writes the root sections of these cases of the script, in order. It answers what was seen.
 pub(crate) fn write_cases<F: Folder>(
     alloc: Global,
     script: &Script<'_>,
     universe: &mut Universe,
+    cases: &[Case],
     rounds: u8,
     depth: u8,
     folder: &mut F,
     name: &str,
 ) -> Result<Seen, WriteStop>
     requires universe { (before : List Claim) × IsUniverse script.now before universe.old }
-    requires depth { depth ≤ 32 }
+    requires cases { AreCases script.now depth (cases_of script.now) cases.now }
     requires stands { Stands script.now (bare universe.old) rounds depth 0 none_seen }
     ensures ok { IfOk result (λ seen.
         OfStanding script.now (bare universe.old) rounds depth 0 none_seen
@@ -98,9 +100,9 @@ pub(crate) fn write_cases<F: Folder>(
     ensures quiet { F.read_faults folder.new ≡ F.read_faults folder.old }
 {
     let mut next = Seen::none();
-    for number in 0..script.case_count() {
+    for number in 0..cases.len() {
         next = write_case(
-            alloc, script, universe, rounds, depth, folder, name, number, next,
+            alloc, script, universe, cases, rounds, depth, folder, name, number, next,
         )?;
     }
     Ok(next)

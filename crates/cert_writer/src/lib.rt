@@ -1,9 +1,6 @@
 //! Writes the certificate of a proved script to a file, box by box.
 #![tactic(auto)]
 
-// What callers name of the crates below.
-pub use answer_certificates::subject_of;
-
 mod cases;
 mod ending;
 mod head;

@@ -1,8 +1,10 @@
 //! A script's certificate, written to a file.
 ghost use Rattle.std.specs.Prelude.{◌≡◌, ◌≢◌, ◌≤◌, ℕ, List, OnOk, OnErr};
 ghost use Rattle.answer_certificates.specs.script_claims.declared.claim.Claim.{Claim};
+ghost use Rattle.answer_certificates.specs.script_checker.rewrite_hints.Marks.{AreMarks};
+ghost use Rattle.answer_certificates.specs.script_grammar.Cases.{cases_of};
+ghost use Rattle.answer_certificates.specs.settler.Cases.{AreCases};
 ghost use Rattle.answer_certificates.specs.universe.Universes.{IsUniverse};
-ghost use Rattle.answer_certificates.specs.script_checker.Subjects.{IsSubjectOf};
 ghost use Rattle.cert_writer.specs.Walks.{HasWriteCause};
 ghost use Rattle.cert_writer.specs.Written.{IsProvedWith, OfProved, HoldsCertificate, HoldsFront};
 
@@ -11,32 +13,35 @@ use crate::head::spell_head;
 use crate::laws::writing_goes_on;
 use crate::walk::WriteStop;
 use answer_certificates::{
-    Script, script_has_room, scripts_have_roots, subjects_are_written, universes_are_small,
+    Case, Script, script_has_room, scripts_have_roots, subjects_are_written, universes_are_small,
 };
-use box_trace::{Subject, Universe};
+use box_trace::Universe;
 use fx_edge::Folder;
+use goals::HintMark;
 use std::alloc::Global;
 use whole_texts::append_all;
 
 /// Makes the file new and writes to it the certificate of a script that is proved, in version 2.
-/// The universe is the script's, the subject what its certificates are judged against; its boxes
-/// are settled in so many rounds (0 to 64) and halved so often at most (0 to 32). What is assumed
-/// in the universe before the call is no matter; behind it some case's claims may be. `Failed`
-/// comes only where a write of the folder failed in this call, `OutOfMemory` only where memory runs
-/// out. After a stop the file holds what it held, where making it new failed, or a front of such a
-/// certificate.
+/// Universe, cases and marks are the script's, made for its answer: nothing of them is made anew.
+/// Its boxes are settled in so many rounds (0 to 64) and halved so often at most (0 to 32). What is
+/// assumed in the universe before the call is no matter; behind it some case's claims may be.
+/// `Failed` comes only where a write of the folder failed in this call, `OutOfMemory` only where
+/// memory runs out. After a stop the file holds what it held, where making it new failed, or a
+/// front of such a certificate.
 pub fn write_cert<F: Folder>(
     alloc: Global,
     script: &Script<'_>,
     universe: &mut Universe,
-    subject: &Subject,
+    cases: &[Case],
+    marks: &[HintMark],
     rounds: u8,
     depth: u8,
     folder: &mut F,
     name: &str,
 ) -> Result<(), WriteStop>
     requires universe { (before : List Claim) × IsUniverse script.now before universe.old }
-    requires subject { IsSubjectOf script.now subject.now }
+    requires cases { AreCases script.now depth (cases_of script.now) cases.now }
+    requires marks { AreMarks script.now.nodes script.now.hints.rewrites marks.now }
     requires rounds { rounds ≤ 64 }
     requires depth { depth ≤ 32 }
     requires proved { IsProvedWith script.now rounds depth }
@@ -58,10 +63,9 @@ pub fn write_cert<F: Folder>(
     universes_are_small();
     folder.fresh(name)?;
     let mut bytes = Vec::new(alloc);
-    let cases = subject.cases.as_slice().len();
-    spell_head(universe.dag(), subject.marks.as_slice(), cases, &mut bytes)?;
+    spell_head(universe.dag(), marks, cases.len(), &mut bytes)?;
     append_all(folder, name, &bytes)?;
-    let seen = write_cases(alloc, script, universe, rounds, depth, folder, name)?;
+    let seen = write_cases(alloc, script, universe, cases, rounds, depth, folder, name)?;
     write_end(alloc, folder, name, seen)?;
     Ok(())
 }

@@ -1,21 +1,22 @@
 -- What is left in the file for the certificate of a script that is answered with lines.
-use Rattle.std.specs.Prelude.{◌≡◌, ⊤, List, Option, Some, None, Result, Ok, Err, OnOk, OnErr}
-use Rattle.std.proofs.Common.{inl, inr, refl, sym, subst, ◌∙◌}
+use Rattle.std.specs.Prelude.{◌≡◌, ⊤, ℕ, List, Option, Some, None, Result, Ok, Err, OnOk, OnErr}
+use Rattle.std.proofs.Common.{inl, inr, refl, sym, subst, ◌∙◌, arith}
 use Rattle.cert_writer.specs.goals.declared.line.Line.{Line}
-use Rattle.script_answers.specs.script_grammar.Spells.{View, Spells, SpellsOnce}
+use Rattle.script_answers.specs.script_grammar.Spells.{View}
 use Rattle.script_answers.specs.settler.Answers.{Options, IsProved}
+use Rattle.cert_writer.specs.Walks.{HasWriteCause}
 use Rattle.cert_writer.specs.Written.{OfProved, HoldsCertificate, HoldsFront}
+use Rattle.cert_writer.specs.declared.walk.WriteStop.{WriteStop}
 use Rattle.command_runs.specs.Runs.{Bytes, Told}
 use Rattle.command_runs.specs.Fates.{Left, Leaves, Makes, begun}
-use Rattle.command_runs.specs.Fates.Left.{Whole}
-use Rattle.command_runs.specs.declared.status.Status.{Status}
+use Rattle.command_runs.specs.Fates.Left.{Kept, Whole}
 use Rattle.command_runs.specs.declared.status.Status.TheVariants as status
 use Rattle.script_answers.specs.Answers.{AreAllowed, IsAnswered, ProvePrints, options_from}
 use Rattle.script_answers.specs.declared.options.Options.{Options as Asking}
-use Rattle.prove_command.specs.Certified.{IsCertified, IsStopped, left_by}
+use Rattle.prove_command.specs.Certified.{IsAnsweredWith, IsCertified, IsSpared, IsStopped, left_by}
 use Rattle.prove_command.specs.Command.{IsCertificateOf, MakesFor, TextFate}
 use Rattle.prove_command.specs.declared.certify.Certified.{Certified}
-use Rattle.prove_command.proofs.Fates.{of_made}
+use Rattle.prove_command.proofs.Fates.{of_made, of_kept}
 
 -- ---- of one file
 -- a certificate of it stands there whole
@@ -58,13 +59,12 @@ module _ (s : View) (a : Asking) (allowed : AreAllowed a) (P : List Line → Typ
   err_options (Err e) so = of_options so
 
 -- ---- of a script that is answered
-module _ (once : SpellsOnce) (o : Options) (s : View) (spelled : Spells s.text s) (lines : Bytes)
-    (t : Status) (is : t ≡ status.Answered) (p : ProvePrints o s.text t lines) where
+module _ (o : Options) (s : View) (lines : Bytes) (given : IsAnsweredWith o s lines) where
   abbrev answered : IsAnswered o s.text lines
-  answered = subst (λ u. ProvePrints o s.text u lines) is p
+  answered = given.0
 
   script_is : answered.script ≡ s
-  script_is = once s.text answered.script s answered.proved.spelled spelled
+  script_is = given.1
 
   shown_is : IsProved s o answered.shown
   shown_is = subst (λ (v : View). IsProved v o answered.shown) script_is
@@ -93,7 +93,7 @@ module _ (once : SpellsOnce) (o : Options) (s : View) (spelled : Spells s.text s
 
   -- its certificate is written, as far as that came
   pub is_certified : (c : Certified) (cert : Option Bytes) (name : Bytes) (old new : Told)
-      → c.status ≡ t → c.lines.items ≡ lines → cert ≡ Some name
+      → c.status ≡ status.Answered → c.lines.items ≡ lines → cert ≡ Some name
       → OnOk c.written ((shown : List Line) → IsProved s o shown
       → HoldsCertificate s shown (old name) (new name))
       → OnErr c.written ((shown : List Line) → IsProved s o shown
@@ -104,7 +104,7 @@ module _ (once : SpellsOnce) (o : Options) (s : View) (spelled : Spells s.text s
       let makes = subst
       (λ k. MakesFor k (IsCertificateOf (IsStopped c.written) answered.script answered.shown) l.0)
       (sym named) l.1 in
-      let here = of_made (IsStopped c.written) cert o s.text lines c.status l.0 (same_status ∙ is)
+      let here = of_made (IsStopped c.written) cert o s.text lines c.status l.0 same_status
       (answered, makes) in
       record {
         left = l.0;
@@ -115,3 +115,47 @@ module _ (once : SpellsOnce) (o : Options) (s : View) (spelled : Spells s.text s
             (name_same name n cert named given) l.2;
         named = λ stopped none. let h : Some name ≡ None = sym named ∙ none in cc h;
       }
+
+-- ---- where nothing is written
+kept_by : {T E : Type 0} (w : Result T E) → left_by w Kept ≡ Kept
+kept_by (Ok x) = refl
+kept_by (Err e) = refl
+
+-- the text is answered so, and no file changes
+pub is_spared : (o : Options) (text : Bytes) (cert : Option Bytes) (old new : Told) (c : Certified)
+    → ¬ IsStopped c.written → ((n : Bytes) → new n ≡ old n)
+    → ProvePrints o text c.status c.lines.items
+    → (c.status ≡ status.Answered → (d : IsAnswered o text c.lines.items)
+    → MakesFor cert (IsCertificateOf (IsStopped c.written) d.script d.shown) Kept)
+    → IsCertified o text cert old new c
+is_spared o text cert old new c done kept p makes = record {
+  left = Kept;
+  made = of_kept (IsStopped c.written) cert o text c.lines.items c.status p makes;
+  file = λ n named. subst (λ l. Leaves l (old n) (new n)) (sym (kept_by c.written)) (kept n);
+  named = λ stopped. absurd (done stopped);
+}
+
+-- none is asked for
+pub none_asked : (o : Options) (text : Bytes) (cert : Option Bytes) (told : Told) (c : Certified)
+    → ¬ IsStopped c.written → cert ≡ None → c.status ≡ status.Answered
+    → IsAnswered o text c.lines.items → IsCertified o text cert told told c
+none_asked o text cert told c done none is d =
+    is_spared o text cert told told c done (λ n. refl)
+    (subst (λ s. ProvePrints o text s c.lines.items) (sym is) d)
+    (λ _ a. subst (λ k. MakesFor k (IsCertificateOf (IsStopped c.written) a.script a.shown) Kept)
+    (sym none) refl)
+
+-- no proof is claimed
+pub spared_made : (o : Options) (text : Bytes) (cert : Option Bytes) (told : Told) (c : Certified)
+    → IsSpared o text c → IsCertified o text cert told told c
+spared_made o text cert told c h =
+    is_spared o text cert told told c h.done (λ n. refl) h.prints (λ e. absurd (h.other e))
+
+-- no write failed
+quiet_cause : {T : Type 0} (w : ℕ) (r : Result T WriteStop) → ¬ IsStopped r → HasWriteCause w w r
+quiet_cause w (Ok x) done = record { later = omega arith; failed = λ e. cc e }
+quiet_cause w (Err e) done = absurd (done tt)
+
+pub spared_cause : (o : Options) (text : Bytes) (w : ℕ) (c : Certified) → IsSpared o text c
+    → HasWriteCause w w c.written
+spared_cause o text w c h = quiet_cause w c.written h.done

@@ -3,7 +3,9 @@ use Rattle.std.specs.Prelude.{◌≡◌, ◌≢◌, ⊤, ℕ, List, Option, Some
 use Rattle.std.specs.Borrow.{Bor}
 use Rattle.std.specs.Option.{option_map}
 use Rattle.std.specs.Io.KnownBytes.{Keeps}
+use Rattle.script_answers.specs.script_grammar.Spells.{View}
 use Rattle.script_answers.specs.settler.Answers.{Options}
+use Rattle.script_answers.specs.Answers.{IsAnswered, ProvePrints}
 use Rattle.cert_writer.specs.declared.walk.WriteStop.{WriteStop}
 use Rattle.cert_writer.specs.declared.walk.WriteStop.TheVariants as write_stop
 use Rattle.command_runs.specs.Runs.{Bytes, Told}
@@ -13,6 +15,10 @@ use Rattle.command_runs.specs.declared.status.Status.{Status}
 use Rattle.command_runs.specs.declared.status.Status.TheVariants as status
 use Rattle.prove_command.specs.Command.{TextFate}
 use Rattle.prove_command.specs.declared.certify.Certified.{Certified}
+
+-- The script is answered with these lines.
+abbrev pub IsAnsweredWith : Options → View → Bytes → Type 0
+IsAnsweredWith o s lines = (d : IsAnswered o s.text lines) × (d.script ≡ s)
 
 -- the name that is given for a certificate
 abbrev pub name_of : Option (Bor (List ℕ)) → Option Bytes
@@ -36,6 +42,12 @@ pub record IsCertified (o : Options) (text : Bytes) (cert : Option Bytes) (old n
   pub made : TextFate (IsStopped c.written) cert o text c.status c.lines.items left
   pub file : (n : Bytes) → cert ≡ Some n → Leaves (left_by c.written left) (old n) (new n)
   pub named : IsStopped c.written → cert ≢ None
+
+-- The text isn't proved, but answered by this status and these lines, and nothing was to be written.
+pub record IsSpared (o : Options) (text : Bytes) (c : Certified) : Type 0 where
+  pub other : c.status ≢ status.Answered
+  pub prints : ProvePrints o text c.status c.lines.items
+  pub done : ¬ IsStopped c.written
 
 -- Lines are put behind a writing that came to its end; behind one that stopped, nothing is.
 abbrev pub IsPutBehind : {T : Type 0} → Result T WriteStop → Status → Bytes

@@ -1,20 +1,25 @@
 // What comes of a text: its lines, and the certificate that is written once they are made.
-ghost use Rattle.std.specs.Prelude.{◌≡◌, ◌≢◌, ℕ, List, Some, IfOk, OnOk, OnErr};
+ghost use Rattle.std.specs.Prelude.{◌≡◌, ◌≢◌, ℕ, List, [], Some, IfOk, OnOk, OnErr};
 ghost use Rattle.cert_writer.specs.goals.declared.line.Line.{Line};
 ghost use Rattle.script_answers.specs.report.script_claims.declared.claim.Claim.{Claim};
-ghost use Rattle.script_answers.specs.universe.Universes.{IsUniverse};
+ghost use Rattle.script_answers.specs.report.script_judge.declared.refusal.Refusal.{Refusal};
+ghost use Rattle.script_answers.specs.script_grammar.Cases.{cases_of};
+ghost use Rattle.script_answers.specs.script_grammar.Spells.{IsRefused};
+ghost use Rattle.script_answers.specs.universe.Universes.{IsUniverse, IsTooLarge};
 ghost use Rattle.script_answers.specs.settler.Answers.{IsProved};
+ghost use Rattle.script_answers.specs.settler.Cases.{AreCases};
+ghost use Rattle.script_answers.specs.settler.rewrite_hints.Marks.{AreMarks};
 ghost use Rattle.cert_writer.specs.Walks.{HasWriteCause};
 ghost use Rattle.cert_writer.specs.Written.{HoldsCertificate, HoldsFront};
-ghost use Rattle.script_answers.specs.Answers.{AreAllowed, ProvePrints, options_from};
-ghost use Rattle.prove_command.specs.Certified.{IsCertified, name_of};
+ghost use Rattle.script_answers.specs.Answers.{AreAllowed, IsFound, options_from};
+ghost use Rattle.prove_command.specs.Certified.{IsAnsweredWith, IsCertified, IsSpared, name_of};
 
-use cert_writer::{WriteStop, subject_of, write_cert};
+use cert_writer::{WriteStop, write_cert};
 use command_runs::Status;
 use fx_edge::{Folder, Gate};
 use script_answers::{
-    Options, ParseStop, Script, Universe, UniverseFault, build, expressions_text, lines_for, parse,
-    prove_over, refusal_line, script_or_refusal,
+    Case, Found, HintMark, Options, ParseStop, Script, Universe, UniverseFault, build, classify,
+    parse, planned_cases, prove_over, proved_lines, unbuilt_line, unread_line,
 };
 use std::alloc::{AllocError, Global};
 use std::sync::Wait;
@@ -29,17 +34,21 @@ pub struct Certified {
     pub written: Result<(), WriteStop>,
 }
 
-// Writes the certificate of a script that is proved under the options, over the universe that it
-// was proved over. Each box is settled again: what the workers knew of it is gone.
+// Writes the certificate of a script that is proved under the options, over the universe and the
+// cases that it was proved over. Each box is settled again: what the workers knew of it is gone.
 fn write_proved<F: Folder>(
     alloc: Global,
     script: &Script<'_>,
     universe: &mut Universe,
+    cases: &[Case],
+    marks: &[HintMark],
     options: Options,
     folder: &mut F,
     name: &str,
 ) -> Result<(), WriteStop>
     requires universe { (before : List Claim) × IsUniverse script.now before universe.old }
+    requires cases { AreCases script.now options.depth (cases_of script.now) cases.now }
+    requires marks { AreMarks script.now.nodes script.now.hints.rewrites marks.now }
     requires allowed { AreAllowed options }
     requires proved { (shown : List Line) × IsProved script.now (options_from options) shown }
     ensures ok { OnOk result ((shown : List Line)
@@ -53,12 +62,12 @@ fn write_proved<F: Folder>(
         → F.told folder.new other ≡ F.told folder.old other }
     ensures cause { HasWriteCause (F.write_faults folder.old) (F.write_faults folder.new) result }
 {
-    let subject = subject_of(alloc, script)?;
     write_cert(
         alloc,
         script,
         universe,
-        &subject,
+        cases,
+        marks,
         options.rounds,
         options.depth,
         folder,
@@ -66,20 +75,24 @@ fn write_proved<F: Folder>(
     )
 }
 
-// Writes the certificate that is asked for of a script that is answered so over its universe.
+// Writes the certificate that is asked for of a script that is answered with these lines, over the
+// universe and the cases that it was proved over.
 fn certify<F: Folder>(
     alloc: Global,
     script: &Script<'_>,
     universe: &mut Universe,
+    cases: &[Case],
+    marks: &[HintMark],
     options: Options,
     folder: &mut F,
     cert: Option<&str>,
-    status: Status,
     lines: Vec<u8>,
 ) -> Certified
     requires universe { (before : List Claim) × IsUniverse script.now before universe.old }
+    requires cases { AreCases script.now options.depth (cases_of script.now) cases.now }
+    requires marks { AreMarks script.now.nodes script.now.hints.rewrites marks.now }
     requires allowed { AreAllowed options }
-    requires prints { ProvePrints (options_from options) script.now.text status lines.items }
+    requires answered { IsAnsweredWith (options_from options) script.now lines.items }
     ensures made { IsCertified (options_from options) script.now.text (name_of cert.entry)
         (F.told folder.old) (F.told folder.new) result }
     ensures others { (other : List ℕ) → name_of cert.entry ≢ Some other
@@ -87,28 +100,111 @@ fn certify<F: Folder>(
     ensures cause { HasWriteCause
         (F.write_faults folder.old) (F.write_faults folder.new) result.written }
 {
-    script.laws();
-    script_or_refusal();
     let Some(name) = cert else {
         return Certified {
-            status,
+            status: Status::Answered,
             lines,
             written: Ok(()),
         };
     };
-    let Status::Answered = status else {
-        return Certified {
-            status,
-            lines,
-            written: Ok(()),
-        };
-    };
-    let written = write_proved(alloc, script, universe, options, folder, name);
+    let written = write_proved(alloc, script, universe, cases, marks, options, folder, name);
     Certified {
-        status,
+        status: Status::Answered,
         lines,
         written,
     }
+}
+
+// What comes of what was found of a script over its universe and its cases. The marks of its hints
+// are made once, for its lines and its certificate. `Err` only where memory runs out before
+// anything is written.
+fn certify_found<F: Folder>(
+    alloc: Global,
+    script: &Script<'_>,
+    universe: &mut Universe,
+    cases: &[Case],
+    options: Options,
+    folder: &mut F,
+    cert: Option<&str>,
+    found: Found,
+) -> Result<Certified, AllocError>
+    requires universe { (before : List Claim) × IsUniverse script.now before universe.old }
+    requires cases { AreCases script.now options.depth (cases_of script.now) cases.now }
+    requires allowed { AreAllowed options }
+    requires found { IsFound (options_from options) script.now found }
+    ensures made { IfOk result (IsCertified (options_from options) script.now.text
+        (name_of cert.entry) (F.told folder.old) (F.told folder.new)) }
+    ensures others { (other : List ℕ) → name_of cert.entry ≢ Some other
+        → F.told folder.new other ≡ F.told folder.old other }
+    ensures cause { IfOk result (λ c. HasWriteCause
+        (F.write_faults folder.old) (F.write_faults folder.new) c.written) }
+    ensures still { OnErr result
+        ((name : List ℕ) → F.told folder.new name ≡ F.told folder.old name) }
+{
+    match found {
+        Found::Stopped(status, lines) => Ok(Certified {
+            status,
+            lines,
+            written: Ok(()),
+        }),
+        Found::Proved(_, shown) => {
+            let marks = classify(alloc, script)?;
+            let lines = proved_lines(alloc, script, shown.as_slice(), &marks)?;
+            Ok(certify(
+                alloc, script, universe, cases, &marks, options, folder, cert, lines,
+            ))
+        }
+    }
+}
+
+// What comes of a script over its universe, whose cases are planned once. `Err` only where memory
+// runs out before anything is written.
+fn certify_over<F: Folder, G: Gate, R: Threads + Wait + Sync>(
+    rt: &R,
+    alloc: Global,
+    script: &Script<'_>,
+    universe: &mut Universe,
+    options: Options,
+    folder: &mut F,
+    cert: Option<&str>,
+    gate: &G,
+) -> Result<Certified, AllocError>
+    requires universe { IsUniverse script.now [] universe.old }
+    requires few { ¬ IsTooLarge script.now }
+    requires allowed { AreAllowed options }
+    ensures made { IfOk result (IsCertified (options_from options) script.now.text
+        (name_of cert.entry) (F.told folder.old) (F.told folder.new)) }
+    ensures others { (other : List ℕ) → name_of cert.entry ≢ Some other
+        → F.told folder.new other ≡ F.told folder.old other }
+    ensures cause { IfOk result (λ c. HasWriteCause
+        (F.write_faults folder.old) (F.write_faults folder.new) c.written) }
+    ensures still { OnErr result
+        ((name : List ℕ) → F.told folder.new name ≡ F.told folder.old name) }
+{
+    let cases = planned_cases(alloc, script, options.depth)?;
+    let found = prove_over(rt, alloc, script, universe, &cases, options, gate)?;
+    certify_found(
+        alloc, script, universe, &cases, options, folder, cert, found,
+    )
+}
+
+// What comes of a script that has no universe: nothing is written. `Err` only where memory runs
+// out.
+fn certify_unbuilt(
+    alloc: Global,
+    script: &Script<'_>,
+    options: Options,
+    fault: UniverseFault,
+) -> Result<Certified, AllocError>
+    requires { fault ≡ UniverseFault.ExprLimit → IsTooLarge script.now }
+    ensures { IfOk result (IsSpared (options_from options) script.now.text) }
+{
+    let lines = unbuilt_line(alloc, script, options, fault)?;
+    Ok(Certified {
+        status: Status::Limit,
+        lines,
+        written: Ok(()),
+    })
 }
 
 // What comes of a script, whose universe is made once. `Err` only where memory runs out before
@@ -132,29 +228,37 @@ fn certify_script<F: Folder, G: Gate, R: Threads + Wait + Sync>(
     ensures still { OnErr result
         ((name : List ℕ) → F.told folder.new name ≡ F.told folder.old name) }
 {
-    script.laws();
     match build(alloc, script) {
-        Ok(mut universe) => {
-            let found = prove_over(rt, alloc, script, &mut universe, options, gate)?;
-            let (status, lines) = lines_for(alloc, script, options, found)?;
-            Ok(certify(
-                alloc,
-                script,
-                &mut universe,
-                options,
-                folder,
-                cert,
-                status,
-                lines,
-            ))
-        }
-        Err(UniverseFault::ExprLimit) => Ok(Certified {
-            status: Status::Limit,
-            lines: expressions_text().to_vec(alloc)?,
-            written: Ok(()),
-        }),
-        Err(UniverseFault::OutOfMemory) => Err(AllocError),
+        Ok(mut universe) => certify_over(
+            rt,
+            alloc,
+            script,
+            &mut universe,
+            options,
+            folder,
+            cert,
+            gate,
+        ),
+        Err(fault) => certify_unbuilt(alloc, script, options, fault),
     }
+}
+
+// What comes of a text that gives no script: nothing is written. `Err` only where memory runs out.
+fn certify_unread(
+    alloc: Global,
+    text: &[u8],
+    options: Options,
+    stop: ParseStop,
+) -> Result<Certified, AllocError>
+    requires { (r : Refusal) → stop ≡ ParseStop.Refused r → IsRefused text.now r }
+    ensures { IfOk result (IsSpared (options_from options) text.now) }
+{
+    let lines = unread_line(alloc, text, options, stop)?;
+    Ok(Certified {
+        status: Status::Script,
+        lines,
+        written: Ok(()),
+    })
 }
 
 /// What comes of a text under the options: its status and lines, and where a name is given and all
@@ -181,11 +285,6 @@ pub fn certify_text<F: Folder, G: Gate, R: Threads + Wait + Sync>(
 {
     match parse(alloc, text) {
         Ok(script) => certify_script(rt, alloc, &script, options, folder, cert, gate),
-        Err(ParseStop::Refused(refusal)) => Ok(Certified {
-            status: Status::Script,
-            lines: refusal_line(alloc, refusal)?,
-            written: Ok(()),
-        }),
-        Err(ParseStop::OutOfMemory) => Err(AllocError),
+        Err(stop) => certify_unread(alloc, text, options, stop),
     }
 }

@@ -1,14 +1,11 @@
 -- What is answered to the made script, from what is found of it.
 use Rattle.std.proofs.Common.{◌≡◌, ◌≢◌, ℕ, List, refl, subst}
 use Rattle.report.specs.goals.declared.line.Line.{Line}
-use Rattle.report.specs.script_judge.declared.refusal.Refusal.{Refusal}
-use Rattle.report.specs.script_grammar.Spells.{View, IsRefused}
+use Rattle.report.specs.script_grammar.Spells.{View}
 use Rattle.command_runs.specs.Runs.{Bytes}
 use Rattle.command_runs.specs.declared.status.Status.{Status}
 use Rattle.command_runs.specs.declared.status.Status.TheVariants.{Answered}
-use Rattle.command_runs.specs.declared.status.Status.TheVariants as status
 use Rattle.made_script.specs.Script.{script_text}
-use Rattle.report.specs.Lines.{refusal_line}
 use Rattle.report.specs.Proved.{made_text}
 use Rattle.script_answers.specs.Answers.{IsProvedText, ProvePrints, MadePrints, made_options, first_line}
 
@@ -36,9 +33,3 @@ made_proved n s boxes shown lines e proved printed = record {
   proved = subst (λ (w : Bytes). IsProvedText made_options w s boxes shown) e proved;
   printed = printed;
 }
-
--- it is refused
-pub made_refused : (n : ℕ) (text : Bytes) (r : Refusal) (lines : Bytes) → text ≡ script_text n
-    → IsRefused text r → lines ≡ refusal_line r → MadePrints n status.Script lines
-made_refused n text r lines e refused printed =
-    (r, subst (λ (w : Bytes). IsRefused w r) e refused, printed)

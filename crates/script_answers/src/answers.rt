@@ -1,5 +1,8 @@
 // The status and the lines for a text.
-ghost use Rattle.std.specs.Prelude.{IfOk};
+ghost use Rattle.std.specs.Prelude.{◌≡◌, IfOk};
+ghost use Rattle.report.specs.script_judge.declared.refusal.Refusal.{Refusal};
+ghost use Rattle.report.specs.script_grammar.Spells.{IsRefused};
+ghost use Rattle.report.specs.Proved as spec;
 ghost use Rattle.script_answers.specs.Answers.{AreAllowed, IsFound, ProvePrints, options_from};
 
 use crate::found::{Found, prove_script, prove_script_alone};
@@ -8,14 +11,35 @@ use command_runs::Status;
 use fx_edge::Gate;
 use report::proved::answer_text;
 use report::refusals::refusal_line;
-use report::{ParseStop, Script, parse};
+use report::{HintMark, Line, ParseStop, Script, parse};
 use settler::classify;
 use std::alloc::{AllocError, Global};
 use std::sync::Wait;
 use std::thread::Threads;
 
-/// The status and the lines for what was found of the script. `Err` only where memory runs out.
-pub fn lines_for(
+/// The lines of a script that is proved, where this is shown of its goals and its hints have these
+/// marks. `Err` only where memory runs out.
+pub fn proved_lines(
+    alloc: Global,
+    script: &Script<'_>,
+    shown: &[Line],
+    marks: &[HintMark],
+) -> Result<Vec<u8>, AllocError>
+    ensures { IfOk result (λ lines. lines.items ≡ spec.answer_text script.now.text
+        script.now.tokens script.now.spans shown.now marks.now) }
+{
+    answer_text(
+        alloc,
+        script.text(),
+        script.tokens(),
+        script.goal_spans(),
+        shown,
+        marks,
+    )
+}
+
+// The status and the lines for what was found of the script. `Err` only where memory runs out.
+fn lines_for(
     alloc: Global,
     script: &Script<'_>,
     options: Options,
@@ -24,21 +48,76 @@ pub fn lines_for(
     requires { IsFound (options_from options) script.now found }
     ensures { IfOk result (λ r. ProvePrints (options_from options) script.now.text r.0 r.1.items) }
 {
+    let _ = options;
     match found {
         Found::Stopped(status, lines) => Ok((status, lines)),
         Found::Proved(_, shown) => {
             let marks = classify(alloc, script)?;
-            let text = answer_text(
-                alloc,
-                script.text(),
-                script.tokens(),
-                script.goal_spans(),
-                shown.as_slice(),
-                marks.as_slice(),
-            )?;
-            Ok((Status::Answered, text))
+            let lines = proved_lines(alloc, script, shown.as_slice(), &marks)?;
+            Ok((Status::Answered, lines))
         }
     }
+}
+
+/// The line for a text that gives no script. `Err` only where memory runs out.
+pub fn unread_line(
+    alloc: Global,
+    text: &[u8],
+    options: Options,
+    stop: ParseStop,
+) -> Result<Vec<u8>, AllocError>
+    requires { (r : Refusal) → stop ≡ ParseStop.Refused r → IsRefused text.now r }
+    ensures { IfOk result (λ line.
+        ProvePrints (options_from options) text.now Status.Script line.items) }
+{
+    let _ = options;
+    match stop {
+        ParseStop::Refused(refusal) => refusal_line(alloc, refusal),
+        ParseStop::OutOfMemory => Err(AllocError),
+    }
+}
+
+// The status and the line for such a text.
+fn unread(
+    alloc: Global,
+    text: &[u8],
+    options: Options,
+    stop: ParseStop,
+) -> Result<(Status, Vec<u8>), AllocError>
+    requires { (r : Refusal) → stop ≡ ParseStop.Refused r → IsRefused text.now r }
+    ensures { IfOk result (λ r. ProvePrints (options_from options) text.now r.0 r.1.items) }
+{
+    let line = unread_line(alloc, text, options, stop)?;
+    Ok((Status::Script, line))
+}
+
+// What is answered to a script. Who calls it has the script, and does nothing else with it: a
+// function that owns a script has a long proof of its own.
+fn script_answer<G: Gate, R: Threads + Wait + Sync>(
+    rt: &R,
+    alloc: Global,
+    script: &Script<'_>,
+    options: Options,
+    gate: &G,
+) -> Result<(Status, Vec<u8>), AllocError>
+    requires { AreAllowed options }
+    ensures { IfOk result (λ r. ProvePrints (options_from options) script.now.text r.0 r.1.items) }
+{
+    let found = prove_script(rt, alloc, script, options, gate)?;
+    lines_for(alloc, script, options, found)
+}
+
+// The same by this thread alone.
+fn script_answer_alone(
+    alloc: Global,
+    script: &Script<'_>,
+    options: Options,
+) -> Result<(Status, Vec<u8>), AllocError>
+    requires { AreAllowed options }
+    ensures { IfOk result (λ r. ProvePrints (options_from options) script.now.text r.0 r.1.items) }
+{
+    let found = prove_script_alone(alloc, script, options)?;
+    lines_for(alloc, script, options, found)
 }
 
 /// What is answered to a text under the options: the status and all lines. `Err` only where memory
@@ -54,12 +133,8 @@ pub fn answer<G: Gate, R: Threads + Wait + Sync>(
     ensures { IfOk result (λ r. ProvePrints (options_from options) text.now r.0 r.1.items) }
 {
     match parse(alloc, text) {
-        Ok(script) => {
-            let found = prove_script(rt, alloc, &script, options, gate)?;
-            lines_for(alloc, &script, options, found)
-        }
-        Err(ParseStop::Refused(refusal)) => Ok((Status::Script, refusal_line(alloc, refusal)?)),
-        Err(ParseStop::OutOfMemory) => Err(AllocError),
+        Ok(script) => script_answer(rt, alloc, &script, options, gate),
+        Err(stop) => unread(alloc, text, options, stop),
     }
 }
 
@@ -73,11 +148,7 @@ pub fn answer_alone(
     ensures { IfOk result (λ r. ProvePrints (options_from options) text.now r.0 r.1.items) }
 {
     match parse(alloc, text) {
-        Ok(script) => {
-            let found = prove_script_alone(alloc, &script, options)?;
-            lines_for(alloc, &script, options, found)
-        }
-        Err(ParseStop::Refused(refusal)) => Ok((Status::Script, refusal_line(alloc, refusal)?)),
-        Err(ParseStop::OutOfMemory) => Err(AllocError),
+        Ok(script) => script_answer_alone(alloc, &script, options),
+        Err(stop) => unread(alloc, text, options, stop),
     }
 }

@@ -1,22 +1,23 @@
 // What is found of a script.
-ghost use Rattle.std.specs.Prelude.{◌≡◌, ◌<◌, ◌≤◌, [], List, Some, IfOk, length, slice_get};
+ghost use Rattle.std.specs.Prelude.{◌≡◌, ◌<◌, [], List, Some, IfOk, length, slice_get};
 ghost use Rattle.report.specs.script_claims.declared.claim.Claim.{Claim};
 ghost use Rattle.report.specs.script_grammar.Cases.{cases_of};
 ghost use Rattle.settler.specs.universe.Universes.{IsUniverse, IsTooLarge};
 ghost use Rattle.settler.specs.Answers.{ComesTo, plan_of};
+ghost use Rattle.settler.specs.Cases.{AreCases};
 ghost use Rattle.settler.specs.Held.{ProvedHolds};
 ghost use Rattle.report.specs.Unproved as spec;
-ghost use Rattle.script_answers.specs.Answers.{AreAllowed, IsFound, options_from};
+ghost use Rattle.script_answers.specs.Answers.{AreAllowed, IsFound, ProvePrints, options_from};
 
 use crate::options::Options;
 use command_runs::Status;
 use fx_edge::{Gate, Items};
 use report::runs::{boxes_text, expressions_text};
 use report::unproved::unproved_text;
-use report::{Line, Plan, Script, script_or_refusal};
+use report::{Line, Script, script_or_refusal};
 use settler::{
-    CaseOutcome, OpenLeaf, Universe, UniverseFault, answer, answer_alone, build, lines_of,
-    open_leaves_are_first, proved_lines_are_tight,
+    Case, CaseOutcome, OpenLeaf, Universe, UniverseFault, answer, answer_alone, build, lines_of,
+    open_leaves_are_first, planned_cases, proved_lines_are_tight,
 };
 use std::alloc::{AllocError, Global};
 use std::sync::Wait;
@@ -31,38 +32,45 @@ pub enum Found {
     Stopped(Status, Vec<u8>),
 }
 
-// The line of an open leaf, whose case's boxes are halved so often at most.
+// The line of an open leaf of one of these cases of the script.
 fn open_line(
     alloc: Global,
     script: &Script<'_>,
+    cases: &[Case],
     depth: u8,
     leaf: OpenLeaf,
 ) -> Result<Vec<u8>, AllocError>
+    requires cases { AreCases script.now depth (cases_of script.now) cases.now }
     requires case { leaf.case < length (cases_of script.now) }
-    requires depth { depth ≤ 32 }
     ensures { IfOk result (λ line.
         (claims : List Claim) × (slice_get (cases_of script.now) leaf.case ≡ Some claims)
         × (line.items ≡ spec.unproved_text script.now (plan_of script.now claims depth)
         (length (cases_of script.now)) leaf.case leaf.path leaf.goal)) }
 {
-    script.laws();
-    let claims = script.case(alloc, usize::from(leaf.case))?;
-    let plan = Plan::new(alloc, &claims, script.hints(), depth)?;
-    let cases = script.case_count();
+    let _ = depth;
+    let number = usize::from(leaf.case);
+    let case = &cases[number];
     unproved_text(
-        alloc, script, &plan, cases, leaf.case, &leaf.path, leaf.goal,
+        alloc,
+        script,
+        &case.plan,
+        cases.len(),
+        leaf.case,
+        &leaf.path,
+        leaf.goal,
     )
 }
 
-/// What is found of a script, by what the trees of its cases come to under the options. `Err` only
-/// where memory runs out.
-pub fn found_of(
+// What is found of a script, by what the trees of these cases come to under the options. `Err` only
+// where memory runs out.
+fn found_of(
     alloc: Global,
     script: &Script<'_>,
+    cases: &[Case],
     options: Options,
     outcome: CaseOutcome,
 ) -> Result<Found, AllocError>
-    requires allowed { AreAllowed options }
+    requires cases { AreCases script.now options.depth (cases_of script.now) cases.now }
     requires comes { ComesTo script.now (options_from options) outcome }
     requires holds { ProvedHolds script.now (options_from options) }
     ensures { IfOk result (IsFound (options_from options) script.now) }
@@ -76,7 +84,7 @@ pub fn found_of(
             Ok(Found::Stopped(Status::Limit, boxes_text(alloc, options.boxes)?))
         }
         CaseOutcome::Unproved { leaf, .. } => {
-            let text = open_line(alloc, script, options.depth, leaf)?;
+            let text = open_line(alloc, script, cases, options.depth, leaf)?;
             Ok(Found::Stopped(Status::Unproved, text))
         }
         CaseOutcome::Leaves { boxes, leaves } => {
@@ -86,10 +94,69 @@ pub fn found_of(
     }
 }
 
-/// What is found of a script over its universe, by so many workers. The universe stays the
-/// script's, with some claims assumed, also where memory runs out, which is the only error. It may
-/// wait.
+/// What is found of a script over its universe and its cases, by so many workers. The universe
+/// stays the script's, with some claims assumed, also where memory runs out, which is the only
+/// error. It may wait.
 pub fn prove_over<G: Gate, R: Threads + Wait + Sync>(
+    rt: &R,
+    alloc: Global,
+    script: &Script<'_>,
+    universe: &mut Universe,
+    cases: &[Case],
+    options: Options,
+    gate: &G,
+) -> Result<Found, AllocError>
+    requires universe { IsUniverse script.now [] universe.old }
+    requires few { ¬ IsTooLarge script.now }
+    requires cases { AreCases script.now options.depth (cases_of script.now) cases.now }
+    requires allowed { AreAllowed options }
+    ensures found { IfOk result (IsFound (options_from options) script.now) }
+    ensures universe { (after : List Claim) × IsUniverse script.now after universe.new }
+{
+    let outcome = answer(
+        rt,
+        alloc,
+        script,
+        universe,
+        cases,
+        gate,
+        options.rounds,
+        options.depth,
+        options.workers,
+        options.boxes,
+    )?;
+    found_of(alloc, script, cases, options, outcome)
+}
+
+// The same by this thread alone.
+fn prove_over_alone(
+    alloc: Global,
+    script: &Script<'_>,
+    universe: &mut Universe,
+    cases: &[Case],
+    options: Options,
+) -> Result<Found, AllocError>
+    requires universe { IsUniverse script.now [] universe.old }
+    requires few { ¬ IsTooLarge script.now }
+    requires cases { AreCases script.now options.depth (cases_of script.now) cases.now }
+    requires allowed { AreAllowed options }
+    ensures { IfOk result (IsFound (options_from options) script.now) }
+{
+    let outcome = answer_alone(
+        alloc,
+        script,
+        universe,
+        cases,
+        options.rounds,
+        options.depth,
+        options.boxes,
+    )?;
+    found_of(alloc, script, cases, options, outcome)
+}
+
+// What is found of a script over its universe, whose cases are planned here. `Err` only where memory
+// runs out.
+fn prove_planned<G: Gate, R: Threads + Wait + Sync>(
     rt: &R,
     alloc: Global,
     script: &Script<'_>,
@@ -100,25 +167,14 @@ pub fn prove_over<G: Gate, R: Threads + Wait + Sync>(
     requires universe { IsUniverse script.now [] universe.old }
     requires few { ¬ IsTooLarge script.now }
     requires allowed { AreAllowed options }
-    ensures found { IfOk result (IsFound (options_from options) script.now) }
-    ensures universe { (after : List Claim) × IsUniverse script.now after universe.new }
+    ensures { IfOk result (IsFound (options_from options) script.now) }
 {
-    let outcome = answer(
-        rt,
-        alloc,
-        script,
-        universe,
-        gate,
-        options.rounds,
-        options.depth,
-        options.workers,
-        options.boxes,
-    )?;
-    found_of(alloc, script, options, outcome)
+    let cases = planned_cases(alloc, script, options.depth)?;
+    prove_over(rt, alloc, script, universe, &cases, options, gate)
 }
 
 // The same by this thread alone.
-fn prove_over_alone(
+fn prove_planned_alone(
     alloc: Global,
     script: &Script<'_>,
     universe: &mut Universe,
@@ -129,15 +185,41 @@ fn prove_over_alone(
     requires allowed { AreAllowed options }
     ensures { IfOk result (IsFound (options_from options) script.now) }
 {
-    let outcome = answer_alone(
-        alloc,
-        script,
-        universe,
-        options.rounds,
-        options.depth,
-        options.boxes,
-    )?;
-    found_of(alloc, script, options, outcome)
+    let cases = planned_cases(alloc, script, options.depth)?;
+    prove_over_alone(alloc, script, universe, &cases, options)
+}
+
+/// The line of a script that has no universe. `Err` only where memory runs out.
+pub fn unbuilt_line(
+    alloc: Global,
+    script: &Script<'_>,
+    options: Options,
+    fault: UniverseFault,
+) -> Result<Vec<u8>, AllocError>
+    requires { fault ≡ UniverseFault.ExprLimit → IsTooLarge script.now }
+    ensures { IfOk result (λ line.
+        ProvePrints (options_from options) script.now.text Status.Limit line.items) }
+{
+    script.laws();
+    let _ = options;
+    match fault {
+        UniverseFault::ExprLimit => expressions_text().to_vec(alloc),
+        UniverseFault::OutOfMemory => Err(AllocError),
+    }
+}
+
+// What is found of such a script.
+fn unbuilt(
+    alloc: Global,
+    script: &Script<'_>,
+    options: Options,
+    fault: UniverseFault,
+) -> Result<Found, AllocError>
+    requires { fault ≡ UniverseFault.ExprLimit → IsTooLarge script.now }
+    ensures { IfOk result (IsFound (options_from options) script.now) }
+{
+    let line = unbuilt_line(alloc, script, options, fault)?;
+    Ok(Found::Stopped(Status::Limit, line))
 }
 
 /// What is found of a script under the options, by so many workers. `Err` only where memory runs
@@ -152,14 +234,9 @@ pub fn prove_script<G: Gate, R: Threads + Wait + Sync>(
     requires { AreAllowed options }
     ensures { IfOk result (IsFound (options_from options) script.now) }
 {
-    script.laws();
     match build(alloc, script) {
-        Ok(mut universe) => prove_over(rt, alloc, script, &mut universe, options, gate),
-        Err(UniverseFault::ExprLimit) => Ok(Found::Stopped(
-            Status::Limit,
-            expressions_text().to_vec(alloc)?,
-        )),
-        Err(UniverseFault::OutOfMemory) => Err(AllocError),
+        Ok(mut universe) => prove_planned(rt, alloc, script, &mut universe, options, gate),
+        Err(fault) => unbuilt(alloc, script, options, fault),
     }
 }
 
@@ -172,13 +249,8 @@ pub fn prove_script_alone(
     requires { AreAllowed options }
     ensures { IfOk result (IsFound (options_from options) script.now) }
 {
-    script.laws();
     match build(alloc, script) {
-        Ok(mut universe) => prove_over_alone(alloc, script, &mut universe, options),
-        Err(UniverseFault::ExprLimit) => Ok(Found::Stopped(
-            Status::Limit,
-            expressions_text().to_vec(alloc)?,
-        )),
-        Err(UniverseFault::OutOfMemory) => Err(AllocError),
+        Ok(mut universe) => prove_planned_alone(alloc, script, &mut universe, options),
+        Err(fault) => unbuilt(alloc, script, options, fault),
     }
 }

@@ -5,9 +5,8 @@
 pub use report::certificates::{cert_fault_line, check_fault_line, new_too_long_line};
 pub use report::proved::answer_text;
 pub use report::refusals::refusal_line;
-pub use report::runs::expressions_text;
-pub use report::{ParseStop, Script, parse, script_or_refusal};
-pub use settler::{Universe, UniverseFault, build, classify, marks_are_one};
+pub use report::{HintMark, ParseStop, Script, parse};
+pub use settler::{Case, Universe, UniverseFault, build, classify, marks_are_one, planned_cases};
 
 mod answers;
 mod found;
@@ -15,8 +14,8 @@ mod laws;
 mod made;
 mod options;
 
-pub use answers::{answer, answer_alone, lines_for};
-pub use found::{Found, found_of, prove_over, prove_script, prove_script_alone};
+pub use answers::{answer, answer_alone, proved_lines, unread_line};
+pub use found::{Found, prove_over, prove_script, prove_script_alone, unbuilt_line};
 pub use laws::{made_answers_are_one, text_answers_are_one};
 pub use made::made_answer;
 pub use options::{Options, made_options, options_of};

@@ -1,17 +1,18 @@
 // The status and the lines for the made script.
 ghost use Rattle.std.specs.Prelude.{◌≡◌, IfOk};
 ghost use Rattle.made_script.specs.Script.{script_text};
+ghost use Rattle.report.specs.script_judge.declared.refusal.Refusal.{Refusal};
 ghost use Rattle.report.specs.script_grammar.Spells.{IsRefused};
 ghost use Rattle.script_answers.specs.Answers.{IsFound, MadePrints, first_line, made_options};
 
+use crate::answers::unread_line;
 use crate::found::{Found, prove_script};
 use crate::options::made_options;
 use command_runs::Status;
 use fx_edge::Gate;
 use made_script::made_script;
 use report::proved::made_text;
-use report::refusals::refusal_line;
-use report::{Line, ParseStop, Refusal, Script, parse};
+use report::{Line, ParseStop, Script, parse};
 use std::alloc::{AllocError, Global};
 use std::sync::Wait;
 use std::thread::Threads;
@@ -47,19 +48,52 @@ fn made_lines(
     }
 }
 
-// The status and the lines for a made script that is refused.
-#[tactic(auto, using(crate::proofs::MadeText::made_refused))]
-fn made_refusal(
+// The status and the lines for a made script whose text gives none. `Err` only where memory runs
+// out.
+fn made_unread(
     alloc: Global,
     n: u8,
     text: &[u8],
-    refusal: Refusal,
+    stop: ParseStop,
 ) -> Result<(Status, Vec<u8>), AllocError>
     requires text { text.now ≡ script_text n }
-    requires refused { IsRefused text.now refusal }
+    requires refused { (r : Refusal) → stop ≡ ParseStop.Refused r → IsRefused text.now r }
     ensures { IfOk result (λ r. MadePrints n r.0 r.1.items) }
 {
-    Ok((Status::Script, refusal_line(alloc, refusal)?))
+    let line = unread_line(alloc, text, made_options(), stop)?;
+    Ok((Status::Script, line))
+}
+
+// What is answered to the made script, which was read.
+fn made_script_answer<G: Gate, R: Threads + Wait + Sync>(
+    rt: &R,
+    alloc: Global,
+    n: u8,
+    script: &Script<'_>,
+    gate: &G,
+) -> Result<(Status, Vec<u8>), AllocError>
+    requires { script.now.text ≡ script_text n }
+    ensures { IfOk result (λ r. MadePrints n r.0 r.1.items) }
+{
+    let found = prove_script(rt, alloc, script, made_options(), gate)?;
+    made_lines(alloc, n, script, found)
+}
+
+// What is answered to the made script's text.
+fn made_text_answer<G: Gate, R: Threads + Wait + Sync>(
+    rt: &R,
+    alloc: Global,
+    n: u8,
+    text: &[u8],
+    gate: &G,
+) -> Result<(Status, Vec<u8>), AllocError>
+    requires { text.now ≡ script_text n }
+    ensures { IfOk result (λ r. MadePrints n r.0 r.1.items) }
+{
+    match parse(alloc, text) {
+        Ok(script) => made_script_answer(rt, alloc, n, &script, gate),
+        Err(stop) => made_unread(alloc, n, text, stop),
+    }
 }
 
 /// What is answered to the made script of degree n: the status and all lines. `Err` only where
@@ -73,12 +107,5 @@ pub fn made_answer<G: Gate, R: Threads + Wait + Sync>(
     ensures { IfOk result (λ r. MadePrints n r.0 r.1.items) }
 {
     let text = made_script(alloc, n)?;
-    match parse(alloc, &text) {
-        Ok(script) => {
-            let found = prove_script(rt, alloc, &script, made_options(), gate)?;
-            made_lines(alloc, n, &script, found)
-        }
-        Err(ParseStop::Refused(refusal)) => made_refusal(alloc, n, &text, refusal),
-        Err(ParseStop::OutOfMemory) => Err(AllocError),
-    }
+    made_text_answer(rt, alloc, n, &text, gate)
 }

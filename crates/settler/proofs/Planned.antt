@@ -1,5 +1,5 @@
 -- Cases with their plans, one after the other.
-use Rattle.std.specs.Prelude.{◌≡◌, ◌+◌, ◌++◌, ℕ, zero, suc, List, [], ◌∷◌, length, Some, take, slice_get, refl}
+use Rattle.std.specs.Prelude.{◌≡◌, ◌+◌, ◌++◌, ℕ, zero, suc, List, [], ◌∷◌, Some, take, slice_get, refl}
 use Rattle.std.proofs.Common.{arith, ap, ◌∙◌}
 use Rattle.case_trees.specs.script_claims.declared.claim.Claim.{Claim}
 use Rattle.script_truths.specs.script_grammar.Spells.{View}
@@ -23,13 +23,6 @@ take_more (y ∷ xs) (suc i) x e = ap (λ k. take k (y ∷ xs)) (next i) ∙ ap 
 pub take_none : (xs : List (List Claim)) → take 0 xs ≡ []
 take_none [] = refl
 take_none (x ∷ xs) = refl
-
--- as many cases as lists of claims
-pub as_many : (s : View) (depth : ℕ) (xs : List (List Claim)) (ys : List Case) → AreCases s depth xs ys → length xs ≡ length ys
-as_many s depth [] [] are = refl
-as_many s depth [] (y ∷ ys) are = absurd are
-as_many s depth (x ∷ xs) [] are = absurd are
-as_many s depth (x ∷ xs) (y ∷ ys) are = ap suc (as_many s depth xs ys are.2)
 
 some_same : (xs ys : List Claim) → Some xs ≡ Some ys → xs ≡ ys
 some_same xs ys e = cc

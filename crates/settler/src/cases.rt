@@ -9,10 +9,12 @@ use saturate::{known_facts_hold, rules_are_sound_for};
 use script_truths::Script;
 use std::alloc::{AllocError, Global};
 
-/// What is assumed in a case, and how its boxes are cut.
+/// A case of a script with its plan.
 #[derive(Drop)]
 pub struct Case {
+    /// What is assumed in it.
     pub claims: Items<Claim>,
+    /// How its boxes are cut.
     pub plan: Plan,
 }
 
@@ -27,12 +29,9 @@ pub(crate) fn plan_is_lawful(plan: &Plan)
     rules_are_sound_for();
 }
 
-// The cases of the script, in order, whose boxes are halved so often at most.
-pub(crate) fn planned_cases(
-    alloc: Global,
-    script: &Script<'_>,
-    depth: u8,
-) -> Result<Vec<Case>, AllocError>
+/// The cases of the script, in order, each with its plan, by which boxes are halved so often at
+/// most (0 to 32). Want of memory is the only error.
+pub fn planned_cases(alloc: Global, script: &Script<'_>, depth: u8) -> Result<Vec<Case>, AllocError>
     requires { depth ≤ 32 }
     ensures { IfOk result (λ cases. AreCases script.now depth (cases_of script.now) cases.items) }
 {

@@ -20,7 +20,7 @@ mod laws;
 mod run;
 
 pub use boxes::Boxes;
-pub use cases::Case;
+pub use cases::{Case, planned_cases};
 pub use entry::Entry;
 pub use frame::Frame;
 pub use laws::{

@@ -16,7 +16,7 @@ ghost use Rattle.settler.specs.Frames.{Fits};
 ghost use Rattle.settler.specs.Held.{CasesHold, ProvedHolds};
 
 use crate::boxes::Boxes;
-use crate::cases::{Case, planned_cases};
+use crate::cases::Case;
 use crate::frame::Frame;
 use crate::laws::{cases_hold, plans_fit, proved_answers_hold};
 use box_workers::run;
@@ -169,12 +169,13 @@ fn answer_cases<A: Fn(&Universe, &Plan, u32) -> Result<Outcome, AllocError>>(
     Ok(gathered.finish())
 }
 
-// What a script comes to, where each tree is answered by the call.
+// What a script with these cases comes to, where each tree is answered by the call.
 fn answer_by<A: Fn(&Universe, &Plan, u32) -> Result<Outcome, AllocError>>(
     alloc: Global,
     answer_tree: &A,
     script: &Script<'_>,
     universe: &mut Universe,
+    cases: &[Case],
     rounds: u8,
     depth: u8,
     boxes: u32,
@@ -183,7 +184,7 @@ fn answer_by<A: Fn(&Universe, &Plan, u32) -> Result<Outcome, AllocError>>(
     requires answers { AnswersTrees rounds (A.post answer_tree.now) }
     requires universe { (before : List Claim) × IsUniverse script.now before universe.old }
     requires small { ¬ IsTooLarge script.now }
-    requires depth { depth ≤ 32 }
+    requires cases { AreCases script.now depth (cases_of script.now) cases.now }
     requires boxes { boxes ≤ 8192 }
     ensures comes { IfOk result (ComesTo script.now (options rounds depth boxes)) }
     ensures holds { IfOk result (λ _. ProvedHolds script.now (options rounds depth boxes)) }
@@ -197,22 +198,23 @@ fn answer_by<A: Fn(&Universe, &Plan, u32) -> Result<Outcome, AllocError>>(
     settling_facts();
     cases_hold();
     proved_answers_hold();
-    let cases = planned_cases(alloc, script, depth)?;
-    answer_cases(alloc, answer_tree, script, universe, &cases, rounds, boxes)
+    let _ = depth;
+    answer_cases(alloc, answer_tree, script, universe, cases, rounds, boxes)
 }
 
-/// What a script comes to: each case's boxes are halved so often at most (0 to 32), and settled by
-/// so many rounds (0 to 64) over the script's universe with the case's claims assumed; all cases
-/// may have so many boxes (1 to 8,192) together. Each box is settled by one of so many workers (1
-/// to 16), each of which calls the gate before and after it settles a box. Neither their number nor
-/// their schedule changes the answer. What is assumed in the universe before and behind the call is
-/// no part of it: it stays the script's, also after want of memory, which is the only error. It may
-/// wait.
+/// What a script comes to: each case's boxes are cut by its plan, by which they are halved so often
+/// at most (0 to 32), and settled by so many rounds (0 to 64) over the script's universe with the
+/// case's claims assumed; all cases may have so many boxes (1 to 8,192) together. Each box is
+/// settled by one of so many workers (1 to 16), each of which calls the gate before and after it
+/// settles a box. Neither their number nor their schedule changes the answer. What is assumed in
+/// the universe before and behind the call is no part of it: it stays the script's, also after want
+/// of memory, which is the only error. It may wait.
 pub fn answer<G: Gate, R: Threads + Wait + Sync>(
     rt: &R,
     alloc: Global,
     script: &Script<'_>,
     universe: &mut Universe,
+    cases: &[Case],
     gate: &G,
     rounds: u8,
     depth: u8,
@@ -221,7 +223,7 @@ pub fn answer<G: Gate, R: Threads + Wait + Sync>(
 ) -> Result<CaseOutcome, AllocError>
     requires universe { (before : List Claim) × IsUniverse script.now before universe.old }
     requires small { ¬ IsTooLarge script.now }
-    requires depth { depth ≤ 32 }
+    requires cases { AreCases script.now depth (cases_of script.now) cases.now }
     requires workers { (1 ≤ workers) × (workers ≤ 16) }
     requires boxes { (1 ≤ boxes) × (boxes ≤ 8192) }
     ensures comes { IfOk result (ComesTo script.now (options rounds depth boxes)) }
@@ -240,6 +242,7 @@ pub fn answer<G: Gate, R: Threads + Wait + Sync>(
         { answer_tree(rt, alloc, universe, gate, plan, rounds, workers, left) },
         script,
         universe,
+        cases,
         rounds,
         depth,
         boxes,
@@ -252,13 +255,14 @@ pub fn answer_alone(
     alloc: Global,
     script: &Script<'_>,
     universe: &mut Universe,
+    cases: &[Case],
     rounds: u8,
     depth: u8,
     boxes: u32,
 ) -> Result<CaseOutcome, AllocError>
     requires universe { (before : List Claim) × IsUniverse script.now before universe.old }
     requires small { ¬ IsTooLarge script.now }
-    requires depth { depth ≤ 32 }
+    requires cases { AreCases script.now depth (cases_of script.now) cases.now }
     requires boxes { (1 ≤ boxes) × (boxes ≤ 8192) }
     ensures comes { IfOk result (ComesTo script.now (options rounds depth boxes)) }
     // Where it is proved, its lines hold, and its goals are true.
@@ -274,6 +278,7 @@ pub fn answer_alone(
         { answer_tree_alone(alloc, universe, plan, rounds, left) },
         script,
         universe,
+        cases,
         rounds,
         depth,
         boxes,

@@ -2,6 +2,7 @@ use Rattle.std.specs.Prelude.{◌+◌, refl}
 use Rattle.std.proofs.Common.{sym, ◌∙◌, subst, arith}
 use Rattle.std.proofs.lemmas.List.{drop_all}
 use Rattle.answer_certificates.specs.script_grammar.Cases.{cases_of}
+use Rattle.answer_certificates.specs.settler.Cases.{as_many}
 use Rattle.cert_trim.specs.cert_bytes.Styles.{none_seen}
 use Rattle.cert_writer.specs.Files.{on_err}
 use Rattle.cert_writer.specs.Cases.{bare, task, whole_aim, StandsAt, StandsBefore, OfStanding, GrewFront}
@@ -41,8 +42,7 @@ write_case-requires-clause-stands g c =
 pub write_case-requires-clause-number : goal.write_case-requires-clause-number
 write_case-requires-clause-number g c =
     let l = c.loop-number-test.true in
-    let count = c.case_count-number-end.ensures.value in
-    omega (arith, l, count)
+    omega (arith, l)
 
 pub returns-in_err-next-clause-err : goal.returns-in_err-next-clause-err
 returns-in_err-next-clause-err g c =
@@ -92,10 +92,10 @@ returns-clause-ok g c = λ t lines items stands.
     let cs = cases_of c.args.script.now in
     let w = task c.args.script.now (bare c.args.universe.now) c.args.rounds c.args.depth t lines in
     let h = c.loop-number.invariant.done t lines items stands in
-    let count = c.case_count-number-end.ensures.value in
+    let many = as_many c.args.script.now c.args.depth cs c.args.cases.now c.requires.cases in
     let done = c.loop-number-test.false in (
       h.0,
       h.1,
       subst (λ xs. StandsAt w c.loop-number.number xs c.loop-number.next h.0)
-          (drop_all c.loop-number.number cs (omega (arith, count, done))) h.2,
+          (drop_all c.loop-number.number cs (omega (arith, many, done))) h.2,
     )

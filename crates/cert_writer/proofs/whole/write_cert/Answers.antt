@@ -1,14 +1,13 @@
-use Rattle.std.specs.Prelude.{◌≡◌, length}
+use Rattle.std.specs.Prelude.{length, refl}
 use Rattle.std.specs.Io.KnownBytes.{Appends}
-use Rattle.std.proofs.Common.{◌∙◌, ap, subst, arith}
-use Rattle.std.proofs.lemmas.List.{length-map}
+use Rattle.std.proofs.Common.{◌∙◌, subst, arith}
 use Rattle.answer_certificates.specs.script_grammar.Cases.{cases_of}
-use Rattle.answer_certificates.specs.script_checker.Subjects.{facts_of}
+use Rattle.answer_certificates.specs.settler.Cases.{as_many}
 use Rattle.cert_writer.specs.Files.{on_err}
 use Rattle.whole_texts.specs.Pieces.{AppendsFront}
-use Rattle.cert_writer.specs.Cases.{bare, task}
+use Rattle.cert_writer.specs.Cases.{bare, subject_in, task}
 use Rattle.cert_writer.specs.Written.{OfProved, HoldsFront}
-use Rattle.cert_writer.proofs.Start.{start, head_of}
+use Rattle.cert_writer.proofs.Start.{is_subject, as_planned, start, head_of}
 use Rattle.cert_writer.proofs.Held.{head_spelled, not_fresh, not_headed, half_headed, broken_off, not_ended, completed}
 use Rattle.cert_writer.proofs.whole.write_cert.Goals as goal
 
@@ -16,7 +15,9 @@ pub returns-in_err-fresh-clause-err : goal.returns-in_err-fresh-clause-err
 returns-in_err-fresh-clause-err g c =
     let s = c.args.script.now in
     let u = c.args.universe.now in
-    let t = c.args.subject.now in
+    let t = subject_in s u c.args.marks.now in
+    let is = is_subject s c.requires.universe.0 u c.args.marks.now c.requires.universe.1
+    c.requires.marks in
     let old = g.F.Folder.told c.args.folder.now c.args.name.now in
     let new = g.F.Folder.told c.fresh.new.self c.args.name.now in
     on_err c.from_residual.result (OfProved s c.args.rounds c.args.depth
@@ -24,17 +25,19 @@ returns-in_err-fresh-clause-err g c =
     (λ boxes lines few proved.
     let w = task s (bare u) c.args.rounds c.args.depth t lines in
     let st = start c.writing_goes_on.ensures c.scripts_have_roots.ensures.roots
-    c.subjects_are_written.ensures.few c.universes_are_small.ensures s u t c.args.rounds c.args.depth
-    c.script_has_room.ensures.cases c.requires.subject c.requires.rounds c.requires.depth boxes
+    c.subjects_are_written.ensures.few c.universes_are_small.ensures s u t c.args.rounds
+    c.args.depth c.script_has_room.ensures.cases is c.requires.rounds c.requires.depth boxes
     lines few proved in
-    not_fresh c.writing_goes_on.ensures s w c.requires.subject st old new
+    not_fresh c.writing_goes_on.ensures s w is st old new
     c.in_err-fresh.ensures.err)
 
 pub returns-in_err-spell_head-clause-err : goal.returns-in_err-spell_head-clause-err
 returns-in_err-spell_head-clause-err g c =
     let s = c.args.script.now in
     let u = c.args.universe.now in
-    let t = c.args.subject.now in
+    let t = subject_in s u c.args.marks.now in
+    let is = is_subject s c.requires.universe.0 u c.args.marks.now c.requires.universe.1
+    c.requires.marks in
     let old = g.F.Folder.told c.args.folder.now c.args.name.now in
     let new = g.F.Folder.told c.fresh.new.self c.args.name.now in
     on_err c.from_residual-in_err-spell_head.result
@@ -42,26 +45,31 @@ returns-in_err-spell_head-clause-err g c =
     (λ boxes lines few proved.
     let w = task s (bare u) c.args.rounds c.args.depth t lines in
     let st = start c.writing_goes_on.ensures c.scripts_have_roots.ensures.roots
-    c.subjects_are_written.ensures.few c.universes_are_small.ensures s u t c.args.rounds c.args.depth
-    c.script_has_room.ensures.cases c.requires.subject c.requires.rounds c.requires.depth boxes
+    c.subjects_are_written.ensures.few c.universes_are_small.ensures s u t c.args.rounds
+    c.args.depth c.script_has_room.ensures.cases is c.requires.rounds c.requires.depth boxes
     lines few proved in
-    not_headed c.writing_goes_on.ensures s w c.requires.subject st old new c.in_ok-fresh.ensures.ok)
+    not_headed c.writing_goes_on.ensures s w is st old new c.in_ok-fresh.ensures.ok)
+
+pub spell_head-requires-clause-few : goal.spell_head-requires-clause-few
+spell_head-requires-clause-few g c =
+    let count = c.requires.marks.count in
+    let few = c.laws.ensures.few.rewrites in
+    omega (arith, count, few)
 
 pub spell_head-requires-clause-cases : goal.spell_head-requires-clause-cases
 spell_head-requires-clause-cases g c =
     let s = c.args.script.now in
-    let count : length c.args.subject.now.cases ≡ length (cases_of s) =
-    ap length c.requires.subject.cases ∙ length-map (cases_of s) facts_of in
-    let all : length c.as_slice-cases.result.now ≡ length c.args.subject.now.cases =
-    ap length c.as_slice-cases.ensures in
+    let many = as_many s c.args.depth (cases_of s) c.args.cases.now c.requires.cases in
     let few = c.script_has_room.ensures.cases.few in
-    omega (arith, count, all, few)
+    omega (arith, many, few)
 
 pub returns-in_err-append_all-clause-err : goal.returns-in_err-append_all-clause-err
 returns-in_err-append_all-clause-err g c =
     let s = c.args.script.now in
     let u = c.args.universe.now in
-    let t = c.args.subject.now in
+    let t = subject_in s u c.args.marks.now in
+    let is = is_subject s c.requires.universe.0 u c.args.marks.now c.requires.universe.1
+    c.requires.marks in
     let old = g.F.Folder.told c.args.folder.now c.args.name.now in
     let fresh = g.F.Folder.told c.fresh.new.self c.args.name.now in
     let new = g.F.Folder.told c.append_all.new.folder c.args.name.now in
@@ -70,14 +78,14 @@ returns-in_err-append_all-clause-err g c =
     (λ boxes lines few proved.
     let w = task s (bare u) c.args.rounds c.args.depth t lines in
     let st = start c.writing_goes_on.ensures c.scripts_have_roots.ensures.roots
-    c.subjects_are_written.ensures.few c.universes_are_small.ensures s u t c.args.rounds c.args.depth
-    c.script_has_room.ensures.cases c.requires.subject c.requires.rounds c.requires.depth boxes
+    c.subjects_are_written.ensures.few c.universes_are_small.ensures s u t c.args.rounds
+    c.args.depth c.script_has_room.ensures.cases is c.requires.rounds c.requires.depth boxes
     lines few proved in
-    let bytes = head_spelled w c.dag.result.now c.as_slice.result.now
-    (length c.as_slice-cases.result.now) c.new-bytes.result.items c.spell_head.new.out.items
-    c.new-bytes.ensures.items c.dag.ensures c.as_slice.ensures
-    (ap length c.as_slice-cases.ensures) c.in_ok-spell_head.ensures in
-    half_headed c.writing_goes_on.ensures s w c.requires.subject st old fresh new
+    let bytes = head_spelled w c.dag.result.now c.args.marks.now (length c.args.cases.now)
+    c.new-bytes.result.items c.spell_head.new.out.items c.new-bytes.ensures.items c.dag.ensures
+    refl (as_planned s c.args.depth c.args.cases.now u c.args.marks.now c.requires.cases)
+    c.in_ok-spell_head.ensures in
+    half_headed c.writing_goes_on.ensures s w is st old fresh new
     c.in_ok-fresh.ensures.ok
     (subst (λ bs. AppendsFront fresh new bs) (c.deref.ensures.value ∙ bytes)
     c.in_err-append_all.ensures.err))
@@ -86,12 +94,14 @@ pub write_cases-requires-clause-stands : goal.write_cases-requires-clause-stands
 write_cases-requires-clause-stands g c =
     let s = c.args.script.now in
     let u = c.args.universe.now in
-    let t = c.args.subject.now in
+    let t = subject_in s u c.args.marks.now in
+    let is = is_subject s c.requires.universe.0 u c.args.marks.now c.requires.universe.1
+    c.requires.marks in
     let p = c.requires.proved in
     let w = task s (bare u) c.args.rounds c.args.depth t p.1 in
     let st = start c.writing_goes_on.ensures c.scripts_have_roots.ensures.roots
-    c.subjects_are_written.ensures.few c.universes_are_small.ensures s u t c.args.rounds c.args.depth
-    c.script_has_room.ensures.cases c.requires.subject c.requires.rounds c.requires.depth p.0
+    c.subjects_are_written.ensures.few c.universes_are_small.ensures s u t c.args.rounds
+    c.args.depth c.script_has_room.ensures.cases is c.requires.rounds c.requires.depth p.0
     p.1 p.2 p.3 in
     (t, p.1, head_of w, st)
 
@@ -99,7 +109,9 @@ pub returns-in_err-seen-clause-err : goal.returns-in_err-seen-clause-err
 returns-in_err-seen-clause-err g c =
     let s = c.args.script.now in
     let u = c.args.universe.now in
-    let t = c.args.subject.now in
+    let t = subject_in s u c.args.marks.now in
+    let is = is_subject s c.requires.universe.0 u c.args.marks.now c.requires.universe.1
+    c.requires.marks in
     let old = g.F.Folder.told c.args.folder.now c.args.name.now in
     let fresh = g.F.Folder.told c.fresh.new.self c.args.name.now in
     let mid = g.F.Folder.told c.append_all.new.folder c.args.name.now in
@@ -109,14 +121,14 @@ returns-in_err-seen-clause-err g c =
     (λ boxes lines few proved.
     let w = task s (bare u) c.args.rounds c.args.depth t lines in
     let st = start c.writing_goes_on.ensures c.scripts_have_roots.ensures.roots
-    c.subjects_are_written.ensures.few c.universes_are_small.ensures s u t c.args.rounds c.args.depth
-    c.script_has_room.ensures.cases c.requires.subject c.requires.rounds c.requires.depth boxes
+    c.subjects_are_written.ensures.few c.universes_are_small.ensures s u t c.args.rounds
+    c.args.depth c.script_has_room.ensures.cases is c.requires.rounds c.requires.depth boxes
     lines few proved in
-    let bytes = head_spelled w c.dag.result.now c.as_slice.result.now
-    (length c.as_slice-cases.result.now) c.new-bytes.result.items c.spell_head.new.out.items
-    c.new-bytes.ensures.items c.dag.ensures c.as_slice.ensures
-    (ap length c.as_slice-cases.ensures) c.in_ok-spell_head.ensures in
-    broken_off c.writing_goes_on.ensures s w c.requires.subject st old fresh mid new
+    let bytes = head_spelled w c.dag.result.now c.args.marks.now (length c.args.cases.now)
+    c.new-bytes.result.items c.spell_head.new.out.items c.new-bytes.ensures.items c.dag.ensures
+    refl (as_planned s c.args.depth c.args.cases.now u c.args.marks.now c.requires.cases)
+    c.in_ok-spell_head.ensures in
+    broken_off c.writing_goes_on.ensures s w is st old fresh mid new
     c.in_ok-fresh.ensures.ok
     (subst (λ bs. Appends fresh mid bs) (c.deref.ensures.value ∙ bytes)
     c.in_ok-append_all.ensures.ok)
@@ -126,7 +138,9 @@ pub returns-in_err-write_end-clause-err : goal.returns-in_err-write_end-clause-e
 returns-in_err-write_end-clause-err g c =
     let s = c.args.script.now in
     let u = c.args.universe.now in
-    let t = c.args.subject.now in
+    let t = subject_in s u c.args.marks.now in
+    let is = is_subject s c.requires.universe.0 u c.args.marks.now c.requires.universe.1
+    c.requires.marks in
     let old = g.F.Folder.told c.args.folder.now c.args.name.now in
     let fresh = g.F.Folder.told c.fresh.new.self c.args.name.now in
     let mid = g.F.Folder.told c.append_all.new.folder c.args.name.now in
@@ -137,14 +151,14 @@ returns-in_err-write_end-clause-err g c =
     (λ boxes lines few proved.
     let w = task s (bare u) c.args.rounds c.args.depth t lines in
     let st = start c.writing_goes_on.ensures c.scripts_have_roots.ensures.roots
-    c.subjects_are_written.ensures.few c.universes_are_small.ensures s u t c.args.rounds c.args.depth
-    c.script_has_room.ensures.cases c.requires.subject c.requires.rounds c.requires.depth boxes
+    c.subjects_are_written.ensures.few c.universes_are_small.ensures s u t c.args.rounds
+    c.args.depth c.script_has_room.ensures.cases is c.requires.rounds c.requires.depth boxes
     lines few proved in
-    let bytes = head_spelled w c.dag.result.now c.as_slice.result.now
-    (length c.as_slice-cases.result.now) c.new-bytes.result.items c.spell_head.new.out.items
-    c.new-bytes.ensures.items c.dag.ensures c.as_slice.ensures
-    (ap length c.as_slice-cases.ensures) c.in_ok-spell_head.ensures in
-    not_ended c.writing_goes_on.ensures s w c.requires.subject st old fresh mid all new
+    let bytes = head_spelled w c.dag.result.now c.args.marks.now (length c.args.cases.now)
+    c.new-bytes.result.items c.spell_head.new.out.items c.new-bytes.ensures.items c.dag.ensures
+    refl (as_planned s c.args.depth c.args.cases.now u c.args.marks.now c.requires.cases)
+    c.in_ok-spell_head.ensures in
+    not_ended c.writing_goes_on.ensures s w is st old fresh mid all new
     c.in_ok-seen.seen c.in_ok-fresh.ensures.ok
     (subst (λ bs. Appends fresh mid bs) (c.deref.ensures.value ∙ bytes)
     c.in_ok-append_all.ensures.ok)
@@ -154,7 +168,9 @@ pub returns-clause-ok : goal.returns-clause-ok
 returns-clause-ok g c = λ boxes lines few proved.
     let s = c.args.script.now in
     let u = c.args.universe.now in
-    let t = c.args.subject.now in
+    let t = subject_in s u c.args.marks.now in
+    let is = is_subject s c.requires.universe.0 u c.args.marks.now c.requires.universe.1
+    c.requires.marks in
     let old = g.F.Folder.told c.args.folder.now c.args.name.now in
     let fresh = g.F.Folder.told c.fresh.new.self c.args.name.now in
     let mid = g.F.Folder.told c.append_all.new.folder c.args.name.now in
@@ -162,14 +178,14 @@ returns-clause-ok g c = λ boxes lines few proved.
     let new = g.F.Folder.told c.write_end.new.folder c.args.name.now in
     let w = task s (bare u) c.args.rounds c.args.depth t lines in
     let st = start c.writing_goes_on.ensures c.scripts_have_roots.ensures.roots
-    c.subjects_are_written.ensures.few c.universes_are_small.ensures s u t c.args.rounds c.args.depth
-    c.script_has_room.ensures.cases c.requires.subject c.requires.rounds c.requires.depth boxes
+    c.subjects_are_written.ensures.few c.universes_are_small.ensures s u t c.args.rounds
+    c.args.depth c.script_has_room.ensures.cases is c.requires.rounds c.requires.depth boxes
     lines few proved in
-    let bytes = head_spelled w c.dag.result.now c.as_slice.result.now
-    (length c.as_slice-cases.result.now) c.new-bytes.result.items c.spell_head.new.out.items
-    c.new-bytes.ensures.items c.dag.ensures c.as_slice.ensures
-    (ap length c.as_slice-cases.ensures) c.in_ok-spell_head.ensures in
-    completed c.writing_goes_on.ensures s w c.requires.subject st old fresh mid all new
+    let bytes = head_spelled w c.dag.result.now c.args.marks.now (length c.args.cases.now)
+    c.new-bytes.result.items c.spell_head.new.out.items c.new-bytes.ensures.items c.dag.ensures
+    refl (as_planned s c.args.depth c.args.cases.now u c.args.marks.now c.requires.cases)
+    c.in_ok-spell_head.ensures in
+    completed c.writing_goes_on.ensures s w is st old fresh mid all new
     c.in_ok-seen.seen c.in_ok-fresh.ensures.ok
     (subst (λ bs. Appends fresh mid bs) (c.deref.ensures.value ∙ bytes)
     c.in_ok-append_all.ensures.ok)

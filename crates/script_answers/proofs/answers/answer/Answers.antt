@@ -1,11 +1,14 @@
-use Rattle.std.proofs.Common.{ℕ, List, IfOk, ap, subst}
+use Rattle.std.proofs.Common.{ℕ, List, Err, IfOk, ap, subst}
 use Rattle.report.specs.script_grammar.Spells.{View}
 use Rattle.script_answers.specs.Answers.{ProvePrints, options_from}
 use Rattle.script_answers.proofs.answers.answer.Goals as goal
 
-pub returns-in_ok-found-in-Ok : goal.returns-in_ok-found-in-Ok
-returns-in_ok-found-in-Ok g c =
+pub unread-requires : goal.unread-requires
+unread-requires g c = λ r e. c.in-Err.ensures.refused r (ap Err e)
+
+pub returns-in-Ok : goal.returns-in-Ok
+returns-in-Ok g c =
     subst
-    (λ (text : List ℕ). IfOk c.lines_for.result
+    (λ (text : List ℕ). IfOk c.script_answer.result
     (λ r. ProvePrints (options_from c.args.options) text r.0 r.1.items))
-    (ap (λ (v : View). v.text) c.in-Ok.ensures.spelled.says) c.lines_for.ensures
+    (ap (λ (v : View). v.text) c.in-Ok.ensures.spelled.says) c.script_answer.ensures

@@ -1,0 +1,17 @@
+use Rattle.std.proofs.Common.{List, sym, subst}
+use Rattle.script_answers.specs.script_grammar.Cases.{cases_of}
+use Rattle.script_answers.specs.settler.declared.cases.Case.{Case}
+use Rattle.script_answers.specs.settler.Cases.{AreCases}
+use Rattle.prove_command.proofs.certify.certify_over.Goals as goal
+
+pub prove_over-requires-clause-cases : goal.prove_over-requires-clause-cases
+prove_over-requires-clause-cases g c =
+    let s = c.args.script.now in
+    subst (λ (cases : List Case). AreCases s c.args.options.depth (cases_of s) cases)
+    (sym c.deref.ensures.value) c.in_ok-cases.ensures
+
+pub certify_found-requires-clause-cases : goal.certify_found-requires-clause-cases
+certify_found-requires-clause-cases g c =
+    let s = c.args.script.now in
+    subst (λ (cases : List Case). AreCases s c.args.options.depth (cases_of s) cases)
+    (sym c.deref-2.ensures.value) c.in_ok-cases.ensures

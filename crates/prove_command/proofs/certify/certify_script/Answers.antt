@@ -1,0 +1,21 @@
+use Rattle.std.proofs.Common.{Err, ap}
+use Rattle.script_answers.specs.settler.saturate.Answered.{ok_map}
+use Rattle.script_answers.specs.Answers.{options_from}
+use Rattle.prove_command.specs.Certified.{name_of}
+use Rattle.prove_command.proofs.Left.{spared_made, spared_cause}
+use Rattle.prove_command.proofs.certify.certify_script.Goals as goal
+
+pub certify_unbuilt-requires : goal.certify_unbuilt-requires
+certify_unbuilt-requires g c = λ e. c.in-Err.ensures.many (ap Err e)
+
+pub returns-in-Err-clause-made : goal.returns-in-Err-clause-made
+returns-in-Err-clause-made g c =
+    ok_map c.certify_unbuilt.result c.certify_unbuilt.ensures
+    (spared_made (options_from c.args.options) c.args.script.now.text (name_of c.args.cert)
+    (g.F.Folder.told c.args.folder.now))
+
+pub returns-in-Err-clause-cause : goal.returns-in-Err-clause-cause
+returns-in-Err-clause-cause g c =
+    ok_map c.certify_unbuilt.result c.certify_unbuilt.ensures
+    (spared_cause (options_from c.args.options) c.args.script.now.text
+    (g.F.Folder.write_faults c.args.folder.now))

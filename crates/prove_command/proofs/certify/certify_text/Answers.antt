@@ -1,0 +1,31 @@
+use Rattle.std.proofs.Common.{Err, ap, subst}
+use Rattle.std.specs.Prelude.{List, ℕ, IfOk}
+use Rattle.script_answers.specs.script_grammar.Spells.{View}
+use Rattle.script_answers.specs.settler.saturate.Answered.{ok_map}
+use Rattle.script_answers.specs.Answers.{options_from}
+use Rattle.prove_command.specs.Certified.{IsCertified, name_of}
+use Rattle.prove_command.proofs.Left.{spared_made, spared_cause}
+use Rattle.prove_command.proofs.certify.certify_text.Goals as goal
+
+pub certify_unread-requires : goal.certify_unread-requires
+certify_unread-requires g c = λ r e. c.in-Err.ensures.refused r (ap Err e)
+
+pub returns-in-Ok-clause-made : goal.returns-in-Ok-clause-made
+returns-in-Ok-clause-made g c =
+    let told = g.F.Folder.told in
+    subst (λ (text : List ℕ). IfOk c.certify_script.result
+    (IsCertified (options_from c.args.options) text (name_of c.args.cert)
+    (told c.args.folder.now) (told c.certify_script.new.folder)))
+    (ap (λ (v : View). v.text) c.in-Ok.ensures.spelled.says) c.certify_script.ensures.made
+
+pub returns-in-Err-clause-made : goal.returns-in-Err-clause-made
+returns-in-Err-clause-made g c =
+    ok_map c.certify_unread.result c.certify_unread.ensures
+    (spared_made (options_from c.args.options) c.args.text.now (name_of c.args.cert)
+    (g.F.Folder.told c.args.folder.now))
+
+pub returns-in-Err-clause-cause : goal.returns-in-Err-clause-cause
+returns-in-Err-clause-cause g c =
+    ok_map c.certify_unread.result c.certify_unread.ensures
+    (spared_cause (options_from c.args.options) c.args.text.now
+    (g.F.Folder.write_faults c.args.folder.now))

@@ -1,0 +1,10 @@
+use Rattle.std.proofs.Common.{Err, ap, ◌∙◌}
+use Rattle.report.specs.script_grammar.Spells.{View}
+use Rattle.script_answers.proofs.made.made_text_answer.Goals as goal
+
+pub made_script_answer-requires : goal.made_script_answer-requires
+made_script_answer-requires g c =
+    ap (λ (v : View). v.text) c.in-Ok.ensures.spelled.says ∙ c.requires
+
+pub made_unread-requires-clause-refused : goal.made_unread-requires-clause-refused
+made_unread-requires-clause-refused g c = λ r e. c.in-Err.ensures.refused r (ap Err e)
