@@ -30,6 +30,13 @@ impl<'a> Job for Scripts<'a> {
     ghost is_result = { λ job n answer. IfSome (slice_get job.texts.now n)
         (λ text. ProvePrints (options_from job.options) text.items answer.0 answer.1.items) };
 
+    fn size(&self, number: u16) -> usize {
+        let Some(text) = self.texts.get(usize::from(number)) else {
+            return 0;
+        };
+        text.len()
+    }
+
     fn run(&self, number: u16) -> Result<(Status, Vec<u8>), AllocError> {
         match self.texts.get(usize::from(number)) {
             Some(text) => answer_alone(self.alloc, text, self.options),

@@ -13,7 +13,8 @@ use std::thread::Threads;
 // No call is refused.
 const NONE: u64 = 1000;
 
-// Adds 1000 to a job's number. It counts its calls, of which one is refused.
+// Adds 1000 to a job's number. It counts its calls, of which one is refused. The sizes are 0, 1, 2,
+// 0, 1, 2 and so on.
 #[derive(Drop)]
 struct Adds {
     calls: AtomicU64,
@@ -33,6 +34,10 @@ impl Job for Adds {
     type Out = u64;
 
     ghost is_result = { λ job n out. out ≡ n + 1000 };
+
+    fn size(&self, number: u16) -> usize {
+        usize::from(number % 3)
+    }
 
     fn run(&self, number: u16) -> Result<u64, AllocError> {
         let before = self.calls.fetch_add(1, Ordering::SeqCst);
@@ -90,6 +95,35 @@ fn a_refused_job_is_done_again(rt: HostRuntime) -> Result<(), Fail> {
         let found = answer(&rt, rt.alloc(), &OpenGate, refused, 20, 3)?;
         assert_eq!(rt; found, (true, 21), "call {refused}");
     }
+    Ok(())
+}
+
+// The numbers of the jobs in the order in which they enter, as decimal digits.
+#[derive(Drop)]
+struct KeepsTheOrder {
+    digits: AtomicU64,
+}
+
+impl Gate for KeepsTheOrder {
+    fn enter(&self, path: &Path) {
+        if let [piece] = path.numbers() {
+            let before = self.digits.load(Ordering::SeqCst);
+            let after = before.wrapping_mul(10).wrapping_add(u64::from(*piece));
+            self.digits.store(after, Ordering::SeqCst);
+        }
+    }
+
+    fn leave(&self, _path: &Path) {}
+}
+
+#[test]
+fn the_longest_is_begun_first(rt: HostRuntime) -> Result<(), Fail> {
+    let gate = KeepsTheOrder {
+        digits: AtomicU64::new(0),
+    };
+    let found = answer(&rt, rt.alloc(), &gate, NONE, 7, 1)?;
+    assert_eq!(rt; found, (true, 7));
+    assert_eq!(rt; gate.digits.load(Ordering::SeqCst), 2514036);
     Ok(())
 }
 

@@ -5,10 +5,12 @@ ghost use Rattle.job_workers.specs.Members.{CanTake};
 ghost use Rattle.job_workers.specs.Posts.{IsThief};
 ghost use Rattle.job_workers.specs.Ready.{IsReady};
 
+use crate::job::Job;
 use crate::post::Post;
 use crate::task::JobTask;
 use box_deques::{Hand, Lane, Naming, Thief, hands};
 use std::alloc::{AllocError, Global};
+use std::cmp::Reverse;
 
 // By what a worker takes jobs of other lanes.
 #[derive(Drop)]
@@ -57,14 +59,33 @@ pub(crate) fn members<Q: Naming<u8>>(
     Ok(members)
 }
 
-// Puts the jobs into the lanes, one after the other.
-pub(crate) fn deal<Q: Naming<u8>>(lanes: &mut [Lane<JobTask, Q>], count: u8)
-    requires some { 0 < length lanes.old }
-    requires few { count ≤ 64 }
+// So many jobs, the longest first. Of those that may take as long, the lower number is first.
+pub(crate) fn longest_first<J: Job>(
+    alloc: Global,
+    job: &J,
+    count: u8,
+) -> Result<Vec<JobTask>, AllocError>
+    requires { count ≤ 64 }
 {
+    let mut tasks = Vec::with_capacity(alloc, count as usize)?;
     for number in 0..count {
-        let lane = &mut lanes[number as usize % lanes.len()];
-        let _ = lane.push(JobTask { number });
+        tasks.push_reserved(JobTask { number });
+    }
+    tasks.sort_unstable_by_key(|task: &JobTask| -> (Reverse<usize>, u8) {
+        (Reverse(job.size(u16::from(task.number))), task.number)
+    });
+    Ok(tasks)
+}
+
+// Puts the jobs into the lanes, one after the other. The last lane, whose worker is the caller's
+// thread and begins before the others, has the first.
+pub(crate) fn deal<Q: Naming<u8>>(lanes: &mut [Lane<JobTask, Q>], tasks: Vec<JobTask>)
+    requires { 0 < length lanes.old }
+{
+    for (k, task) in tasks.into_iter().enumerate() {
+        let last = lanes.len() - 1;
+        let lane = &mut lanes[last - k % lanes.len()];
+        let _ = lane.push(task);
     }
 }
 

@@ -6,7 +6,7 @@ ghost use Rattle.job_workers.specs.Results.{AreResults};
 use crate::gather::{finish, put_all, slots_for};
 use crate::job::Job;
 use crate::post::{Post, run_posts};
-use crate::start::{deal, members, posts_of};
+use crate::start::{deal, longest_first, members, posts_of};
 use crate::task::JobTask;
 use box_deques::{Naming, pool};
 use fx_edge::Gate;
@@ -18,6 +18,7 @@ use std::thread::Threads;
 // The posts of so many workers, with the jobs in their lanes.
 fn start<O: Drop, Q: Naming<u8>>(
     alloc: Global,
+    tasks: Vec<JobTask>,
     count: u8,
     workers: u8,
 ) -> Result<Vec<Post<O, Q>>, AllocError>
@@ -29,7 +30,7 @@ fn start<O: Drop, Q: Naming<u8>>(
 {
     let mut lanes = pool::<JobTask, Q>(alloc, workers, u32::from(count))?;
     let members = members(alloc, lanes.as_mut_slice())?;
-    deal(lanes.as_mut_slice(), count);
+    deal(lanes.as_mut_slice(), tasks);
     posts_of(alloc, lanes, members, count)
 }
 
@@ -67,13 +68,15 @@ fn run_on<J: Job, G: Gate, Q: Naming<u8> + Send + Sync, R: Threads + Wait + Sync
     ensures many { IfOk result (λ v. vec_len v ≡ count) }
     ensures results { IfOk result (λ v. AreResults (J.is_result job.now) 0 v.items) }
 {
-    let mut posts = start::<J::Out, Q>(alloc, count, workers)?;
+    let tasks = longest_first(alloc, job, count)?;
+    let mut posts = start::<J::Out, Q>(alloc, tasks, count, workers)?;
     run_all(rt, alloc, job, gate, count, posts.as_mut_slice())
 }
 
 /// A result of each job from 0 on, so many (1 to 64), by so many workers (1 to 16), whatever their
-/// schedule. A worker calls the gate before and after each job, with the path that has the job's
-/// number alone. What no worker took or finished the caller does, once all have ended. It may wait.
+/// schedule. No more workers start than there are jobs. A worker calls the gate before and after
+/// each job, with the path that has the job's number alone. What no worker took or finished the
+/// caller does, once all have ended. It may wait.
 pub fn run_jobs<J: Job, G: Gate, R: Threads + Wait + Sync>(
     rt: &R,
     alloc: Global,
@@ -87,5 +90,6 @@ pub fn run_jobs<J: Job, G: Gate, R: Threads + Wait + Sync>(
     ensures many { IfOk result (λ v. vec_len v ≡ count) }
     ensures results { IfOk result (λ v. AreResults (J.is_result job.now) 0 v.items) }
 {
-    run_on::<J, G, Brand, R>(rt, alloc, job, gate, count as u8, workers)
+    let few = count as u8;
+    run_on::<J, G, Brand, R>(rt, alloc, job, gate, few, workers.min(few))
 }
