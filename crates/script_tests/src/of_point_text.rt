@@ -1,7 +1,7 @@
 //! Points, and what is read of them. The faults are those of an independent program.
 
 use point_text::{PointFault, PointKind, PointStop, read_point};
-use script_grammar::parse;
+use script_grammar::{Script, parse};
 use std::alloc::Global;
 
 const SCRIPT: &str = "{ x in ? /\\ y in ? }";
@@ -19,23 +19,31 @@ const ROWS: [Row; 6] = [
 ];
 
 // The fault of a text that is no point of the script.
-fn fault_of(alloc: Global, point: &str) -> Option<PointFault> {
-    let Ok(script) = parse(alloc, SCRIPT.as_bytes()) else {
-        return None;
-    };
-    match read_point(alloc, &script, point.as_bytes()) {
+fn fault_in(alloc: Global, script: &Script<'_>, point: &str) -> Option<PointFault> {
+    match read_point(alloc, script, point.as_bytes()) {
         Err(PointStop::Fault(fault)) => Some(fault),
         _ => None,
     }
 }
 
+fn fault_of(alloc: Global, point: &str) -> Option<PointFault> {
+    match parse(alloc, SCRIPT.as_bytes()) {
+        Ok(script) => fault_in(alloc, &script, point),
+        Err(_) => None,
+    }
+}
+
 // How many rows a point of the script has.
-fn rows_of(alloc: Global, point: &str) -> usize {
-    let Ok(script) = parse(alloc, SCRIPT.as_bytes()) else {
-        return 0;
-    };
-    match read_point(alloc, &script, point.as_bytes()) {
+fn rows_in(alloc: Global, script: &Script<'_>, point: &str) -> usize {
+    match read_point(alloc, script, point.as_bytes()) {
         Ok(point) => point.rows.as_slice().len(),
+        Err(_) => 0,
+    }
+}
+
+fn rows_of(alloc: Global, point: &str) -> usize {
+    match parse(alloc, SCRIPT.as_bytes()) {
+        Ok(script) => rows_in(alloc, &script, point),
         Err(_) => 0,
     }
 }

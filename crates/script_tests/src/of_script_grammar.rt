@@ -89,8 +89,22 @@ fn hints_have_their_parts(rt: HostRuntime) {
     }
 }
 
-// Whether the text spells a script of so many cases, of which the one with the number has these
-// claims.
+// Whether the script has so many cases, of which the one with the number has these claims.
+fn is_case(
+    alloc: Global,
+    script: &Script<'_>,
+    count: usize,
+    number: usize,
+    wanted: &[Claim],
+) -> Result<bool, Fail> {
+    if script.case_count() != count || number >= script.case_count() {
+        return Ok(false);
+    }
+    let case = script.case(alloc, number)?;
+    Ok(case.as_slice() == wanted)
+}
+
+// Whether the text spells such a script.
 fn has_case(
     alloc: Global,
     text: &[u8],
@@ -98,14 +112,10 @@ fn has_case(
     number: usize,
     wanted: &[Claim],
 ) -> Result<bool, Fail> {
-    let Ok(script) = parse(alloc, text) else {
-        return Ok(false);
-    };
-    if script.case_count() != count || number >= script.case_count() {
-        return Ok(false);
+    match parse(alloc, text) {
+        Ok(script) => is_case(alloc, &script, count, number, wanted),
+        Err(_) => Ok(false),
     }
-    let case = script.case(alloc, number)?;
-    Ok(case.as_slice() == wanted)
 }
 
 // The bound that digits write.
@@ -145,19 +155,38 @@ fn has_node(script: &Script<'_>, number: u16, node: Node) -> bool {
     script.nodes().get(ExprId(number)) == Some(node)
 }
 
+// Whether the first nodes of the script are these, and its first goal this.
+fn has_nodes(script: &Script<'_>, nodes: [Node; 4], goal: Claim) -> bool {
+    let [first, second, third, fourth] = nodes;
+    has_node(script, 0, first)
+        && has_node(script, 1, second)
+        && has_node(script, 2, third)
+        && has_node(script, 3, fourth)
+        && script.goals().first() == Some(&goal)
+}
+
+// Whether the text spells such a script.
+fn spells_nodes(alloc: Global, text: &[u8], nodes: [Node; 4], goal: Claim) -> bool {
+    match parse(alloc, text) {
+        Ok(script) => has_nodes(&script, nodes, goal),
+        Err(_) => false,
+    }
+}
+
 #[test]
 fn operations_of_a_definition_are_rounded(rt: HostRuntime) {
     let text = b"@q = fixed<-15,dn>; x = q(xx); y q= x * x; { xx in [0,1] -> y in ? }";
-    let script = parse(rt.alloc(), text).expect(&rt, "a script");
     let rounding = Rounding {
         lsb: -15,
         dir: Direction::Dn,
     };
-    assert!(rt; has_node(&script, 0, Node::Var(0)));
-    assert!(rt; has_node(&script, 1, Node::Round(rounding, ExprId(0))));
-    assert!(rt; has_node(&script, 2, Node::Mul(ExprId(1), ExprId(1))));
-    assert!(rt; has_node(&script, 3, Node::Round(rounding, ExprId(2))));
-    assert!(rt; script.goals().first() == Some(&Claim::Asked(ExprId(3))));
+    let nodes = [
+        Node::Var(0),
+        Node::Round(rounding, ExprId(0)),
+        Node::Mul(ExprId(1), ExprId(1)),
+        Node::Round(rounding, ExprId(2)),
+    ];
+    assert!(rt; spells_nodes(rt.alloc(), text, nodes, Claim::Asked(ExprId(3))));
 }
 
 // The refusal of a text.

@@ -1,19 +1,27 @@
 // Sizes of universes that another program counted: expressions, pairs, instances.
-use script_grammar::parse;
+use script_grammar::{Script, parse};
 use std::alloc::Global;
 use std::process::Abort;
 use std::test::Fail;
-use universe::{UniverseFault, build};
+use universe::{Universe, UniverseFault, build};
 
 type Sizes = (u16, usize, usize);
 
+fn sizes_in(universe: &Universe) -> Sizes {
+    let pairs = universe.pairs().len();
+    (universe.dag().len(), pairs, universe.instances().len())
+}
+
+fn sizes_of(alloc: Global, script: &Script<'_>) -> Result<Sizes, UniverseFault> {
+    match build(alloc, script) {
+        Ok(universe) => Ok(sizes_in(&universe)),
+        Err(fault) => Err(fault),
+    }
+}
+
 fn sizes(alloc: Global, text: &[u8]) -> Result<Sizes, UniverseFault> {
     match parse(alloc, text) {
-        Ok(script) => {
-            let universe = build(alloc, &script)?;
-            let pairs = universe.pairs().len();
-            Ok((universe.dag().len(), pairs, universe.instances().len()))
-        }
+        Ok(script) => sizes_of(alloc, &script),
         Err(_) => Err(UniverseFault::OutOfMemory),
     }
 }
