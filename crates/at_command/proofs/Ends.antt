@@ -16,7 +16,7 @@ use Rattle.command_runs.specs.declared.status.Status.TheVariants as status
 use Rattle.script_answers.specs.Texts.{IsLong, ReadsBehind, long_refused, no_script, told_script, told_text}
 use Rattle.at_command.specs.Told.{AtPrints}
 use Rattle.at_command.specs.Command.{AtFate, AtTold, IsAtRun}
-use Rattle.at_command.specs.Laws.{AtStatusesAreOne, IsPointTold}
+use Rattle.at_command.specs.Laws.{AtAnswersAreOne, IsPointTold}
 
 -- ---- an answer
 -- a run with it comes to its end
@@ -46,7 +46,7 @@ long_prints known status.Script lines t text a b p = long_refused t text lines a
 long_prints known _ lines t text a b p = absurd p
 
 -- ---- a run
-module _ (law : AtStatusesAreOne) (a : AskedAt) (r : Run)
+module _ (law : AtAnswersAreOne) (a : AskedAt) (r : Run)
     (kept : (name : Bytes) → IsKept r name) where
   told_once : AreTold (ReadsBehind r.before.told a.script a.point) r.before.told
       → IsOnce (AtTold a r.before.told)
@@ -59,9 +59,10 @@ module _ (law : AtStatusesAreOne) (a : AskedAt) (r : Run)
       subst (λ (o : Option Bytes). IsTold o all.0) (sym all.1) refl in
       let point : IsPointTold all.0 (told a.point) =
       λ v spelled. tells a.point (inr (refl, (all.0, known, (v, spelled, tt)))) in
-      sym (law all.0 (told a.point) point s t ls ms
+      let same = law all.0 (told a.point) point s t ls ms
       (subst (λ (w : Bytes). AtPrints w (told a.point) s ls) one p)
-      (subst (λ (w : Bytes). AtPrints w (told a.point) t ms) two q))
+      (subst (λ (w : Bytes). AtPrints w (told a.point) t ms) two q) in
+      sym same.0
 
   run_is : Runs None (AtFate a r) r → IsAtRun a r
   run_is h =

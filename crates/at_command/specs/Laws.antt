@@ -1,4 +1,4 @@
--- One status is defined for a text and a point, and what the last line says is so.
+-- One answer is defined for a text and a point, and what the last line says is so.
 use Rattle.std.specs.Prelude.{◌≡◌, List, Option, Some, codes}
 use Rattle.command_runs.specs.Runs.{Bytes}
 use Rattle.command_runs.specs.declared.status.Status.{Status}
@@ -12,11 +12,11 @@ use Rattle.at_command.specs.Told.{AtPrints, IsEvaluated}
 abbrev pub IsPointTold : Bytes → Option Bytes → Type 0
 IsPointTold text known = (s : View) → Spells text s → (all : Bytes) × (known ≡ Some all)
 
--- A text and a told point have one status at most.
-abbrev pub AtStatusesAreOne : Type 0
-AtStatusesAreOne = (text : Bytes) (known : Option Bytes) → IsPointTold text known
+-- A text and a told point have one status and one text of lines at most.
+abbrev pub AtAnswersAreOne : Type 0
+AtAnswersAreOne = (text : Bytes) (known : Option Bytes) → IsPointTold text known
     → (s t : Status) (lines others : Bytes) → AtPrints text known s lines
-    → AtPrints text known t others → s ≡ t
+    → AtPrints text known t others → (s ≡ t) × (lines ≡ others)
 
 -- Where the last line says that the point meets, its assignment meets the script.
 abbrev pub MeetingIsMet : Type 0

@@ -3,7 +3,7 @@ ghost use Rattle.command_line.specs.At.{at_of};
 ghost use Rattle.command_runs.specs.Runs.{run, seen};
 ghost use Rattle.at_command.specs.Command.{IsAtRun};
 
-use crate::laws::at_statuses_are_one;
+use crate::laws::at_answers_are_one;
 use crate::point::at_answer;
 use command_line::AtRequest;
 use command_runs::{Status, print, print_stop};
@@ -31,7 +31,7 @@ pub fn run_at<F: Folder, O: Sink>(
         (F.read_faults folder.new) (F.write_faults folder.new) (O.faults out.new) in
         IsAtRun (at_of request.entry) (run before after result) }
 {
-    at_statuses_are_one();
+    at_answers_are_one();
     match read_text(alloc, folder, request.script, MOST) {
         Ok(text) => match at_answer(alloc, &text, request.point, folder) {
             Ok((status, lines)) => print(out, &lines, status),

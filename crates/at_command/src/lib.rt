@@ -8,4 +8,4 @@ mod lines;
 mod point;
 
 pub use command::run_at;
-pub use laws::{at_statuses_are_one, meeting_points_meet};
+pub use laws::{at_answers_are_one, meeting_points_meet};

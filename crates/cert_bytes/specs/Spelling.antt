@@ -19,9 +19,10 @@ use Rattle.facts.specs.declared.hint.HintMark.TheVariants.{Checked, Assumed}
 use Rattle.cert_bytes.specs.declared.item.StepRow.{StepRow}
 use Rattle.cert_bytes.specs.declared.item.Item.{Item}
 use Rattle.cert_bytes.specs.declared.item.Item.TheVariants as item
+use Rattle.cert_bytes.specs.declared.style.Seen.{Seen}
 use Rattle.cert_bytes.specs.declared.style.Style.{Style}
 use Rattle.cert_bytes.specs.declared.style.Style.TheVariants.{First, Second}
-use Rattle.cert_bytes.specs.Styles.{style_after}
+use Rattle.cert_bytes.specs.Styles.{none_seen, style_after}
 
 -- ---- version 2
 
@@ -203,3 +204,17 @@ spelling item.End style = trailer style
 abbrev pub spelled_from : Style → List Item → List ℕ
 spelled_from style [] = []
 spelled_from style (i ∷ items) = spelling i style ++ spelled_from (style_after style i) items
+
+-- ---- items in version 2
+
+-- what an item spells where this stood before it
+abbrev pub spelling_of : Seen → Item → List ℕ
+spelling_of seen i = spelling i (Second seen)
+
+-- what items spell there, one behind the other
+abbrev pub spelled_behind : Seen → List Item → List ℕ
+spelled_behind seen items = spelled_from (Second seen) items
+
+-- what a certificate's first items spell
+abbrev pub certificate_of : List Item → List ℕ
+certificate_of items = spelled_behind none_seen items

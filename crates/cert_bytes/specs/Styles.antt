@@ -1,5 +1,5 @@
 -- How numbers are spelled, from item to item.
-use Rattle.std.specs.Prelude.{◌≡◌, ◌+◌, ◌≤◌, ⊤, ℕ}
+use Rattle.std.specs.Prelude.{◌≡◌, ◌+◌, ◌≤◌, ⊤, ℕ, List, [], ◌∷◌}
 use Rattle.cert_bytes.specs.declared.style.Seen.{Seen}
 use Rattle.cert_bytes.specs.declared.style.Style.{Style}
 use Rattle.cert_bytes.specs.declared.style.Style.TheVariants.{First, Second}
@@ -19,6 +19,15 @@ seen_after seen (item.Cut x ps) = record { steps = seen.steps; sections = seen.s
 seen_after seen (item.Leaf refs) = record { steps = seen.steps; sections = seen.sections + 1 }
 seen_after seen (item.Dead r) = record { steps = seen.steps; sections = seen.sections + 1 }
 seen_after seen _ = seen
+
+-- what stood before the place behind these items, where this stood before them
+abbrev pub seen_behind : Seen → List Item → Seen
+seen_behind seen [] = seen
+seen_behind seen (i ∷ items) = seen_behind (seen_after seen i) items
+
+-- how many steps and sections a certificate's first items have
+abbrev pub seen_in : List Item → Seen
+seen_in items = seen_behind none_seen items
 
 -- how the numbers behind an item are spelled
 abbrev pub style_after : Style → Item → Style

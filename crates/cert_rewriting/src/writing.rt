@@ -6,7 +6,7 @@ ghost use Rattle.fx_edge.specs.Outside.{HasCause};
 ghost use Rattle.whole_texts.specs.Pieces.{AppendsFront, PassesOn, HoldsAll, HoldsFront};
 ghost use Rattle.cert_bytes.specs.Certificates.{HasSpelling};
 ghost use Rattle.cert_rewriting.specs.Causes.{HasWriteCause};
-ghost use Rattle.cert_rewriting.specs.Spelled.{certificate_of};
+ghost use Rattle.cert_bytes.specs.Spelling.{certificate_of};
 ghost use Rattle.cert_rewriting.specs.declared.writing.WriteStop.TheVariants.{Failed as FailedStop, OutOfMemory};
 
 use cert_bytes::{Item, Seen, write_item2};

@@ -30,7 +30,7 @@ IsLeafOrDead (item.Leaf refs) = ⊤
 IsLeafOrDead (item.Dead r) = ⊤
 IsLeafOrDead _ = ⊥
 
--- its steps, and this item behind them
+-- a section's own items: its steps, and this item behind them
 abbrev pub section_of : List StepRow → Item → List Item
 section_of rows last = map item.Step rows ++ last ∷ []
 

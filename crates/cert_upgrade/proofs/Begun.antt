@@ -11,9 +11,9 @@ use Rattle.cert_bytes.specs.declared.order.Due.TheVariants.{Head, Nodes, Marks, 
 use Rattle.cert_bytes.specs.Certificates.{HasSpelling, Fits, AreDue, AreCertificate}
 use Rattle.cert_bytes.specs.Due.{due_after}
 use Rattle.cert_bytes.specs.Fronts.{IsFront}
-use Rattle.cert_bytes.specs.Styles.{none_seen}
+use Rattle.cert_bytes.specs.Styles.{none_seen, seen_in}
 use Rattle.cert_upgrade.specs.Items.{AreBegun}
-use Rattle.cert_upgrade.specs.Spelled.{seen_in, spelled_behind, certificate_of}
+use Rattle.cert_bytes.specs.Spelling.{spelled_behind, certificate_of}
 use Rattle.cert_upgrade.proofs.Spelled.{spelled_both}
 
 pub begun_none : (d : Due) → d ≡ Head → AreBegun [] d

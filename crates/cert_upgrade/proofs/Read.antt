@@ -6,14 +6,13 @@ use Rattle.cert_bytes.specs.declared.item.Item.{Item}
 use Rattle.cert_bytes.specs.declared.order.Due.TheVariants.{Head, Done}
 use Rattle.cert_bytes.specs.declared.style.Seen.{Seen}
 use Rattle.cert_bytes.specs.declared.style.Style.TheVariants.{First, Second}
-use Rattle.cert_bytes.specs.Styles.{IsFew}
+use Rattle.cert_bytes.specs.Styles.{IsFew, seen_in}
 use Rattle.cert_bytes.specs.Pieces.{cursor_of}
 use Rattle.cert_bytes.specs.ReadOut.{AreRead, HasFault, ReadsAreSpelled}
 use Rattle.cert_bytes.specs.Readers.{Progress}
 use Rattle.cert_bytes.specs.Reading.{cursor, item_at}
 use Rattle.cert_upgrade.specs.Items.{AreBegun, AreItemsFor, AreItemsOf, ItemsAreOne, LeadsFromStart, Respells}
 use Rattle.cert_upgrade.proofs.Begun.{begun_none, begun_more, begun_all}
-use Rattle.cert_upgrade.specs.Spelled.{seen_in}
 use Rattle.cert_upgrade.proofs.Leads.{leads_more, leads_to_end, leads_to_fault, read_once, read_or_fails}
 use Rattle.cert_upgrade.proofs.Spelled.{seen_one}
 

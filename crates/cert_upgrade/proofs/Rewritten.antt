@@ -15,7 +15,8 @@ use Rattle.cert_bytes.specs.Reading.{cursor}
 use Rattle.cert_upgrade.specs.Answers.{IsTaken, IsTakenInPart}
 use Rattle.cert_upgrade.specs.Files.{AppendsFront, PassesOn}
 use Rattle.cert_upgrade.specs.Items.{Respells}
-use Rattle.cert_upgrade.specs.Spelled.{certificate_of, seen_in, spelling_of}
+use Rattle.cert_bytes.specs.Spelling.{certificate_of, spelling_of}
+use Rattle.cert_bytes.specs.Styles.{seen_in}
 use Rattle.cert_upgrade.proofs.Begun.{some_end, front_more}
 use Rattle.cert_upgrade.proofs.Held.{appends_both, appends_none}
 use Rattle.cert_upgrade.proofs.Leads.{leads_front}

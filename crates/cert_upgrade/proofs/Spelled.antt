@@ -4,8 +4,9 @@ use Rattle.std.proofs.Common.{sym, ◌∙◌, ap, append-nil, arith}
 use Rattle.std.proofs.lemmas.List.{append_assoc, length-append}
 use Rattle.cert_bytes.specs.declared.item.Item.{Item}
 use Rattle.cert_bytes.specs.declared.style.Seen.{Seen}
-use Rattle.cert_bytes.specs.Styles.{none_seen, seen_after}
-use Rattle.cert_upgrade.specs.Spelled.{seen_behind, seen_in, spelling_of, spelled_behind, certificate_of, most, told_length}
+use Rattle.cert_bytes.specs.Styles.{none_seen, seen_after, seen_behind, seen_in}
+use Rattle.cert_upgrade.specs.Spelled.{most, told_length}
+use Rattle.cert_bytes.specs.Spelling.{spelling_of, spelled_behind, certificate_of}
 
 seen_both : (s : Seen) (items more : List Item)
     → seen_behind s (items ++ more) ≡ seen_behind (seen_behind s items) more

@@ -14,7 +14,8 @@ use Rattle.cert_upgrade.specs.declared.stop.UpgradeStop.{UpgradeStop}
 use Rattle.cert_upgrade.specs.declared.stop.UpgradeStop.TheVariants.{Fault, NewTooLong, ReadFailed, WriteFailed, OutOfMemory}
 use Rattle.cert_upgrade.specs.Answers.{MayBecome, IsUpgraded, IsTooLong, IsBrokenOff, ComesOf, IsSomeFront, IsUnwritten, ComesOfAny, IsTaken, IsTakenInPart, IsBroken}
 use Rattle.cert_upgrade.specs.Items.{AreItemsOf}
-use Rattle.cert_upgrade.specs.Spelled.{most, certificate_of, told_length}
+use Rattle.cert_upgrade.specs.Spelled.{most, told_length}
+use Rattle.cert_bytes.specs.Spelling.{certificate_of}
 use Rattle.cert_upgrade.specs.Stops.{stop_of}
 use Rattle.cert_upgrade.proofs.Begun.{some_end}
 use Rattle.cert_upgrade.proofs.Held.{appends_new, front_new, not_new}

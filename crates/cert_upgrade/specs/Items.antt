@@ -13,7 +13,7 @@ use Rattle.cert_bytes.specs.ReadOut.{AreBytes, AreRead, HasFault}
 use Rattle.cert_bytes.specs.Readers.{Progress}
 use Rattle.cert_bytes.specs.Reading.{Cursor, cursor, item_at}
 use Rattle.cert_bytes.specs.Styles.{seen_after, IsFew}
-use Rattle.cert_upgrade.specs.Spelled.{spelling_of}
+use Rattle.cert_bytes.specs.Spelling.{spelling_of}
 
 -- ---- of bytes that are told
 

@@ -10,9 +10,10 @@ ghost use Rattle.cert_bytes.specs.Pieces.{AgreesTold, cursor_of};
 ghost use Rattle.cert_bytes.specs.Due.{is_end};
 ghost use Rattle.cert_bytes.specs.ReadOut.{HasFault};
 ghost use Rattle.cert_bytes.specs.Reading.{item_at};
-ghost use Rattle.cert_bytes.specs.Styles.{IsFew};
+ghost use Rattle.cert_bytes.specs.Styles.{IsFew, seen_in};
 ghost use Rattle.cert_upgrade.specs.Items.{AreItemsFor, Respells};
-ghost use Rattle.cert_upgrade.specs.Spelled.{certificate_of, seen_in, told_length};
+ghost use Rattle.cert_upgrade.specs.Spelled.{told_length};
+ghost use Rattle.cert_bytes.specs.Spelling.{certificate_of};
 
 use crate::fitting::item_fits;
 use cert_bytes::{Item, Reader, Seen, Stop, certificates_are_spelled_once, write_item2};

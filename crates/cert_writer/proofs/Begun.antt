@@ -27,7 +27,7 @@ use Rattle.box_trace.specs.box_traces.Walks.{numbered, MayBegin, IsOpen}
 use Rattle.box_trace.specs.box_traces.Laws.{TracesExist}
 use Rattle.cert_writer.specs.Standing.{IsAt, most_for, steps_left, lines_left, at_root}
 use Rattle.cert_trim.specs.cert_bytes.declared.style.Seen.{Seen}
-use Rattle.cert_writer.specs.Bytes.{seen_in}
+use Rattle.cert_trim.specs.cert_bytes.Styles.{seen_in}
 use Rattle.box_trace.specs.Short.{bytes_a_box}
 use Rattle.cert_writer.proofs.Sized.{head_sized}
 use Rattle.cert_writer.specs.Heads.{head_items}

@@ -22,7 +22,8 @@ use Rattle.cert_trim.specs.cert_bytes.declared.item.Item.TheVariants as item
 use Rattle.cert_trim.specs.cert_bytes.declared.item.StepRow.{StepRow}
 use Rattle.cert_trim.specs.cert_bytes.Certificates.{HasSpelling}
 use Rattle.cert_trim.specs.cert_bytes.declared.style.Seen.{Seen}
-use Rattle.cert_writer.specs.Bytes.{seen_behind, seen_in, spelled_behind}
+use Rattle.cert_trim.specs.cert_bytes.Styles.{seen_behind, seen_in}
+use Rattle.cert_trim.specs.cert_bytes.Spelling.{spelled_behind}
 use Rattle.box_trace.specs.declared.known.Known.{Known}
 use Rattle.box_trace.specs.declared.tracing.Traced.{Traced}
 use Rattle.box_trace.specs.Boxes.{IsItsTable, AreItsSteps, log_of, most_steps}
@@ -34,9 +35,9 @@ use Rattle.box_trace.specs.Short.{BoxesAreShort}
 use Rattle.box_trace.specs.Rounds.{IsByRounds}
 use Rattle.cert_trim.specs.Trimmed.{number_behind_all}
 use Rattle.cert_trim.specs.Used.{CiteEarlier}
-use Rattle.cert_trim.specs.Behind.{stays_behind, trimmed_behind, IsLeafOrDead, AreFewer}
+use Rattle.cert_trim.specs.Behind.{stays_behind, trimmed_behind, IsLeafOrDead, AreFewer, section_of}
 use Rattle.cert_writer.specs.Boxes.{HasShortList, KnowsVoid, CutsAt, IsEnd, written_of}
-use Rattle.cert_writer.specs.Standing.{Target, Place, IsAt, Ended, HasEnded, AreBoxSteps, own_items, inside, closed, trimmed}
+use Rattle.cert_writer.specs.Standing.{Target, Place, IsAt, Ended, HasEnded, AreBoxSteps, inside, closed, trimmed}
 use Rattle.cert_writer.specs.Courses.{Course, IsCourse, HasBest, course, setting, below, IsBefore, IsKnownAt, AreOwnBytes}
 use Rattle.cert_writer.specs.Walks.{MayEnd, IsLast, WalkGoesOn}
 use Rattle.cert_writer.proofs.Seen.{seen_with}
@@ -68,7 +69,7 @@ written_end n start next items none same = ap (λ k. written_of k start items) n
 
 -- its steps have spellings, and so has the last item
 all_spelled : (rows : List StepRow) (i : Item) → AllByRecursion HasShortList rows
-    → HasSpelling i → AllByRecursion HasSpelling (own_items rows i)
+    → HasSpelling i → AllByRecursion HasSpelling (section_of rows i)
 all_spelled [] i s h = (h, tt)
 all_spelled (row ∷ rows) i s h = (s.0, all_spelled rows i s.1 h)
 
@@ -82,7 +83,7 @@ still_spelled : (fewer : AreFewer) (n start : ℕ) (items : List Item)
 still_spelled fewer zero start items h = fewer.spelled (stays_behind start items) start items h
 still_spelled fewer (suc n) start items h = h
 
-pub own_length : (rows : List StepRow) (i : Item) → length (own_items rows i) ≡ length rows + 1
+pub own_length : (rows : List StepRow) (i : Item) → length (section_of rows i) ≡ length rows + 1
 own_length [] i = refl
 own_length (row ∷ rows) i = let h = own_length rows i in omega (arith, h)
 
@@ -118,20 +119,20 @@ module _ (plan : PlanParts) (laws : WalkGoesOn plan) (u : World) (height : ℕ) 
     start_is : p.context.next ≡ first.steps
     start_is = first_is c path parent first p before
 
-    trimmed_here : CiteEarlier p.context.next (own_items tr.steps.items i)
+    trimmed_here : CiteEarlier p.context.next (section_of tr.steps.items i)
         × HasEnded c.aim (trimmed p tr.steps.items i (ended_here.0))
     trimmed_here = laws.writing.trims c.aim is.aim p tr.steps.items i (ended_here.0) before.here
         (ends_section u tr.known i end) (ended_here.1)
 
-    pub end_cites : CiteEarlier first.steps (own_items tr.steps.items i)
-    end_cites = subst (λ k. CiteEarlier k (own_items tr.steps.items i)) start_is (trimmed_here.0)
+    pub end_cites : CiteEarlier first.steps (section_of tr.steps.items i)
+    end_cites = subst (λ k. CiteEarlier k (section_of tr.steps.items i)) start_is (trimmed_here.0)
 
     end_done : (n : ℕ) (next : Seen) → n ≡ 0
-        → next ≡ seen_behind first (written_of n first.steps (own_items tr.steps.items i))
+        → next ≡ seen_behind first (written_of n first.steps (section_of tr.steps.items i))
         → AreOwnBytes c path p tr.known n next
-        (spelled_behind (seen_in p.items) (written_of n first.steps (own_items tr.steps.items i)))
+        (spelled_behind (seen_in p.items) (written_of n first.steps (section_of tr.steps.items i)))
     end_done n next none same =
-        let own : List Item = own_items tr.steps.items i in
+        let own : List Item = section_of tr.steps.items i in
         let left : List Item = trimmed_behind p.context.next own in
         let e : Ended = trimmed p tr.steps.items i (ended_here.0) in
         let ended : HasEnded c.aim e = trimmed_here.1 in
@@ -160,6 +161,7 @@ module _ (plan : PlanParts) (laws : WalkGoesOn plan) (u : World) (height : ℕ) 
           );
           front = λ old new a. begun_front c.aim p.items left e.items old new (laws.writing.ended
               c.aim is.aim e ended) refl a;
+          lean = λ z. (tr.steps.items, i, ends_section u tr.known i end, refl);
         })
 
   -- ---- it is a cut
@@ -184,9 +186,9 @@ module _ (plan : PlanParts) (laws : WalkGoesOn plan) (u : World) (height : ℕ) 
     some_points = let proved = subst (λ y. IsProved (setting c) height u.goals y p.pieces p.depth) node.1 before.here.entered.proved in proved.2.some
 
     cut_done : (n : ℕ) (next : Seen) → n ≡ length points + 1
-        → next ≡ seen_behind first (own_items tr.steps.items (item.Cut x points))
+        → next ≡ seen_behind first (section_of tr.steps.items (item.Cut x points))
         → AreOwnBytes c path p tr.known n next
-        (spelled_behind (seen_in p.items) (own_items tr.steps.items (item.Cut x points)))
+        (spelled_behind (seen_in p.items) (section_of tr.steps.items (item.Cut x points)))
     cut_done n next count same =
         let tree : p.tree ≡ cut x points (pieces_from plan (below c (35 - length path)) path 0 n) = node.1 ∙ ap (λ m. cut x points (pieces_from plan (below c (35 - length path)) path 0 m)) (sym count) in
         let of_variable : (k : ℕ) → k < n → piece_at plan (path ++ k ∷ []) ≡ Some (x, range_of_piece (piece_at plan (path ++ k ∷ []))) = λ k l. node.2 k (omega (arith, l, count)) in
@@ -197,19 +199,22 @@ module _ (plan : PlanParts) (laws : WalkGoesOn plan) (u : World) (height : ℕ) 
             (λ l. enter laws.tables laws.writing c is best laws.one_more path parent first p before tr.steps.items box_steps tr.known known_is x points (own.sized (item.Cut x points) few_points) n count tree of_variable old new a next same),
             λ z. absurd (omega (arith, z, count)),
           );
-          front = λ old new a. begun_front c.aim p.items (own_items tr.steps.items (item.Cut x points)) q.items old new (laws.writing.begun c.aim is.aim q at) refl a;
+          front = λ old new a.
+              begun_front c.aim p.items (section_of tr.steps.items (item.Cut x points)) q.items old
+              new (laws.writing.begun c.aim is.aim q at) refl a;
+          lean = λ z. absurd (omega (arith, z, count));
         }
 
   -- ---- either way
   cut_spelled : (x : ExprId) (points : List Dyadic) (n : ℕ) (next : Seen) → IsLast u tr.known
       (cut_at plan path) (item.Cut x points) n
-      → next ≡ seen_behind first (written_of n first.steps (own_items tr.steps.items (item.Cut x
+      → next ≡ seen_behind first (written_of n first.steps (section_of tr.steps.items (item.Cut x
       points)))
       → AreOwnBytes c path p tr.known n next
-      (spelled_behind (seen_in p.items) (written_of n first.steps (own_items tr.steps.items
+      (spelled_behind (seen_in p.items) (written_of n first.steps (section_of tr.steps.items
       (item.Cut x points))))
   cut_spelled x points n next l same =
-      let own : List Item = own_items tr.steps.items (item.Cut x points) in
+      let own : List Item = section_of tr.steps.items (item.Cut x points) in
       let k = l.1 in
       let written = written_cut n first.steps own (omega (arith, k)) in
       subst (λ xs. AreOwnBytes c path p tr.known n next (spelled_behind (seen_in p.items) xs)) (sym
@@ -217,9 +222,9 @@ module _ (plan : PlanParts) (laws : WalkGoesOn plan) (u : World) (height : ℕ) 
       (cut_done x points l.0 n next l.1 (same ∙ ap (λ xs. seen_behind first xs) written))
 
   pub own_done : (i : Item) (n : ℕ) (next : Seen) → IsLast u tr.known (cut_at plan path) i n
-      → next ≡ seen_behind first (written_of n first.steps (own_items tr.steps.items i))
+      → next ≡ seen_behind first (written_of n first.steps (section_of tr.steps.items i))
       → AreOwnBytes c path p tr.known n next
-      (spelled_behind (seen_in p.items) (written_of n first.steps (own_items tr.steps.items i)))
+      (spelled_behind (seen_in p.items) (written_of n first.steps (section_of tr.steps.items i)))
   own_done (item.Cut x points) n next l same = cut_spelled x points n next l same
   own_done (item.Leaf refs) n next l same = end_done (item.Leaf refs) l.0 l.1 n next l.2 same
   own_done (item.Dead r) n next l same = end_done (item.Dead r) l.0 l.1 n next l.2 same
@@ -233,7 +238,7 @@ module _ (plan : PlanParts) (laws : WalkGoesOn plan) (u : World) (height : ℕ) 
 
   -- what is asked of the items of a box that isn't cut
   pub own_cites : (i : Item) (n : ℕ) → IsLast u tr.known (cut_at plan path) i n → n ≡ 0
-      → CiteEarlier first.steps (own_items tr.steps.items i)
+      → CiteEarlier first.steps (section_of tr.steps.items i)
   own_cites (item.Cut x points) n l none = let k = l.1 in absurd (omega (arith, k, none))
   own_cites (item.Leaf refs) n l none = end_cites (item.Leaf refs) l.0 l.1
   own_cites (item.Dead r) n l none = end_cites (item.Dead r) l.0 l.1
@@ -262,12 +267,12 @@ module _ (plan : PlanParts) (laws : WalkGoesOn plan) (u : World) (height : ℕ) 
 
   -- and of those that are spelled
   pub own_spelled : (i : Item) (n : ℕ) → IsLast u tr.known (cut_at plan path) i n
-      → AllByRecursion HasSpelling (written_of n first.steps (own_items tr.steps.items i))
-  own_spelled i n l = still_spelled fewer n first.steps (own_items tr.steps.items i)
+      → AllByRecursion HasSpelling (written_of n first.steps (section_of tr.steps.items i))
+  own_spelled i n l = still_spelled fewer n first.steps (section_of tr.steps.items i)
       (all_spelled tr.steps.items i own.short (last_spelled i n l))
 
   pub own_few : (i : Item) (n : ℕ)
-      → length (written_of n first.steps (own_items tr.steps.items i)) ≤ length tr.steps.items + 1
+      → length (written_of n first.steps (section_of tr.steps.items i)) ≤ length tr.steps.items + 1
   own_few i n =
-      let a = still_few fewer n first.steps (own_items tr.steps.items i) in
+      let a = still_few fewer n first.steps (section_of tr.steps.items i) in
       let b = own_length tr.steps.items i in omega (arith, a, b)

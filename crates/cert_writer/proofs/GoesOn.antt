@@ -22,7 +22,7 @@ use Rattle.cert_trim.specs.cert_bytes.declared.item.StepRow.{StepRow}
 use Rattle.cert_trim.specs.cert_bytes.declared.order.Due.TheVariants.{Sections}
 use Rattle.cert_trim.specs.cert_bytes.declared.style.Style.TheVariants.{Second}
 use Rattle.cert_trim.specs.cert_bytes.Certificates.{AreDue, AreCertificate, IsLong, IsShort}
-use Rattle.cert_writer.specs.Bytes.{seen_in, spelled_behind, certificate_of}
+use Rattle.cert_trim.specs.cert_bytes.Spelling.{spelled_behind, certificate_of}
 use Rattle.box_trace.specs.cert_checker.declared.open.Citable.{Citable}
 use Rattle.box_trace.specs.cert_checker.Contexts.{Context, first}
 use Rattle.box_trace.specs.cert_checker.Steps.{step_fact}
@@ -35,10 +35,11 @@ use Rattle.box_trace.specs.box_traces.Roots.{Root, AreRoots, steps_in_roots, lin
 use Rattle.box_trace.specs.box_traces.Trees.{Tree, Trees, leaf, cut, last, next, AreProved, ArePoints, lines_of_tree, lines_of_trees, lines_at, leaf_lines, steps_in, steps_in_each}
 use Rattle.box_trace.specs.box_traces.Walks.{behind_steps, IsEndOf, Frame, LiesIn, left_in, lines_behind, steps_behind, IsDue, Ending}
 use Rattle.box_trace.specs.box_traces.Moves.{WalksGoOn, WalksMove, AreSteps, IsEntered, lead_both, next_behind}
-use Rattle.cert_writer.specs.Standing.{Aim, IsAim, IsWhole, IsBegun, Place, IsAt, Ended, HasEnded, HasWritten, AreBoxSteps, AreShort, AreCited, most_for, roots_left, steps_left, lines_left, own_items, inside, closed, beside, around, next_aim, next_root, root_with}
+use Rattle.cert_writer.specs.Standing.{Aim, IsAim, IsWhole, IsBegun, Place, IsAt, Ended, HasEnded, HasWritten, AreBoxSteps, AreShort, AreCited, most_for, roots_left, steps_left, lines_left, inside, closed, beside, around, next_aim, next_root, root_with}
 use Rattle.cert_writer.specs.Laws.{OfAims}
-use Rattle.cert_trim.specs.cert_bytes.Styles.{none_seen}
+use Rattle.cert_trim.specs.cert_bytes.Styles.{none_seen, seen_in}
 use Rattle.cert_trim.specs.cert_bytes.Sizes.{most_bytes_in, SpellingsAreShort}
+use Rattle.cert_trim.specs.Behind.{section_of}
 use Rattle.cert_writer.proofs.Sized.{sized_both}
 use Rattle.cert_writer.proofs.Seen.{spelled_both, EndsSection, sections_with}
 use Rattle.box_trace.specs.box_traces.Cited.{found_long}
@@ -73,10 +74,14 @@ front t items c n w e =
 
 -- ---- one box
 own_leads : (t : Aim) (c : Context) (rows : List StepRow) (l : Item) → AreSteps t.target.subject c rows → JudgesItem t.target.subject (behind_steps c rows) l None →
-    LeadsTo t.target.subject c (own_items rows l) (after (behind_steps c rows) l)
+    LeadsTo t.target.subject c (section_of rows l) (after (behind_steps c rows) l)
 own_leads t c rows l s j = lead_both t.target.subject c (behind_steps c rows) (after (behind_steps c rows) l) (map item.Step rows) (l ∷ []) s.leads (j, refl)
 
-own_due : (t : Aim) (c : Context) (rows : List StepRow) (l : Item) (m n : ℕ) → AreSteps t.target.subject c rows → ((rest : List Item) → AreDue (Some (Sections n)) rest → AreDue (Some (Sections (suc m))) (l ∷ rest)) → IsDue (suc m) n (own_items rows l)
+own_due : (t : Aim) (c : Context) (rows : List StepRow) (l : Item) (m n : ℕ)
+    → AreSteps t.target.subject c rows
+    → ((rest : List Item) → AreDue (Some (Sections n)) rest
+    → AreDue (Some (Sections (suc m))) (l ∷ rest))
+    → IsDue (suc m) n (section_of rows l)
 own_due t c rows l m n s d = λ rest r. subst (λ y. AreDue (Some (Sections (suc m))) y) (sym (append_assoc (map item.Step rows) (l ∷ []) rest)) (s.due m (l ∷ rest) (d rest r))
 
 -- ---- what a leaf cites
@@ -156,7 +161,7 @@ module _ (goes : WalksGoOn) (moves : WalksMove) where
       let left : ℕ = left_in p.frames + roots_left t in
       let left_next : ℕ = length points - 0 + left_in p.frames + roots_left t in
       let more : suc left_next ≡ left + (length points + 1) = omega arith in
-      let due : IsDue (suc left) (suc left_next) (own_items rows (item.Cut x points)) =
+      let due : IsDue (suc left) (suc left_next) (section_of rows (item.Cut x points)) =
       own_due t p.context rows (item.Cut x points) left (suc left_next) own.steps
       (λ rest r. ((ps.some, (short, (ps.few, ps.rising))), subst (λ n. Due n rest) more r)) in
       let n = next_behind p.context rows in
@@ -167,7 +172,7 @@ module _ (goes : WalksGoOn) (moves : WalksMove) where
       ≤ 2 ^ 63 =
       subst (λ y. p.context.next + (seen_in p.items).sections
       + (steps_in most y + steps_behind most p.frames + steps_left t) ≤ 2 ^ 63) e here.room in
-      let sized = sized_both p.items (own_items rows (item.Cut x points)) in
+      let sized = sized_both p.items (section_of rows (item.Cut x points)) in
       let short_here : most_bytes_in p.items
       + (most + (steps_in most tree + steps_in_each most later) + steps_behind most p.frames + steps_left t)
       + 39 ≤ 2 ^ 44 =
@@ -177,7 +182,8 @@ module _ (goes : WalksGoOn) (moves : WalksMove) where
       subst (λ y. t.lines ≡ lines_left t (lines_behind v t.height t.world.goals p.frames (lines_of_tree v t.height t.world.goals y p.pieces p.context.lines))) e here.shown in
       let same : d.lines ≡ p.context.lines = own.steps.later.lines in
       record {
-        written = written_more t p.items (own_items rows (item.Cut x points)) p.context (after d (item.Cut x points)) (suc left) (suc left_next)
+        written = written_more t p.items (section_of rows (item.Cut x points)) p.context
+            (after d (item.Cut x points)) (suc left) (suc left_next)
             here.written (own_leads t p.context rows (item.Cut x points) own.steps m.0) due;
         entered = m.1;
         room = omega (arith, n, k, q, room);
@@ -199,7 +205,7 @@ module _ (goes : WalksGoOn) (moves : WalksMove) where
       + (most + steps_behind most p.frames + steps_left t) ≤ 2 ^ 63 =
       subst (λ y. p.context.next + (seen_in p.items).sections
       + (steps_in most y + steps_behind most p.frames + steps_left t) ≤ 2 ^ 63) e here.room in
-      let sized = sized_both p.items (own_items rows l) in
+      let sized = sized_both p.items (section_of rows l) in
       let short_here : most_bytes_in p.items
       + (most + steps_behind most p.frames + steps_left t) + 39 ≤ 2 ^ 44 =
       subst (λ y. most_bytes_in p.items
@@ -207,7 +213,9 @@ module _ (goes : WalksGoOn) (moves : WalksMove) where
       let all : t.lines ≡ lines_left t (lines_behind v t.height t.world.goals p.frames (lines_of_tree v t.height t.world.goals leaf p.pieces p.context.lines)) =
       subst (λ y. t.lines ≡ lines_left t (lines_behind v t.height t.world.goals p.frames (lines_of_tree v t.height t.world.goals y p.pieces p.context.lines))) e here.shown in
       record {
-        written = written_more t p.items (own_items rows l) p.context (after (behind_steps p.context rows) l) (suc (left_in p.frames + roots_left t)) (left_in p.frames + roots_left t)
+        written = written_more t p.items (section_of rows l) p.context
+            (after (behind_steps p.context rows) l) (suc (left_in p.frames + roots_left t))
+            (left_in p.frames + roots_left t)
             here.written (own_leads t p.context rows l steps j) (own_due t p.context rows l (left_in p.frames + roots_left t) (left_in p.frames + roots_left t) steps due);
         ended = end;
         lies = here.entered.lies;

@@ -12,8 +12,8 @@ use Rattle.cert_trim.specs.cert_bytes.declared.item.Item.TheVariants as item
 use Rattle.cert_trim.specs.cert_bytes.declared.style.Seen.{Seen}
 use Rattle.cert_trim.specs.cert_bytes.declared.style.Style.TheVariants.{Second}
 use Rattle.cert_trim.specs.cert_bytes.Certificates.{SpellsAs}
-use Rattle.cert_trim.specs.cert_bytes.Styles.{none_seen}
-use Rattle.cert_writer.specs.Bytes.{seen_in, spelling_of, spelled_behind, certificate_of}
+use Rattle.cert_trim.specs.cert_bytes.Styles.{none_seen, seen_in}
+use Rattle.cert_trim.specs.cert_bytes.Spelling.{spelling_of, spelled_behind, certificate_of}
 use Rattle.answer_certificates.specs.script_checker.Subjects.{IsSubjectOf}
 use Rattle.cert_writer.specs.Heads.{head_items}
 use Rattle.box_trace.specs.cert_checker.Accepted.{Accepts}

@@ -24,8 +24,8 @@ use Rattle.answer_certificates.specs.Roots.{AreRootsOf}
 use Rattle.answer_certificates.specs.Scripts.{in_case, HasSlots}
 use Rattle.cert_trim.specs.cert_bytes.declared.item.Item.TheVariants as item
 use Rattle.cert_trim.specs.cert_bytes.declared.style.Seen.{Seen}
-use Rattle.cert_trim.specs.cert_bytes.Styles.{none_seen}
-use Rattle.cert_writer.specs.Bytes.{seen_in, spelled_behind, certificate_of}
+use Rattle.cert_trim.specs.cert_bytes.Styles.{none_seen, seen_in}
+use Rattle.cert_trim.specs.cert_bytes.Spelling.{spelled_behind, certificate_of}
 use Rattle.cert_writer.specs.Standing.{IsAim, IsBegun, Ended, HasEnded, next_root}
 use Rattle.cert_writer.specs.Courses.{Course, IsCourse, course, IsBefore, IsPast, Grew, GrewToFront}
 use Rattle.cert_writer.specs.Cases.{Task, task, plan_in, target_of, aim_of, whole_aim, IsBeforeCase, StandsAt, OfStanding, GrewFront}

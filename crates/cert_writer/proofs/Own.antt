@@ -20,7 +20,7 @@ use Rattle.cert_trim.specs.cert_bytes.declared.item.Item.{Item}
 use Rattle.cert_trim.specs.cert_bytes.declared.item.Item.TheVariants as item
 use Rattle.cert_trim.specs.cert_bytes.declared.item.StepRow.{StepRow}
 use Rattle.cert_trim.specs.cert_bytes.declared.style.Seen.{Seen}
-use Rattle.cert_writer.specs.Bytes.{seen_in}
+use Rattle.cert_trim.specs.cert_bytes.Styles.{seen_in}
 use Rattle.box_trace.specs.cert_checker.Contexts.{Context, open_piece}
 use Rattle.box_trace.specs.cert_checker.Open.{Numbered}
 use Rattle.box_trace.specs.cert_checker.Steps.{step_fact}

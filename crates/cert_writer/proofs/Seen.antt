@@ -8,11 +8,11 @@ use Rattle.cert_trim.specs.cert_bytes.declared.item.Item.{Item}
 use Rattle.cert_trim.specs.cert_bytes.declared.item.Item.TheVariants as item
 use Rattle.cert_trim.specs.cert_bytes.declared.item.StepRow.{StepRow}
 use Rattle.cert_trim.specs.cert_bytes.declared.style.Seen.{Seen}
-use Rattle.cert_trim.specs.cert_bytes.Styles.{none_seen, seen_after}
+use Rattle.cert_trim.specs.cert_bytes.Styles.{none_seen, seen_after, seen_behind, seen_in}
 use Rattle.box_trace.specs.box_traces.Roots.{cases_items}
-use Rattle.cert_writer.specs.Bytes.{seen_behind, seen_in, spelling_of, spelled_behind}
+use Rattle.cert_trim.specs.cert_bytes.Spelling.{spelling_of, spelled_behind}
+use Rattle.cert_trim.specs.Behind.{section_of}
 use Rattle.cert_writer.specs.Heads.{head_items}
-use Rattle.cert_writer.specs.Standing.{own_items}
 
 -- ---- items of two lists
 pub seen_both : (s : Seen) (items more : List Item)
@@ -73,13 +73,13 @@ EndsSection i = (s : Seen) → ((seen_after s i).steps ≡ s.steps)
     × ((seen_after s i).sections ≡ s.sections + 1)
 
 pub own_steps_seen : (s : Seen) (rows : List StepRow) (i : Item) → EndsSection i
-    → (seen_behind s (own_items rows i)).steps ≡ s.steps + length rows
+    → (seen_behind s (section_of rows i)).steps ≡ s.steps + length rows
 own_steps_seen s rows i ends =
     ap (λ (q : Seen). q.steps) (seen_both s (map item.Step rows) (i ∷ []))
     ∙ (ends (seen_behind s (map item.Step rows))).0 ∙ steps_seen s rows
 
 pub own_sections_seen : (s : Seen) (rows : List StepRow) (i : Item) → EndsSection i
-    → (seen_behind s (own_items rows i)).sections ≡ s.sections + 1
+    → (seen_behind s (section_of rows i)).sections ≡ s.sections + 1
 own_sections_seen s rows i ends =
     ap (λ (q : Seen). q.sections) (seen_both s (map item.Step rows) (i ∷ []))
     ∙ (ends (seen_behind s (map item.Step rows))).1
@@ -114,9 +114,9 @@ seen_few s (i ∷ items) =
 
 -- of a certificate's items with them
 pub sections_with : (items : List Item) (rows : List StepRow) (i : Item) → EndsSection i
-    → (seen_in (items ++ own_items rows i)).sections ≡ (seen_in items).sections + 1
+    → (seen_in (items ++ section_of rows i)).sections ≡ (seen_in items).sections + 1
 sections_with items rows i ends =
-    ap (λ (q : Seen). q.sections) (seen_both none_seen items (own_items rows i))
+    ap (λ (q : Seen). q.sections) (seen_both none_seen items (section_of rows i))
     ∙ own_sections_seen (seen_in items) rows i ends
 
 pub seen_with : (items more : List Item) (s : Seen) → seen_in items ≡ s

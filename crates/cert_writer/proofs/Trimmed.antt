@@ -9,7 +9,7 @@ use Rattle.cert_trim.specs.cert_bytes.declared.item.Item.TheVariants as item
 use Rattle.cert_trim.specs.cert_bytes.declared.item.StepRow.{StepRow}
 use Rattle.cert_trim.specs.cert_bytes.declared.style.Seen.{Seen}
 use Rattle.cert_trim.specs.cert_bytes.Certificates.{AreCertificate}
-use Rattle.cert_trim.specs.cert_bytes.Styles.{none_seen, seen_after}
+use Rattle.cert_trim.specs.cert_bytes.Styles.{none_seen, seen_after, seen_behind, seen_in}
 use Rattle.box_trace.specs.cert_checker.declared.open.Citable.{Citable}
 use Rattle.box_trace.specs.cert_checker.declared.subject.Subject.{Subject}
 use Rattle.box_trace.specs.cert_checker.Contexts.{Context, first}
@@ -20,10 +20,9 @@ use Rattle.box_trace.specs.box_traces.Walks.{behind_steps}
 use Rattle.box_trace.specs.box_traces.Moves.{lead_both}
 use Rattle.cert_trim.specs.Trimmed.{number_behind_all, moved_row, if_used, trimmed_by}
 use Rattle.cert_trim.specs.Used.{CiteEarlier}
-use Rattle.cert_trim.specs.Behind.{stays_behind, trimmed_behind, with_next, IsLeafOrDead, IsOpenAt, LeavesAreTrimmed, CertificatesStaySo, AreFewer}
-use Rattle.cert_writer.specs.Bytes.{seen_behind, seen_in}
+use Rattle.cert_trim.specs.Behind.{stays_behind, trimmed_behind, with_next, IsLeafOrDead, IsOpenAt, LeavesAreTrimmed, CertificatesStaySo, AreFewer, section_of}
 use Rattle.cert_writer.specs.Laws.{OfAims}
-use Rattle.cert_writer.specs.Standing.{Place, IsAt, HasEnded, own_items, closed, trimmed}
+use Rattle.cert_writer.specs.Standing.{Place, IsAt, HasEnded, closed, trimmed}
 use Rattle.cert_writer.proofs.Seen.{seen_both}
 use Rattle.cert_writer.proofs.Sized.{sized_both}
 
@@ -40,7 +39,7 @@ all_below n (q ∷ steps) b = (b.0, all_below n steps b.1)
 
 -- ---- the number of the next step
 pub own_next : (rows : List StepRow) (last : Item) (c : Context) → IsLeafOrDead last
-    → (after (behind_steps c rows) last).next ≡ number_behind_all c.next (own_items rows last)
+    → (after (behind_steps c rows) last).next ≡ number_behind_all c.next (section_of rows last)
 own_next (row ∷ rows) last c ends = own_next rows last (after c (item.Step row)) ends
 own_next [] (item.Leaf refs) c ends = refl
 own_next [] (item.Dead r) c ends = refl
@@ -92,11 +91,11 @@ module _ (used : ℕ → Bool) where
 module _ (leaves : LeavesAreTrimmed) (order : CertificatesStaySo) (fewer : AreFewer) where
   pub trims : OfAims (λ t. (p : Place) (rows : List StepRow) (last : Item) (lines : List Line)
       → IsAt t p → IsLeafOrDead last → HasEnded t (closed p rows last lines)
-      → CiteEarlier p.context.next (own_items rows last) × HasEnded t (trimmed p rows last lines))
+      → CiteEarlier p.context.next (section_of rows last) × HasEnded t (trimmed p rows last lines))
   trims t a p rows last lines here ends ended =
       let s : Subject = t.target.subject in
       let c : Context = p.context in
-      let own : List Item = own_items rows last in
+      let own : List Item = section_of rows last in
       let e : Context = after (behind_steps c rows) last in
       let used = stays_behind c.next own in
       let left : List Item = trimmed_behind c.next own in

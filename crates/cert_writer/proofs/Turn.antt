@@ -23,8 +23,9 @@ use Rattle.cert_trim.specs.cert_bytes.declared.item.Item.{Item}
 use Rattle.cert_trim.specs.cert_bytes.declared.item.Item.TheVariants as item
 use Rattle.cert_trim.specs.cert_bytes.declared.item.StepRow.{StepRow}
 use Rattle.cert_trim.specs.cert_bytes.declared.style.Seen.{Seen}
-use Rattle.cert_trim.specs.cert_bytes.Styles.{none_seen}
-use Rattle.cert_writer.specs.Bytes.{seen_behind, seen_in, spelled_behind, certificate_of}
+use Rattle.cert_trim.specs.cert_bytes.Styles.{none_seen, seen_behind, seen_in}
+use Rattle.cert_trim.specs.cert_bytes.Spelling.{spelled_behind, certificate_of}
+use Rattle.cert_trim.specs.Behind.{section_of}
 use Rattle.box_trace.specs.cert_checker.Contexts.{open_piece, piece_fact}
 use Rattle.box_trace.specs.cert_checker.Open.{Numbered}
 use Rattle.box_trace.specs.cert_checker.Steps.{step_fact, met_with, IsEnough}
@@ -38,7 +39,7 @@ use Rattle.box_trace.specs.box_traces.Walks.{numbered, behind_steps, Frame, IsPi
 use Rattle.box_trace.specs.box_traces.Moves.{frame_of, turned, next_behind}
 use Rattle.answer_certificates.specs.Boxes.{range_of_piece, pieces_from}
 use Rattle.whole_texts.specs.Pieces.{AppendsFront, appends_both}
-use Rattle.cert_writer.specs.Standing.{Aim, IsBegun, Place, IsAt, Ended, HasEnded, AreBoxSteps, AreShort, own_items, inside, beside, around}
+use Rattle.cert_writer.specs.Standing.{Aim, IsBegun, Place, IsAt, Ended, HasEnded, AreBoxSteps, AreShort, inside, beside, around}
 use Rattle.cert_writer.specs.Courses.{Course, IsCourse, HasBest, setting, best_at, below, Grew, GrewToFront, IsBefore, IsPast, IsKnownAt, IsWithin, HasDone}
 use Rattle.cert_writer.specs.Laws.{WritingGoesOn}
 use Rattle.cert_writer.proofs.Seen.{seen_both, spelled_both, own_steps_seen, seen_with}
@@ -166,8 +167,11 @@ module _ (one : TablesAreOne) where
         (known : Known) → IsKnownAt c path known (numbered (behind_steps p.context rows)) → (x : ExprId) (points : List Dyadic) → AreShort c.aim rows (item.Cut x points) → (n : ℕ) → n ≡ length points + 1 →
         p.tree ≡ cut x points (pieces_from c.plan (below c (35 - length path)) path 0 n) →
         ((k : ℕ) → k < n → piece_at c.plan (path ++ k ∷ []) ≡ Some (x, range_of_piece (piece_at c.plan (path ++ k ∷ [])))) →
-        (old new : Option (List ℕ)) → Appends old new (spelled_behind (seen_in p.items) (own_items rows (item.Cut x points))) → (number : Seen)
-        → number ≡ seen_behind first (own_items rows (item.Cut x points)) → IsWithin c path known p old n 0 number new
+        (old new : Option (List ℕ))
+        → Appends old new
+        (spelled_behind (seen_in p.items) (section_of rows (item.Cut x points)))
+        → (number : Seen) → number ≡ seen_behind first (section_of rows (item.Cut x points))
+        → IsWithin c path known p old n 0 number new
     enter c a best more path parent first p before rows own known k x points small n count tree of_variable old new grew number same =
         let u : World = c.aim.world in
         let v : Setting = setting c in
@@ -183,7 +187,7 @@ module _ (one : TablesAreOne) where
         let d = next_behind p.context rows in
         let f = next_is u (piece_at c.plan path) parent first.steps (numbered p.context) (open_piece p.context.cuts) before.section in
         let left : n - (0 + 1) ≡ length points = omega (arith, count) in
-        let items : List Item = own_items rows (item.Cut x points) in
+        let items : List Item = section_of rows (item.Cut x points) in
         let steps : number.steps ≡ first.steps + length rows =
         ap (λ (s : Seen). s.steps) same
         ∙ own_steps_seen first rows (item.Cut x points) (λ s. (refl, refl)) in
@@ -197,7 +201,7 @@ module _ (one : TablesAreOne) where
           pieces = before.pieces;
           of_variable = of_variable;
           known_is = k;
-          grew = (own_items rows (item.Cut x points), refl, grew);
+          grew = (section_of rows (item.Cut x points), refl, grew);
         }
 
     -- Behind the section of a piece the walk is before the next piece, or behind the box.

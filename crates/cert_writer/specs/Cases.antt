@@ -21,7 +21,8 @@ use Rattle.answer_certificates.specs.Boxes.{boxes_of}
 use Rattle.answer_certificates.specs.Roots.{AreRootsOf}
 use Rattle.answer_certificates.specs.Scripts.{in_case}
 use Rattle.box_trace.specs.Short.{bytes_a_box}
-use Rattle.cert_writer.specs.Bytes.{seen_in, certificate_of}
+use Rattle.cert_trim.specs.cert_bytes.Styles.{seen_in}
+use Rattle.cert_trim.specs.cert_bytes.Spelling.{certificate_of}
 use Rattle.cert_writer.specs.Standing.{Target, Aim, IsAim, IsWhole, Place, IsAt}
 use Rattle.cert_writer.specs.Courses.{Grew, GrewToFront}
 

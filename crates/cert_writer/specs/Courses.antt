@@ -15,8 +15,11 @@ use Rattle.answer_certificates.specs.box_tree.Regions.{PlanParts}
 use Rattle.answer_certificates.specs.bisect.declared.settler.State.{State}
 use Rattle.answer_certificates.specs.settler.Standing.{AreStates}
 use Rattle.cert_trim.specs.cert_bytes.declared.item.Item.{Item}
+use Rattle.cert_trim.specs.cert_bytes.declared.item.StepRow.{StepRow}
 use Rattle.cert_trim.specs.cert_bytes.declared.style.Seen.{Seen}
-use Rattle.cert_writer.specs.Bytes.{seen_in, spelled_behind, certificate_of}
+use Rattle.cert_trim.specs.Behind.{IsLeafOrDead, section_of, trimmed_behind}
+use Rattle.cert_trim.specs.cert_bytes.Styles.{seen_in}
+use Rattle.cert_trim.specs.cert_bytes.Spelling.{spelled_behind, certificate_of}
 use Rattle.box_trace.specs.cert_checker.Contexts.{open_piece}
 use Rattle.box_trace.specs.cert_checker.Open.{Numbered}
 use Rattle.box_trace.specs.declared.known.Known.{Known}
@@ -155,10 +158,14 @@ HasDone c path known p old n i seen new = (i < n → IsWithin c path known p old
     × (i ≡ n → IsPast c p old seen new)
 
 -- Bytes that a file may take behind p: with all of them it stands in the box or behind it, and with
--- a front of them it holds a front.
+-- a front of them it holds a front. Of a box that isn't cut they are a leaf or a dead end behind
+-- steps, without those of the steps that it doesn't need.
 pub record AreOwnBytes (c : Course) (path : List ℕ)
     (p : Place) (known : Known) (n : ℕ) (seen : Seen) (bytes : List ℕ) : Type 0 where
   pub done : (old new : Option (List ℕ))
       → Appends old new bytes → HasDone c path known p old n 0 seen new
   pub front : (old new : Option (List ℕ)) → AppendsFront old new bytes
       → GrewToFront c.aim p.items old new
+  pub lean : n ≡ 0 → (rows : List StepRow) × (last : Item) × IsLeafOrDead last
+      × (bytes ≡ spelled_behind (seen_in p.items)
+      (trimmed_behind p.context.next (section_of rows last)))

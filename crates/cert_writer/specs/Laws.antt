@@ -14,16 +14,16 @@ use Rattle.cert_trim.specs.cert_bytes.declared.item.Item.{Item}
 use Rattle.cert_trim.specs.cert_bytes.declared.item.Item.TheVariants as item
 use Rattle.cert_trim.specs.cert_bytes.declared.item.StepRow.{StepRow}
 use Rattle.box_trace.specs.Short.{bytes_a_box}
-use Rattle.cert_writer.specs.Bytes.{certificate_of}
+use Rattle.cert_trim.specs.cert_bytes.Spelling.{certificate_of}
 use Rattle.box_trace.specs.cert_checker.Contexts.{Context}
 use Rattle.box_trace.specs.cert_checker.Steps.{step_fact}
 use Rattle.box_trace.specs.box_traces.Trees.{Tree, Trees, leaf, cut, last, next, IsProved, lines_of_tree, steps_in}
 use Rattle.box_trace.specs.box_traces.Roots.{Root}
 use Rattle.box_trace.specs.box_traces.Walks.{behind_steps, Frame}
 use Rattle.box_trace.specs.box_traces.Moves.{AreSteps}
-use Rattle.cert_trim.specs.Behind.{IsLeafOrDead}
+use Rattle.cert_trim.specs.Behind.{IsLeafOrDead, section_of}
 use Rattle.cert_trim.specs.Used.{CiteEarlier}
-use Rattle.cert_writer.specs.Standing.{Aim, IsAim, IsWhole, IsBegun, Place, IsAt, Ended, HasEnded, AreBoxSteps, AreShort, AreCited, most_for, steps_left, lines_left, at_root, inside, own_items, closed, trimmed, beside, around, next_aim, next_root, root_with}
+use Rattle.cert_writer.specs.Standing.{Aim, IsAim, IsWhole, IsBegun, Place, IsAt, Ended, HasEnded, AreBoxSteps, AreShort, AreCited, most_for, steps_left, lines_left, at_root, inside, closed, trimmed, beside, around, next_aim, next_root, root_with}
 
 -- This is so of each aim.
 abbrev pub OfAims : (Aim → Type 0) → Type 0
@@ -70,7 +70,7 @@ pub record WritingGoesOn : Type 0 where
   -- without the steps that its end doesn't need.
   pub trims : OfAims (λ t. (p : Place) (rows : List StepRow) (last : Item) (lines : List Line)
       → IsAt t p → IsLeafOrDead last → HasEnded t (closed p rows last lines)
-      → CiteEarlier p.context.next (own_items rows last) × HasEnded t (trimmed p rows last lines))
+      → CiteEarlier p.context.next (section_of rows last) × HasEnded t (trimmed p rows last lines))
   -- Behind a section the next piece begins,
   pub follows : OfAims (λ t. (e : Ended) (fr : Frame) (i : Interval) (tree : Tree) (later : Trees)
       (frames : List Frame) → e.frames ≡ fr ∷ frames → fr.later ≡ next i tree later → HasEnded t e

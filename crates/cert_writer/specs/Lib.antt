@@ -1,6 +1,5 @@
 -- What callers name of the crates below.
 pub use Rattle.goals.specs as goals
-pub mod Bytes
 pub mod Files
 pub mod Heads
 pub mod Boxes

@@ -1,5 +1,5 @@
 -- Where a certificate that is being written stands.
-use Rattle.std.specs.Prelude.{◌≡◌, ◌<◌, ◌≤◌, ◌+◌, ◌*◌, ◌^◌, ⊤, ℕ, suc, List, [], ◌∷◌, ◌++◌, length, map, Some}
+use Rattle.std.specs.Prelude.{◌≡◌, ◌<◌, ◌≤◌, ◌+◌, ◌*◌, ◌^◌, ⊤, ℕ, suc, List, [], ◌∷◌, ◌++◌, length, Some}
 use Rattle.goals.specs.fx_model.declared.ExprId.{ExprId}
 use Rattle.goals.specs.dyadic.declared.number.Dyadic.{Dyadic}
 use Rattle.goals.specs.interval.declared.interval.Interval.{Interval}
@@ -20,7 +20,8 @@ use Rattle.cert_trim.specs.cert_bytes.Fronts.{IsFront}
 use Rattle.cert_trim.specs.cert_bytes.Sizes.{most_bytes_in}
 use Rattle.box_trace.specs.rule_universe.Sizes.{IsSmall}
 use Rattle.box_trace.specs.Short.{bytes_a_box}
-use Rattle.cert_writer.specs.Bytes.{certificate_of, seen_in}
+use Rattle.cert_trim.specs.cert_bytes.Spelling.{certificate_of}
+use Rattle.cert_trim.specs.cert_bytes.Styles.{seen_in}
 use Rattle.box_trace.specs.cert_checker.declared.open.Citable.{Citable}
 use Rattle.box_trace.specs.cert_checker.declared.subject.Subject.{Subject}
 use Rattle.box_trace.specs.cert_checker.Contexts.{Context, first}
@@ -33,7 +34,7 @@ use Rattle.box_trace.specs.box_traces.Trees as trees
 use Rattle.box_trace.specs.box_traces.Roots.{Root, AreRoots, steps_in_roots, lines_of_roots}
 use Rattle.box_trace.specs.box_traces.Walks.{behind_steps, IsBehind, IsEndOf, Frame, LiesIn, left_in, lines_behind, steps_behind}
 use Rattle.box_trace.specs.box_traces.Moves.{AreSteps, IsEntered, frame_of, turned}
-use Rattle.cert_trim.specs.Behind.{trimmed_behind, with_next}
+use Rattle.cert_trim.specs.Behind.{section_of, trimmed_behind, with_next}
 use Rattle.cert_trim.specs.Trimmed.{number_behind_all}
 use Rattle.cert_writer.specs.Heads.{head_items}
 
@@ -183,18 +184,14 @@ AreCited steps at (g ∷ goals) (r ∷ refs) = ((f : Fact) × (at g.of ≡ Some 
     × (step_fact steps r ≡ Some f) × Settles g f) × AreCited steps at goals refs
 AreCited steps at _ _ = ⊥
 
--- the box's items: its steps, and what is behind them
-abbrev pub own_items : List StepRow → Item → List Item
-own_items rows last = map item.Step rows ++ last ∷ []
-
 -- they have no more bytes than a box may have
 abbrev pub AreShort : Aim → List StepRow → Item → Type 0
-AreShort t rows last = most_bytes_in (own_items rows last) ≤ most_for t
+AreShort t rows last = most_bytes_in (section_of rows last) ≤ most_for t
 
 -- the box's first piece is to begin
 abbrev pub inside : Place → List StepRow → ExprId → List Dyadic → Interval → Tree → Trees → Place
 inside p rows x points i tree later = record {
-  items = p.items ++ own_items rows (item.Cut x points);
+  items = p.items ++ section_of rows (item.Cut x points);
   context = after (behind_steps p.context rows) (item.Cut x points);
   tree = tree;
   pieces = (x, i) ∷ p.pieces;
@@ -205,7 +202,7 @@ inside p rows x points i tree later = record {
 -- its own section has ended, with this item
 abbrev pub closed : Place → List StepRow → Item → List Line → Ended
 closed p rows last lines = record {
-  items = p.items ++ own_items rows last;
+  items = p.items ++ section_of rows last;
   begin = p.context;
   context = after (behind_steps p.context rows) last;
   frames = p.frames;
@@ -215,10 +212,10 @@ closed p rows last lines = record {
 -- it has ended without the steps that its end doesn't need
 abbrev pub trimmed : Place → List StepRow → Item → List Line → Ended
 trimmed p rows last lines = record {
-  items = p.items ++ trimmed_behind p.context.next (own_items rows last);
+  items = p.items ++ trimmed_behind p.context.next (section_of rows last);
   begin = p.context;
   context = with_next (after (behind_steps p.context rows) last)
-      (number_behind_all p.context.next (trimmed_behind p.context.next (own_items rows last)));
+      (number_behind_all p.context.next (trimmed_behind p.context.next (section_of rows last)));
   frames = p.frames;
   lines = lines;
 }

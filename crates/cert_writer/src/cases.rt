@@ -7,7 +7,7 @@ ghost use Rattle.answer_certificates.specs.universe.Universes.{IsUniverse};
 ghost use Rattle.std.specs.Io.KnownBytes.{Appends};
 ghost use Rattle.cert_trim.specs.cert_bytes.declared.item.Item.TheVariants as item;
 ghost use Rattle.cert_trim.specs.cert_bytes.Styles.{none_seen};
-ghost use Rattle.cert_writer.specs.Bytes.{spelling_of};
+ghost use Rattle.cert_trim.specs.cert_bytes.Spelling.{spelling_of};
 ghost use Rattle.whole_texts.specs.Pieces.{AppendsFront};
 ghost use Rattle.cert_writer.specs.Walks.{HasWriteCause};
 ghost use Rattle.cert_writer.specs.Cases.{bare, Stands, OfStanding, GoesOn, IsCompleted, GrewFront};

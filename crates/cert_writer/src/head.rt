@@ -3,7 +3,7 @@ ghost use Rattle.std.specs.Prelude.{◌≡◌, ◌++◌, ◌≤◌, length, map,
 ghost use Rattle.cert_trim.specs.cert_bytes.declared.item.Item.TheVariants as item;
 ghost use Rattle.cert_trim.specs.cert_bytes.Certificates.{HasSpelling};
 ghost use Rattle.cert_trim.specs.cert_bytes.Styles.{none_seen};
-ghost use Rattle.cert_writer.specs.Bytes.{spelling_of, certificate_of};
+ghost use Rattle.cert_trim.specs.cert_bytes.Spelling.{spelling_of, certificate_of};
 ghost use Rattle.box_trace.specs.box_traces.Roots.{cases_items};
 ghost use Rattle.cert_writer.specs.Heads.{head_items};
 

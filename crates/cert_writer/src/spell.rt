@@ -1,14 +1,15 @@
 //! What is spelled of a box.
-ghost use Rattle.std.specs.Prelude.{◌≡◌, ◌<◌, ◌≤◌, ◌+◌, ◌^◌, ◌++◌, length, map, vec_len, IfOk, OnOk};
+ghost use Rattle.std.specs.Prelude.{◌≡◌, ◌<◌, ◌≤◌, ◌+◌, ◌^◌, ◌++◌, length, vec_len, IfOk, OnOk};
 ghost use Rattle.std.specs.List.{AllByRecursion};
 ghost use Rattle.cert_trim.specs.cert_bytes.declared.item.Item.TheVariants as item;
 ghost use Rattle.cert_trim.specs.cert_bytes.Certificates.{HasSpelling};
 ghost use Rattle.cert_trim.specs.Used.{CiteEarlier};
-ghost use Rattle.cert_writer.specs.Bytes.{seen_behind, spelled_behind};
+ghost use Rattle.cert_trim.specs.cert_bytes.Styles.{seen_behind};
+ghost use Rattle.cert_trim.specs.cert_bytes.Spelling.{spelled_behind};
 ghost use Rattle.box_trace.specs.Tables.{known_at};
 ghost use Rattle.box_trace.specs.box_traces.Trees.{AllSettled};
 ghost use Rattle.cert_writer.specs.Boxes.{refs_in, written_of};
-ghost use Rattle.cert_writer.specs.Standing.{own_items};
+ghost use Rattle.cert_trim.specs.Behind.{section_of};
 
 use box_trace::{Known, Universe};
 use cert_trim::{Item, Seen, StepRow, trim_behind, write_item2};
@@ -21,7 +22,7 @@ pub(crate) fn own_items(
     steps: Vec<StepRow>,
     last: Item,
 ) -> Result<Vec<Item>, AllocError>
-    ensures { IfOk result (λ items. items.items ≡ own_items steps.items last) }
+    ensures { IfOk result (λ items. items.items ≡ section_of steps.items last) }
 {
     let mut items = Vec::with_capacity(alloc, steps.len() + 1)?;
     for row in steps {

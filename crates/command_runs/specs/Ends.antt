@@ -323,25 +323,49 @@ stop_comes why name s r (inr (is, inl (same, took))) = inr (inl same)
 stop_comes why name s r (inr (is, inr (same, took, rose))) = inr (inr (inl same))
 
 -- ---- runs of which nothing of the outside fails
--- A run of a fate beside read faults, in which no read, no write and no put failed: where all that
--- is read is told, the status that has lines comes, or memory ran out.
+-- A run by any fate in which no write and no put failed came to its end, with lines that its status
+-- has and the file as they have it; or memory ran out.
+module _ (name : Option Bytes) (P : Fate) (r : Run) (h : Runs name P r) where
+  all_written : ¬ WriteFailed r → ¬ PutFailed r → r.status ≢ status.WriteFault
+  all_written writes puts e = by_cause (h.cause e) where
+    by_cause : PutFailed r ⊎ ((name ≢ None) × WriteFailed r) → ⊥
+    by_cause (inl failed) = puts failed
+    by_cause (inr (named, failed)) = writes failed
+
+  pub done_run : ¬ WriteFailed r → ¬ PutFailed r
+      → EndsBy Done r.status name P r ⊎ (r.status ≡ status.OutOfMemory)
+  done_run writes puts = by_end (ending r.status) refl h.ends where
+    by_end : (e : Ending) → ending r.status ≡ e → EndsBy e r.status name P r
+        → EndsBy Done r.status name P r ⊎ (r.status ≡ status.OutOfMemory)
+    by_end Done is d = inl d
+    by_end Cut is b = absurd (all_written writes puts (cut_is r.status is))
+    by_end Starved is b = inr (starved_is r.status is)
+
+-- The same of a run by a fate beside read faults, in which no read failed either: its status and
+-- lines are of the fate without.
+module _ (name : Option Bytes) (Named : Bytes → Type 0) (Stays : Left → Type 0) (P : Fate) (r : Run)
+    (h : Runs name (OrUnread Named Stays r P) r) where
+  all_read : ¬ ReadFailed r → r.status ≢ status.ReadFault
+  all_read reads e = by_end (subst (λ t. EndsIn t name (OrUnread Named Stays r P) r) e h.ends) where
+    by_end : EndsIn status.ReadFault name (OrUnread Named Stays r P) r → ⊥
+    by_end (lines, left, (n, named, failed, stays, line), done) = absurd (reads failed)
+
+  pub quiet_run : ¬ ReadFailed r → ¬ WriteFailed r → ¬ PutFailed r
+      → EndsBy Done r.status name P r ⊎ (r.status ≡ status.OutOfMemory)
+  quiet_run reads writes puts =
+      by_end (done_run name (OrUnread Named Stays r P) r h writes puts)
+    where
+      by_end : EndsBy Done r.status name (OrUnread Named Stays r P) r
+          ⊎ (r.status ≡ status.OutOfMemory)
+          → EndsBy Done r.status name P r ⊎ (r.status ≡ status.OutOfMemory)
+      by_end (inl (lines, left, p, d)) = inl
+          (lines, left, and_read Named Stays r P lines left r.status (all_read reads) p, d)
+      by_end (inr e) = inr e
+
+-- Where moreover all that is read is told, the status that has lines comes, or memory ran out.
 module _ (name : Option Bytes) (Reads Named : Bytes → Type 0) (Stays : Left → Type 0)
     (MayChange : Status → Type 0) (P : Fate) (r : Run)
     (h : IsRunOf name Reads MayChange (OrUnread Named Stays r P) r) where
-  unread_ends : (s : Status) → r.status ≡ s → EndsIn s name (OrUnread Named Stays r P) r
-  unread_ends s e = subst (λ t. EndsIn t name (OrUnread Named Stays r P) r) e h.runs.ends
-
-  all_read : ¬ ReadFailed r → r.status ≢ status.ReadFault
-  all_read still e = by_end (unread_ends status.ReadFault e) where
-    by_end : EndsIn status.ReadFault name (OrUnread Named Stays r P) r → ⊥
-    by_end (lines, left, (n, reads, failed, stays, line), done) = absurd (still failed)
-
-  all_written : ¬ WriteFailed r → ¬ PutFailed r → r.status ≢ status.WriteFault
-  all_written still quiet e = by_cause (h.runs.cause e) where
-    by_cause : PutFailed r ⊎ ((name ≢ None) × WriteFailed r) → ⊥
-    by_cause (inl failed) = quiet failed
-    by_cause (inr (named, failed)) = still failed
-
   pub sure_run : ¬ ReadFailed r → ¬ WriteFailed r → ¬ PutFailed r → AreTold Reads r.before.told
       → (s : Status) (lines : Bytes) (left : Left) → s ≢ status.ReadFault → P s lines left
       → (r.status ≡ s) ⊎ (r.status ≡ status.OutOfMemory)
@@ -350,6 +374,7 @@ module _ (name : Option Bytes) (Reads Named : Bytes → Type 0) (Stays : Left �
     where
       by_status : Comes s r.status → (r.status ≡ s) ⊎ (r.status ≡ status.OutOfMemory)
       by_status (inl e) = inl e
-      by_status (inr (inl e)) = absurd (all_read reads e)
-      by_status (inr (inr (inl e))) = absurd (all_written writes puts e)
+      by_status (inr (inl e)) = absurd (all_read name Named Stays P r h.runs reads e)
+      by_status (inr (inr (inl e))) =
+          absurd (all_written name (OrUnread Named Stays r P) r h.runs writes puts e)
       by_status (inr (inr (inr e))) = inr e

@@ -33,7 +33,7 @@ AreUsers instances changed due = (k : ℕ) → slice_get due k ≡ Some true
     → (s : Slot) × Contains changed s × IsUser instances s k
 
 -- premises with the same facts are the same
-agrees_all : (at new : At) (ss : List Slot) → ((s : Slot) → Contains ss s → new s ≡ at s)
+pub agrees_all : (at new : At) (ss : List Slot) → ((s : Slot) → Contains ss s → new s ≡ at s)
     → all_at new ss ≡ all_at at ss
 agrees_all at new [] same = refl
 agrees_all at new (s ∷ ss) same =
@@ -41,7 +41,8 @@ agrees_all at new (s ∷ ss) same =
     ∙ ap (with_first (at s))
     (agrees_all at new ss (λ t w. same t (suc w.0, let l = w.1 in omega arith, w.2)))
 
-true_false : (o : Option Bool) → o ≡ Some true → o ≡ Some false → ⊥
+-- a flag is set or isn't
+pub true_false : (o : Option Bool) → o ≡ Some true → o ≡ Some false → ⊥
 true_false o t f = let h : true ≡ false = some_same true false o t f in cc
 
 -- After a whole round the instances whose premises stayed are quiet.

@@ -1,5 +1,5 @@
 -- Tables from which the instances conclude nothing more, and those that differ from one on a slot.
-use Rattle.std.specs.Prelude.{◌≡◌, ◌≢◌, ◌⊎◌, ◌<◌, ℕ, zero, suc, Bool, true, false, List, [], ◌∷◌, Option, Some, None, IfNone, IfSome, slice_get, Contains, refl}
+use Rattle.std.specs.Prelude.{◌≡◌, ◌≢◌, ◌⊎◌, ◌<◌, ℕ, Bool, true, false, List, Option, Some, None, IfNone, IfSome, slice_get, Contains, refl}
 use Rattle.std.proofs.Common.{sym, ◌∙◌, ap, subst, inl, inr, arith}
 use Rattle.fx_model.specs.declared.ExprId.{ExprId}
 use Rattle.rule_universe.specs.facts.declared.fact.Fact.TheVariants as fact
@@ -9,10 +9,11 @@ use Rattle.rule_universe.specs.facts.Order.{slot_of}
 use Rattle.rule_universe.specs.facts.Laws.{IsStronger-trans}
 use Rattle.rule_universe.specs.pair_closure.Closure.{Pair}
 use Rattle.rule_universe.specs.derivation.Derivations.{Setting, At}
-use Rattle.rule_universe.specs.derivation.Rounds.{all_at, with_first, concluded, IsSame, IsAhead, AllSeen, Grows, InTable, IsBestFrom}
+use Rattle.rule_universe.specs.derivation.Rounds.{concluded, IsSame, IsAhead, AllSeen, Grows, InTable, IsBestFrom}
 use Rattle.rule_universe.specs.derivation.Heights.{best_start, best_void}
+use Rattle.rule_universe.specs.derivation.Changes.{agrees_all, true_false}
 use Rattle.rule_universe.specs.derivation.Counts.{IsRisen}
-use Rattle.rule_universe.specs.derivation.Parts.{slot_cases, some_same, none_some}
+use Rattle.rule_universe.specs.derivation.Parts.{slot_cases, none_some}
 use Rattle.rule_universe.specs.Places.{IsPlace}
 use Rattle.saturate.specs.declared.kept.Table.{Table}
 use Rattle.saturate.specs.Tables.{fact_at, IsShaped}
@@ -64,18 +65,6 @@ void_best u t height e =
     (best_start u (fact_at t) (fact_at_proper t)) (rw e refl) (omega arith)
 
 -- ---- a table that differs from a closed one on one slot
--- premises with the same facts are the same
-agrees_all : (at new : At) (ss : List Slot) → ((s : Slot) → Contains ss s → new s ≡ at s) →
-    all_at new ss ≡ all_at at ss
-agrees_all at new [] same = refl
-agrees_all at new (s ∷ ss) same =
-    ap (λ o. with_first o (all_at new ss)) (same s (zero, omega arith, refl))
-    ∙ ap (with_first (at s))
-    (agrees_all at new ss (λ t w. same t (suc w.0, let l = w.1 in omega arith, w.2)))
-
-true_false : (o : Option Bool) → o ≡ Some true → o ≡ Some false → ⊥
-true_false o t f = let h : true ≡ false = some_same true false o t f in cc
-
 -- Instances whose premises stayed are quiet.
 pub quiet_below : (u : Setting) (changed : Option Slot) (at new : At) → IsClosedUnder u at →
     Grows at new → ((s : Slot) → (changed ≡ Some s) ⊎ (new s ≡ at s)) → IsQuietBut u changed new

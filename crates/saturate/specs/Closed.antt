@@ -31,6 +31,11 @@ abbrev pub AreUsersDue : List Instance → Option Slot → List Bool → Type 0
 AreUsersDue instances changed due = (s : Slot) → changed ≡ Some s → (k : ℕ) →
     IsUser instances s k → slice_get due k ≡ Some true
 
+-- Each instance that is due takes the slot; where there is none, no instance is due.
+abbrev pub AreUsersAlone : List Instance → Option Slot → List Bool → Type 0
+AreUsersAlone instances changed due = (k : ℕ) → slice_get due k ≡ Some true →
+    (s : Slot) × (changed ≡ Some s) × IsUser instances s k
+
 -- Where all that take the slot are due, the others conclude nothing that the table doesn't beat.
 abbrev pub IsQuietBut : Setting → Option Slot → At → Type 0
 IsQuietBut u changed at = (due : List Bool) → AreUsersDue u.instances changed due →

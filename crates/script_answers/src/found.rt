@@ -1,5 +1,5 @@
 // What is found of a script.
-ghost use Rattle.std.specs.Prelude.{◌≡◌, ◌<◌, [], List, Some, IfOk, length, slice_get};
+ghost use Rattle.std.specs.Prelude.{◌≡◌, ◌<◌, ◌≤◌, [], List, Some, IfOk, length, slice_get};
 ghost use Rattle.report.specs.script_claims.declared.claim.Claim.{Claim};
 ghost use Rattle.report.specs.script_grammar.Cases.{cases_of};
 ghost use Rattle.settler.specs.universe.Universes.{IsUniverse, IsTooLarge};
@@ -94,9 +94,9 @@ fn found_of(
     }
 }
 
-/// What is found of a script over its universe and its cases, by so many workers. The universe
-/// stays the script's, with some claims assumed, also where memory runs out, which is the only
-/// error. It may wait.
+/// What is found of a script over its universe and its cases, by so many workers. What is assumed in
+/// the universe before the call is no matter. It stays the script's, with some claims assumed, also
+/// where memory runs out, which is the only error. It may wait.
 pub fn prove_over<G: Gate, R: Threads + Wait + Sync>(
     rt: &R,
     alloc: Global,
@@ -106,7 +106,7 @@ pub fn prove_over<G: Gate, R: Threads + Wait + Sync>(
     options: Options,
     gate: &G,
 ) -> Result<Found, AllocError>
-    requires universe { IsUniverse script.now [] universe.old }
+    requires universe { (before : List Claim) × IsUniverse script.now before universe.old }
     requires few { ¬ IsTooLarge script.now }
     requires cases { AreCases script.now options.depth (cases_of script.now) cases.now }
     requires allowed { AreAllowed options }
@@ -136,7 +136,7 @@ fn prove_over_alone(
     cases: &[Case],
     options: Options,
 ) -> Result<Found, AllocError>
-    requires universe { IsUniverse script.now [] universe.old }
+    requires universe { (before : List Claim) × IsUniverse script.now before universe.old }
     requires few { ¬ IsTooLarge script.now }
     requires cases { AreCases script.now options.depth (cases_of script.now) cases.now }
     requires allowed { AreAllowed options }

@@ -88,9 +88,10 @@ module _ (law : TrimAnswersAreOne) (trims : AcceptableAreTrimmed) (a : AskedTrim
       subst (λ (o : Option Bytes). IsTold o all.0) (sym all.1) refl in
       let cert : IsCertTold all.0 known =
       λ v spelled. tells a.cert (inr (refl, (all.0, here, (v, spelled, tt)))) in
-      sym (law all.0 known cert s t ls ms l m
+      let same = law all.0 known cert s t ls ms l m
       (subst (λ (w : Bytes). TrimPrints w known s ls l) one p)
-      (subst (λ (w : Bytes). TrimPrints w known t ms m) two q))
+      (subst (λ (w : Bytes). TrimPrints w known t ms m) two q) in
+      sym same.0
 
   run_is : Runs (Some a.new) (TrimFate a r) r → IsTrimRun a r
   run_is h =

@@ -1,4 +1,4 @@
--- One status comes of a text and a told certificate, and one that is accepted is trimmed.
+-- One answer comes of a text and a told certificate, and one that is accepted is trimmed.
 use Rattle.std.specs.Prelude.{◌≡◌, ◌≤◌, List, [], ◌∷◌, length, Option, Some, Ok}
 use Rattle.std.proofs.Common.{◌∙◌, ap, sym, subst, refl, inl, inr, arith}
 use Rattle.cert_trim.specs.cert_checker.goals.declared.line.Line.{Line}
@@ -20,12 +20,13 @@ use Rattle.check_command.specs.script_checker.Subjects.{IsSubjectOf}
 use Rattle.cert_trim.specs.Law.{AcceptsTrimmed, AllLeftAreUsed}
 use Rattle.command_runs.specs.Runs.{Bytes}
 use Rattle.command_runs.specs.Fates.{Left, WhereTold}
+use Rattle.command_runs.specs.Fates.Left.{Kept, Whole}
 use Rattle.command_runs.specs.declared.status.Status.{Status}
 use Rattle.command_runs.specs.declared.status.Status.TheVariants as status
-use Rattle.check_command.specs.Checked.{IsFaulty}
-use Rattle.check_command.specs.Laws.{IsCertTold}
+use Rattle.check_command.specs.Checked.{CheckPrints, IsFaulty}
+use Rattle.check_command.specs.Laws.{CheckAnswersAreOne, IsCertTold}
 use Rattle.trim_command.specs.Laws.{TrimAnswersAreOne, AcceptableAreTrimmed}
-use Rattle.trim_command.specs.Trimmed.{AreTrimmable, IsTrimmed, IsTooLong, IsNotAccepted, TrimPrints, new_bytes}
+use Rattle.trim_command.specs.Trimmed.{AreTrimmable, IsTrimmed, IsTooLong, IsNotAccepted, TrimPrints, line_of, new_bytes}
 use Rattle.trim_command.proofs.Trimmable.{accepted_new}
 
 -- ---- items that are read
@@ -45,9 +46,13 @@ one_reading d c (i ∷ items) (j ∷ others) (next, is, going, p) (later, too, g
     (subst (λ (x : Cursor). AreRead (due_behind d j) x others) (sym where_) q)) in
     ap (λ x. x ∷ items) one ∙ ap (λ xs. j ∷ xs) rest
 
--- ---- one status
-module _ (once : SpellsOnce) (both : NeverBoth) (checks : ChecksAreOne) (text : Bytes)
-    (cert : Option Bytes) (tells : IsCertTold text cert) where
+-- ---- one answer
+abbrev Twice : Status → Status → Bytes → Bytes → Left → Left → Type 0
+Twice s t lines others left rest = (s ≡ t) × (lines ≡ others) × (left ≡ rest)
+
+module _ (once : SpellsOnce) (both : NeverBoth) (checks : ChecksAreOne)
+    (answers : CheckAnswersAreOne) (text : Bytes) (cert : Option Bytes)
+    (tells : IsCertTold text cert) where
   -- a certificate that is accepted has no fault
   not_faulty : (s : View) (all lines : Bytes) (end : Context) → cert ≡ Some all
       → ComesFor s (cursor First all 0) (accepted end) → ¬ IsFaulty s cert lines
@@ -66,52 +71,88 @@ module _ (once : SpellsOnce) (both : NeverBoth) (checks : ChecksAreOne) (text : 
       not_faulty s all.0 lines comes.0 all.1 comes.1
       (subst (λ (v : View). IsFaulty v cert lines) (once text u s spelled p) fault)
 
+  -- its items are one
+  same_items : (s u : View) (items others : List Item) → Spells text s → AreTrimmable s cert items
+      → AreTrimmable u cert others → items ≡ others
+  same_items s u items others p a b =
+      let all = tells s p in
+      one_reading Head (cursor First all.0 0) items others (a.read all.0 all.1) (b.read all.0 all.1)
+
   -- nor is it too long, where it isn't
   not_long : (lines others : Bytes) (left : Left) → IsTrimmed text cert lines left
       → ¬ IsTooLong text cert others
   not_long lines others left p q =
-      let all = tells p.script p.spelled in
-      let items : p.items ≡ q.items = one_reading Head (cursor First all.0 0) p.items q.items
-      (p.trimmable.read all.0 all.1) (q.trimmable.read all.0 all.1) in
+      let items : p.items ≡ q.items =
+      same_items p.script q.script p.items q.items p.spelled p.trimmable q.trimmable in
       let same = ap (λ (xs : List Item). length (new_bytes xs)) items in
       let short = p.short in
       let long = q.long in
       omega (arith, same, short, long)
 
-  one_status : (s t : Status) (lines others : Bytes) (left rest : Left)
-      → TrimPrints text cert s lines left → TrimPrints text cert t others rest → s ≡ t
-  one_status status.Answered status.Answered lines others left rest p q = refl
-  one_status status.Answered status.Certificate lines others left rest p (inl q, k) =
+  both_trimmed : (lines others : Bytes) (left rest : Left) → IsTrimmed text cert lines left
+      → IsTrimmed text cert others rest
+      → Twice status.Answered status.Answered lines others left rest
+  both_trimmed lines others left rest p q =
+      let items : p.items ≡ q.items =
+      same_items p.script q.script p.items q.items p.spelled p.trimmable q.trimmable in (
+        refl,
+        p.printed ∙ ap line_of items ∙ sym q.printed,
+        p.written ∙ ap (λ (xs : List Item). Whole (Some (new_bytes xs))) items ∙ sym q.written,
+      )
+
+  -- where nothing is written, the line is one that `check` has
+  both_kept : (s : Status) (lines others : Bytes) (left rest : Left) → CheckPrints text cert s lines
+      → CheckPrints text cert s others → left ≡ Kept → rest ≡ Kept
+      → Twice s s lines others left rest
+  both_kept s lines others left rest p q k m =
+      let one = answers text cert tells s s lines others p q in (refl, one.1, k ∙ sym m)
+
+  one_answer : (s t : Status) (lines others : Bytes) (left rest : Left)
+      → TrimPrints text cert s lines left → TrimPrints text cert t others rest
+      → Twice s t lines others left rest
+  one_answer status.Answered status.Answered lines others left rest p q =
+      both_trimmed lines others left rest p q
+  one_answer status.Answered status.Certificate lines others left rest p (inl q, k) =
       absurd (no_fault p.script p.items others p.spelled p.trimmable q)
-  one_status status.Answered status.Certificate lines others left rest p (inr q, k) =
+  one_answer status.Answered status.Certificate lines others left rest p (inr q, k) =
       absurd (not_long lines others left p q)
-  one_status status.Answered status.Script lines others left rest p ((f, q, e), k) =
+  one_answer status.Answered status.Script lines others left rest p ((f, q, e), k) =
       absurd (both text p.script f p.spelled q)
-  one_status status.Certificate status.Answered lines others left rest (inl p, k) q =
+  one_answer status.Certificate status.Answered lines others left rest (inl p, k) q =
       absurd (no_fault q.script q.items lines q.spelled q.trimmable p)
-  one_status status.Certificate status.Answered lines others left rest (inr p, k) q =
+  one_answer status.Certificate status.Answered lines others left rest (inr p, k) q =
       absurd (not_long others lines rest q p)
-  one_status status.Certificate status.Certificate lines others left rest p q = refl
-  one_status status.Certificate status.Script lines others left rest (inl (u, p, is), k)
+  one_answer status.Certificate status.Certificate lines others left rest (inl p, k) (inl q, m) =
+      both_kept status.Certificate lines others left rest p q k m
+  one_answer status.Certificate status.Certificate lines others left rest (inl p, k) (inr q, m) =
+      absurd (no_fault q.script q.items lines q.spelled q.trimmable p)
+  one_answer status.Certificate status.Certificate lines others left rest (inr p, k) (inl q, m) =
+      absurd (no_fault p.script p.items others p.spelled p.trimmable q)
+  one_answer status.Certificate status.Certificate lines others left rest (inr p, k) (inr q, m) =
+      (refl, p.printed ∙ sym q.printed, k ∙ sym m)
+  one_answer status.Certificate status.Script lines others left rest (inl (u, p, is), k)
       ((f, q, e), m) =
       absurd (both text u f p q)
-  one_status status.Certificate status.Script lines others left rest (inr p, k) ((f, q, e), m) =
+  one_answer status.Certificate status.Script lines others left rest (inr p, k) ((f, q, e), m) =
       absurd (both text p.script f p.spelled q)
-  one_status status.Script status.Answered lines others left rest ((f, p, e), k) q =
+  one_answer status.Script status.Answered lines others left rest ((f, p, e), k) q =
       absurd (both text q.script f q.spelled p)
-  one_status status.Script status.Certificate lines others left rest ((f, p, e), k)
+  one_answer status.Script status.Certificate lines others left rest ((f, p, e), k)
       (inl (u, q, is), m) =
       absurd (both text u f q p)
-  one_status status.Script status.Certificate lines others left rest ((f, p, e), k) (inr q, m) =
+  one_answer status.Script status.Certificate lines others left rest ((f, p, e), k) (inr q, m) =
       absurd (both text q.script f q.spelled p)
-  one_status status.Script status.Script lines others left rest p q = refl
-  one_status status.Answered _ lines others left rest p q = absurd q
-  one_status status.Certificate _ lines others left rest p q = absurd q
-  one_status status.Script _ lines others left rest p q = absurd q
-  one_status _ t lines others left rest p q = absurd p
+  one_answer status.Script status.Script lines others left rest (p, k) (q, m) =
+      both_kept status.Script lines others left rest p q k m
+  one_answer status.Answered _ lines others left rest p q = absurd q
+  one_answer status.Certificate _ lines others left rest p q = absurd q
+  one_answer status.Script _ lines others left rest p q = absurd q
+  one_answer _ t lines others left rest p q = absurd p
 
-pub answers_are_one : SpellsOnce → NeverBoth → ChecksAreOne → TrimAnswersAreOne
-answers_are_one once both checks text cert tells = one_status once both checks text cert tells
+pub answers_are_one : SpellsOnce → NeverBoth → ChecksAreOne → CheckAnswersAreOne
+    → TrimAnswersAreOne
+answers_are_one once both checks answers text cert tells =
+    one_answer once both checks answers text cert tells
 
 -- ---- a certificate that is accepted
 where_told : (all : Bytes) (P : Bytes → Type 0) → P all → WhereTold (Some all) P

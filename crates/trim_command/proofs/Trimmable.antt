@@ -20,7 +20,7 @@ use Rattle.cert_trim.specs.cert_checker.Keeping.{lines_of}
 use Rattle.check_command.specs.script_checker.Subjects.{IsSubjectOf}
 use Rattle.check_command.specs.script_checker.Checking.{AreAcceptedFor, AreAcceptedItemsFor, AreLedFor, ChecksFor, ShowsFor}
 use Rattle.cert_trim.specs.Law.{AcceptsTrimmed, AllLeftAreUsed, AreLedBySome}
-use Rattle.cert_rewriting.specs.Spelled.{certificate_of}
+use Rattle.cert_trim.specs.cert_bytes.Spelling.{certificate_of}
 use Rattle.command_runs.specs.Runs.{Bytes, Told}
 use Rattle.trim_command.specs.Trimmed.{AreTrimmable}
 

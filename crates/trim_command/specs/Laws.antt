@@ -10,11 +10,11 @@ use Rattle.check_command.specs.Checked.{IsAcceptable}
 use Rattle.check_command.specs.Laws.{IsCertTold}
 use Rattle.trim_command.specs.Trimmed.{IsTrimmed, TrimPrints, new_bytes, line_of}
 
--- A text and a told certificate have one status at most.
+-- A text and a told certificate have one status, one text of lines and one new file at most.
 abbrev pub TrimAnswersAreOne : Type 0
 TrimAnswersAreOne = (text : Bytes) (cert : Option Bytes) → IsCertTold text cert
     → (s t : Status) (lines others : Bytes) (left rest : Left) → TrimPrints text cert s lines left
-    → TrimPrints text cert t others rest → s ≡ t
+    → TrimPrints text cert t others rest → (s ≡ t) × (lines ≡ others) × (left ≡ rest)
 
 -- Told bytes that are accepted for a script are trimmed, where what is written isn't too long.
 abbrev pub AcceptableAreTrimmed : Type 0

@@ -16,7 +16,7 @@ use Rattle.check_command.specs.script_checker.Subjects.{IsSubjectOf}
 use Rattle.check_command.specs.script_checker.Checking.{ComesFor, AreAcceptedFor}
 use Rattle.cert_trim.specs.Trimmed.{step_count}
 use Rattle.cert_trim.specs.Used.{AreAllUsed, trimmed}
-use Rattle.cert_rewriting.specs.Spelled.{certificate_of}
+use Rattle.cert_trim.specs.cert_bytes.Spelling.{certificate_of}
 use Rattle.check_command.specs.report.Certificates.{new_too_long_line}
 use Rattle.command_runs.specs.Runs.{Bytes}
 use Rattle.command_runs.specs.Fates.{Left, WhereTold}

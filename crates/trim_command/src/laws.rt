@@ -2,17 +2,19 @@
 ghost use Rattle.trim_command.specs.Laws.{AcceptableAreTrimmed, TrimAnswersAreOne};
 
 use cert_trim::{bytes_are_accepted, certificates_are_spelled_once, trimmed_are_accepted};
-use check_command::{checks_are_one, script_or_refusal};
+use check_command::{check_answers_are_one, checks_are_one, script_or_refusal};
 
-/// Nothing is done. The clauses tell a caller that a text and a certificate have one status, where
-/// the certificate's bytes are told or the text is no script; and that told bytes which are
-/// accepted for a script are trimmed, where what is written of them isn't too long.
+/// Nothing is done. The clauses tell a caller that a text and a certificate have one status, one
+/// text of lines and one new file, where the certificate's bytes are told or the text is no script;
+/// and that told bytes which are accepted for a script are trimmed, where what is written of them
+/// isn't too long.
 pub fn trim_answers_are_one()
     ensures one { TrimAnswersAreOne }
     ensures comes { AcceptableAreTrimmed }
 {
     script_or_refusal();
     checks_are_one();
+    check_answers_are_one();
     bytes_are_accepted();
     trimmed_are_accepted();
     certificates_are_spelled_once();

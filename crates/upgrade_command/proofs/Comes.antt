@@ -12,7 +12,9 @@ use Rattle.whole_texts.specs.Pieces.{HoldsAll as HoldsWhole, HoldsFront as Holds
 use Rattle.cert_upgrade.specs.Answers.{ComesOf, ComesOfAny, MayBecome, IsTooLong}
 use Rattle.cert_upgrade.specs.Files.{Holds, HoldsFront}
 use Rattle.cert_upgrade.specs.Items.{AreItemsOf, ItemsAreOne}
-use Rattle.cert_upgrade.specs.Spelled.{most, certificate_of, seen_in}
+use Rattle.cert_upgrade.specs.Spelled.{most}
+use Rattle.cert_bytes.specs.Spelling.{certificate_of}
+use Rattle.cert_bytes.specs.Styles.{seen_in}
 use Rattle.cert_upgrade.specs.declared.stop.UpgradeStop.{UpgradeStop}
 use Rattle.cert_upgrade.specs.declared.stop.UpgradeStop.TheVariants as stop
 use Rattle.command_line.specs.Upgrade.{AskedUpgrade}

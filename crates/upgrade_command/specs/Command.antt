@@ -5,7 +5,8 @@ use Rattle.cert_bytes.specs.declared.item.Item.{Item}
 use Rattle.cert_bytes.specs.Certificates.{AreCertificate}
 use Rattle.cert_bytes.specs.ReadOut.{HasFault}
 use Rattle.cert_upgrade.specs.Answers.{MayBecome, IsTooLong}
-use Rattle.cert_upgrade.specs.Spelled.{certificate_of, seen_in}
+use Rattle.cert_bytes.specs.Spelling.{certificate_of}
+use Rattle.cert_bytes.specs.Styles.{seen_in}
 use Rattle.command_line.specs.Upgrade.{AskedUpgrade}
 use Rattle.report.specs.Certificates.{cert_fault_line, new_too_long_line, upgraded_line}
 use Rattle.command_runs.specs.Fates.{Left, Fate, OrUnread, IsRunOf, MayWrite, WhereTold}

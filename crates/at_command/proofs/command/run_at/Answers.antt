@@ -25,7 +25,7 @@ returns-in-Ok-at_answer g c = record {
       let after = seen (f.told there) (o.taken c.print.new.out) (f.read_faults there)
       (f.write_faults there) (o.faults c.print.new.out) in
       let r : Run = run before after c.print.result in
-      put_is c.at_statuses_are_one.ensures a r
+      put_is c.at_answers_are_one.ensures a r
       (λ name. found.told name ∙ c.in-Ok.ensures.told name) read
       (subst (IsText 1048577 (f.told here a.script)) (search rules) c.in-Ok.ensures.text) s lines
       (subst (λ known. AtPrints read known s lines) (c.in-Ok.ensures.told a.point) found.prints)
@@ -46,7 +46,7 @@ returns-in-Ok g c = record {
       let after = seen (f.told there) (o.taken c.print_stop.new.out) (f.read_faults there)
       (f.write_faults there) (o.faults c.print_stop.new.out) in
       let r : Run = run before after c.print_stop.result in
-      pointless_is c.at_statuses_are_one.ensures a r
+      pointless_is c.at_answers_are_one.ensures a r
       (λ name. stopped.told name ∙ c.in-Ok.ensures.told name) c.deref.result.now
       (subst (IsText 1048577 (f.told here a.script)) (search rules) c.in-Ok.ensures.text)
       c.in-Err-at_answer.stop
@@ -70,7 +70,7 @@ returns g c = record {
       (f.write_faults here) (o.faults c.args.out.now) in
       let after = seen (f.told there) (o.taken out) (f.read_faults there) (f.write_faults there)
       (o.faults out) in
-      unread_is c.at_statuses_are_one.ensures (at_of c.args.request)
+      unread_is c.at_answers_are_one.ensures (at_of c.args.request)
       (run before after c.print_stop-in-Err.result) c.in-Err.ensures.told c.in-Err.stop
       (λ e. c.in-Err.ensures.cause (ap Err e)) c.print_stop-in-Err.ensures;
 }

@@ -2,8 +2,8 @@ use Rattle.std.proofs.Common.{◌≡◌, ◌≤◌, ◌+◌, ◌^◌, length, mi
 use Rattle.std.specs.List.{AllByRecursion}
 use Rattle.cert_bytes.specs.declared.style.Style.TheVariants.{Second}
 use Rattle.cert_bytes.specs.Certificates.{HasSpelling}
-use Rattle.cert_bytes.specs.Spelling.{spelled_from}
-use Rattle.cert_rewriting.specs.Spelled.{certificate_of, told_length}
+use Rattle.cert_bytes.specs.Spelling.{spelled_from, certificate_of}
+use Rattle.cert_rewriting.specs.Spelled.{told_length}
 use Rattle.cert_rewriting.proofs.length.spelled_length.Given as goal
 
 abbrev pub invariant-loop-left : goal.invariant-loop-left

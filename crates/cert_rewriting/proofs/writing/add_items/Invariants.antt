@@ -2,8 +2,7 @@ use Rattle.std.proofs.Common.{◌≡◌, ◌≢◌, ◌≤◌, ◌+◌, ℕ, Lis
 use Rattle.std.specs.List.{AllByRecursion}
 use Rattle.cert_bytes.specs.declared.style.Style.TheVariants.{Second}
 use Rattle.cert_bytes.specs.Certificates.{HasSpelling}
-use Rattle.cert_bytes.specs.Spelling.{spelled_from}
-use Rattle.cert_rewriting.specs.Spelled.{certificate_of}
+use Rattle.cert_bytes.specs.Spelling.{spelled_from, certificate_of}
 use Rattle.cert_rewriting.proofs.Written.{IsWriting}
 use Rattle.cert_rewriting.proofs.writing.add_items.Given as goal
 

@@ -2,7 +2,7 @@ use Rattle.std.specs.Prelude.{[], ◌++◌}
 use Rattle.std.specs.Io.KnownBytes.{Appends}
 use Rattle.std.proofs.Common.{◌∙◌, ap, subst, refl}
 use Rattle.cert_trim.specs.cert_bytes.declared.item.Item.TheVariants as item
-use Rattle.cert_writer.specs.Bytes.{spelling_of}
+use Rattle.cert_trim.specs.cert_bytes.Spelling.{spelling_of}
 use Rattle.cert_writer.specs.Files.{on_err}
 use Rattle.whole_texts.specs.Pieces.{AppendsFront}
 use Rattle.cert_writer.proofs.Turn.{appends_none}

@@ -3,7 +3,7 @@ use Rattle.std.proofs.Common.{◌∙◌, ap, arith}
 use Rattle.std.proofs.lemmas.Grind.{common_steps}
 use Rattle.cert_trim.specs.cert_bytes.declared.item.Item.TheVariants as item
 use Rattle.cert_trim.specs.cert_bytes.Styles.{none_seen}
-use Rattle.cert_writer.specs.Bytes.{spelling_of}
+use Rattle.cert_trim.specs.cert_bytes.Spelling.{spelling_of}
 use Rattle.cert_writer.proofs.Spelled.{spelled_head}
 use Rattle.cert_writer.proofs.head.spell_head.Goals as goal
 

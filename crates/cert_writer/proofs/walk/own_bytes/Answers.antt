@@ -6,8 +6,9 @@ use Rattle.cert_trim.specs.Used.{CiteEarlier}
 use Rattle.cert_writer.specs.Boxes.{written_of}
 use Rattle.cert_writer.specs.Walks.{IsLast, MayEnd}
 use Rattle.cert_writer.specs.Courses.{course, AreOwnBytes}
-use Rattle.cert_writer.specs.Bytes.{seen_behind, spelled_behind}
-use Rattle.cert_writer.specs.Standing.{own_items}
+use Rattle.cert_trim.specs.cert_bytes.Styles.{seen_behind}
+use Rattle.cert_trim.specs.cert_bytes.Spelling.{spelled_behind}
+use Rattle.cert_trim.specs.Behind.{section_of}
 use Rattle.cert_writer.proofs.Own.{has_room, has_sections}
 use Rattle.cert_writer.proofs.Done.{may_end, own_done, own_cites, own_spelled, own_few, own_length}
 use Rattle.cert_writer.proofs.walk.own_bytes.Goals as goal
@@ -82,7 +83,7 @@ spell_box-requires-clause-steps c =
     let steps = subst (λ o. AreItsSteps c.args.uni.now o c.args.parent c.args.seen.steps (log_of
     c.args.seen.steps c.in_ok-steps.field-0)) c.piece.ensures c.in_ok-steps.ensures.steps in
     let e : length c.as_slice.result.now ≡ length (written_of c.in_ok-last.pieces c.args.seen.steps
-    (own_items c.in_ok-steps.field-0.steps.items c.in_ok-last.last)) =
+    (section_of c.in_ok-steps.field-0.steps.items c.in_ok-last.last)) =
     ap length (c.as_slice.ensures.value ∙ c.in_ok-items.ensures
     ∙ ap (written_of c.in_ok-last.pieces c.args.seen.steps) c.in_ok-own.ensures) in
     let l = own_few c.args.plan.now c.walk_goes_on.ensures c.args.uni.now c.args.rounds s.0 s.1 s.2
@@ -103,7 +104,7 @@ spell_box-requires-clause-sections c =
     let steps = subst (λ o. AreItsSteps c.args.uni.now o c.args.parent c.args.seen.steps (log_of
     c.args.seen.steps c.in_ok-steps.field-0)) c.piece.ensures c.in_ok-steps.ensures.steps in
     let e : length c.as_slice.result.now ≡ length (written_of c.in_ok-last.pieces c.args.seen.steps
-    (own_items c.in_ok-steps.field-0.steps.items c.in_ok-last.last)) =
+    (section_of c.in_ok-steps.field-0.steps.items c.in_ok-last.last)) =
     ap length (c.as_slice.ensures.value ∙ c.in_ok-items.ensures
     ∙ ap (written_of c.in_ok-last.pieces c.args.seen.steps) c.in_ok-own.ensures) in
     let l = own_few c.args.plan.now c.walk_goes_on.ensures c.args.uni.now c.args.rounds s.0 s.1 s.2
@@ -126,7 +127,7 @@ returns-clause-own c = λ t lines states p is before.
     c.in_ok-last.pieces) c.cut.ensures.is c.in_ok-last.ensures in
     let e = c.as_slice.ensures.value ∙ c.in_ok-items.ensures
     ∙ ap (written_of c.in_ok-last.pieces c.args.seen.steps) c.in_ok-own.ensures in
-    let own = own_items c.in_ok-steps.field-0.steps.items c.in_ok-last.last in
+    let own = section_of c.in_ok-steps.field-0.steps.items c.in_ok-last.last in
     let bytes = c.in_ok-bytes.ensures.spelled ∙ ap (spelled_behind c.args.seen) e
     ∙ ap (λ q. spelled_behind q (written_of c.in_ok-last.pieces c.args.seen.steps own)) (sym
     before.seen_is) in

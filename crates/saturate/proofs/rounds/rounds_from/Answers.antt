@@ -65,4 +65,4 @@ rounds_in-requires-clause-quiet g c =
     omega (arith, c.deref_mut.ensures.len, ap length c.deref_mut.ensures.value) in
     subst (λ l. IsQuiet u l (fact_at c.args.start))
     (sym (written_back c.mark_from.new.due old.items old.len long len))
-    (c.requires.quiet (rw c.if-start.false refl) c.mark_from.new.due c.mark_from.ensures)
+    (c.requires.quiet (rw c.if-start.false refl) c.mark_from.new.due c.mark_from.ensures.marked)

@@ -4,7 +4,7 @@ use Rattle.trim_command.proofs.laws.trim_answers_are_one.Goals as goal
 pub returns-clause-one : goal.returns-clause-one
 returns-clause-one c =
     answers_are_one c.script_or_refusal.ensures.once c.script_or_refusal.ensures.never_both
-    c.checks_are_one.ensures
+    c.checks_are_one.ensures c.check_answers_are_one.ensures
 
 pub returns-clause-comes : goal.returns-clause-comes
 returns-clause-comes c =
