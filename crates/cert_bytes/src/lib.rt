@@ -10,6 +10,7 @@ mod claims;
 mod cut_points;
 mod fault;
 mod field;
+mod fitting;
 mod front;
 mod item;
 mod kept;
@@ -27,6 +28,7 @@ mod writing;
 
 pub use cut_points::CutPoints;
 pub use fault::{CertFault, CertKind, Stop};
+pub use fitting::item_fits;
 pub use item::{Item, StepRow};
 pub use laws::{certificates_are_spelled_once, spellings_are_short, spellings_read_back};
 pub use order::Due;

@@ -1,13 +1,11 @@
 -- What checking a certificate answers that keeps its items.
 use Rattle.std.specs.Prelude.{◌≡◌, ◌≤◌, ◌<◌, ℕ, true, List, Option, Some, None, Result, Ok, Err}
 use Rattle.cert_bytes.specs.declared.item.Item.{Item}
-use Rattle.cert_bytes.specs.Certificates.{SpellsCertificate}
 use Rattle.cert_bytes.specs.Readers.{Progress}
 use Rattle.cert_checker.specs.declared.fault.CheckStop.{CheckStop}
 use Rattle.cert_checker.specs.declared.lines.Lines.{Lines}
 use Rattle.cert_checker.specs.declared.subject.Subject.{Subject}
-use Rattle.cert_checker.specs.Contexts.{Context, first}
-use Rattle.cert_checker.specs.Accepted.{LeadsTo, Accepts}
+use Rattle.cert_checker.specs.Accepted.{Accepts}
 use Rattle.cert_checker.specs.Standing.{Standing}
 use Rattle.cert_bytes.specs.declared.item.Item.TheVariants.{End}
 use Rattle.cert_bytes.specs.Due.{due_behind, is_due}
@@ -35,11 +33,6 @@ abbrev pub lines_of : Result Accepted CheckStop → Result Lines CheckStop
 lines_of (Ok a) = Ok a.lines
 lines_of (Err e) = Err e
 
--- Nothing is wrong with any of the items, and their leaves show these lines.
-abbrev pub AreLed : Subject → Accepted → Type 0
-AreLed s a = (end : Context) × LeadsTo s (first s) a.items.items end × (end.lines ≡ a.lines.rows)
-
--- The bytes spell the items, which are accepted with these lines.
-abbrev pub AreAcceptedItems : Subject → List ℕ → Accepted → Type 0
-AreAcceptedItems s bytes a = SpellsCertificate bytes a.items.items
-    × Accepts s a.items.items a.lines.rows
+-- The items are a certificate that is accepted with these lines.
+abbrev pub AreAcceptedItems : Subject → Accepted → Type 0
+AreAcceptedItems s a = Accepts s a.items.items a.lines.rows

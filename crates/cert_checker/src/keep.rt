@@ -2,7 +2,7 @@
 ghost use Rattle.std.specs.Prelude.{◌≡◌, ◌≤◌, ◌<◌, ◌^◌, ℕ, List, Some, None, length, IfOk, IsErrOf};
 ghost use Rattle.std.specs.List.{AllByRecursion};
 ghost use Rattle.fx_edge.specs.Outside.{Rose};
-ghost use Rattle.cert_bytes.specs.Certificates.{HasSpelling};
+ghost use Rattle.cert_bytes.specs.Certificates.{HasSpelling, Fits, SpellsCertificate};
 ghost use Rattle.cert_bytes.specs.Pieces.{AgreesTold, cursor_of};
 ghost use Rattle.cert_bytes.specs.declared.order.Due.TheVariants.{Head};
 ghost use Rattle.cert_bytes.specs.ReadOut.{AreBytes, AreRead};
@@ -10,14 +10,14 @@ ghost use Rattle.cert_checker.specs.declared.fault.CheckStop.TheVariants as Chec
 ghost use Rattle.cert_checker.specs.Standing.{HasRoom};
 ghost use Rattle.cert_checker.specs.Outcomes.{Outcome, ComesOf};
 ghost use Rattle.cert_checker.specs.Checking.{IsFresh, Checks, IsAnswer, Turns};
-ghost use Rattle.cert_checker.specs.Keeping.{TookItem, lines_of, AreLed, AreAcceptedItems};
+ghost use Rattle.cert_checker.specs.Keeping.{TookItem, lines_of, AreAcceptedItems};
 
 use crate::chain::Chain;
 use crate::fault::CheckStop;
-use crate::laws::{each_case_has_its_root, items_are_judged_once};
+use crate::laws::each_case_has_its_root;
 use crate::lines::Lines;
 use crate::subject::Subject;
-use cert_bytes::{Item, Reader, certificates_are_spelled_once};
+use cert_bytes::{Item, Reader, certificates_are_spelled_once, item_fits};
 use fx_edge::Folder;
 use std::alloc::Global;
 
@@ -43,6 +43,7 @@ fn next_item<F: Folder>(
     ensures took { IfOk result (TookItem
         (F.told folder.old reader.old.ahead.name) chain.old chain.new reader.old reader.new) }
     ensures spelled { IfOk result HasSpelling }
+    ensures fits { IfOk result Fits }
     ensures agrees { AgreesTold (F.told folder.new reader.new.ahead.name) reader.new.ahead }
     ensures name { reader.new.ahead.name ≡ reader.old.ahead.name }
     ensures within { reader.new.ahead.at ≤ 2 ^ 44 }
@@ -53,6 +54,7 @@ fn next_item<F: Folder>(
         → Rose (F.read_faults folder.old) (F.read_faults folder.new) }
 {
     let item = reader.next(folder)?;
+    item_fits(&item);
     chain.take(&item)?;
     Ok(item)
 }
@@ -72,8 +74,7 @@ fn keep_items<F: Folder>(
         → Checks subject (cursor_of all reader.old.ahead) (lines_of result) }
     ensures read { (all : List ℕ) → F.told folder.old reader.old.ahead.name ≡ Some all
         → IfOk result (λ a. AreRead Head (cursor_of all reader.old.ahead) a.items.items) }
-    ensures led { IfOk result (AreLed subject) }
-    ensures spelled { IfOk result (λ a. AllByRecursion HasSpelling a.items.items) }
+    ensures accepts { IfOk result (AreAcceptedItems subject) }
     ensures agrees { AgreesTold (F.told folder.new reader.new.ahead.name) reader.new.ahead }
     ensures name { reader.new.ahead.name ≡ reader.old.ahead.name }
     ensures told { (other : List ℕ) → F.told folder.new other ≡ F.told folder.old other }
@@ -82,6 +83,7 @@ fn keep_items<F: Folder>(
     ensures cause { IsErrOf result CheckStop.Failed
         → Rose (F.read_faults folder.old) (F.read_faults folder.new) }
 {
+    each_case_has_its_root();
     let mut chain = Chain::new(alloc, subject)?;
     let mut items = Vec::new(alloc);
     while !chain.is_ended() {
@@ -115,13 +117,13 @@ pub fn accepted_items<F: Folder>(
     ensures exact { (all : List ℕ)
         → F.told folder.old reader.old.ahead.name ≡ Some all → (o : Outcome)
         → ComesOf subject (cursor_of all reader.old.ahead) o → IsAnswer o (lines_of result) }
-    // The items are read from the bytes to their end, and are what the bytes spell and accepted.
+    // The items are read from the bytes to their end, and are what the bytes spell.
     ensures read { (all : List ℕ) → F.told folder.old reader.old.ahead.name ≡ Some all
         → IfOk result (λ a. AreRead Head (cursor_of all reader.old.ahead) a.items.items) }
-    ensures accepts { (all : List ℕ) → F.told folder.old reader.old.ahead.name ≡ Some all
-        → AreBytes all → IfOk result (AreAcceptedItems subject all) }
-    // Whatever the bytes are, nothing is wrong with the items, and each has a spelling.
-    ensures led { IfOk result (AreLed subject) }
+    ensures spells { (all : List ℕ) → F.told folder.old reader.old.ahead.name ≡ Some all
+        → AreBytes all → IfOk result (λ a. SpellsCertificate all a.items.items) }
+    // Whatever the bytes are, the items are a certificate that is accepted with these lines.
+    ensures accepts { IfOk result (AreAcceptedItems subject) }
     ensures spelled { IfOk result (λ a. AllByRecursion HasSpelling a.items.items) }
     ensures agrees { AgreesTold (F.told folder.new reader.new.ahead.name) reader.new.ahead }
     ensures name { reader.new.ahead.name ≡ reader.old.ahead.name }
@@ -132,7 +134,5 @@ pub fn accepted_items<F: Folder>(
         → Rose (F.read_faults folder.old) (F.read_faults folder.new) }
 {
     certificates_are_spelled_once();
-    items_are_judged_once();
-    each_case_has_its_root();
     keep_items(alloc, subject, reader, folder)
 }

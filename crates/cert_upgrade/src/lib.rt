@@ -2,7 +2,6 @@
 #![tactic(auto)]
 
 mod file;
-mod fitting;
 mod laws;
 mod respell;
 mod rewriting;

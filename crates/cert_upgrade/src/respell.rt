@@ -15,8 +15,7 @@ ghost use Rattle.cert_upgrade.specs.Items.{AreItemsFor, Respells};
 ghost use Rattle.cert_upgrade.specs.Spelled.{told_length};
 ghost use Rattle.cert_bytes.specs.Spelling.{certificate_of};
 
-use crate::fitting::item_fits;
-use cert_bytes::{Item, Reader, Seen, Stop, certificates_are_spelled_once, write_item2};
+use cert_bytes::{Item, Reader, Seen, Stop, certificates_are_spelled_once, item_fits, write_item2};
 use fx_edge::Folder;
 use std::alloc::Global;
 

@@ -1,5 +1,5 @@
 // What is found of a script.
-ghost use Rattle.std.specs.Prelude.{◌≡◌, ◌<◌, ◌≤◌, [], List, Some, IfOk, length, slice_get};
+ghost use Rattle.std.specs.Prelude.{◌≡◌, ◌<◌, [], List, Some, IfOk, length, slice_get};
 ghost use Rattle.report.specs.script_claims.declared.claim.Claim.{Claim};
 ghost use Rattle.report.specs.script_grammar.Cases.{cases_of};
 ghost use Rattle.settler.specs.universe.Universes.{IsUniverse, IsTooLarge};

@@ -21,7 +21,7 @@ use Rattle.cert_checker.specs.Accepted.{Accepts}
 use Rattle.cert_checker.specs.Contexts.{Context}
 use Rattle.cert_checker.specs.Outcomes.{Outcome, accepted, unread, refused, ComesOf}
 use Rattle.cert_checker.specs.Checking.{ShowsLines, AreAccepted}
-use Rattle.cert_checker.specs.Keeping.{AreAcceptedItems, AreLed}
+use Rattle.cert_checker.specs.Keeping.{AreAcceptedItems}
 use Rattle.script_checker.specs.Subjects.{IsSubjectOf}
 
 -- What comes of the bytes at the cursor for the script.
@@ -54,13 +54,9 @@ pub record AreAcceptedFor (s : View) (bytes : List ℕ) (lines : List Line) : Ty
   pub is : IsSubjectOf s subject
   pub accepted : AreAccepted subject bytes lines
 
--- The bytes spell the items, which are accepted for the script with these lines.
-abbrev pub AreAcceptedItemsFor : View → List ℕ → Accepted → Type 0
-AreAcceptedItemsFor s bytes a = (t : Subject) × IsSubjectOf s t × AreAcceptedItems t bytes a
-
--- Nothing is wrong with any of the items for the script, and their leaves show these lines.
-abbrev pub AreLedFor : View → Accepted → Type 0
-AreLedFor s a = (t : Subject) × IsSubjectOf s t × AreLed t a
+-- The items are a certificate that is accepted for the script with these lines.
+abbrev pub AreAcceptedItemsFor : View → Accepted → Type 0
+AreAcceptedItemsFor s a = (t : Subject) × IsSubjectOf s t × AreAcceptedItems t a
 
 -- Each goal has a line in its place, which holds of the assignment; and the goal is true, with
 -- bounds exactly as they are written.

@@ -2,14 +2,14 @@
 ghost use Rattle.std.specs.Prelude.{◌≡◌, ◌≤◌, ℕ, List, Some, IfOk, IsErrOf};
 ghost use Rattle.std.specs.List.{AllByRecursion};
 ghost use Rattle.fx_edge.specs.Outside.{Rose};
-ghost use Rattle.cert_checker.specs.cert_bytes.Certificates.{HasSpelling};
+ghost use Rattle.cert_checker.specs.cert_bytes.Certificates.{HasSpelling, SpellsCertificate};
 ghost use Rattle.cert_checker.specs.cert_bytes.Pieces.{AgreesTold, cursor_of};
 ghost use Rattle.cert_checker.specs.cert_bytes.ReadOut.{AreBytes, AreRead};
 ghost use Rattle.cert_checker.specs.cert_bytes.declared.order.Due.TheVariants.{Head};
 ghost use Rattle.cert_checker.specs.declared.fault.CheckStop.TheVariants as CheckStop;
 ghost use Rattle.cert_checker.specs.Checking.{IsFresh};
 ghost use Rattle.cert_checker.specs.Keeping.{lines_of};
-ghost use Rattle.script_checker.specs.Checking.{AreAcceptedItemsFor, AreLedFor, ChecksFor};
+ghost use Rattle.script_checker.specs.Checking.{AreAcceptedItemsFor, ChecksFor};
 
 use crate::subject::subject_of;
 use cert_checker::{Accepted, CheckStop, Reader, accepted_items};
@@ -30,13 +30,13 @@ pub fn script_items<F: Folder>(
     // What is answered comes of the bytes, where the folder tells them.
     ensures checks { (all : List ℕ) → F.told folder.old reader.old.ahead.name ≡ Some all
         → ChecksFor script.now (cursor_of all reader.old.ahead) (lines_of result) }
-    // The items are read from the bytes to their end, and are what the bytes spell and accepted.
+    // The items are read from the bytes to their end, and are what the bytes spell.
     ensures read { (all : List ℕ) → F.told folder.old reader.old.ahead.name ≡ Some all
         → IfOk result (λ a. AreRead Head (cursor_of all reader.old.ahead) a.items.items) }
-    ensures accepts { (all : List ℕ) → F.told folder.old reader.old.ahead.name ≡ Some all
-        → AreBytes all → IfOk result (AreAcceptedItemsFor script.now all) }
-    // Whatever the bytes are, nothing is wrong with the items, and each has a spelling.
-    ensures led { IfOk result (AreLedFor script.now) }
+    ensures spells { (all : List ℕ) → F.told folder.old reader.old.ahead.name ≡ Some all
+        → AreBytes all → IfOk result (λ a. SpellsCertificate all a.items.items) }
+    // Whatever the bytes are, the items are a certificate that is accepted with these lines.
+    ensures accepts { IfOk result (AreAcceptedItemsFor script.now) }
     ensures spelled { IfOk result (λ a. AllByRecursion HasSpelling a.items.items) }
     ensures agrees { AgreesTold (F.told folder.new reader.new.ahead.name) reader.new.ahead }
     ensures name { reader.new.ahead.name ≡ reader.old.ahead.name }

@@ -167,7 +167,7 @@ module _ (spelled_once : SpelledOnce) (come : SpelledAreAccepted) (read : Spelle
       let there = come t all items shown short spelled accepts in
       record {
         shown = shown;
-        led = (t, is, accepts.end, accepts.leads, accepts.shown);
+        whole = (t, is, accepts, law t items shown accepts);
         comes = where_told all (λ b. (end : Context)
             × ComesFor s (cursor First b 0) (accepted end) × (shown ≡ end.lines))
             (there.0, (t, is, there.1), sym there.2);
@@ -182,8 +182,7 @@ module _ (spelled_once : SpelledOnce) (come : SpelledAreAccepted) (read : Spelle
                 accepted = record { items = items; spelled = spelled; accepts = accepts };
               },
             ));
-        kept = λ b e bytes.
-            accepted_new s t _ shown is (law t items shown accepts);
+        kept = accepted_new s t _ shown is (law t items shown accepts);
         used = used t items accepts.end accepts.leads;
       }
 

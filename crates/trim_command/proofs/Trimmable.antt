@@ -6,6 +6,7 @@ use Rattle.check_command.specs.script_grammar.Spells.{View}
 use Rattle.cert_trim.specs.cert_bytes.declared.item.Item.{Item}
 use Rattle.cert_trim.specs.cert_bytes.declared.order.Due.TheVariants.{Head}
 use Rattle.cert_trim.specs.cert_bytes.declared.style.Style.TheVariants.{First, Second}
+use Rattle.cert_trim.specs.cert_bytes.Certificates.{SpellsCertificate}
 use Rattle.cert_trim.specs.cert_bytes.Pieces.{cursor_of}
 use Rattle.cert_trim.specs.cert_bytes.ReadOut.{AreBytes, AreRead}
 use Rattle.cert_trim.specs.cert_bytes.Readers.{Progress}
@@ -18,7 +19,7 @@ use Rattle.cert_trim.specs.cert_checker.Accepted.{Accepts}
 use Rattle.cert_trim.specs.cert_checker.Checking.{IsFresh}
 use Rattle.cert_trim.specs.cert_checker.Keeping.{lines_of}
 use Rattle.check_command.specs.script_checker.Subjects.{IsSubjectOf}
-use Rattle.check_command.specs.script_checker.Checking.{AreAcceptedFor, AreAcceptedItemsFor, AreLedFor, ChecksFor, ShowsFor}
+use Rattle.check_command.specs.script_checker.Checking.{AreAcceptedFor, AreAcceptedItemsFor, ChecksFor, ShowsFor}
 use Rattle.cert_trim.specs.Law.{AcceptsTrimmed, AllLeftAreUsed, AreLedBySome}
 use Rattle.cert_trim.specs.cert_bytes.Spelling.{certificate_of}
 use Rattle.command_runs.specs.Runs.{Bytes, Told}
@@ -70,46 +71,46 @@ module _ (law : AcceptsTrimmed) (used : AllLeftAreUsed) (s : View) (cert : Optio
     (checks : (all : Bytes) → cert ≡ Some all → ChecksFor s (cursor First all 0) (lines_of result))
     (reads : (all : Bytes) → cert ≡ Some all
     → IfOk result (λ a. AreRead Head (cursor First all 0) a.items.items))
-    (accepts : (all : Bytes) → cert ≡ Some all → AreBytes all
-    → IfOk result (AreAcceptedItemsFor s all))
-    (led : IfOk result (AreLedFor s)) where
+    (spells : (all : Bytes) → cert ≡ Some all → AreBytes all
+    → IfOk result (λ a. SpellsCertificate all a.items.items))
+    (accepts : IfOk result (AreAcceptedItemsFor s)) where
   trimmable_ok : (a : Accepted)
       → ((all : Bytes) → cert ≡ Some all → ShowsFor s (cursor First all 0) a.lines)
       → ((all : Bytes) → cert ≡ Some all → AreRead Head (cursor First all 0) a.items.items)
-      → ((all : Bytes) → cert ≡ Some all → AreBytes all → AreAcceptedItemsFor s all a)
-      → AreLedFor s a → AreTrimmable s cert a.items.items
-  trimmable_ok a shows are_read are_accepted (t, is, (end, leads, same)) = record {
+      → ((all : Bytes) → cert ≡ Some all → AreBytes all → SpellsCertificate all a.items.items)
+      → AreAcceptedItemsFor s a → AreTrimmable s cert a.items.items
+  trimmable_ok a shows are_read are_spelled (t, is, whole) = record {
     shown = a.lines.rows;
-    led = (t, is, end, leads, same);
+    whole = (t, is, whole, law t a.items.items a.lines.rows whole);
     comes = λ all e. let h = shows all e in
         (h.shows.end, (h.subject, h.is, h.shows.comes), h.shows.rows);
     read = are_read;
-    spelled = λ all e b. let h = are_accepted all e b in (
-      h.2.0,
+    spelled = λ all e b. let h = are_spelled all e b in (
+      h,
       record {
-        subject = h.0;
-        is = h.1;
-        accepted = record { items = a.items.items; spelled = h.2.0; accepts = h.2.1 };
+        subject = t;
+        is = is;
+        accepted = record { items = a.items.items; spelled = h; accepts = whole };
       },
     );
-    kept = λ all e b. let h = are_accepted all e b in
-        accepted_new s h.0 _ a.lines.rows h.1 (law h.0 a.items.items a.lines.rows h.2.1);
-    used = used t a.items.items end leads;
+    kept = accepted_new s t _ a.lines.rows is (law t a.items.items a.lines.rows whole);
+    used = used t a.items.items whole.end whole.leads;
   }
 
   pub trimmable : IfOk result (λ a. AreTrimmable s cert a.items.items)
-  trimmable = by result checks reads accepts led where
+  trimmable = by result checks reads spells accepts where
     by : (r : Result Accepted CheckStop)
         → ((all : Bytes) → cert ≡ Some all → ChecksFor s (cursor First all 0) (lines_of r))
         → ((all : Bytes) → cert ≡ Some all
         → IfOk r (λ a. AreRead Head (cursor First all 0) a.items.items))
-        → ((all : Bytes) → cert ≡ Some all → AreBytes all → IfOk r (AreAcceptedItemsFor s all))
-        → IfOk r (AreLedFor s) → IfOk r (λ a. AreTrimmable s cert a.items.items)
+        → ((all : Bytes) → cert ≡ Some all → AreBytes all
+        → IfOk r (λ a. SpellsCertificate all a.items.items))
+        → IfOk r (AreAcceptedItemsFor s) → IfOk r (λ a. AreTrimmable s cert a.items.items)
     by (Ok a) c d e f = trimmable_ok a c d e f
     by (Err x) c d e f = tt
 
 -- nothing is wrong with them
-pub led_by_some : (s : View) (r : Result Accepted CheckStop) → IfOk r (AreLedFor s)
+pub led_by_some : (s : View) (r : Result Accepted CheckStop) → IfOk r (AreAcceptedItemsFor s)
     → IfOk r (λ a. AreLedBySome a.items.items)
-led_by_some s (Ok a) (t, is, (end, leads, same)) = (t, end, leads)
+led_by_some s (Ok a) (t, is, whole) = (t, whole.end, whole.leads)
 led_by_some s (Err e) h = tt

@@ -9,8 +9,8 @@ use Rattle.cert_trim.specs.cert_bytes.Certificates.{SpellsCertificate}
 use Rattle.cert_trim.specs.cert_bytes.Reading.{cursor}
 use Rattle.cert_trim.specs.cert_bytes.ReadOut.{AreBytes, AreRead}
 use Rattle.cert_trim.specs.cert_checker.declared.subject.Subject.{Subject}
-use Rattle.cert_trim.specs.cert_checker.Contexts.{Context, first}
-use Rattle.cert_trim.specs.cert_checker.Accepted.{LeadsTo}
+use Rattle.cert_trim.specs.cert_checker.Contexts.{Context}
+use Rattle.cert_trim.specs.cert_checker.Accepted.{Accepts}
 use Rattle.cert_trim.specs.cert_checker.Outcomes.{accepted}
 use Rattle.check_command.specs.script_checker.Subjects.{IsSubjectOf}
 use Rattle.check_command.specs.script_checker.Checking.{ComesFor, AreAcceptedFor}
@@ -35,25 +35,24 @@ new_bytes items = certificate_of (trimmed items)
 abbrev pub line_of : List Item → Bytes
 line_of items = trimmed_line (step_count (trimmed items)) (step_count items)
 
--- Whatever the certificate's bytes are, nothing is wrong with any of the items for the script, and
--- their leaves show these lines. (That they are a whole certificate's is said of told bytes alone.)
--- Where the bytes are told, the items are read from them to their end; they are what the bytes
--- spell, and the new bytes are accepted for the script with the same lines. Each step that is left
--- is used.
+-- Whatever the certificate's bytes are, the items are a whole certificate that is accepted for the
+-- script with these lines. So are they without unused steps, as the new bytes spell them. Each step
+-- that is left is used. Where the bytes are told, the items are read from them to their end, and
+-- are what the bytes spell.
 pub record AreTrimmable (s : View) (cert : Option Bytes) (items : List Item) : Type 0 where
   pub shown : List Line
-  pub led : (t : Subject) × IsSubjectOf s t
-      × (end : Context) × LeadsTo t (first t) items end × (end.lines ≡ shown)
+  pub whole : (t : Subject) × IsSubjectOf s t
+      × Accepts t items shown × Accepts t (trimmed items) shown
   pub comes : WhereTold cert (λ all. (end : Context)
       × ComesFor s (cursor First all 0) (accepted end) × (shown ≡ end.lines))
   pub read : WhereTold cert (λ all. AreRead Head (cursor First all 0) items)
   pub spelled : WhereTold cert (λ all. AreBytes all
       → SpellsCertificate all items × AreAcceptedFor s all shown)
-  pub kept : WhereTold cert (λ all. AreBytes all → AreAcceptedFor s (new_bytes items) shown)
+  pub kept : AreAcceptedFor s (new_bytes items) shown
   pub used : AreAllUsed (trimmed items)
 
--- The text spells a script, and items of the certificate, as above, were written without unused
--- steps, in 2^44 bytes at most.
+-- The text spells a script, and the certificate's items, which are accepted for it, were written
+-- without unused steps, in 2^44 bytes at most.
 pub record IsTrimmed (text : Bytes) (cert : Option Bytes) (lines : Bytes) (left : Left)
     : Type 0 where
   pub script : View

@@ -1,11 +1,11 @@
 use Rattle.std.proofs.Common.{rules, arith, ◌≡◌, ◌∙◌, ◌++◌, [], List, None, sym, ap, subst, true, false, append-nil}
-use Rattle.std.specs.List.{AllByRecursion}
 use Rattle.std.proofs.lemmas.Result.{err_from_is_err_and}
 use Rattle.cert_bytes.specs.declared.item.Item.{Item}
 use Rattle.cert_bytes.specs.declared.order.Due.TheVariants.{Head}
-use Rattle.cert_bytes.specs.Certificates.{HasSpelling}
+use Rattle.cert_bytes.specs.Certificates.{AreCertificate}
 use Rattle.cert_bytes.specs.Pieces.{cursor_of}
 use Rattle.cert_bytes.specs.ReadOut.{AreRead}
+use Rattle.cert_checker.specs.declared.lines.Lines.{Lines}
 use Rattle.cert_checker.specs.declared.subject.Subject.{Subject}
 use Rattle.cert_checker.specs.Contexts.{Context, first}
 use Rattle.cert_checker.specs.Faults.{JudgesItem}
@@ -14,7 +14,7 @@ use Rattle.cert_checker.specs.Standing.{Standing}
 use Rattle.cert_checker.specs.Accepted.{LeadsTo}
 use Rattle.cert_checker.proofs.Turns.{steady_on, reaches_on, stops, shows, rose_so, fewer_turns}
 use Rattle.cert_checker.specs.declared.keep.Accepted.{Accepted}
-use Rattle.cert_checker.proofs.Keeping.{taken, led_more, spelled_more, read_more}
+use Rattle.cert_checker.proofs.Keeping.{taken, led_more, whole_more, all_accepted, read_more}
 use Rattle.cert_checker.proofs.keep.keep_items.Goals as goal
 
 pub loop-chain-smaller : goal.loop-chain-smaller
@@ -48,7 +48,11 @@ loop-chain-preserved g c =
           (t.took.read all (ap (g.F.Folder.told c.loop-chain.folder) i.name ∙ i.told c.args.reader.now.ahead.name ∙ h)) (i.steady.going still) t.took.due rest);
       led = subst (λ (x : Context). LeadsTo s (first s) c.push.new.self.items x) (sym context)
           (subst (λ (xs : List Item). LeadsTo s (first s) xs (after c.loop-chain.chain.context item)) longer (led_more s (first s) c.loop-chain.chain.context c.loop-chain.items.items item i.led judged));
-      spelled = subst (AllByRecursion HasSpelling) longer (spelled_more c.loop-chain.items.items item i.spelled t.spelled);
+      whole = λ later rest.
+          subst (λ (xs : List Item). AreCertificate (xs ++ later)) longer
+          (whole_more c.loop-chain.reader.due c.next_item.new.reader.due
+          c.loop-chain.items.items later item i.whole (i.steady.going still) t.took.order
+          t.took.due (t.spelled, t.fits) rest);
       agrees = t.agrees;
       name = t.name ∙ i.name;
       told = λ other. t.told other ∙ i.told other;
@@ -80,3 +84,11 @@ returns-clause-read g c = λ all h.
     let i = c.loop-chain.invariant in
     let done : c.loop-chain.chain.context.ended ≡ true = search rules in
     subst (AreRead Head (cursor_of all c.args.reader.now.ahead)) (append-nil c.loop-chain.items.items) (i.read all h [] (i.steady.ended done))
+
+pub returns-clause-accepts : goal.returns-clause-accepts
+returns-clause-accepts g c =
+    let i = c.loop-chain.invariant in
+    let done : c.loop-chain.chain.context.ended ≡ true = search rules in
+    all_accepted c.each_case_has_its_root.ensures c.args.subject c.loop-chain.items.items
+    c.loop-chain.reader.due c.loop-chain.chain.context c.into_lines.result.rows i.whole
+    (i.steady.ended done) i.led (ap (λ (x : Lines). x.rows) c.into_lines.ensures)

@@ -1,8 +1,7 @@
 use Rattle.std.proofs.Common.{◌≡◌, ◌≤◌, ◌^◌, ◌++◌, ℕ, List, Some}
-use Rattle.std.specs.List.{AllByRecursion}
 use Rattle.cert_bytes.specs.declared.item.Item.{Item}
 use Rattle.cert_bytes.specs.declared.order.Due.TheVariants.{Head}
-use Rattle.cert_bytes.specs.Certificates.{HasSpelling}
+use Rattle.cert_bytes.specs.Certificates.{AreDue, AreCertificate}
 use Rattle.cert_bytes.specs.Pieces.{AgreesTold, cursor_of}
 use Rattle.cert_bytes.specs.ReadOut.{AreRead}
 use Rattle.cert_checker.specs.Contexts.{first}
@@ -17,7 +16,8 @@ invariant-loop-chain g l = record {
   reaches : (all : List ℕ) → g.F.Folder.told l.fn.folder l.fn.reader.ahead.name ≡ Some all → Reaches l.fn.subject all l.fn.reader l.chain l.reader;
   read : (all : List ℕ) → g.F.Folder.told l.fn.folder l.fn.reader.ahead.name ≡ Some all → (later : List Item) → AreRead l.reader.due (cursor_of all l.reader.ahead) later → AreRead Head (cursor_of all l.fn.reader.ahead) (l.items.items ++ later);
   led : LeadsTo l.fn.subject (first l.fn.subject) l.items.items l.chain.context;
-  spelled : AllByRecursion HasSpelling l.items.items;
+  whole : (later : List Item) → AreDue (Some l.reader.due) later
+      → AreCertificate (l.items.items ++ later);
   agrees : AgreesTold (g.F.Folder.told l.folder l.reader.ahead.name) l.reader.ahead;
   name : l.reader.ahead.name ≡ l.fn.reader.ahead.name;
   told : (other : List ℕ) → g.F.Folder.told l.folder other ≡ g.F.Folder.told l.fn.folder other;

@@ -1,6 +1,6 @@
 use Rattle.cert_checker.specs.cert_bytes.Pieces.{cursor_of}
 use Rattle.cert_checker.specs.Keeping.{lines_of}
-use Rattle.script_checker.proofs.Kept.{accepted_for, led_for}
+use Rattle.script_checker.proofs.Kept.{accepted_for}
 use Rattle.script_checker.proofs.OneSubject.{few_goals, few_marks, checks_for}
 use Rattle.script_checker.proofs.items.script_items.Goals as goal
 
@@ -18,11 +18,6 @@ returns-clause-checks g c = λ all h.
     (lines_of c.accepted_items.result) (c.accepted_items.ensures.checks all h)
 
 pub returns-clause-accepts : goal.returns-clause-accepts
-returns-clause-accepts g c = λ all h bytes.
-    accepted_for c.args.script.now _ c.in_ok-subject.ensures all c.accepted_items.result
-    (c.accepted_items.ensures.accepts all h bytes)
-
-pub returns-clause-led : goal.returns-clause-led
-returns-clause-led g c =
-    led_for c.args.script.now _ c.in_ok-subject.ensures c.accepted_items.result
-    c.accepted_items.ensures.led
+returns-clause-accepts g c =
+    accepted_for c.args.script.now _ c.in_ok-subject.ensures c.accepted_items.result
+    c.accepted_items.ensures.accepts

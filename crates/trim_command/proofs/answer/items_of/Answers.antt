@@ -1,9 +1,10 @@
 use Rattle.std.proofs.Common.{IfOk}
 use Rattle.cert_trim.specs.cert_bytes.declared.order.Due.TheVariants.{Head}
+use Rattle.cert_trim.specs.cert_bytes.Certificates.{SpellsCertificate}
 use Rattle.cert_trim.specs.cert_bytes.ReadOut.{AreBytes, AreRead}
 use Rattle.cert_trim.specs.cert_checker.Keeping.{lines_of}
-use Rattle.check_command.specs.script_checker.Checking.{AreAcceptedItemsFor, ChecksFor}
-use Rattle.trim_command.proofs.Trimmable.{from_first, trimmable}
+use Rattle.check_command.specs.script_checker.Checking.{ChecksFor}
+use Rattle.trim_command.proofs.Trimmable.{from_first, led_by_some, trimmable}
 use Rattle.trim_command.proofs.answer.items_of.Goals as goal
 
 pub returns-clause-trimmable : goal.returns-clause-trimmable
@@ -16,6 +17,10 @@ returns-clause-trimmable g c =
     (told c.args.name.now) result
     (at (λ all p. ChecksFor s p (lines_of result)) c.script_items.ensures.checks)
     (at (λ all p. IfOk result (λ a. AreRead Head p a.items.items)) c.script_items.ensures.read)
-    (at (λ all p. AreBytes all → IfOk result (AreAcceptedItemsFor s all))
-    c.script_items.ensures.accepts)
-    c.script_items.ensures.led
+    (at (λ all p. AreBytes all → IfOk result (λ a. SpellsCertificate all a.items.items))
+    c.script_items.ensures.spells)
+    c.script_items.ensures.accepts
+
+pub returns-clause-led : goal.returns-clause-led
+returns-clause-led g c =
+    led_by_some c.args.script.now c.script_items.result c.script_items.ensures.accepts

@@ -1,10 +1,11 @@
 //! That the numbers of an item have room in their fields, which their types keep.
 ghost use Rattle.std.specs.Prelude.{◌≤◌, length, IfSome};
 ghost use Rattle.std.specs.List.{AllByRecursion};
-ghost use Rattle.dyadic.specs.Rising.{IsRising};
+ghost use Rattle.facts.specs.dyadic.Rising.{IsRising};
 ghost use Rattle.cert_bytes.specs.Certificates.{Fits, HasRoomFor, HasShortParts, IsLong, IsOnShort};
 
-use cert_bytes::{CutPoints, Item, StepRow};
+use crate::cut_points::CutPoints;
+use crate::item::{Item, StepRow};
 use facts::Fact;
 use fx_model::Node;
 
@@ -80,7 +81,7 @@ fn points_fit(points: &CutPoints)
 }
 
 /// Nothing is done. The clause tells a caller that the item's numbers have room in their fields.
-pub(crate) fn item_fits(item: &Item)
+pub fn item_fits(item: &Item)
     ensures { Fits item.now }
 {
     match item {
