@@ -133,7 +133,7 @@ class Room:
 
 
 def is_well(whole, found):
-    """Whether what came of a refusal is the whole run's answer, or want of memory with a front of it."""
+    """Whether what came of a refusal is the whole run's answer, or lack of memory with a front of it."""
     if found[0] != NO_MEMORY:
         return found[:3] == whole[:3]
     return whole[1].startswith(found[1]) and (found[2] == OLD or whole[2].startswith(found[2]))

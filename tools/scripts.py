@@ -132,7 +132,7 @@ class Printer:
     def fact(self, fact):
         slot, value = fact
         if slot[0] == "F":
-            return "Some(Fix(%s, Place { exponent: %d }))" % (expr(slot[1]), value)
+            return "Some(Fix(%s, FixPlace { exponent: %d }))" % (expr(slot[1]), value)
         if slot[0] == "R":
             error = "RelativeError { interval: %s }" % self.interval(value)
             return "Some(Rel(%s, %s, Some(%s)))" % (expr(slot[1]), expr(slot[2]), error)

@@ -83,7 +83,7 @@ fn is_next(found: &OpenBox, path: &Path) -> bool
 
 impl<'p, C: Cuts> Core<'p, C> {
     /// The account of so many workers (1 to 16), where the root lies in lane 0 and all else is
-    /// empty. Want of memory is the only error.
+    /// empty. Lack of memory is the only error.
     pub fn start(alloc: Global, plan: &'p C, workers: u8) -> Result<Core<'p, C>, AllocError>
         requires { (1 ≤ workers) × (workers ≤ 16) }
         ensures { IfOk result (λ k. (k.plan ≡ plan.now) × (k.account ≡ at_start workers)) }

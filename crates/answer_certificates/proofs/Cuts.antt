@@ -17,7 +17,7 @@ use Rattle.settler.specs.box_tree.declared.range.SplitRange.{SplitRange}
 use Rattle.settler.specs.box_tree.Ranges.{IsWithin, is_inside, range_in}
 use Rattle.settler.specs.box_tree.Points.{is_above_last, with_point, with_points, parts_from, asked_points, cut_points, middle, half_point}
 use Rattle.settler.specs.box_tree.Regions.{PlanParts, Region, points_in, forced_or, next_forced, half_in, halved_or, next_half, turned, half_of, else_next, next_of}
-use Rattle.box_traces.specs.Trees.{ArePoints}
+use Rattle.tree_certificates.specs.Trees.{ArePoints}
 use Rattle.settler.specs.box_tree.InRanges.{at_bool, inside_within, above_in, append_within, few_behind}
 
 -- The range of x, in which the points lie; and there are 1 to 63 that rise.

@@ -1,14 +1,14 @@
 -- A script has few claims: the judge counts them.
 use Rattle.std.specs.Prelude.{◌≡◌, ℕ, ◌+◌, ◌≤◌, List, [], ◌∷◌, ◌++◌, length, None, true, refl}
 use Rattle.std.proofs.Common.{sym, subst, arith, length-append}
-use Rattle.script_words.specs.declared.class.Sign.TheVariants as s
+use Rattle.script_words.specs.declared.class.Symbol.TheVariants as s
 use Rattle.script_words.specs.Words.{Word, sign}
 use Rattle.script_shape.specs.declared.due.Due.{Due}
 use Rattle.script_shape.specs.declared.due.Due.TheVariants as d
 use Rattle.script_shape.specs.Tree.{Formula, single, and, or, implies, Script, formula, define}
 use Rattle.script_shape.specs.Roles.{Leaf, at, stated_leaves, formula_leaves, hints_leaves, definition_leaves, script_leaves}
-use Rattle.script_checker.specs.script_judge.declared.counts.Place.{Place}
-use Rattle.script_checker.specs.script_judge.declared.counts.Place.TheVariants as place
+use Rattle.script_checker.specs.script_judge.declared.counts.ScriptPart.{ScriptPart}
+use Rattle.script_checker.specs.script_judge.declared.counts.ScriptPart.TheVariants as place
 use Rattle.script_checker.specs.script_judge.Counts.{one_if, is_first, begins_proposition, place_after}
 use Rattle.script_checker.specs.script_judge.Judge.{Seen, seen_after, Judged, nothing_seen}
 use Rattle.script_checker.specs.script_nodes.Known.{Known}
@@ -33,20 +33,20 @@ both_counted (l ∷ a) b = omega (arith, both_counted a b)
 -- ---- the judge counts a proposition behind each
 
 -- whether a proposition is to begin, which a `not` before it puts off
-abbrev pending : Place → ℕ
+abbrev pending : ScriptPart → ℕ
 pending place.PropositionNext = 1
 pending p = 0
 
-pending_most : (p : Place) → pending p ≤ 1
+pending_most : (p : ScriptPart) → pending p ≤ 1
 pending_most place.PropositionNext = omega arith
 pending_most p = omega arith
 
-pending_first : (p : Place) (r : Due) → is_first r ≡ true
+pending_first : (p : ScriptPart) (r : Due) → is_first r ≡ true
     → pending p ≤ one_if (begins_proposition p r)
 pending_first place.PropositionNext r e = subst (λ b. 1 ≤ one_if b) (sym e) (omega arith)
 pending_first p r e = omega arith
 
-begins_next : (p : Place) (r : Due) (w : Word)
+begins_next : (p : ScriptPart) (r : Due) (w : Word)
     → connective r + pending p ≤ pending (place_after p r w) + one_if (begins_proposition p r)
 begins_next p d.Claim w = omega arith
 begins_next p d.Connective w = omega (arith, pending_first p d.Connective refl)
@@ -58,8 +58,8 @@ connectives_counted : (ls : List Leaf) (i : ℕ) (seen : Seen) → Judged i seen
 connectives_counted [] i seen j h = omega (arith, h, pending_most seen.counts.place)
 connectives_counted (l ∷ ls) i seen j h =
     let o = one_passed i seen l ls j in
-    let after = seen_after o.verdict seen l.role l.word in
-    let more = connectives_counted ls (i + 1) after o.rest (within_limits o.verdict seen l ls o.passes) in
+    let after = seen_after o.notes seen l.role l.word in
+    let more = connectives_counted ls (i + 1) after o.rest (within_limits o.notes seen l ls o.passes) in
     omega (arith, more, begins_next seen.counts.place l.role l.word)
 
 -- ---- a formula has one claim more than these

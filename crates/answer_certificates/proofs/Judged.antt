@@ -23,12 +23,12 @@ use Rattle.pair_closure.specs.Closure.{difference_of, IsFollowed}
 use Rattle.pair_closure.specs.Rising.{one_list}
 use Rattle.settler.specs.rule_universe.Worlds.{World}
 use Rattle.settler.specs.universe.Universes as universe
-use Rattle.box_traces.specs.cert_bytes.Certificates.{HasShortParts}
-use Rattle.box_traces.specs.cert_checker.declared.subject.Subject.{Subject}
-use Rattle.box_traces.specs.cert_checker.Steps.{case_facts}
-use Rattle.box_traces.specs.cert_checker.Faults.{IsVariableBelow, IsFurther, JudgesNode}
+use Rattle.tree_certificates.specs.cert_bytes.Certificates.{HasShortParts}
+use Rattle.tree_certificates.specs.cert_checker.declared.subject.Subject.{Subject}
+use Rattle.tree_certificates.specs.cert_checker.Steps.{case_facts}
+use Rattle.tree_certificates.specs.cert_checker.Faults.{IsVariableBelow, IsFurther, JudgesNode}
 use Rattle.script_checker.specs.Subjects as checker
-use Rattle.box_traces.specs.Trees.{AreTaken}
+use Rattle.tree_certificates.specs.Trees.{AreTaken}
 use Rattle.answer_certificates.specs.Scripts.{HasRoom}
 use Rattle.answer_certificates.specs.Laws.{SubjectsAreOfUniverses}
 use Rattle.answer_certificates.proofs.Fronts.{front_get, seam_get, difference_behind}

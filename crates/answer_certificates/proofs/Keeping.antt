@@ -7,7 +7,7 @@ use Rattle.fx_model.specs.declared.Node.TheVariants.{Lit, Neg, Add, Sub, Mul, Di
 use Rattle.script_shape.specs.Tree.{Expr, term, sum, difference, Term, factor, product, quotient, Factor, negation, atom, Atom, number, variable, parenthesized, absolute, called, rounded, fused, Prop, lies_in, relative_in, at_most, at_least, multiple, Stated, affirmed, denied, Formula, single, and, or, implies, Need, nonzero, below, not_above, above, not_below, NeedList, last_need, more_needs, Needs, always, provided, Names, last_name, more_names, Halving, halved_by, with_goal, Hint, rewrite, like, split, halving, Hints, no_hint, hint}
 use Rattle.script_checker.specs.script_nodes.Literals.{literal_of}
 use Rattle.script_checker.specs.script_nodes.Operators.{rounding_of}
-use Rattle.script_checker.specs.script_nodes.Known.{Name, Known, Placed, put, named, operator_named}
+use Rattle.script_checker.specs.script_nodes.Known.{Name, Known, PlacedNode, put, named, operator_named}
 use Rattle.script_checker.specs.script_nodes.Values.{then_rounded, fused_sum, expr_value, term_value, factor_value, atom_value}
 use Rattle.script_checker.specs.script_nodes.Definitions.{name_text}
 use Rattle.script_checker.specs.script_nodes.Sound.{IsMade}
@@ -17,14 +17,14 @@ use Rattle.script_checker.specs.script_hints.Hints.{NeedsSoFar, with_need, with_
 module _ (P : Known → Type 0) (puts : (k : Known) (n : Node) → IsMade n → P k → P (put k n).0) (names : (k : Known) (text : Name) → P k → P (named k text).0) where
   -- ---- expressions
   module _ (q : Option Rounding) where
-    rounded_so : (o : Option Rounding) (p : Placed) → P p.0 → P (then_rounded o p).0
+    rounded_so : (o : Option Rounding) (p : PlacedNode) → P p.0 → P (then_rounded o p).0
     rounded_so None p h = h
     rounded_so (Some r) p h = puts p.0 (Round r p.1) tt h
 
-    operation_so : (p : Placed) (n : Node) → IsMade n → P p.0 → P (then_rounded q (put p.0 n)).0
+    operation_so : (p : PlacedNode) (n : Node) → IsMade n → P p.0 → P (then_rounded q (put p.0 n)).0
     operation_so p n m h = rounded_so q (put p.0 n) (puts p.0 n m h)
 
-    fused_so : (a b : ExprId) (c : Placed) → P c.0 → P (fused_sum q a b c).0
+    fused_so : (a b : ExprId) (c : PlacedNode) → P c.0 → P (fused_sum q a b c).0
     fused_so a b c h = operation_so (put c.0 (Mul a b)) (Add (put c.0 (Mul a b)).1 c.1) tt (puts c.0 (Mul a b) tt h)
 
     mutual

@@ -12,8 +12,8 @@ use Rattle.facts.specs.declared.fact.Fact.{Fact}
 use Rattle.facts.specs.declared.fact.Fact.TheVariants as fact
 use Rattle.facts.specs.Order.{is_same}
 use Rattle.facts.specs.CommonParts.{expr_same, same_expr, all_as}
-use Rattle.box_traces.specs.derivation.Derivations.{Setting, given}
-use Rattle.box_traces.specs.derivation.Known.{Piece, Known}
+use Rattle.tree_certificates.specs.derivation.Derivations.{Setting, given}
+use Rattle.tree_certificates.specs.derivation.Known.{Piece, Known}
 use Rattle.script_checker.specs.script_claims.declared.claim.Claim.{Claim}
 use Rattle.script_checker.specs.script_claims.Facts.{hypothesis_fact}
 use Rattle.pair_closure.specs.Reached.{Has, has_contains}
@@ -24,7 +24,7 @@ use Rattle.settler.specs.box_tree.Points.{piece_of}
 use Rattle.settler.specs.box_tree.Regions.{PlanParts, Region, root, piece, region_below, region_at, narrowed, with_piece}
 use Rattle.settler.specs.box_tree.Plans.{or_whole, interval_of, last_piece, with_last, pieces_below, pieces_at, piece_at}
 use Rattle.settler.specs.box_tree.Root.{finite_range, range_by, or_later, split_range, with_range, split_ranges}
-use Rattle.box_traces.specs.cert_checker.Faults.{IsVariable}
+use Rattle.tree_certificates.specs.cert_checker.Faults.{IsVariable}
 use Rattle.settler.specs.box_tree.InRanges.{at_bool, below_append, range_var, finite_out}
 
 -- ---- boxes along paths

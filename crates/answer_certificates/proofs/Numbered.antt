@@ -17,7 +17,7 @@ use Rattle.script_checker.specs.script_nodes.Sound.{IsMade}
 use Rattle.script_checker.specs.script_claims.Claims.{formula_claims}
 use Rattle.script_checker.specs.script_hints.Hints.{no_hints}
 use Rattle.script_checker.specs.script_grammar.Meaning.{meaning_from}
-use Rattle.box_traces.specs.cert_checker.Faults.{IsVariable}
+use Rattle.tree_certificates.specs.cert_checker.Faults.{IsVariable}
 use Rattle.pair_closure.specs.Members.{some-inj, none_at, before_last, last_at, ends_with}
 use Rattle.answer_certificates.proofs.Keeping.{expr_so, formula_so, hints_so}
 

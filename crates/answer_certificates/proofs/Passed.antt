@@ -16,7 +16,7 @@ use Rattle.script_checker.specs.script_judge.declared.fault.Fault.{Fault}
 use Rattle.script_checker.specs.script_judge.Names.{is_some_among, is_used, defines, split_name}
 use Rattle.script_checker.specs.script_judge.Bounds.{is_bad_bound}
 use Rattle.script_checker.specs.script_judge.Splits.{is_rangeless, is_bad_point}
-use Rattle.script_checker.specs.script_judge.Numbers.{Verdict, has_no_pieces, is_past_lsb, is_past_pieces}
+use Rattle.script_checker.specs.script_judge.Numbers.{Notes, has_no_pieces, is_past_lsb, is_past_pieces}
 use Rattle.script_checker.specs.script_judge.Judge.{Seen, seen_after, has_arrow, is_on_wrong_side, is_past_cases, form_kind, form_refusal, limit_kind, limit_refusal, refusal_at, Judged, refused, passed, nothing_seen, fails, both_none}
 use Rattle.script_checker.specs.script_judge.Reading.{Reading, IsReadingOf, fault}
 use Rattle.script_checker.specs.script_judge.First.{IsFirstRefusal, unread, read, refusal_of, second_none, none_found}
@@ -26,13 +26,13 @@ use Rattle.script_checker.specs.script_grammar.Spells.{View, Spells}
 
 -- the word passes, and so do those behind it
 pub record Passed (i : ℕ) (seen : Seen) (l : Leaf) (ls : List Leaf) : Type 0 where
-  pub verdict : Verdict
-  pub passes : refusal_at verdict seen l.role l.word ls ≡ None
-  pub rest : Judged (i + 1) (seen_after verdict seen l.role l.word) ls None
+  pub notes : Notes
+  pub passes : refusal_at notes seen l.role l.word ls ≡ None
+  pub rest : Judged (i + 1) (seen_after notes seen l.role l.word) ls None
 
 found_passed : {i : ℕ} {seen : Seen} {found : Option Fault} (l : Leaf) (ls : List Leaf) → Judged i seen (l ∷ ls) found → found ≡ None → Passed i seen l ls
 found_passed l ls (refused t r) e = absurd (cc e)
-found_passed {i} {seen} l ls (passed {v = v} t r j) e = record { verdict = v; passes = r; rest = subst (Judged (i + 1) (seen_after v seen l.role l.word) ls) e j }
+found_passed {i} {seen} l ls (passed {v = v} t r j) e = record { notes = v; passes = r; rest = subst (Judged (i + 1) (seen_after v seen l.role l.word) ls) e j }
 
 pub one_passed : (i : ℕ) (seen : Seen) (l : Leaf) (ls : List Leaf) → Judged i seen (l ∷ ls) None → Passed i seen l ls
 one_passed i seen l ls j = found_passed l ls j refl
@@ -58,7 +58,7 @@ not_defined side used bad rangeless defined none point past e =
     (or_parts defined none g.0).0
 
 -- there are no more than 128 propositions so far
-pub within_limits : (v : Verdict) (seen : Seen) (l : Leaf) (ls : List Leaf) → refusal_at v seen l.role l.word ls ≡ None → (seen_after v seen l.role l.word).counts.propositions ≤ 128
+pub within_limits : (v : Notes) (seen : Seen) (l : Leaf) (ls : List Leaf) → refusal_at v seen l.role l.word ls ≡ None → (seen_after v seen l.role l.word).counts.propositions ≤ 128
 within_limits v seen l ls e =
     let after = seen_after v seen l.role l.word in
     let limits = both_none (form_refusal v seen l.role l.word (has_arrow ls) ls) (limit_refusal after l.role l.word) e in
@@ -67,7 +67,7 @@ within_limits v seen l ls e =
     (is_past_cases l.role l.word (begun_cases after.splits.ranges)) limits.1
 
 -- a name that is split has no definition
-pub split_plain : (v : Verdict) (seen : Seen) (l : Leaf) (ls : List Leaf) → refusal_at v seen l.role l.word ls ≡ None → is_some_among seen.names.defined (split_name l.role l.word) ≡ false
+pub split_plain : (v : Notes) (seen : Seen) (l : Leaf) (ls : List Leaf) → refusal_at v seen l.role l.word ls ≡ None → is_some_among seen.names.defined (split_name l.role l.word) ≡ false
 split_plain v seen l ls e =
     let named = split_name l.role l.word in
     let form = both_none (form_refusal v seen l.role l.word (has_arrow ls) ls) (limit_refusal (seen_after v seen l.role l.word) l.role l.word) e in

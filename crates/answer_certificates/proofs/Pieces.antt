@@ -2,7 +2,7 @@
 use Rattle.std.specs.Prelude.{◌≡◌, ℕ, Option, Some}
 use Rattle.std.proofs.Common.{sym, ap, subst}
 use Rattle.fx_model.specs.declared.ExprId.{ExprId}
-use Rattle.box_traces.specs.derivation.Known.{Piece}
+use Rattle.tree_certificates.specs.derivation.Known.{Piece}
 use Rattle.settler.specs.box_tree.declared.next.Next.{Next}
 use Rattle.settler.specs.box_tree.declared.next.Next.TheVariants as next
 use Rattle.settler.specs.box_tree.Regions.{PlanParts, Region, next_of, piece_by, region_at}

@@ -13,9 +13,9 @@ use Rattle.facts.specs.declared.fact.Fact.TheVariants as fact
 use Rattle.facts.specs.declared.fact.Slot.TheVariants as slot
 use Rattle.facts.specs.Order.{IsStronger}
 use Rattle.goals.specs.declared.line.Line.{Line}
-use Rattle.box_traces.specs.derivation.Derivations.{Setting, At}
-use Rattle.box_traces.specs.derivation.Known.{Piece, IsTableAt}
-use Rattle.box_traces.specs.derivation.Exists.{table_at}
+use Rattle.tree_certificates.specs.derivation.Derivations.{Setting, At}
+use Rattle.tree_certificates.specs.derivation.Known.{Piece, IsTableAt}
+use Rattle.tree_certificates.specs.derivation.Exists.{table_at}
 use Rattle.script_checker.specs.script_hints.Few.{HaveFewPieces}
 use Rattle.settler.specs.rule_universe.Worlds.{World}
 use Rattle.settler.specs.saturate.Universes.{setting_of}
@@ -37,10 +37,10 @@ use Rattle.settler.specs.bisect.Boxes.{open_goal, or_later, first_open, leaf_at,
 use Rattle.settler.specs.bisect.Walks.{boxes_from}
 use Rattle.settler.specs.bisect.Walks as walks
 use Rattle.settler.specs.Standing.{StandsAs, AreStates}
-use Rattle.box_traces.specs.cert_checker.Contexts.{piece_fact}
-use Rattle.box_traces.specs.cert_checker.Faults.{IsVariable}
-use Rattle.box_traces.specs.Traces.{IsCutTo}
-use Rattle.box_traces.specs.Trees.{Tree, Trees, leaf, cut, cut_of, IsProved, AreProved, lines_of_tree, lines_of_trees, steps_in, steps_in_each}
+use Rattle.tree_certificates.specs.cert_checker.Contexts.{piece_fact}
+use Rattle.tree_certificates.specs.cert_checker.Faults.{IsVariable}
+use Rattle.tree_certificates.specs.Traces.{IsCutTo}
+use Rattle.tree_certificates.specs.Trees.{Tree, Trees, leaf, cut, cut_of, IsProved, AreProved, lines_of_tree, lines_of_trees, steps_in, steps_in_each}
 use Rattle.answer_certificates.specs.Boxes.{range_of_piece, pieces_from, cut_into, boxes_below, rows_from}
 use Rattle.answer_certificates.proofs.Cuts.{IsCutAlong, IsCut, next_cut as cuts_so}
 use Rattle.answer_certificates.proofs.Known.{region_of_piece, pieces_of_piece, piece_there, AreRangesAt, range_here, interval_is, ranges_below}

@@ -24,15 +24,15 @@ use Rattle.settler.specs.case_trees.declared.outcome.OpenLeaf.{OpenLeaf}
 use Rattle.settler.specs.case_trees.Listed.{Listed, AreListed, box_count, or_later, first_open_from, all_leaves}
 use Rattle.settler.specs.Standing.{AreStates}
 use Rattle.settler.specs.Answers.{Options, plan_of, tree_by, IsTreeOf, AreTrees}
-use Rattle.box_traces.specs.cert_bytes.declared.item.Item.{Item}
-use Rattle.box_traces.specs.cert_bytes.declared.style.Style.TheVariants.{First}
-use Rattle.box_traces.specs.cert_bytes.Spelling.{spelled_from}
-use Rattle.box_traces.specs.cert_checker.declared.subject.Subject.{Subject}
-use Rattle.box_traces.specs.cert_checker.Accepted.{Accepts}
+use Rattle.tree_certificates.specs.cert_bytes.declared.item.Item.{Item}
+use Rattle.tree_certificates.specs.cert_bytes.declared.style.Style.TheVariants.{First}
+use Rattle.tree_certificates.specs.cert_bytes.Spelling.{spelled_from}
+use Rattle.tree_certificates.specs.cert_checker.declared.subject.Subject.{Subject}
+use Rattle.tree_certificates.specs.cert_checker.Accepted.{Accepts}
 use Rattle.script_checker.specs.Subjects.{IsSubjectOf, facts_of}
-use Rattle.box_traces.specs.Trees.{Tree, lines_of_tree, steps_in}
-use Rattle.box_traces.specs.Roots.{Root, IsRoot, AreRoots, steps_in_roots, lines_of_roots}
-use Rattle.box_traces.specs.Laws.{CertificatesExist}
+use Rattle.tree_certificates.specs.Trees.{Tree, lines_of_tree, steps_in}
+use Rattle.tree_certificates.specs.Roots.{Root, IsRoot, AreRoots, steps_in_roots, lines_of_roots}
+use Rattle.tree_certificates.specs.Laws.{CertificatesExist}
 use Rattle.answer_certificates.specs.Scripts.{in_case, IsCaseOf, HasCases}
 use Rattle.answer_certificates.specs.Boxes.{boxes_of, rows_from}
 use Rattle.answer_certificates.specs.Roots.{IsRootOf, AreRootsOf, most_in}

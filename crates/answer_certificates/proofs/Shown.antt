@@ -8,10 +8,10 @@ use Rattle.facts.specs.declared.fact.Slot.TheVariants as slot
 use Rattle.goals.specs.declared.goal.Goal.{Goal}
 use Rattle.goals.specs.declared.line.Line.{Line}
 use Rattle.goals.specs.declared.line.Line.TheVariants as line
-use Rattle.box_traces.specs.derivation.Derivations.{Setting, At}
-use Rattle.box_traces.specs.derivation.Known.{Piece, IsTableAt}
-use Rattle.box_traces.specs.derivation.Parts.{none_some}
-use Rattle.box_traces.specs.derivation.Exists.{table_at}
+use Rattle.tree_certificates.specs.derivation.Derivations.{Setting, At}
+use Rattle.tree_certificates.specs.derivation.Known.{Piece, IsTableAt}
+use Rattle.tree_certificates.specs.derivation.Parts.{none_some}
+use Rattle.tree_certificates.specs.derivation.Exists.{table_at}
 use Rattle.settler.specs.bisect.declared.settler.State.{State}
 use Rattle.settler.specs.bisect.declared.settler.State.TheVariants as state
 use Rattle.settler.specs.bisect.declared.outcome.Leaf.{Leaf}
@@ -19,8 +19,8 @@ use Rattle.settler.specs.bisect.Trees.{Tree, child_count}
 use Rattle.settler.specs.bisect.Boxes.{open_goal, leaf_at, with_leaf, leaves_of}
 use Rattle.settler.specs.bisect.Gathered.{with_known, with_state, line_with, line_of}
 use Rattle.settler.specs.Standing.{StandsAs}
-use Rattle.box_traces.specs.Trees.{lines_at, leaf_lines}
-use Rattle.box_traces.specs.cert_checker.After.{with_cited}
+use Rattle.tree_certificates.specs.Trees.{lines_at, leaf_lines}
+use Rattle.tree_certificates.specs.cert_checker.After.{with_cited}
 use Rattle.answer_certificates.specs.Boxes.{rows_from}
 use Rattle.answer_certificates.proofs.Leaves.{AreAt, no_void, facts_at}
 use Rattle.facts.specs.CommonParts.{at_option}

@@ -27,7 +27,7 @@ use Rattle.settler.specs.rule_universe.Worlds.{World, IsSlot, HasSlot, IsWhole}
 use Rattle.settler.specs.universe.Starts.{claim_pairs, claims_pairs, hints_pairs}
 use Rattle.settler.specs.universe.Cases.{AreHypotheses, cases_have_hypotheses}
 use Rattle.settler.specs.universe.Universes.{HypothesesHaveSlots, assumed, goal_of, with_fact, facts_of}
-use Rattle.box_traces.specs.cert_checker.Faults.{IsVariable}
+use Rattle.tree_certificates.specs.cert_checker.Faults.{IsVariable}
 use Rattle.answer_certificates.specs.Scripts.{in_case, IsCaseOf, IsBuilt, ScriptsHaveRoom, GoalsHaveSlots}
 use Rattle.answer_certificates.proofs.Numbered.{AreNumbered, script_numbered}
 use Rattle.answer_certificates.proofs.Passed.{spelled_passes}

@@ -8,7 +8,7 @@ use Rattle.std.proofs.lemmas.Bool.{or_right}
 use Rattle.fx_model.specs.declared.ExprId.{ExprId}
 use Rattle.fx_model.specs.declared.Node.{Node}
 use Rattle.fx_model.specs.declared.Node.TheVariants.{Var}
-use Rattle.script_words.specs.declared.class.Sign.TheVariants as s
+use Rattle.script_words.specs.declared.class.Symbol.TheVariants as s
 use Rattle.script_words.specs.Words.{Word, name, rounding, sign}
 use Rattle.script_shape.specs.declared.due.Due.{Due}
 use Rattle.script_shape.specs.declared.due.Due.TheVariants as d
@@ -24,7 +24,7 @@ use Rattle.script_checker.specs.script_claims.Claims.{formula_claims}
 use Rattle.script_checker.specs.script_hints.Hints.{with_variable, needs_value, HintsSoFar, with_halved, with_names, with_halving, with_hint, with_hints, no_hints}
 use Rattle.script_checker.specs.script_hints.Hints as hints
 use Rattle.script_checker.specs.script_grammar.Meaning.{meaning_from}
-use Rattle.box_traces.specs.cert_checker.Faults.{IsVariable}
+use Rattle.tree_certificates.specs.cert_checker.Faults.{IsVariable}
 use Rattle.answer_certificates.proofs.Keeping.{expr_so, formula_so, needs_so, sides_so}
 use Rattle.answer_certificates.proofs.Numbered.{Stays, stays_itself, put_stays, named_stays, named_at}
 use Rattle.answer_certificates.proofs.Passed.{one_passed, split_plain}
@@ -62,10 +62,10 @@ splits_apart : (names : List Name) (ls : List Leaf) (i : ℕ) (seen : Seen) → 
 splits_apart names [] i seen j more = tt
 splits_apart names (l ∷ ls) i seen j more =
     let o = one_passed i seen l ls j in
-    let apart = split_plain o.verdict seen l ls o.passes in
+    let apart = split_plain o.notes seen l ls o.passes in
     let later = ended l.role seen.names.pending in (
       λ text e. not_before (is_among names text) (is_among seen.names.defined text) (more text) (ap (is_some_among seen.names.defined) (sym e) ∙ apart),
-      splits_apart names ls (i + 1) (seen_after o.verdict seen l.role l.word) o.rest (λ text h. more_some later seen.names.defined text (more text h)),
+      splits_apart names ls (i + 1) (seen_after o.notes seen l.role l.word) o.rest (λ text h. more_some later seen.names.defined text (more text h)),
     )
 
 -- ---- words one behind the other
@@ -81,7 +81,7 @@ behind : (names : List Name) (a b : List Leaf) (i : ℕ) (seen : Seen) → Judge
 behind names [] b i seen j more = record { last = seen; index = i; judged = j; more = more }
 behind names (l ∷ a) b i seen j more =
     let o = one_passed i seen l (a ++ b) j in
-    behind names a b (i + 1) (seen_after o.verdict seen l.role l.word) o.rest (λ text h. more_some (ended l.role seen.names.pending) seen.names.defined text (more text h))
+    behind names a b (i + 1) (seen_after o.notes seen l.role l.word) o.rest (λ text h. more_some (ended l.role seen.names.pending) seen.names.defined text (more text h))
 
 -- what is due where no definition begins or ends
 abbrev IsWithin : Due → Type 0
@@ -105,7 +105,7 @@ goes_on : (names : List Name) (text : Name) (a b : List Leaf) (i : ℕ) (seen : 
 goes_on names text [] b i seen w j more e = record { to = record { last = seen; index = i; judged = j; more = more }; pending = e }
 goes_on names text (l ∷ a) b i seen w j more e =
     let o = one_passed i seen l (a ++ b) j in
-    goes_on names text a b (i + 1) (seen_after o.verdict seen l.role l.word) w.1 o.rest
+    goes_on names text a b (i + 1) (seen_after o.notes seen l.role l.word) w.1 o.rest
     (λ t h. more_some (ended l.role seen.names.pending) seen.names.defined t (more t h))
     (still_pending seen.names.pending l.role l.word w.0 ∙ e)
 
@@ -139,7 +139,7 @@ name_ends : (names : List Name) (text : Name) (b : List Leaf) (i : ℕ) (seen : 
 name_ends names text b i seen j more e =
     let o = one_passed i seen end b j in
     record {
-      to = record { last = seen_after o.verdict seen d.Semicolon (sign s.Semicolon); index = i + 1; judged = o.rest; more = λ t h. more_some seen.names.pending seen.names.defined t (more t h) };
+      to = record { last = seen_after o.notes seen d.Semicolon (sign s.Semicolon); index = i + 1; judged = o.rest; more = λ t h. more_some seen.names.pending seen.names.defined t (more t h) };
       defined = subst (λ p. Among (with_some p seen.names.defined) text) (sym e) (text_first text seen.names.defined);
     }
 
@@ -156,10 +156,10 @@ value_defined : (names : List Name) (n : AnyName) (h : How) (e : Expr) (b : List
     → BehindDefined names (name_text n) b
 value_defined names (plain k text) h e b i seen j more =
     let o = one_passed i seen (at d.Script (name k text)) _ j in
-    value_ends names text h e b (i + 1) (seen_after o.verdict seen d.Script (name k text)) o.rest more refl
+    value_ends names text h e b (i + 1) (seen_after o.notes seen d.Script (name k text)) o.rest more refl
 value_defined names (operator k text) h e b i seen j more =
     let o = one_passed i seen (at d.Script (rounding k text)) _ j in
-    value_ends names text h e b (i + 1) (seen_after o.verdict seen d.Script (rounding k text)) o.rest more refl
+    value_ends names text h e b (i + 1) (seen_after o.notes seen d.Script (rounding k text)) o.rest more refl
 
 -- ---- names with values are among them
 

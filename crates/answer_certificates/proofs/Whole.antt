@@ -8,12 +8,12 @@ use Rattle.fx_model.specs.declared.Node.{Node}
 use Rattle.fx_model.specs.declared.Node.TheVariants.{Var}
 use Rattle.facts.specs.declared.hint.HintRow.{HintRow}
 use Rattle.facts.specs.declared.instance.Instance.{Instance}
-use Rattle.box_traces.specs.theorem_list.Concludes.{concludes}
-use Rattle.box_traces.specs.derivation.Lists.{IsLawful}
-use Rattle.box_traces.specs.derivation.Derivations.{Setting}
-use Rattle.box_traces.specs.derivation.Known.{Piece, IsTableAt}
-use Rattle.box_traces.specs.derivation.Exists.{table_at}
-use Rattle.box_traces.specs.derivation.Laws.{TablesExist}
+use Rattle.tree_certificates.specs.theorem_list.Concludes.{concludes}
+use Rattle.tree_certificates.specs.derivation.Lists.{IsLawful}
+use Rattle.tree_certificates.specs.derivation.Derivations.{Setting}
+use Rattle.tree_certificates.specs.derivation.Known.{Piece, IsTableAt}
+use Rattle.tree_certificates.specs.derivation.Exists.{table_at}
+use Rattle.tree_certificates.specs.derivation.Laws.{TablesExist}
 use Rattle.script_checker.specs.script_hints.Few.{HaveFewPieces}
 use Rattle.settler.specs.rule_universe.Worlds.{World, IsWhole}
 use Rattle.settler.specs.saturate.Universes.{setting_of}
@@ -32,8 +32,8 @@ use Rattle.settler.specs.bisect.Answers.{IsAnswer}
 use Rattle.settler.specs.bisect.Walks.{boxes_from, IsListed}
 use Rattle.settler.specs.Standing.{AreStates}
 use Rattle.settler.specs.Answers.{plan_of}
-use Rattle.box_traces.specs.cert_checker.Faults.{IsVariable}
-use Rattle.box_traces.specs.Trees.{Tree, IsProved, lines_of_tree}
+use Rattle.tree_certificates.specs.cert_checker.Faults.{IsVariable}
+use Rattle.tree_certificates.specs.Trees.{Tree, IsProved, lines_of_tree}
 use Rattle.answer_certificates.specs.Boxes.{boxes_of, rows_from, IsProvedTree}
 use Rattle.answer_certificates.specs.Laws.{InstancesAreFew, TreesAreProved}
 use Rattle.answer_certificates.proofs.Counted.{few_instances}

@@ -8,8 +8,8 @@ use Rattle.fx_model.specs.declared.Node.TheVariants.{Sub}
 use Rattle.facts.specs.declared.fact.Slot.{Slot}
 use Rattle.facts.specs.declared.fact.Slot.TheVariants as slot
 use Rattle.facts.specs.declared.hint.HintRow.{HintRow}
-use Rattle.box_traces.specs.theorem_list.Concludes.{concludes}
-use Rattle.box_traces.specs.derivation.Lists.{IsLawful as IsLawfulList}
+use Rattle.tree_certificates.specs.theorem_list.Concludes.{concludes}
+use Rattle.tree_certificates.specs.derivation.Lists.{IsLawful as IsLawfulList}
 use Rattle.pair_closure.specs.Reached.{Has}
 use Rattle.pair_closure.specs.Reached.IsReached.{begin}
 use Rattle.pair_closure.specs.Closure.{IsClosure}
@@ -19,8 +19,8 @@ use Rattle.script_checker.specs.script_grammar.Spells.{View}
 use Rattle.settler.specs.script_truths.Truths.{HasUniverse}
 use Rattle.settler.specs.rule_universe.Worlds.{World, IsSlot}
 use Rattle.settler.specs.universe.Starts.{starting_pairs}
-use Rattle.box_traces.specs.Writing.{IsSlotKnown}
-use Rattle.box_traces.specs.Laws.{RulesFitSteps}
+use Rattle.tree_certificates.specs.Writing.{IsSlotKnown}
+use Rattle.tree_certificates.specs.Laws.{RulesFitSteps}
 use Rattle.answer_certificates.specs.Scripts.{HasRoom}
 use Rattle.answer_certificates.specs.Laws.{UniversesAreWritten}
 use Rattle.answer_certificates.proofs.Arguments.{arg_below}

@@ -3,7 +3,7 @@ use Rattle.std.specs.Prelude.{◌≡◌, ◌+◌, ◌*◌, ◌++◌, ℕ, zero, 
 use Rattle.fx_model.specs.declared.ExprId.{ExprId}
 use Rattle.interval.specs.declared.interval.Interval.{Interval}
 use Rattle.interval.specs.Results.{whole_interval}
-use Rattle.box_traces.specs.derivation.Known.{Piece}
+use Rattle.tree_certificates.specs.derivation.Known.{Piece}
 use Rattle.goals.specs.declared.line.Line.{Line}
 use Rattle.settler.specs.rule_universe.Worlds.{World}
 use Rattle.settler.specs.saturate.Universes.{setting_of}
@@ -15,7 +15,7 @@ use Rattle.settler.specs.bisect.declared.settler.State.{State}
 use Rattle.settler.specs.bisect.declared.outcome.Leaf.{Leaf}
 use Rattle.settler.specs.bisect.Gathered.{line_with}
 use Rattle.settler.specs.bisect.Trees.{children}
-use Rattle.box_traces.specs.Trees.{Tree, Trees, leaf, cut, last, next, IsProved, lines_of_tree, steps_in}
+use Rattle.tree_certificates.specs.Trees.{Tree, Trees, leaf, cut, last, next, IsProved, lines_of_tree, steps_in}
 
 -- what the last cut left of its variable's range
 abbrev pub range_of_piece : Option Piece → Interval

@@ -14,13 +14,13 @@ use Rattle.settler.specs.bisect.declared.settler.State.{State}
 use Rattle.settler.specs.bisect.Boxes.{AreBoxes, first_open, leaves_of}
 use Rattle.settler.specs.Standing.{AreStates}
 use Rattle.settler.specs.Answers.{Options, plan_of, tree_by, IsProved}
-use Rattle.box_traces.specs.cert_bytes.declared.item.Item.{Item}
-use Rattle.box_traces.specs.cert_checker.declared.subject.Subject.{Subject}
-use Rattle.box_traces.specs.cert_checker.Accepted.{Accepts}
+use Rattle.tree_certificates.specs.cert_bytes.declared.item.Item.{Item}
+use Rattle.tree_certificates.specs.cert_checker.declared.subject.Subject.{Subject}
+use Rattle.tree_certificates.specs.cert_checker.Accepted.{Accepts}
 use Rattle.script_checker.specs.Subjects.{IsSubjectOf}
 use Rattle.script_checker.specs.Checking.{AreAcceptedFor}
-use Rattle.box_traces.specs.Writing.{IsWritable}
-use Rattle.box_traces.specs.Trees as trees
+use Rattle.tree_certificates.specs.Writing.{IsWritable}
+use Rattle.tree_certificates.specs.Trees as trees
 use Rattle.answer_certificates.specs.Scripts.{HasRoom, HasCases}
 use Rattle.answer_certificates.specs.Boxes.{range_of_piece, variable_of, boxes_of, IsProvedTree}
 use Rattle.answer_certificates.specs.Roots.{most_in, HasRoots}

@@ -10,8 +10,8 @@ use Rattle.settler.specs.saturate.Universes.{setting_of}
 use Rattle.settler.specs.bisect.declared.settler.State.{State}
 use Rattle.settler.specs.Standing.{AreStates}
 use Rattle.settler.specs.Answers.{Options, plan_of}
-use Rattle.box_traces.specs.cert_checker.declared.subject.Subject.{Subject}
-use Rattle.box_traces.specs.Roots.{Root, AreRoots, steps_in_roots, lines_of_roots}
+use Rattle.tree_certificates.specs.cert_checker.declared.subject.Subject.{Subject}
+use Rattle.tree_certificates.specs.Roots.{Root, AreRoots, steps_in_roots, lines_of_roots}
 use Rattle.answer_certificates.specs.Scripts.{in_case}
 use Rattle.answer_certificates.specs.Boxes.{boxes_of}
 

@@ -16,7 +16,7 @@ use Rattle.settler.specs.script_truths.Truths.{HasUniverse}
 use Rattle.settler.specs.rule_universe.Worlds.{World, HasSlot, IsWhole}
 use Rattle.settler.specs.rule_universe.Assumed.{assuming}
 use Rattle.settler.specs.universe.Universes.{IsUniverse, facts_of}
-use Rattle.box_traces.specs.cert_checker.Faults.{IsVariable}
+use Rattle.tree_certificates.specs.cert_checker.Faults.{IsVariable}
 
 -- A certificate has room for a case, u being the universe in which its claims are assumed.
 pub record HasRoom (s : View) (u : World) : Type 0 where

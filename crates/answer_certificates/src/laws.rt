@@ -5,11 +5,11 @@ ghost use Rattle.answer_certificates.specs.Laws.{UniversesAreWritten, InstancesA
 ghost use Rattle.answer_certificates.specs.Premises.{PremisesAreFew};
 ghost use Rattle.answer_certificates.specs.Universes.{UniversesAreSmall};
 
-use box_traces::{best_tables_exist, certificates_exist, rules_fit_steps};
 use settler::{
     boxes_are_listed, few_cuts_end, one_answer, rules_are_lawful, universes_are_one,
     universes_extend,
 };
+use tree_certificates::{best_tables_exist, certificates_exist, rules_fit_steps};
 
 /// Nothing is done. The clauses tell a caller that what derivations over a script's universe
 /// conclude can be written as steps, that there are at most 2^22 instances, and that in each case

@@ -67,7 +67,7 @@ impl Walk {
 }
 
 /// Walks over the box and those below it, each settled from the entry of the one above. False says
-/// that there are more boxes than the limit. Want of memory is the only error.
+/// that there are more boxes than the limit. Lack of memory is the only error.
 pub fn visit<'a, S: Settler>(
     alloc: Global,
     settler: &'a S,

@@ -33,7 +33,7 @@ fn line_with(line: Line, leaves: &[Leaf], goal: usize) -> Line
     line
 }
 
-/// The line of each goal: the hull of what the leaves know of it. Want of memory is the only error.
+/// The line of each goal: the hull of what the leaves know of it. Lack of memory is the only error.
 pub fn lines_of(alloc: Global, leaves: &[Leaf], goals: usize) -> Result<Items<Line>, AllocError>
     ensures { IfOk result (λ lines. lines ≡ spec.lines_of leaves.now goals) }
 {

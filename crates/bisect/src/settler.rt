@@ -47,7 +47,7 @@ pub trait Settler: Sync {
     type Entry: Posted;
 
     /// Settles the box at the path, which is one of the plan. The parent is the entry of the path
-    /// without its last number; there is none at the root. Want of memory is the only error.
+    /// without its last number; there is none at the root. Lack of memory is the only error.
     fn settle(
         &self,
         alloc: Global,

@@ -9,7 +9,7 @@ ghost use Rattle.box_deques.specs.Seen.{AllPasses, Each, GaveBack, OwnIsEmpty, t
 
 use crate::hand::Hand;
 use crate::lane::Lane;
-use crate::rule::{Closed, HandBack, LaneRule, Placed, Taken, View};
+use crate::rule::{Closed, HandBack, LaneRule, PlacedTask, Taken, View};
 use crate::task::{Naming, Task};
 use crossbeam_deque::Worker;
 use fx_edge::{Items, Ledger, Path};
@@ -29,7 +29,7 @@ fn write_takes(into: &mut [(u8, Path)], takes: &[(u64, Path)], who: u8)
 
 // Pops the n tasks that are left, once all passes are back.
 fn drain<T: Task, Q: Naming<T::World>>(
-    deque: &mut Worker<Placed<T>, Global, View, LaneRule<T, Q>>,
+    deque: &mut Worker<PlacedTask<T>, Global, View, LaneRule<T, Q>>,
     n: usize,
     left: &mut Vec<T>,
     paths: &mut Vec<Path>,
@@ -53,7 +53,7 @@ fn drain<T: Task, Q: Naming<T::World>>(
         let Some(placed) = deque.pop_as::<Taken<T, Q>>() else {
             unreachable!()
         };
-        let Placed { place: _, task } = placed;
+        let PlacedTask { place: _, task } = placed;
         paths.push_reserved(task.path());
         left.push_reserved(task);
     }
@@ -61,7 +61,7 @@ fn drain<T: Task, Q: Naming<T::World>>(
 
 // Takes back the pass of each hand, in their order.
 fn collect<T: Task, Q: Naming<T::World>>(
-    deque: &mut Worker<Placed<T>, Global, View, LaneRule<T, Q>>,
+    deque: &mut Worker<PlacedTask<T>, Global, View, LaneRule<T, Q>>,
     hands: &mut [Hand<T>],
     lane: usize,
 )
@@ -140,7 +140,7 @@ impl<T: Drop> LaneEnd<T> {
 
 impl<T: Task, Q: Naming<T::World>> Lane<T, Q> {
     /// Takes the lane apart, and takes out of each hand its pass on this lane. The hands are all
-    /// that `hands` made for the pool, in their order. On want of memory the lane comes back, and
+    /// that `hands` made for the pool, in their order. On lack of memory the lane comes back, and
     /// lane and hands are as they were.
     pub fn close(
         self,
@@ -151,7 +151,7 @@ impl<T: Task, Q: Naming<T::World>> Lane<T, Q> {
         requires passes { AllPasses self.number self.name hands.old }
         // The hand of this worker, if there is one, stole nothing from its own lane.
         requires own { OwnIsEmpty self.number hands.old }
-        // After want of memory.
+        // After lack of memory.
         ensures back { IfErr result (λ e. (e.0 ≡ self) × (hands.new ≡ hands.old)) }
         ensures hands { OnOk result (GaveBack self.number hands.old hands.new) }
         // The ledger.

@@ -4,7 +4,7 @@ ghost use Rattle.crossbeam_deque.specs.Handles.{view};
 ghost use Rattle.box_deques.specs.Seen.{without_pass, with_pass, seat_at, hand_with};
 ghost use Rattle.box_deques.specs.Views.{guest};
 
-use crate::rule::{Placed, View};
+use crate::rule::{PlacedTask, View};
 use crossbeam_deque::Pass;
 use fx_edge::Path;
 use std::marker::Model;
@@ -12,7 +12,7 @@ use std::marker::Model;
 /// What a hand has of one lane: its pass, its takes and its empty steals.
 #[derive(Drop)]
 pub struct Seat<T: Drop> {
-    pub(crate) pass: Option<Pass<Placed<T>, View>>,
+    pub(crate) pass: Option<Pass<PlacedTask<T>, View>>,
     pub(crate) hand: u8,
     pub(crate) room: u32,
     pub(crate) takes: Vec<(u64, Path)>,
@@ -46,7 +46,7 @@ impl<T: Drop> Model for Seat<T> {
 
 impl<T: Drop> Seat<T> {
     // Gives up its pass.
-    pub(crate) fn surrender(&mut self) -> Pass<Placed<T>, View>
+    pub(crate) fn surrender(&mut self) -> Pass<PlacedTask<T>, View>
         requires { IsSome self.old.lane }
         ensures seat { self.new ≡ without_pass self.old }
         ensures pass { (self.old.lane ≡ Some result.rows)
@@ -79,7 +79,7 @@ impl<T: Drop> Model for Hand<T> {
 
 impl<T: Drop> Hand<T> {
     // Gives up its pass on a lane.
-    pub(crate) fn surrender(&mut self, lane: usize) -> Pass<Placed<T>, View>
+    pub(crate) fn surrender(&mut self, lane: usize) -> Pass<PlacedTask<T>, View>
         requires room { lane < length self.old.seats }
         requires pass { IsSome (seat_at self.old.seats lane).lane }
         ensures hand { self.new ≡ hand_with self.old lane without_pass }
@@ -116,7 +116,7 @@ impl<T: Drop> Hand<T> {
 
 impl<T: Drop> Seat<T> {
     // Takes a new pass.
-    pub(crate) fn take_pass(&mut self, pass: Pass<Placed<T>, View>)
+    pub(crate) fn take_pass(&mut self, pass: Pass<PlacedTask<T>, View>)
         requires fresh { self.old.takes ≡ [] }
         requires pass { (pass.me.hand ≡ None) × (pass.me.spare ≡ None)
             × (view pass ≡ guest self.old.hand) }
@@ -128,7 +128,7 @@ impl<T: Drop> Seat<T> {
 
 impl<T: Drop> Hand<T> {
     // Takes a new pass on a lane.
-    pub(crate) fn take_pass(&mut self, lane: usize, pass: Pass<Placed<T>, View>)
+    pub(crate) fn take_pass(&mut self, lane: usize, pass: Pass<PlacedTask<T>, View>)
         requires room { lane < length self.old.seats }
         requires fresh { (seat_at self.old.seats lane).takes ≡ [] }
         requires pass { (pass.me.hand ≡ None) × (pass.me.spare ≡ None)

@@ -6,7 +6,7 @@ ghost use Rattle.box_deques.specs.Rule.{Belongs};
 ghost use Rattle.box_deques.specs.Seen.{with_push, with_none, with_hand, Each, IsNew};
 ghost use Rattle.box_deques.specs.Views.{guest};
 
-use crate::rule::{LaneRule, NewHand, Placed, Pushed, Taken, View};
+use crate::rule::{LaneRule, NewHand, PlacedTask, Pushed, Taken, View};
 use crate::task::{Naming, Task};
 use crate::thief::Thief;
 use crossbeam_deque::{Pass, Worker};
@@ -21,7 +21,7 @@ use std::marker::Model;
 #[repr(C)]
 pub struct Lane<T: Task, Q: Naming<T::World>> {
     pub(crate) before: [u64; 8],
-    pub(crate) deque: Worker<Placed<T>, Global, View, LaneRule<T, Q>>,
+    pub(crate) deque: Worker<PlacedTask<T>, Global, View, LaneRule<T, Q>>,
     pub(crate) number: u8,
     pub(crate) capacity: u32,
     pub(crate) pushed: Vec<Path>,
@@ -78,7 +78,7 @@ impl<T: Task, Q: Naming<T::World>> Lane<T, Q> {
         }
         let path = task.path();
         let place = self.pushed.len() as u64;
-        let placed = Placed { place, task };
+        let placed = PlacedTask { place, task };
         match self.deque.push_as::<Pushed<T, Q>>(placed) {
             Ok(()) => {
                 self.pushed.push_reserved(path);
@@ -99,7 +99,7 @@ impl<T: Task, Q: Naming<T::World>> Lane<T, Q> {
     {
         match self.deque.pop_as::<Taken<T, Q>>() {
             Some(placed) => {
-                let Placed { place, task } = placed;
+                let PlacedTask { place, task } = placed;
                 self.takes.push_reserved((place, task.path()));
                 self.dry = false;
                 Some(task)
@@ -111,7 +111,7 @@ impl<T: Task, Q: Naming<T::World>> Lane<T, Q> {
         }
     }
 
-    /// A thief of this lane. Want of memory is the only error.
+    /// A thief of this lane. Lack of memory is the only error.
     pub fn thief(&self) -> Result<Thief<T, Q>, AllocError>
         ensures { IfOk result (λ thief. (thief.number ≡ self.now.number)
             × (thief.name ≡ self.now.name)) }
@@ -130,7 +130,7 @@ impl<T: Task, Q: Naming<T::World>> Lane<T, Q> {
     }
 
     // A pass for the next hand.
-    pub(crate) fn lend(&mut self) -> Pass<Placed<T>, View>
+    pub(crate) fn lend(&mut self) -> Pass<PlacedTask<T>, View>
         ensures lane { self.new ≡ with_hand self.old }
         ensures name { result.rows ≡ self.old.name }
         ensures idle { (result.me.hand ≡ None) × (result.me.spare ≡ None) }
@@ -161,7 +161,7 @@ impl<T: Task, Q: Naming<T::World>> Lane<T, Q> {
 }
 
 /// As many lanes as there are workers (1 to 16), each for at most `capacity` pushes (1 to 8,192).
-/// It takes all memory that their pushes and pops need. Want of memory is the only error.
+/// It takes all memory that their pushes and pops need. Lack of memory is the only error.
 pub fn pool<T: Task, Q: Naming<T::World>>(
     alloc: Global,
     lanes: u8,

@@ -85,7 +85,7 @@ fn give_all<T: Task, Q: Naming<T::World>>(hands: &mut [Hand<T>], lanes: &mut [La
 
 /// One hand per lane, numbered as the lanes are, with a pass on every lane, no takes, and room for
 /// all that the pool can be pushed. The lanes are a whole pool, for which no hands were made. After
-/// want of memory they are as they were.
+/// lack of memory they are as they were.
 pub fn hands<T: Task, Q: Naming<T::World>>(
     alloc: Global,
     lanes: &mut [Lane<T, Q>],

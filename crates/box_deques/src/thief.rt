@@ -6,7 +6,7 @@ ghost use Rattle.box_deques.specs.Moments.{Takes, Steals, SameSeat, SamePasses};
 ghost use Rattle.box_deques.specs.Seen.{with_empty, hand_with, seat_at, HasPass};
 
 use crate::hand::{Hand, Seat};
-use crate::rule::{LaneRule, Placed, Taken, View};
+use crate::rule::{LaneRule, PlacedTask, Taken, View};
 use crate::task::{Naming, Task};
 use crossbeam_deque::{Pass, Steal, Stealer};
 use std::alloc::Global;
@@ -17,7 +17,7 @@ use std::sync::Wait;
 /// Takes tasks of one lane, from any thread.
 #[derive(Drop)]
 pub struct Thief<T: Task, Q: Naming<T::World>> {
-    pub(crate) stealer: Stealer<Placed<T>, Global, View, LaneRule<T, Q>>,
+    pub(crate) stealer: Stealer<PlacedTask<T>, Global, View, LaneRule<T, Q>>,
     pub(crate) number: u8,
 }
 
@@ -36,9 +36,9 @@ impl<T: Task, Q: Naming<T::World>> Model for Thief<T, Q> {
 // Takes the first task, once no other thread is in the way.
 fn take_first<T: Task, Q: Naming<T::World>, R: Wait>(
     rt: &R,
-    stealer: &Stealer<Placed<T>, Global, View, LaneRule<T, Q>>,
-    pass: &mut Pass<Placed<T>, View>,
-) -> Option<Placed<T>>
+    stealer: &Stealer<PlacedTask<T>, Global, View, LaneRule<T, Q>>,
+    pass: &mut Pass<PlacedTask<T>, View>,
+) -> Option<PlacedTask<T>>
     requires table { IsPassOf (stealer_deque stealer.now) pass.old }
     requires fifo { stealer_flavor stealer.now ≡ 0 }
     requires live { (view pass.old).live ≡ true }
@@ -73,7 +73,7 @@ impl<T: Task, Q: Naming<T::World>> Thief<T, Q> {
         };
         match take_first(rt, &self.stealer, pass) {
             Some(placed) => {
-                let Placed { place, task } = placed;
+                let PlacedTask { place, task } = placed;
                 seat.takes.push_reserved((place, task.path()));
                 Some(task)
             }

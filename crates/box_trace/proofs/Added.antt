@@ -13,7 +13,7 @@ use Rattle.saturate.specs.theorem_list.Concludes.{concludes}
 use Rattle.saturate.specs.derivation.Derivations.{At}
 use Rattle.saturate.specs.derivation.Rounds.{Reads, conclusion}
 use Rattle.saturate.specs.derivation.Parts.{slot_cases, conclusion_reads}
-use Rattle.box_traces.specs.cert_bytes.declared.item.StepRow.{StepRow}
+use Rattle.tree_certificates.specs.cert_bytes.declared.item.StepRow.{StepRow}
 use Rattle.saturate.specs.rule_universe.Worlds.{World}
 use Rattle.saturate.specs.rule_universe.declared.placed.Placed.{Placed}
 use Rattle.box_trace.specs.declared.known.Cited.{Cited}
@@ -24,8 +24,8 @@ use Rattle.box_trace.specs.Tables.{fact_of, number_of, number_or, row_of, row_in
 use Rattle.box_trace.specs.Logs.{kept_in, IsStep, Comes, IsRound, more_by}
 use Rattle.saturate.specs.rule_universe.Sizes.{beyond_four}
 use Rattle.box_trace.specs.Rounds.{premises_in, beyond_in, premises_a_round, IsStepIn, IsEarlier, IsByInstance, IsRoundOf, AreRounds, IsGivenStep, AreGiven, AreByRounds, AddsSteps, BeginsBy, HasRounds}
-use Rattle.box_traces.specs.Cited.{mapped}
-use Rattle.box_traces.specs.Coming.{coming}
+use Rattle.tree_certificates.specs.Cited.{mapped}
+use Rattle.tree_certificates.specs.Coming.{coming}
 
 -- ---- lists of steps
 all_joined : {A : Type 0} (P : A → Type 0) (xs ys : List A) → AllByRecursion P xs

@@ -26,8 +26,8 @@ use Rattle.box_trace.specs.declared.known.Known.{Known}
 use Rattle.box_trace.specs.declared.log.Log.{Log}
 use Rattle.box_trace.specs.declared.ends.Found.{Found}
 use Rattle.box_trace.specs.declared.ends.Ends.{Ends}
-use Rattle.box_traces.specs.Sections.{behind, ArePlaces}
-use Rattle.box_traces.specs.Writing.{IsWritable}
+use Rattle.tree_certificates.specs.Sections.{behind, ArePlaces}
+use Rattle.tree_certificates.specs.Writing.{IsWritable}
 use Rattle.box_trace.specs.Tables.{known_at, place_in, HasRows}
 use Rattle.box_trace.specs.Scans.{IsConclusion, ends_in, AreEndsOf, IsWide, most_for}
 use Rattle.saturate.specs.rule_universe.Sizes.{beyond_four}

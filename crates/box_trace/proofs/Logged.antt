@@ -12,21 +12,21 @@ use Rattle.saturate.specs.derivation.Rounds.{IsProper, Reads, conclusion, IsKept
 use Rattle.saturate.specs.derivation.Parts.{some_same, slot_cases, conclusion_reads}
 use Rattle.saturate.specs.derivation.Steps.{improved_proper}
 use Rattle.saturate.specs.derivation.Exists.{joined, with_fact-improves}
-use Rattle.box_traces.specs.cert_bytes.declared.item.StepRow.{StepRow}
-use Rattle.box_traces.specs.cert_bytes.Certificates.{IsCounted, IsShort}
-use Rattle.box_traces.specs.cert_checker.Open.{Numbered, with_step}
-use Rattle.box_traces.specs.cert_checker.Steps.{step_fact, step_facts, gives, met_with, IsEnough, IsConcluded, target_of}
+use Rattle.tree_certificates.specs.cert_bytes.declared.item.StepRow.{StepRow}
+use Rattle.tree_certificates.specs.cert_bytes.Certificates.{IsCounted, IsShort}
+use Rattle.tree_certificates.specs.cert_checker.Open.{Numbered, with_step}
+use Rattle.tree_certificates.specs.cert_checker.Steps.{step_fact, step_facts, gives, met_with, IsEnough, IsConcluded, target_of}
 use Rattle.saturate.specs.rule_universe.Worlds.{World}
 use Rattle.saturate.specs.Universes.{setting_of}
 use Rattle.box_trace.specs.declared.known.Known.{Known}
 use Rattle.box_trace.specs.declared.log.Log.{Log}
-use Rattle.box_traces.specs.Sections.{behind, AreAccepted, ArePlaces}
-use Rattle.box_traces.specs.Writing.{IsSlotKnown, IsWritable, givens_of}
-use Rattle.box_traces.specs.Traces.{HasFields, HaveFields}
+use Rattle.tree_certificates.specs.Sections.{behind, AreAccepted, ArePlaces}
+use Rattle.tree_certificates.specs.Writing.{IsSlotKnown, IsWritable, givens_of}
+use Rattle.tree_certificates.specs.Traces.{HasFields, HaveFields}
 use Rattle.box_trace.specs.Tables.{fact_of, number_or, cited_at, known_at, place_in, HasRows}
 use Rattle.box_trace.specs.Logs.{kept_in, IsStep, Comes, InSection, CanCite, GoesOnFrom}
-use Rattle.box_traces.specs.Cited.{step_kept, step_new, below_behind, behind_both, accepted_both, premises_found, fields_more, mapped, reads_length, differs}
-use Rattle.box_traces.specs.Coming.{aims, enough, coming_accepted, met_by, coming}
+use Rattle.tree_certificates.specs.Cited.{step_kept, step_new, below_behind, behind_both, accepted_both, premises_found, fields_more, mapped, reads_length, differs}
+use Rattle.tree_certificates.specs.Coming.{aims, enough, coming_accepted, met_by, coming}
 
 -- ---- what becomes of the table
 module _ (u : World) (old new : Log) (rule arg : ℕ) (premises : List ℕ) (c : Fact) where

@@ -6,10 +6,10 @@ use Rattle.std.proofs.Common.{arith, sym, ap, subst, ◌∙◌}
 use Rattle.std.proofs.lemmas.List.{length-append}
 use Rattle.fx_model.specs.declared.Node.{Node}
 use Rattle.fx_model.specs.declared.Node.TheVariants.{Var, Lit, Neg, Add, Sub, Mul, Div, Abs, Round}
-use Rattle.box_traces.specs.cert_bytes.declared.item.Item.{Item}
-use Rattle.box_traces.specs.cert_bytes.declared.item.Item.TheVariants as item
-use Rattle.box_traces.specs.cert_bytes.declared.item.StepRow.{StepRow}
-use Rattle.box_traces.specs.cert_bytes.Sizes.{most_bytes, most_bytes_in}
+use Rattle.tree_certificates.specs.cert_bytes.declared.item.Item.{Item}
+use Rattle.tree_certificates.specs.cert_bytes.declared.item.Item.TheVariants as item
+use Rattle.tree_certificates.specs.cert_bytes.declared.item.StepRow.{StepRow}
+use Rattle.tree_certificates.specs.cert_bytes.Sizes.{most_bytes, most_bytes_in}
 use Rattle.saturate.specs.rule_universe.Worlds.{World}
 use Rattle.box_trace.specs.declared.known.Known.{Known}
 use Rattle.saturate.specs.rule_universe.Sizes.{beyond_four, IsSmall}

@@ -20,23 +20,23 @@ use Rattle.saturate.specs.derivation.Known.{Piece}
 use Rattle.saturate.specs.derivation.Rounds.{IsBlank}
 use Rattle.saturate.specs.derivation.Parts.{none_some}
 use Rattle.saturate.specs.derivation.Exists.{joined}
-use Rattle.box_traces.specs.cert_bytes.Certificates.{IsShort}
-use Rattle.box_traces.specs.cert_checker.Open.{Numbered}
-use Rattle.box_traces.specs.cert_checker.Steps.{met_with, IsEnough, whole_line, variable_fact}
+use Rattle.tree_certificates.specs.cert_bytes.Certificates.{IsShort}
+use Rattle.tree_certificates.specs.cert_checker.Open.{Numbered}
+use Rattle.tree_certificates.specs.cert_checker.Steps.{met_with, IsEnough, whole_line, variable_fact}
 use Rattle.saturate.specs.rule_universe.Worlds.{World}
 use Rattle.saturate.specs.rule_universe.Places.{place_count}
 use Rattle.saturate.specs.Universes.{setting_of}
 use Rattle.box_trace.specs.declared.known.Known.{Known}
 use Rattle.box_trace.specs.declared.log.Log.{Log}
-use Rattle.box_traces.specs.Sections.{behind, AreAccepted, ArePlaces}
-use Rattle.box_traces.specs.Writing.{IsSlotKnown, IsWritable, givens_of}
-use Rattle.box_traces.specs.Traces.{IsCutTo, HaveFields}
+use Rattle.tree_certificates.specs.Sections.{behind, AreAccepted, ArePlaces}
+use Rattle.tree_certificates.specs.Writing.{IsSlotKnown, IsWritable, givens_of}
+use Rattle.tree_certificates.specs.Traces.{IsCutTo, HaveFields}
 use Rattle.box_trace.specs.Tables.{known_at, place_in, HasRows}
 use Rattle.box_trace.specs.Logs.{Comes, InSection}
 use Rattle.box_trace.specs.Boxes.{IsSectionBelow, BeginsWithin, BeginsBelow}
 use Rattle.box_trace.proofs.Rows.{same_known, same_places, same_rows}
 use Rattle.box_trace.proofs.Logged.{Suffices, comes_rows, comes_first, comes_few, comes_section}
-use Rattle.box_traces.specs.Coming.{enough, met_by_interval, met_by}
+use Rattle.tree_certificates.specs.Coming.{enough, met_by_interval, met_by}
 
 -- what comes by a rule that is told by its number
 pub comes_as : (u : World) (old : Log) (rule arg : ℕ) (premises : List ℕ) (c : Fact) (new : Log) (r a : ℕ) → rule ≡ r → arg ≡ a → premises ≡ [] → Comes u old rule arg premises c new → Comes u old r a [] c new

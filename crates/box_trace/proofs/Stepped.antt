@@ -15,7 +15,7 @@ use Rattle.box_trace.specs.Tables.{row_in, fact_of, number_or, cited_at, known_a
 use Rattle.box_trace.specs.Logs.{kept_in, Comes}
 use Rattle.box_trace.proofs.OnePlace.{place_slot, place_within}
 use Rattle.box_trace.proofs.Rows.{read_at, put_here, put_there}
-use Rattle.box_traces.specs.Coming.{with_by-some, with_by}
+use Rattle.tree_certificates.specs.Coming.{with_by-some, with_by}
 use Rattle.facts.specs.CommonParts.{void_is}
 
 -- ---- what is kept

@@ -3,7 +3,7 @@ use Rattle.std.specs.Prelude.{◌≡◌, ◌<◌, ◌⊎◌, ℕ, List, length, 
 use Rattle.std.specs.Borrow.{Bor}
 use Rattle.std.proofs.Common.{sym, ◌∙◌, subst, inl, inr}
 use Rattle.saturate.specs.derivation.Known.{Piece}
-use Rattle.box_traces.specs.cert_bytes.declared.item.StepRow.{StepRow}
+use Rattle.tree_certificates.specs.cert_bytes.declared.item.StepRow.{StepRow}
 use Rattle.saturate.specs.rule_universe.Worlds.{World}
 use Rattle.box_trace.specs.declared.known.Known.{Known}
 use Rattle.box_trace.specs.declared.log.Log.{Log}

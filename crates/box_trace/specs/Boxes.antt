@@ -7,16 +7,16 @@ use Rattle.facts.specs.declared.fact.Slot.TheVariants as slot
 use Rattle.saturate.specs.derivation.Derivations.{At}
 use Rattle.saturate.specs.derivation.Known.{Piece, IsTableAt}
 use Rattle.saturate.specs.derivation.Exists.{joined}
-use Rattle.box_traces.specs.cert_checker.Open.{Numbered}
-use Rattle.box_traces.specs.cert_checker.Steps.{met_with, IsEnough}
+use Rattle.tree_certificates.specs.cert_checker.Open.{Numbered}
+use Rattle.tree_certificates.specs.cert_checker.Steps.{met_with, IsEnough}
 use Rattle.saturate.specs.rule_universe.Worlds.{World}
 use Rattle.saturate.specs.Universes.{setting_of}
 use Rattle.box_trace.specs.declared.known.Known.{Known}
 use Rattle.box_trace.specs.declared.log.Log.{Log}
 use Rattle.box_trace.specs.declared.tracing.Traced.{Traced}
-use Rattle.box_traces.specs.Sections.{ArePlaces, AreBelow, IsTraced}
-use Rattle.box_traces.specs.Writing.{IsWritable, givens_of}
-use Rattle.box_traces.specs.Traces.{HaveFields, IsCutTo}
+use Rattle.tree_certificates.specs.Sections.{ArePlaces, AreBelow, IsTraced}
+use Rattle.tree_certificates.specs.Writing.{IsWritable, givens_of}
+use Rattle.tree_certificates.specs.Traces.{HaveFields, IsCutTo}
 use Rattle.box_trace.specs.Tables.{known_at, place_in, HasRows}
 
 -- The box is the root, and nothing is given; or the last cut's piece and what is known at its

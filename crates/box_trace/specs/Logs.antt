@@ -8,7 +8,7 @@ use Rattle.saturate.specs.derivation.Derivations.{At}
 use Rattle.saturate.specs.derivation.Exists.{joined}
 use Rattle.saturate.specs.derivation.Rounds.{Improves, IsAhead, AllSeen}
 use Rattle.saturate.specs.derivation.Changes.{IsListed}
-use Rattle.box_traces.specs.cert_checker.Open.{Numbered}
+use Rattle.tree_certificates.specs.cert_checker.Open.{Numbered}
 use Rattle.saturate.specs.rule_universe.Worlds.{World}
 use Rattle.saturate.specs.rule_universe.declared.placed.Placed.{Placed}
 use Rattle.saturate.specs.rule_universe.Placed.{slots_of, IsPlaced}
@@ -18,13 +18,13 @@ use Rattle.box_trace.specs.declared.log.Log.{Log}
 use Rattle.box_trace.specs.declared.ends.Found.{Found}
 use Rattle.box_trace.specs.declared.ends.Ends.{Ends}
 use Rattle.box_trace.specs.Scans.{IsWide}
-use Rattle.box_traces.specs.Sections.{behind, ArePlaces, AreBelow, IsTraced}
-use Rattle.box_traces.specs.Writing.{IsWritable, givens_of}
-use Rattle.box_traces.specs.Traces.{HaveFields}
+use Rattle.tree_certificates.specs.Sections.{behind, ArePlaces, AreBelow, IsTraced}
+use Rattle.tree_certificates.specs.Writing.{IsWritable, givens_of}
+use Rattle.tree_certificates.specs.Traces.{HaveFields}
 use Rattle.box_trace.specs.Tables.{cited_at, known_at, place_in, HasRows}
 use Rattle.saturate.specs.rule_universe.Sizes.{beyond_four}
 use Rattle.box_trace.specs.Rounds.{beyond_in, AddsSteps}
-use Rattle.box_traces.specs.Coming.{coming}
+use Rattle.tree_certificates.specs.Coming.{coming}
 
 -- ---- one fact comes
 -- what is kept on the slot of c

@@ -1,10 +1,10 @@
 -- How many bytes a box's own items have.
 use Rattle.std.specs.Prelude.{◌≤◌, ◌^◌, ⊤, ℕ, List, [], ◌∷◌, ◌++◌, length, map, Option}
 use Rattle.std.specs.Borrow.{Bor}
-use Rattle.box_traces.specs.cert_bytes.declared.item.Item.{Item}
-use Rattle.box_traces.specs.cert_bytes.declared.item.Item.TheVariants as item
-use Rattle.box_traces.specs.cert_bytes.declared.item.StepRow.{StepRow}
-use Rattle.box_traces.specs.cert_bytes.Sizes.{most_bytes_in}
+use Rattle.tree_certificates.specs.cert_bytes.declared.item.Item.{Item}
+use Rattle.tree_certificates.specs.cert_bytes.declared.item.Item.TheVariants as item
+use Rattle.tree_certificates.specs.cert_bytes.declared.item.StepRow.{StepRow}
+use Rattle.tree_certificates.specs.cert_bytes.Sizes.{most_bytes_in}
 use Rattle.saturate.specs.rule_universe.Worlds.{World}
 use Rattle.saturate.specs.rule_universe.Sizes.{IsSmall}
 use Rattle.box_trace.specs.declared.known.Known.{Known}

@@ -3,8 +3,8 @@
 #![tactic(auto)]
 
 // What callers name of the crates below.
-pub use box_traces::{Subject, certificates_exist, walks_move};
 pub use saturate::{Universe, rules_are_lawful};
+pub use tree_certificates::{Subject, certificates_exist, walks_move};
 
 mod ends;
 mod known;

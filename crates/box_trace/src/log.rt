@@ -1,5 +1,5 @@
 //! The steps that a box's facts come by.
-ghost use Rattle.box_traces.specs.Coming.{with_by};
+ghost use Rattle.tree_certificates.specs.Coming.{with_by};
 ghost use Rattle.std.specs.Prelude.{◌≡◌, ◌<◌, ◌+◌, ◌^◌, [], Some, IfNone, IfSome, OnOk, length};
 ghost use Rattle.facts.specs.Order.{slot_of, IsStronger};
 ghost use Rattle.saturate.specs.derivation.Exists.{joined};
@@ -9,11 +9,11 @@ ghost use Rattle.box_trace.specs.Tables.{fact_of, number_of, number_or, HasRows}
 ghost use Rattle.box_trace.specs.Logs.{Comes};
 
 use crate::known::{Cited, Known, number_of};
-use box_traces::StepRow;
 use facts::{Fact, meet, slot, stronger};
 use fx_edge::Items;
 use saturate::Universe;
 use std::alloc::{AllocError, Global};
+use tree_certificates::StepRow;
 
 /// The steps so far, the first with this number, and what they come to.
 #[derive(Drop)]

@@ -10,11 +10,11 @@ use crate::known::Known;
 use crate::log::Log;
 use crate::rounds::rounds;
 use crate::starts::{child_start, root_start};
-use box_traces::StepRow;
 use fx_model::ExprId;
 use interval::Interval;
 use saturate::{Universe, rules_are_lawful};
 use std::alloc::{AllocError, Global};
+use tree_certificates::StepRow;
 
 /// A box's own steps, in their order, and its best facts, each with the number of its step: the
 /// box's own or an ancestor's.

@@ -121,7 +121,7 @@ fn copy_cuts(alloc: Global, cuts: &[Split]) -> Result<Items<Split>, AllocError>
 impl Plan {
     /// The cuts that the hints ask for, over the ranges that the claims give the split variables;
     /// boxes are halved `depth` times at most (0 to 32). The claims are the hypotheses, or one case
-    /// of them. Want of memory is the only error.
+    /// of them. Lack of memory is the only error.
     pub fn new(
         alloc: Global,
         claims: &[Claim],

@@ -16,7 +16,7 @@ use std::sync::Wait;
 /// Why a box is held.
 #[derive(Clone, Copy, Debug, PartialEq, Eq)]
 pub enum HeldWhy {
-    /// Want of memory.
+    /// Lack of memory.
     Memory,
     /// The lane was pushed as many tasks as it can be.
     LaneFull,

@@ -67,7 +67,7 @@ impl Gathered {
     }
 
     /// Adds what the tree of the next case came to, which might have the boxes that were left.
-    /// False says that it has more. Want of memory is the only error.
+    /// False says that it has more. Lack of memory is the only error.
     pub fn add(&mut self, outcome: Outcome) -> Result<bool, AllocError>
         requires few { self.old.cases < 255 }
         requires within { IsWithin (boxes_left self.old) outcome }

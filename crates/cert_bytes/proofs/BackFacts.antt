@@ -11,7 +11,7 @@ use Rattle.facts.specs.interval.declared.interval.Interval.{Interval}
 use Rattle.facts.specs.interval.Meets.{interval_from, interval_from_self}
 use Rattle.facts.specs.declared.relative.RelativeError.{RelativeError}
 use Rattle.facts.specs.declared.size.Size.{Size}
-use Rattle.facts.specs.declared.place.Place.{Place}
+use Rattle.facts.specs.declared.place.FixPlace.{FixPlace}
 use Rattle.facts.specs.declared.fact.Fact.{Fact}
 use Rattle.facts.specs.declared.fact.Fact.TheVariants as fact
 use Rattle.facts.specs.Parts.{size_from, size_from_self, error_from, error_from_self}
@@ -78,10 +78,10 @@ unfolding error_at
 error_back (Some e) = then_back byte_at error_by (one 0) (interval e.interval) 0 (Some e) (byte_back 0) (λ at. last_back relative_at (λ own v c. Ok (Some v, c)) (interval e.interval) e (Some e) (relative_back e) (λ own c. refl))
 error_back None = last_back byte_at error_by (one 1) 1 None (byte_back 1) (λ at c. refl)
 
-place_fits : (p : Place) → FitsSigned w16 p.exponent
+place_fits : (p : FixPlace) → FitsSigned w16 p.exponent
 place_fits p = let l = p.lowest in let h = p.highest in small_exponent p.exponent (omega (arith, ints)) (omega (arith, ints))
 
-pub place_back : (p : Place) → ReadsBack place_at (signed_short p.exponent) p
+pub place_back : (p : FixPlace) → ReadsBack place_at (signed_short p.exponent) p
 unfolding place_at
 place_back p = last_back signed_short_at (λ at k c. numbered at (place_from k) c) (signed_short p.exponent) p.exponent p (signed_short_back p.exponent (place_fits p)) (λ at c. ap (λ o. numbered at o c) (sym (place_from_self p)))
 
@@ -99,7 +99,7 @@ rel_back : (x y : ExprId) (e : Option RelativeError) → x.0 < 2 ^ 16 → y.0 < 
 unfolding rel_at
 rel_back x y e s t = last_back (both_at pair_at error_at) (λ at v c. Ok (fact.Rel v.0.0 v.0.1 v.1, c)) (short x.0 ⧺ short y.0 ⧺ error e) ((x, y), e) (fact.Rel x y e) (both_back pair_at error_at (short x.0 ⧺ short y.0) (error e) (x, y) e (pair_back x y s t) (error_back e)) (λ at c. refl)
 
-fix_back : (x : ExprId) (k : Place) → x.0 < 2 ^ 16 → ReadsBack fix_at (short x.0 ⧺ signed_short k.exponent) (fact.Fix x k)
+fix_back : (x : ExprId) (k : FixPlace) → x.0 < 2 ^ 16 → ReadsBack fix_at (short x.0 ⧺ signed_short k.exponent) (fact.Fix x k)
 unfolding fix_at
 fix_back x k s = last_back (both_at expr_at place_at) (λ at v c. Ok (fact.Fix v.0 v.1, c)) (short x.0 ⧺ signed_short k.exponent) (x, k) (fact.Fix x k) (both_back expr_at place_at (short x.0) (signed_short k.exponent) x k (expr_back x s) (place_back k)) (λ at c. refl)
 

@@ -9,8 +9,8 @@ use Rattle.cert_bytes.specs.declared.item.Item.TheVariants as item
 use Rattle.cert_bytes.specs.declared.style.Style.{Style}
 use Rattle.cert_bytes.specs.declared.style.Style.TheVariants.{First, Second}
 use Rattle.cert_bytes.specs.Styles.{style_after, IsStyleFor, IsFew}
-use Rattle.cert_bytes.specs.declared.order.Due.{Due}
-use Rattle.cert_bytes.specs.declared.order.Due.TheVariants.{Head, Nodes, Marks, Sections, Done}
+use Rattle.cert_bytes.specs.declared.order.DueItem.{DueItem}
+use Rattle.cert_bytes.specs.declared.order.DueItem.TheVariants.{Head, Nodes, Marks, Sections, Done}
 use Rattle.cert_bytes.specs.Due.{due_after, due_behind}
 use Rattle.cert_bytes.specs.Certificates.{AreDue}
 use Rattle.cert_bytes.specs.Reading.{Cursor, Read, cursor, styled, fault, byte_at, long_at, same_count_at, counts_at, trailer_at, more_at, end_item_at, closed_at, entry_at, item_at, ◌>>=◌}
@@ -28,7 +28,7 @@ use Rattle.cert_bytes.proofs.Whole.{some_same, due_some, none_behind, end_alone,
 
 -- ---- the end
 
-is_done : (d : Due) → (d ≡ Done) ⊎ (¬ (d ≡ Done))
+is_done : (d : DueItem) → (d ≡ Done) ⊎ (¬ (d ≡ Done))
 is_done Head = inr (λ e. cc)
 is_done (Nodes n) = inr (λ e. cc)
 is_done (Marks n) = inr (λ e. cc)
@@ -36,7 +36,7 @@ is_done (Sections n) = inr (λ e. cc)
 is_done Done = inl refl
 
 -- nothing is due behind the end alone
-last_due : (d : Due) (i : Item) → due_after d i ≡ Some Done → (d ≡ Sections 0) × (i ≡ item.End)
+last_due : (d : DueItem) (i : Item) → due_after d i ≡ Some Done → (d ≡ Sections 0) × (i ≡ item.End)
 last_due Head (item.Nodes n) q = cc
 last_due (Nodes (suc k)) (item.Node n) q = cc
 last_due (Nodes zero) (item.Marks n) q = cc
@@ -54,37 +54,37 @@ last_due (Sections zero) item.End q = (refl, refl)
 last_due d i q = cc
 
 -- behind it no byte is left
-at_end : (d : Due) (c next : Cursor) (i : Item) → AreBytes c.rest → item_at d c ≡ Ok (i, next) → d ≡ Sections 0 → next.rest ≡ []
+at_end : (d : DueItem) (c next : Cursor) (i : Item) → AreBytes c.rest → item_at d c ≡ Ok (i, next) → d ≡ Sections 0 → next.rest ≡ []
 unfolding item_at
 at_end d c next i b e z =
-    let q : item_at (Sections 0) c ≡ Ok (i, next) = subst (λ (d : Due). item_at d c ≡ Ok (i, next)) z e in
+    let q : item_at (Sections 0) c ≡ Ok (i, next) = subst (λ (d : DueItem). item_at d c ≡ Ok (i, next)) z e in
     let o = bind_out (entry_at (Sections 0) c) (λ v. Ok (v.0, styled (style_after v.1.style v.0) v.1)) (i, next) q in
     let r = closed_out c o.0.1 o.0.0 b (sym (last_way c) ∙ o.1) in
     sym (ap (λ (c : Cursor). c.rest) (ok_parts o.0.0 i (styled (style_after o.0.1.style o.0.0) o.0.1) next o.2).1) ∙ r.none
 
-end_behind : (d : Due) (c next : Cursor) (i : Item) → AreBytes c.rest → IsRead d c next i → item_at d c ≡ Ok (i, next) → due_behind d i ≡ Done → next.rest ≡ []
+end_behind : (d : DueItem) (c next : Cursor) (i : Item) → AreBytes c.rest → IsRead d c next i → item_at d c ≡ Ok (i, next) → due_behind d i ≡ Done → next.rest ≡ []
 end_behind d c next i b r e z = at_end d c next i b e (last_due d i (r.due ∙ ap (λ d. Some d) z)).0
 
 -- ---- what is read to the end was spelled
 
 -- the items, with the style in which the first of them is spelled
-record AreSpelled (d : Due) (c : Cursor) (items : List Item) : Type 0 where
+record AreSpelled (d : DueItem) (c : Cursor) (items : List Item) : Type 0 where
   style : Style
   is_style : IsStyleFor d c.style style
   due : AreDue (Some d) items
   bytes : c.rest ≡ spelled_from style items
 
-only_style : (e : Due) (old style : Style) → ¬ (e ≡ Head) → IsStyleFor e old style → style ≡ old
+only_style : (e : DueItem) (old style : Style) → ¬ (e ≡ Head) → IsStyleFor e old style → style ≡ old
 only_style Head old style n s = absurd (n refl)
 only_style (Nodes k) old style n s = s
 only_style (Marks k) old style n s = s
 only_style (Sections k) old style n s = s
 only_style Done old style n s = s
 
-done_is_spelled : (d : Due) (c : Cursor) → d ≡ Done → c.rest ≡ [] → AreSpelled d c []
-done_is_spelled d c z e = record { style = c.style; is_style = subst (λ (d : Due). IsStyleFor d c.style c.style) (sym z) refl; due = z; bytes = e }
+done_is_spelled : (d : DueItem) (c : Cursor) → d ≡ Done → c.rest ≡ [] → AreSpelled d c []
+done_is_spelled d c z e = record { style = c.style; is_style = subst (λ (d : DueItem). IsStyleFor d c.style c.style) (sym z) refl; due = z; bytes = e }
 
-are_spelled : (d : Due) (c : Cursor) (items : List Item) → AreBytes c.rest → (d ≡ Done → c.rest ≡ []) → AreRead d c items → AreSpelled d c items
+are_spelled : (d : DueItem) (c : Cursor) (items : List Item) → AreBytes c.rest → (d ≡ Done → c.rest ≡ []) → AreRead d c items → AreSpelled d c items
 are_spelled d c [] b z a = done_is_spelled d c a (z a)
 are_spelled d c (i ∷ items) b z a =
     let r = items_read_out d c a.0 i b a.2 a.1 in
@@ -140,22 +140,22 @@ closed_here : (style : Style) (at : ℕ) → IsFew style at → at + length (tra
 unfolding item_at
 closed_here style at f l = ap (λ q. q >>= λ v. Ok (v.0, styled (style_after v.1.style v.0) v.1)) (last_way (place style at (trailer style)) ∙ closed style at f l)
 
-no_more : (e : Due) (items : List Item) → e ≡ Done → AreDue (Some e) items → items ≡ []
+no_more : (e : DueItem) (items : List Item) → e ≡ Done → AreDue (Some e) items → items ≡ []
 no_more e [] z a = refl
 no_more e (i ∷ items) z a = absurd (none_behind e i items z a.1)
 
-reads_end : (d e : Due) (i : Item) (items : List Item) (old style : Style) (at : ℕ) → i ≡ item.End → due_after d i ≡ Some e → AreDue (Some e) items → IsStyleFor d old style → IsFew style at → at + length (spelling i style) ≤ 17592186044416
+reads_end : (d e : DueItem) (i : Item) (items : List Item) (old style : Style) (at : ℕ) → i ≡ item.End → due_after d i ≡ Some e → AreDue (Some e) items → IsStyleFor d old style → IsFew style at → at + length (spelling i style) ≤ 17592186044416
     → item_at d (place old at (spelling i style ++ spelled_from (style_after style i) items)) ≡ Ok (i, place (style_after style i) (at + length (spelling i style)) (spelled_from (style_after style i) items))
 reads_end d e i items old style at z q a u f l =
     let first : due_after d item.End ≡ Some e = subst (λ (i : Item). due_after d i ≡ Some e) z q in
     let s : d ≡ Sections 0 = end_alone d e first in
-    let done : Some Done ≡ Some e = subst (λ (d : Due). due_after d item.End ≡ Some e) s first in
+    let done : Some Done ≡ Some e = subst (λ (d : DueItem). due_after d item.End ≡ Some e) s first in
     let none : items ≡ [] = no_more e items (sym (some_same Done e done)) a in
-    let kept : style ≡ old = subst (λ (d : Due). IsStyleFor d old style) s u in
+    let kept : style ≡ old = subst (λ (d : DueItem). IsStyleFor d old style) s u in
     let m : at + length (trailer style) ≤ 17592186044416 = subst (λ (i : Item). at + length (spelling i style) ≤ 17592186044416) z l in
     rw (s, z, none, sym kept) (ap (λ (s : List ℕ). item_at (Sections 0) (place style at s)) (append-nil (trailer style)) ∙ closed_here style at f m)
 
-read_from : (d : Due) (old style : Style) (at : ℕ) (items : List Item) → at + length (spelled_from style items) ≤ 17592186044416 → IsStyleFor d old style → IsFew style at → AreDue (Some d) items → AreRead d (place old at (spelled_from style items)) items
+read_from : (d : DueItem) (old style : Style) (at : ℕ) (items : List Item) → at + length (spelled_from style items) ≤ 17592186044416 → IsStyleFor d old style → IsFew style at → AreDue (Some d) items → AreRead d (place old at (spelled_from style items)) items
 read_from d old style at [] l u f a = a
 read_from d old style at (i ∷ items) l u f a =
     let next : Style = style_after style i in
@@ -172,7 +172,7 @@ read_from d old style at (i ∷ items) l u f a =
       place next (at + length (spelling i style)) (spelled_from next items),
       here,
       left,
-      read_from (due_behind d i) next next (at + length (spelling i style)) items (omega (arith, l, size)) kept few (subst (λ (e : Due). AreDue (Some e) items) due o.2),
+      read_from (due_behind d i) next next (at + length (spelling i style)) items (omega (arith, l, size)) kept few (subst (λ (e : DueItem). AreDue (Some e) items) due o.2),
     )
 
 pub spelled_are_read : SpelledAreRead
@@ -196,12 +196,12 @@ same_read : (r : Read Item) (i j : Item) (n m : Cursor) → r ≡ Ok (i, n) → 
 same_read r i j n m e f = let q = same_pair r (i, n) (j, m) e f in (ap (λ (p : Item × Cursor). p.0) q, ap (λ (p : Item × Cursor). p.1) q)
 
 -- what follows another item that was read at the same place follows this one
-moved : (d : Due) (c : Cursor) (i j : Item) (n m : Cursor) (js : List Item) (f : CertFault) → item_at d c ≡ Ok (i, n) → item_at d c ≡ Ok (j, m) → FailsBehind (due_behind d j) m js f → FailsBehind (due_behind d i) n js f
+moved : (d : DueItem) (c : Cursor) (i j : Item) (n m : Cursor) (js : List Item) (f : CertFault) → item_at d c ≡ Ok (i, n) → item_at d c ≡ Ok (j, m) → FailsBehind (due_behind d j) m js f → FailsBehind (due_behind d i) n js f
 moved d c i j n m js f e g q =
     let s = same_read (item_at d c) j i m n g e in
     subst (λ (n : Cursor). FailsBehind (due_behind d i) n js f) s.1 (subst (λ (i : Item). FailsBehind (due_behind d i) m js f) s.0 q)
 
-one_fault_from : (d : Due) (c : Cursor) (items others : List Item) (f g : CertFault) → FailsBehind d c items f → FailsBehind d c others g → f ≡ g
+one_fault_from : (d : DueItem) (c : Cursor) (items others : List Item) (f g : CertFault) → FailsBehind d c items f → FailsBehind d c others g → f ≡ g
 one_fault_from d c [] [] f g p q = same_fault (item_at d c) f g p q
 one_fault_from d c [] (j ∷ js) f g p q = absurd (not_both (item_at d c) f (j, q.0) p q.1)
 one_fault_from d c (i ∷ is) [] f g p q = absurd (not_both (item_at d c) g (i, p.0) q p.1)
@@ -214,8 +214,8 @@ done_reads : (c : Cursor) (f : CertFault) → item_at Done c ≡ Err f → ⊥
 unfolding item_at entry_at
 done_reads c f e = cc
 
-read_or_fault : (d : Due) (c : Cursor) (items others : List Item) (f : CertFault) → AreRead d c items → FailsBehind d c others f → ⊥
-read_or_fault d c [] [] f a q = done_reads c f (subst (λ (d : Due). item_at d c ≡ Err f) a q)
+read_or_fault : (d : DueItem) (c : Cursor) (items others : List Item) (f : CertFault) → AreRead d c items → FailsBehind d c others f → ⊥
+read_or_fault d c [] [] f a q = done_reads c f (subst (λ (d : DueItem). item_at d c ≡ Err f) a q)
 read_or_fault d c [] (j ∷ js) f a q = q.2 a
 read_or_fault d c (i ∷ is) [] f a q = not_both (item_at d c) f (i, a.0) q a.1
 read_or_fault d c (i ∷ is) (j ∷ js) f a q = read_or_fault (due_behind d i) a.0 is js f a.3 (moved d c i j a.0 q.0 js f a.1 q.1 q.3)
@@ -225,19 +225,19 @@ never_both bytes items f l s q = read_or_fault Head (cursor First bytes 0) items
 
 -- ---- reading ends
 
-abbrev Ends : Due → Cursor → Type 0
+abbrev Ends : DueItem → Cursor → Type 0
 Ends d c = ((items : List Item) × AreRead d c items) ⊎ ((items : List Item) × (f : CertFault) × FailsBehind d c items f)
 
 -- with one item more before it
-one_before : (d : Due) (c next : Cursor) (i : Item) → item_at d c ≡ Ok (i, next) → ¬ (d ≡ Done) → Ends (due_behind d i) next → Ends d c
+one_before : (d : DueItem) (c next : Cursor) (i : Item) → item_at d c ≡ Ok (i, next) → ¬ (d ≡ Done) → Ends (due_behind d i) next → Ends d c
 one_before d c next i e n (inl r) = inl (i ∷ r.0, (next, e, n, r.1))
 one_before d c next i e n (inr r) = inr (i ∷ r.0, r.1, (next, e, n, r.2))
 
 fewer : (i : Item) (style : Style) (c next : Cursor) → ¬ (i ≡ item.End) → c.rest ≡ spelling i style ++ next.rest → length next.rest + 1 ≤ length c.rest
 fewer i style c next n e = let s = items_have_a_byte i style n in let l : length c.rest ≡ length (spelling i style) + length next.rest = ap length e ∙ length-append (spelling i style) next.rest in omega (arith, s, l)
 
-goes_on : (d : Due) (c : Cursor) → ¬ (d ≡ Done) → AreBytes c.rest → (r : Read Item) → item_at d c ≡ r
-    → ((e : Due) (next : Cursor) → length next.rest + 1 ≤ length c.rest → AreBytes next.rest → Ends e next) → Ends d c
+goes_on : (d : DueItem) (c : Cursor) → ¬ (d ≡ Done) → AreBytes c.rest → (r : Read Item) → item_at d c ≡ r
+    → ((e : DueItem) (next : Cursor) → length next.rest + 1 ≤ length c.rest → AreBytes next.rest → Ends e next) → Ends d c
 goes_on d c n b (Err f) e shorter = inr ([], f, e)
 goes_on d c n b (Ok v) e shorter =
     let q = items_read_out d c v.1 v.0 b n e in
@@ -246,10 +246,10 @@ goes_on d c n b (Ok v) e shorter =
     (λ m. shorter (due_behind d v.0) v.1 (fewer v.0 q.style c v.1 m q.bytes) q.behind)
     (is_end v.0))
   where
-    last : (d : Due) (i : Item) → d ≡ Sections 0 → i ≡ item.End → due_behind d i ≡ Done
+    last : (d : DueItem) (i : Item) → d ≡ Sections 0 → i ≡ item.End → due_behind d i ≡ Done
     last d i w z = rw (w, z) refl
 
-reading_ends : (fuel : ℕ) (d : Due) (c : Cursor) → length c.rest < fuel → AreBytes c.rest → Ends d c
+reading_ends : (fuel : ℕ) (d : DueItem) (c : Cursor) → length c.rest < fuel → AreBytes c.rest → Ends d c
 reading_ends zero d c l b = absurd (let z : length c.rest < 0 = l in omega (arith, z))
 reading_ends (suc fuel) d c l b = ⊎_elim
     (λ e. inl ([], e))

@@ -7,7 +7,7 @@ use Rattle.facts.specs.interval.declared.interval.Interval.{Interval}
 use Rattle.facts.specs.interval.Meets.{interval_from, interval_from_out}
 use Rattle.facts.specs.declared.relative.RelativeError.{RelativeError}
 use Rattle.facts.specs.declared.size.Size.{Size}
-use Rattle.facts.specs.declared.place.Place.{Place}
+use Rattle.facts.specs.declared.place.FixPlace.{FixPlace}
 use Rattle.facts.specs.declared.fact.Fact.{Fact}
 use Rattle.facts.specs.declared.fact.Fact.TheVariants as fact
 use Rattle.facts.specs.Parts.{size_from, size_from_out, error_from, error_from_out}
@@ -87,7 +87,7 @@ error_out = then_out byte_at error_by IsOneByte IsError byte_out (λ at tag s q.
     (tag_out tag 1 _ _ (λ e t. IsError e (s ⧺ t)) (λ z. pure_out None (λ e t. IsError e (s ⧺ t)) (tagged_as tag 1 s no_bytes no_bytes q z refl))
     (fault_out BadTag at (λ e t. IsError e (s ⧺ t)))))
 
-abbrev IsPlaceOf : Place → Bytes → Type 0
+abbrev IsPlaceOf : FixPlace → Bytes → Type 0
 IsPlaceOf k s = s ≡ signed_short k.exponent
 
 place_out : ReadsOut place_at IsPlaceOf

@@ -8,8 +8,8 @@ use Rattle.cert_bytes.specs.declared.fault.CertKind.TheVariants.{BadTag}
 use Rattle.cert_bytes.specs.declared.item.Item.{Item}
 use Rattle.cert_bytes.specs.declared.item.Item.TheVariants as item
 use Rattle.cert_bytes.specs.declared.style.Style.{Style}
-use Rattle.cert_bytes.specs.declared.order.Due.{Due}
-use Rattle.cert_bytes.specs.declared.order.Due.TheVariants.{Head, Nodes, Marks, Sections, Done}
+use Rattle.cert_bytes.specs.declared.order.DueItem.{DueItem}
+use Rattle.cert_bytes.specs.declared.order.DueItem.TheVariants.{Head, Nodes, Marks, Sections, Done}
 use Rattle.cert_bytes.specs.Styles.{style_after, IsStyleFor}
 use Rattle.cert_bytes.specs.Due.{due_after, due_behind, split_into, IsOfSection, IsOfRoot}
 use Rattle.cert_bytes.specs.Certificates.{HasSpelling, Fits}
@@ -137,7 +137,7 @@ root_item_out = then_out byte_at root_by IsOneByte IsRootItem byte_out (λ at ta
 -- ---- the item that is due
 
 -- It is one that is due, with its bytes.
-record IsDueItem (d : Due) (i : Item) (s : Bytes) : Type 0 where
+record IsDueItem (d : DueItem) (i : Item) (s : Bytes) : Type 0 where
   due : due_after d i ≡ Some (due_behind d i)
   spelled : IsItem i s
 
@@ -212,7 +212,7 @@ behind_after (Sections zero) item.End e q = refl
 behind_after d i e q = cc
 
 -- an item of a section, where one is due
-of_section : (d : Due) → ((i : Item) → IsOfSection i → due_after d i ≡ Some (due_behind d i)) → ReadsOut section_item_at (IsDueItem d)
+of_section : (d : DueItem) → ((i : Item) → IsOfSection i → due_after d i ≡ Some (due_behind d i)) → ReadsOut section_item_at (IsDueItem d)
 of_section d f = weaker section_item_at IsSectionItem (IsDueItem d) (λ i s q. record { due = f i q.of_section; spelled = q.is }) section_item_out
 
 of_root : ReadsOut root_item_at (IsDueItem (Marks zero))
@@ -227,7 +227,7 @@ unfolding entry_at section_or_end_at
 last_way c = refl
 
 -- The bytes of the item that is due, and the style of its numbers.
-record IsEntry (d : Due) (c mid : Cursor) (i : Item) : Type 0 where
+record IsEntry (d : DueItem) (c mid : Cursor) (i : Item) : Type 0 where
   is_style : IsStyleFor d c.style mid.style
   due : due_after d i ≡ Some (due_behind d i)
   has_spelling : HasSpelling i
@@ -253,7 +253,7 @@ last_entry c mid i b e =
     })
 
 -- one in the style of the numbers before it
-kept_entry : (d : Due) → ((old style : Style) → style ≡ old → IsStyleFor d old style) → {r : Cursor → Read Item} → ((c : Cursor) → entry_at d c ≡ r c) → ReadsOut r (IsDueItem d) → (c mid : Cursor) (i : Item) → AreBytes c.rest → entry_at d c ≡ Ok (i, mid) → IsEntry d c mid i
+kept_entry : (d : DueItem) → ((old style : Style) → style ≡ old → IsStyleFor d old style) → {r : Cursor → Read Item} → ((c : Cursor) → entry_at d c ≡ r c) → ReadsOut r (IsDueItem d) → (c mid : Cursor) (i : Item) → AreBytes c.rest → entry_at d c ≡ Ok (i, mid) → IsEntry d c mid i
 kept_entry d kept way out c mid i b e =
     let r = out c mid i b (sym (way c) ∙ e) in record {
       is_style = kept c.style mid.style r.styled;
@@ -264,7 +264,7 @@ kept_entry d kept way out c mid i b e =
       behind = r.behind;
     }
 
-entry_out : (d : Due) → ¬ (d ≡ Done) → (c mid : Cursor) (i : Item) → AreBytes c.rest → entry_at d c ≡ Ok (i, mid) → IsEntry d c mid i
+entry_out : (d : DueItem) → ¬ (d ≡ Done) → (c mid : Cursor) (i : Item) → AreBytes c.rest → entry_at d c ≡ Ok (i, mid) → IsEntry d c mid i
 entry_out Head n = first_entry
 entry_out (Nodes zero) n = kept_entry (Nodes zero) (λ old style e. e) marks_way marks_out
 entry_out (Nodes (suc k)) n = kept_entry (Nodes (suc k)) (λ old style e. e) (node_way k) (node_item_out k)

@@ -2,8 +2,8 @@
 use Rattle.std.proofs.Common.{◌≡◌, ◌≤◌, ◌<◌, ◌+◌, ◌*◌, ℕ, List, [], drop, length, Option, Some, None, refl, sym, ap, subst, arith}
 use Rattle.cert_bytes.specs.declared.item.Item.{Item}
 use Rattle.cert_bytes.specs.declared.item.Item.TheVariants as item
-use Rattle.cert_bytes.specs.declared.order.Due.{Due}
-use Rattle.cert_bytes.specs.declared.order.Due.TheVariants.{Head, Nodes, Marks, Sections, Done}
+use Rattle.cert_bytes.specs.declared.order.DueItem.{DueItem}
+use Rattle.cert_bytes.specs.declared.order.DueItem.TheVariants.{Head, Nodes, Marks, Sections, Done}
 use Rattle.cert_bytes.specs.declared.style.Seen.{Seen}
 use Rattle.cert_bytes.specs.declared.style.Style.{Style}
 use Rattle.cert_bytes.specs.declared.style.Style.TheVariants.{First, Second}
@@ -62,15 +62,15 @@ fewer_later First at next f g = tt
 fewer_later (Second seen) at next f g = (let x = f.0 in omega (arith, x, g), let y = f.1 in omega (arith, y, g))
 
 -- where an item is read, its style has seen as little as the one before
-pub few_for : (d : Due) (old style : Style) (at : ℕ) → IsFew old at → IsStyleFor d old style → IsFew style at
+pub few_for : (d : DueItem) (old style : Style) (at : ℕ) → IsFew old at → IsStyleFor d old style → IsFew style at
 few_for Head old style at f s = fewer_later style 0 at (few_at_first style s) (omega arith)
 few_for (Nodes n) old style at f s = subst (λ (style : Style). IsFew style at) (sym s) f
 few_for (Marks n) old style at f s = subst (λ (style : Style). IsFew style at) (sym s) f
 few_for (Sections n) old style at f s = subst (λ (style : Style). IsFew style at) (sym s) f
 few_for Done old style at f s = subst (λ (style : Style). IsFew style at) (sym s) f
 
-pub few_on : (d : Due) (i : Item) (old style : Style) (start at : ℕ) → IsFew old start → IsStyleFor d old style → (¬ (i ≡ item.End) → start < at) → start ≤ at → IsFew (style_after style i) at
+pub few_on : (d : DueItem) (i : Item) (old style : Style) (start at : ℕ) → IsFew old start → IsStyleFor d old style → (¬ (i ≡ item.End) → start < at) → start ≤ at → IsFew (style_after style i) at
 few_on d i old style start at f s m g = fewer_than style start at i (few_for d old style start f s) (λ n. let l = m n in omega (arith, l)) g
 
-pub few_seen : (d : Due) (old style : Style) (start : ℕ) → IsFew old start → IsStyleFor d old style → start ≤ 17592186044416 → IsFew style 17592186044416
+pub few_seen : (d : DueItem) (old style : Style) (start : ℕ) → IsFew old start → IsStyleFor d old style → start ≤ 17592186044416 → IsFew style 17592186044416
 few_seen d old style start f s l = fewer_later style start 17592186044416 (few_for d old style start f s) l

@@ -5,8 +5,8 @@ use Rattle.cert_bytes.specs.declared.item.Item.{Item}
 use Rattle.cert_bytes.specs.declared.item.Item.TheVariants as item
 use Rattle.cert_bytes.specs.declared.style.Style.{Style}
 use Rattle.cert_bytes.specs.declared.style.Style.TheVariants.{First, Second}
-use Rattle.cert_bytes.specs.declared.order.Due.{Due}
-use Rattle.cert_bytes.specs.declared.order.Due.TheVariants.{Head, Nodes, Marks, Sections, Done}
+use Rattle.cert_bytes.specs.declared.order.DueItem.{DueItem}
+use Rattle.cert_bytes.specs.declared.order.DueItem.TheVariants.{Head, Nodes, Marks, Sections, Done}
 use Rattle.cert_bytes.specs.Styles.{style_after, Opens, IsStyleFor}
 use Rattle.cert_bytes.specs.Due.{due_after}
 use Rattle.cert_bytes.specs.Certificates.{HasSpelling, Fits, AreDue, NoneBeginsAnother, SpellsOnce}
@@ -18,16 +18,16 @@ use Rattle.cert_bytes.proofs.Lengths.{items_are_short}
 
 -- ---- what is due
 
-pub due_some : (o : Option Due) (items : List Item) → AreDue o items → (e : Due) × (o ≡ Some e) × AreDue (Some e) items
+pub due_some : (o : Option DueItem) (items : List Item) → AreDue o items → (e : DueItem) × (o ≡ Some e) × AreDue (Some e) items
 due_some None items a = absurd a
 due_some (Some e) items a = (e, refl, a)
 
 -- where the certificate may end, no item is due
-pub none_behind : (d : Due) (i : Item) (items : List Item) → d ≡ Done → AreDue (due_after d i) items → ⊥
-none_behind d i items e a = let P : Due → Type 0 = λ d. AreDue (due_after d i) items in subst P e a
+pub none_behind : (d : DueItem) (i : Item) (items : List Item) → d ≡ Done → AreDue (due_after d i) items → ⊥
+none_behind d i items e a = let P : DueItem → Type 0 = λ d. AreDue (due_after d i) items in subst P e a
 
 -- the end is due behind the last section alone
-pub end_alone : (d e : Due) → due_after d item.End ≡ Some e → d ≡ Sections 0
+pub end_alone : (d e : DueItem) → due_after d item.End ≡ Some e → d ≡ Sections 0
 end_alone Head e q = cc
 end_alone (Nodes zero) e q = cc
 end_alone (Nodes (suc n)) e q = cc
@@ -37,7 +37,7 @@ end_alone (Sections zero) e q = refl
 end_alone (Sections (suc n)) e q = cc
 end_alone Done e q = cc
 
-only_end : (j : Item) (f : Due) → due_after (Sections 0) j ≡ Some f → j ≡ item.End
+only_end : (j : Item) (f : DueItem) → due_after (Sections 0) j ≡ Some f → j ≡ item.End
 only_end (item.Nodes n) f q = cc
 only_end (item.Node n) f q = cc
 only_end (item.Marks n) f q = cc
@@ -62,7 +62,7 @@ is_end (item.Dead r) = inr (λ e. cc)
 is_end item.End = inl refl
 
 -- nothing stands before the head
-pub not_head : (d : Due) (i : Item) → ¬ (due_after d i ≡ Some Head)
+pub not_head : (d : DueItem) (i : Item) → ¬ (due_after d i ≡ Some Head)
 not_head Head (item.Nodes n) q = cc
 not_head (Nodes (suc n)) (item.Node x) q = cc
 not_head (Nodes zero) (item.Marks n) q = cc
@@ -80,7 +80,7 @@ not_head (Sections zero) item.End q = cc
 not_head d i q = cc
 
 -- behind an item numbers are spelled as it says
-pub same_style : (e : Due) (style : Style) → ¬ (e ≡ Head) → IsStyleFor e style style
+pub same_style : (e : DueItem) (style : Style) → ¬ (e ≡ Head) → IsStyleFor e style style
 same_style Head style n = absurd (n refl)
 same_style (Nodes k) style n = refl
 same_style (Marks k) style n = refl
@@ -103,7 +103,7 @@ taken : (i j : Item) (a b : Style) (m n : ℕ) (s t : List ℕ) → read_as i a 
 taken i j a b m n s t e = let q = inside (i, place a m s) (j, place b n t) e in (ap (λ (p : Item × Cursor). p.0) q, ap (λ (p : Item × Cursor). p.1.style) q, ap (λ (p : Item × Cursor). p.1.rest) q)
 
 -- both are read where an old style stands
-both_read : (d : Due) (i j : Item) (e f : Due) (old a b : Style) → due_after d i ≡ Some e → due_after d j ≡ Some f → IsStyleFor d old a → IsStyleFor d old b → ¬ (i ≡ item.End) → ¬ (j ≡ item.End) → HasSpelling i → Fits i → HasSpelling j → Fits j
+both_read : (d : DueItem) (i j : Item) (e f : DueItem) (old a b : Style) → due_after d i ≡ Some e → due_after d j ≡ Some f → IsStyleFor d old a → IsStyleFor d old b → ¬ (i ≡ item.End) → ¬ (j ≡ item.End) → HasSpelling i → Fits i → HasSpelling j → Fits j
     → (s t : List ℕ) → spelling i a ++ s ≡ spelling j b ++ t → (i ≡ j) × (style_after a i ≡ style_after b j) × (s ≡ t)
 both_read d i j e f old a b p q u v m n h k h' k' s t bytes =
     let first = items_read_back d i e old a p u m h k 0 s (let l = items_are_short i a h k in omega (arith, l)) in
@@ -117,14 +117,14 @@ cancelled (b ∷ l) s t e = cancelled l s t (tails b (l ++ s) (l ++ t) e)
     tails : (b : ℕ) (s t : List ℕ) → b ∷ s ≡ b ∷ t → s ≡ t
     tails b s t e = cc
 
-ends_both : (d : Due) (i j : Item) (f : Due) (style : Style) → d ≡ Sections 0 → i ≡ item.End → due_after d j ≡ Some f → (s t : List ℕ) → spelling i style ++ s ≡ spelling j style ++ t → (i ≡ j) × (s ≡ t)
+ends_both : (d : DueItem) (i j : Item) (f : DueItem) (style : Style) → d ≡ Sections 0 → i ≡ item.End → due_after d j ≡ Some f → (s t : List ℕ) → spelling i style ++ s ≡ spelling j style ++ t → (i ≡ j) × (s ≡ t)
 ends_both d i j f style z m q s t bytes =
-    let last : due_after (Sections 0) j ≡ Some f = subst (λ (d : Due). due_after d j ≡ Some f) z q in
+    let last : due_after (Sections 0) j ≡ Some f = subst (λ (d : DueItem). due_after d j ≡ Some f) z q in
     let n : j ≡ item.End = only_end j f last in
     (m ∙ sym n, cancelled (spelling item.End style) s t (ap (λ (i : Item). spelling i style ++ s) (sym m) ∙ bytes ∙ ap (λ (j : Item). spelling j style ++ t) n))
 
 -- both are the same, and so is what follows
-same_item : (d : Due) (i j : Item) (e f : Due) (old style : Style) → due_after d i ≡ Some e → due_after d j ≡ Some f → IsStyleFor d old style → HasSpelling i → Fits i → HasSpelling j → Fits j
+same_item : (d : DueItem) (i j : Item) (e f : DueItem) (old style : Style) → due_after d i ≡ Some e → due_after d j ≡ Some f → IsStyleFor d old style → HasSpelling i → Fits i → HasSpelling j → Fits j
     → (s t : List ℕ) → spelling i style ++ s ≡ spelling j style ++ t → (i ≡ j) × (s ≡ t)
 same_item d i j e f old style p q u h k h' k' s t bytes = ⊎_elim
     (λ m. ends_both d i j f style (end_alone d e (subst (λ (i : Item). due_after d i ≡ Some e) m p)) m q s t bytes)
@@ -136,10 +136,10 @@ same_item d i j e f old style p q u h k h' k' s t bytes = ⊎_elim
 
 -- ---- whole certificates
 
-pub some_same : (d e : Due) → Some d ≡ Some e → d ≡ e
+pub some_same : (d e : DueItem) → Some d ≡ Some e → d ≡ e
 some_same d e q = cc
 
-fronts : (d : Due) (old style : Style) (items others : List Item) (more : List ℕ) → IsStyleFor d old style → AreDue (Some d) items → AreDue (Some d) others → spelled_from style items ++ more ≡ spelled_from style others → (items ≡ others) × (more ≡ [])
+fronts : (d : DueItem) (old style : Style) (items others : List Item) (more : List ℕ) → IsStyleFor d old style → AreDue (Some d) items → AreDue (Some d) others → spelled_from style items ++ more ≡ spelled_from style others → (items ≡ others) × (more ≡ [])
 fronts d old style [] [] more u a b e = (refl, e)
 fronts d old style [] (j ∷ js) more u a b e = absurd (none_behind d j js a b.1)
 fronts d old style (i ∷ is) [] more u a b e = absurd (none_behind d i is b a.1)
@@ -152,7 +152,7 @@ fronts d old style (i ∷ is) (j ∷ js) more u a b e =
     let due : q.0 ≡ p.0 = some_same q.0 p.0 (sym q.1 ∙ ap (due_after d) (sym s.0) ∙ p.1) in
     let behind : spelled_from next is ++ more ≡ spelled_from next js = s.1 ∙ ap (λ (j : Item). spelled_from (style_after style j) js) (sym s.0) in
     let kept : IsStyleFor p.0 next next = same_style p.0 next (λ z. not_head d i (p.1 ∙ ap (λ d. Some d) z)) in
-    let rest = fronts p.0 next next is js more kept p.2 (subst (λ (d : Due). AreDue (Some d) js) due q.2) behind in
+    let rest = fronts p.0 next next is js more kept p.2 (subst (λ (d : DueItem). AreDue (Some d) js) due q.2) behind in
     (ap₂ (λ x y. x ∷ y) s.0 rest.0, rest.1)
 
 -- ---- the version

@@ -6,8 +6,8 @@ use Rattle.cert_bytes.specs.declared.item.Item.{Item}
 use Rattle.cert_bytes.specs.declared.style.Style.{Style}
 use Rattle.cert_bytes.specs.declared.style.Style.TheVariants.{First}
 use Rattle.cert_bytes.specs.Styles.{style_after, IsStyleFor}
-use Rattle.cert_bytes.specs.declared.order.Due.{Due}
-use Rattle.cert_bytes.specs.declared.order.Due.TheVariants.{Head, Done}
+use Rattle.cert_bytes.specs.declared.order.DueItem.{DueItem}
+use Rattle.cert_bytes.specs.declared.order.DueItem.TheVariants.{Head, Done}
 use Rattle.cert_bytes.specs.Due.{due_after, due_behind}
 use Rattle.cert_bytes.specs.Certificates.{HasSpelling, Fits, SpellsCertificate}
 use Rattle.cert_bytes.specs.Reading.{Cursor, cursor, item_at}
@@ -18,7 +18,7 @@ abbrev pub AreBytes : List ℕ → Type 0
 AreBytes bytes = AllByRecursion (λ b. b < 256) bytes
 
 -- An item that was read is one that is due, and its spelling is what stands between the two places.
-pub record IsRead (d : Due) (c next : Cursor) (i : Item) : Type 0 where
+pub record IsRead (d : DueItem) (c next : Cursor) (i : Item) : Type 0 where
   pub style : Style
   pub is_style : IsStyleFor d c.style style
   pub styled : next.style ≡ style_after style i
@@ -30,24 +30,24 @@ pub record IsRead (d : Due) (c next : Cursor) (i : Item) : Type 0 where
 
 -- Before the end was read, an item that is read of bytes is one that is due, with its spelling.
 abbrev pub ItemsReadOut : Type 0
-ItemsReadOut = (d : Due) (c next : Cursor) (i : Item) → AreBytes c.rest → ¬ (d ≡ Done)
+ItemsReadOut = (d : DueItem) (c next : Cursor) (i : Item) → AreBytes c.rest → ¬ (d ≡ Done)
     → item_at d c ≡ Ok (i, next) → IsRead d c next i
 
 -- What is due behind an item that is due, as a function.
 abbrev pub DueBehind : Type 0
-DueBehind = (d : Due) (i : Item) (e : Due) → due_after d i ≡ Some e
+DueBehind = (d : DueItem) (i : Item) (e : DueItem) → due_after d i ≡ Some e
     → due_after d i ≡ Some (due_behind d i)
 
 -- ---- whole certificates
 
 -- These items are read one after the other, to the end.
-abbrev pub AreRead : Due → Cursor → List Item → Type 0
+abbrev pub AreRead : DueItem → Cursor → List Item → Type 0
 AreRead d c [] = d ≡ Done
 AreRead d c (i ∷ items) = (next : Cursor) × (item_at d c ≡ Ok (i, next)) × (¬ (d ≡ Done))
     × AreRead (due_behind d i) next items
 
 -- These items are read, and then the fault is met.
-abbrev pub FailsBehind : Due → Cursor → List Item → CertFault → Type 0
+abbrev pub FailsBehind : DueItem → Cursor → List Item → CertFault → Type 0
 FailsBehind d c [] f = item_at d c ≡ Err f
 FailsBehind d c (i ∷ items) f = (next : Cursor) × (item_at d c ≡ Ok (i, next)) × (¬ (d ≡ Done))
     × FailsBehind (due_behind d i) next items f

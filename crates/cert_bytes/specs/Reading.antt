@@ -20,7 +20,7 @@ use Rattle.facts.specs.interval.declared.interval.Interval.{Interval}
 use Rattle.facts.specs.interval.Meets.{interval_from}
 use Rattle.facts.specs.declared.relative.RelativeError.{RelativeError}
 use Rattle.facts.specs.declared.size.Size.{Size}
-use Rattle.facts.specs.declared.place.Place.{Place}
+use Rattle.facts.specs.declared.place.FixPlace.{FixPlace}
 use Rattle.facts.specs.declared.fact.Fact.{Fact}
 use Rattle.facts.specs.declared.fact.Fact.TheVariants as fact
 use Rattle.facts.specs.declared.hint.HintMark.TheVariants.{Checked, Assumed}
@@ -38,8 +38,8 @@ use Rattle.cert_bytes.specs.declared.style.Style.{Style}
 use Rattle.cert_bytes.specs.declared.style.Style.TheVariants.{First, Second}
 use Rattle.cert_bytes.specs.Styles.{none_seen, style_after}
 use Rattle.cert_bytes.specs.Spelling.{distance}
-use Rattle.cert_bytes.specs.declared.order.Due.{Due}
-use Rattle.cert_bytes.specs.declared.order.Due.TheVariants.{Head, Nodes, Marks, Sections, Done}
+use Rattle.cert_bytes.specs.declared.order.DueItem.{DueItem}
+use Rattle.cert_bytes.specs.declared.order.DueItem.TheVariants.{Head, Nodes, Marks, Sections, Done}
 
 -- how numbers are spelled, an offset, and the bytes from there
 pub record Cursor : Type 0 where
@@ -232,7 +232,7 @@ error_at c = do
       else fault BadTag c.at
 
 -- the power of two of a FIX fact; BadNumber where it is out of range
-unfoldable pub place_at : Cursor → Read Place
+unfoldable pub place_at : Cursor → Read FixPlace
 place_at c = signed_short_at c >>= λ k. numbered c.at (place_from k.0) k.1
 
 -- a BND fact: its expression, and the interval
@@ -576,7 +576,7 @@ unfoldable pub section_or_end_at : ℕ → Cursor → Read Item
 section_or_end_at n c = if n == 0 then closed_at c else section_item_at c
 
 -- the bytes of the item that is due
-unfoldable pub entry_at : Due → Cursor → Read Item
+unfoldable pub entry_at : DueItem → Cursor → Read Item
 entry_at Head c = head_at c
 entry_at (Nodes n) c = node_or_marks_at n c
 entry_at (Marks n) c = mark_or_section_at n c
@@ -585,5 +585,5 @@ entry_at Done c = Ok (item.End, c)
 
 -- the item that is due, and where reading goes on: a step or a section more was seen behind it,
 -- where it is one
-unfoldable pub item_at : Due → Cursor → Read Item
+unfoldable pub item_at : DueItem → Cursor → Read Item
 item_at d c = entry_at d c >>= λ v. Ok (v.0, styled (style_after v.1.style v.0) v.1)

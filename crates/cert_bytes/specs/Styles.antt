@@ -4,8 +4,8 @@ use Rattle.cert_bytes.specs.declared.style.Seen.{Seen}
 use Rattle.cert_bytes.specs.declared.style.Style.{Style}
 use Rattle.cert_bytes.specs.declared.style.Style.TheVariants.{First, Second}
 use Rattle.cert_bytes.specs.declared.item.Item.{Item}
-use Rattle.cert_bytes.specs.declared.order.Due.{Due}
-use Rattle.cert_bytes.specs.declared.order.Due.TheVariants.{Head}
+use Rattle.cert_bytes.specs.declared.order.DueItem.{DueItem}
+use Rattle.cert_bytes.specs.declared.order.DueItem.TheVariants.{Head}
 use Rattle.cert_bytes.specs.declared.item.Item.TheVariants as item
 
 -- what stood before the first byte
@@ -41,7 +41,7 @@ Opens (Second seen) = seen ≡ none_seen
 
 -- In this style the item that is due is spelled, where numbers before it are as the old one says:
 -- the head tells its own.
-abbrev pub IsStyleFor : Due → Style → Style → Type 0
+abbrev pub IsStyleFor : DueItem → Style → Style → Type 0
 IsStyleFor Head old style = Opens style
 IsStyleFor due old style = style ≡ old
 

@@ -5,7 +5,7 @@ use crate::fault::{CertKind, Stop, fault};
 use crate::field::Field;
 use crate::kept::number_from;
 use crate::source::Source;
-use facts::{Dyadic, End, Fact, Interval, Place, RelativeError, Size};
+use facts::{Dyadic, End, Fact, FixPlace, Interval, RelativeError, Size};
 use fx_edge::Folder;
 use fx_model::ExprId;
 
@@ -102,15 +102,15 @@ impl Field for Option<RelativeError> {
     }
 }
 
-impl Field for Place {
+impl Field for FixPlace {
     ghost read_at = { place_at };
 
     #[inline(always)]
     #[tactic(auto, unfolding(crate::specs::Reading::place_at))]
-    fn read<F: Folder>(source: &mut Source, folder: &mut F) -> Result<Place, Stop> {
+    fn read<F: Folder>(source: &mut Source, folder: &mut F) -> Result<FixPlace, Stop> {
         let start = source.at();
         let exponent = i16::read(source, folder)?;
-        match Place::new(exponent) {
+        match FixPlace::new(exponent) {
             Some(value) => Ok(value),
             None => Err(fault(CertKind::BadNumber, start)),
         }
@@ -138,7 +138,7 @@ impl Field for Fact {
                 Ok(Fact::Rel(parts.0.0, parts.0.1, parts.1))
             }
             4 => {
-                let parts = <(ExprId, Place)>::read(source, folder)?;
+                let parts = <(ExprId, FixPlace)>::read(source, folder)?;
                 Ok(Fact::Fix(parts.0, parts.1))
             }
             5 => Ok(Fact::Nzr(ExprId::read(source, folder)?)),

@@ -31,7 +31,7 @@ pub use fault::{CertFault, CertKind, Stop};
 pub use fitting::item_fits;
 pub use item::{Item, StepRow};
 pub use laws::{certificates_are_spelled_once, spellings_are_short, spellings_read_back};
-pub use order::Due;
+pub use order::DueItem;
 pub use reader::Reader;
 pub use style::{Seen, Style};
 pub use writing::{write_item, write_item2};

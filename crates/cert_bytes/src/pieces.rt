@@ -11,7 +11,7 @@ ghost use Rattle.cert_bytes.specs.Pieces.{Gives, AgreesTold, kept_of};
 use crate::fault::{CertKind, Stop, fault};
 use crate::field::Field;
 use crate::item::Item;
-use crate::order::Due;
+use crate::order::DueItem;
 use crate::source::Source;
 use crate::style::{Seen, Style};
 use fx_edge::Folder;
@@ -158,7 +158,7 @@ impl Source {
         ensures kept { kept_of self.new ≡ kept_of self.old }
         ensures grows { self.old.at ≤ self.new.at }
         ensures reads { IfOk result (λ i. ¬ (i ≡ item.End) → self.old.at < self.new.at) }
-        ensures due { IfOk result (λ i. is_due (Due.Nodes nodes) i ≡ true) }
+        ensures due { IfOk result (λ i. is_due (DueItem.Nodes nodes) i ≡ true) }
         ensures spelled { IfOk result HasSpelling }
         ensures told { (other : List ℕ) → F.told folder.new other ≡ F.told folder.old other }
         ensures later { F.read_faults folder.old ≤ F.read_faults folder.new }
@@ -181,7 +181,7 @@ impl Source {
         ensures kept { kept_of self.new ≡ kept_of self.old }
         ensures grows { self.old.at ≤ self.new.at }
         ensures reads { IfOk result (λ i. ¬ (i ≡ item.End) → self.old.at < self.new.at) }
-        ensures due { IfOk result (λ i. is_due (Due.Marks marks) i ≡ true) }
+        ensures due { IfOk result (λ i. is_due (DueItem.Marks marks) i ≡ true) }
         ensures spelled { IfOk result HasSpelling }
         ensures told { (other : List ℕ) → F.told folder.new other ≡ F.told folder.old other }
         ensures later { F.read_faults folder.old ≤ F.read_faults folder.new }
@@ -205,7 +205,7 @@ impl Source {
         ensures kept { kept_of self.new ≡ kept_of self.old }
         ensures grows { self.old.at ≤ self.new.at }
         ensures reads { IfOk result (λ i. ¬ (i ≡ item.End) → self.old.at < self.new.at) }
-        ensures due { IfOk result (λ i. is_due (Due.Sections sections) i ≡ true) }
+        ensures due { IfOk result (λ i. is_due (DueItem.Sections sections) i ≡ true) }
         ensures spelled { IfOk result HasSpelling }
         ensures told { (other : List ℕ) → F.told folder.new other ≡ F.told folder.old other }
         ensures later { F.read_faults folder.old ≤ F.read_faults folder.new }
@@ -222,7 +222,7 @@ impl Source {
     /// The item that is due. The style is that of its numbers.
     #[inline(always)]
     #[tactic(auto, unfolding(crate::specs::Reading::entry_at))]
-    pub fn entry<F: Folder>(&mut self, folder: &mut F, due: Due) -> Result<Item, Stop>
+    pub fn entry<F: Folder>(&mut self, folder: &mut F, due: DueItem) -> Result<Item, Stop>
         requires agrees { AgreesTold (F.told folder.old self.old.name) self.old }
         ensures gives { (all : List ℕ) → F.told folder.old self.old.name ≡ Some all
             → Gives (λ x. x) all self.old self.new result (entry_at due) }
@@ -240,11 +240,11 @@ impl Source {
             → Rose (F.read_faults folder.old) (F.read_faults folder.new) }
     {
         match due {
-            Due::Head => Ok(self.head(folder)?),
-            Due::Nodes(nodes) => Ok(self.node_or_marks(folder, nodes)?),
-            Due::Marks(marks) => Ok(self.mark_or_section(folder, marks)?),
-            Due::Sections(sections) => Ok(self.section_or_end(folder, sections)?),
-            Due::Done => Ok(Item::End),
+            DueItem::Head => Ok(self.head(folder)?),
+            DueItem::Nodes(nodes) => Ok(self.node_or_marks(folder, nodes)?),
+            DueItem::Marks(marks) => Ok(self.mark_or_section(folder, marks)?),
+            DueItem::Sections(sections) => Ok(self.section_or_end(folder, sections)?),
+            DueItem::Done => Ok(Item::End),
         }
     }
 }

@@ -10,7 +10,7 @@ ghost use Rattle.cert_bytes.specs.Certificates.{HasSpelling};
 
 use crate::fault::{CertFault, Stop};
 use crate::item::Item;
-use crate::order::{Due, due_behind};
+use crate::order::{DueItem, due_behind};
 use crate::source::Source;
 use crate::style::Style;
 use fx_edge::Folder;
@@ -21,7 +21,7 @@ use std::marker::Model;
 #[derive(Drop)]
 pub struct Reader {
     source: Source,
-    due: Due,
+    due: DueItem,
     fault: Option<CertFault>,
 }
 
@@ -41,7 +41,7 @@ impl Reader {
     pub fn new(alloc: Global, name: &str) -> Result<Reader, AllocError>
         ensures begins { IfOk result (λ reader. reader ≡ record {
           ahead = record { name = name.now; style = Style.First; at = 0; ahead = [] };
-          due = Due.Head;
+          due = DueItem.Head;
           fault = None;
         }) }
         ensures agrees { IfOk result (λ reader. (told : Option (List ℕ))
@@ -50,7 +50,7 @@ impl Reader {
         let source = Source::new(alloc, name, Style::First)?;
         Ok(Reader {
             source,
-            due: Due::Head,
+            due: DueItem::Head,
             fault: None,
         })
     }

@@ -7,8 +7,8 @@ use Rattle.fx_model.specs.declared.Node.{Node}
 use Rattle.goals.specs.facts.Holds.{Holds}
 use Rattle.cert_bytes.specs.declared.item.Item.{Item}
 use Rattle.cert_bytes.specs.declared.item.Item.TheVariants as item
-use Rattle.cert_bytes.specs.declared.order.Due.{Due}
-use Rattle.cert_bytes.specs.declared.order.Due.TheVariants.{Head, Nodes, Marks, Sections, Done}
+use Rattle.cert_bytes.specs.declared.order.DueItem.{DueItem}
+use Rattle.cert_bytes.specs.declared.order.DueItem.TheVariants.{Head, Nodes, Marks, Sections, Done}
 use Rattle.cert_bytes.specs.Due.{due_after}
 use Rattle.cert_bytes.specs.Certificates.{AreDue}
 use Rattle.goals.specs.declared.goal.Goal.{Goal}
@@ -26,14 +26,14 @@ use Rattle.cert_checker.proofs.StepHolds.{RulesHold, HoldsIf}
 use Rattle.cert_checker.proofs.Sound.{pending, IsNested, IsSound, IsSomewhere, Behind, step_sound, cut_sound, leaf_sound, dead_sound, cases_sound}
 
 -- sections are due, or their end
-abbrev pub InSections : Due → Type 0
+abbrev pub InSections : DueItem → Type 0
 InSections (Marks zero) = ⊤
 InSections (Sections w) = ⊤
 InSections Done = ⊤
 InSections _ = ⊥
 
 -- the nodes stay from the root section on
-pub nodes_stay : (s : Subject) (items : List Item) (d : Due) (c end : Context) → InSections d → AreInOrder (Some d) items → LeadsTo s c items end → end.nodes ≡ c.nodes
+pub nodes_stay : (s : Subject) (items : List Item) (d : DueItem) (c end : Context) → InSections d → AreInOrder (Some d) items → LeadsTo s c items end → end.nodes ≡ c.nodes
 nodes_stay s [] d c end p g l = ap (λ (x : Context). x.nodes) (sym l)
 nodes_stay s (item.Cases n ∷ items) (Marks zero) c end p g l = nodes_stay s items (Sections n) (after c (item.Cases n)) end tt g l.1
 nodes_stay s (item.Step r ∷ items) (Marks zero) c end p g l = nodes_stay s items (Sections 1) (after c (item.Step r)) end tt g l.1
@@ -55,17 +55,17 @@ nodes_stay s (i ∷ items) (Marks (suc n)) c end p g l = absurd p
 
 module _ (laws : LineLaws) (s : Subject) (ns : List Node) (a : Assignment) (ordered : IsOrdered ns) (rules : RulesHold ns a s.hints) (case : ℕ) (facts : AllByRecursion (Holds ns a) (case_facts s.cases case)) where
   -- what is kept where this is due
-  abbrev State : Due → Context → Type 0
+  abbrev State : DueItem → Context → Type 0
   State (Marks zero) c = IsSound laws s ns a ordered case 0 c
   State (Sections w) c = Behind laws s ns a ordered case w c
   State Done c = Behind laws s ns a ordered case 0 c
   State _ c = ⊥
 
   -- one more section behind a cut
-  cut_due : (w : ℕ) (d : Due) (items : List Item) → d ≡ Sections (suc w) → AreInOrder (Some d) items → AreInOrder (Some (Sections (suc w))) items
+  cut_due : (w : ℕ) (d : DueItem) (items : List Item) → d ≡ Sections (suc w) → AreInOrder (Some d) items → AreInOrder (Some (Sections (suc w))) items
   cut_due w d items q g = subst (λ x. AreInOrder (Some x) items) q g
 
-  sections_sound : (items : List Item) (d : Due) (c end : Context) → c.nodes ≡ ns → State d c → AreInOrder (Some d) items → LeadsTo s c items end → Behind laws s ns a ordered case 0 end
+  sections_sound : (items : List Item) (d : DueItem) (c end : Context) → c.nodes ≡ ns → State d c → AreInOrder (Some d) items → LeadsTo s c items end → Behind laws s ns a ordered case 0 end
   sections_sound [] Done c end n q g l = subst (Behind laws s ns a ordered case 0) l q
   sections_sound (item.Cases k ∷ items) (Marks zero) c end n q g l =
       sections_sound items (Sections k) (after c (item.Cases k)) end n (cases_sound laws s ns a ordered case c q k) g l.1
@@ -136,7 +136,7 @@ module _ (laws : LineLaws) (s : Subject) (a : Assignment) (case : ℕ) where
   fresh_on : (c : Context) (i : Item) → (after c i).steps ≡ c.steps → (after c i).cuts ≡ c.cuts → (after c i).case ≡ c.case → (after c i).lines ≡ c.lines → IsFresh s c → IsFresh s (after c i)
   fresh_on c i e k q l f = record { steps = e ∙ f.steps; cuts = k ∙ f.cuts; case = q ∙ f.case; lines = subst (HaveLines s.goals) (sym l) f.lines }
 
-  before_root : (items : List Item) (d : Due) (c end : Context) → IsFresh s c → AreInOrder (Some d) items → LeadsTo s c items end → ¬ (d ≡ Done) → ((w : ℕ) → ¬ (d ≡ Sections w)) → Promised s end a case
+  before_root : (items : List Item) (d : DueItem) (c end : Context) → IsFresh s c → AreInOrder (Some d) items → LeadsTo s c items end → ¬ (d ≡ Done) → ((w : ℕ) → ¬ (d ≡ Sections w)) → Promised s end a case
   before_root items (Marks zero) c end f g l x y = at_root items c end f g l
   before_root (item.Mark m ∷ items) (Marks (suc k)) c end f g l x y =
       before_root items (Marks k) (after c (item.Mark m)) end (fresh_on c (item.Mark m) refl refl refl refl f) g l.1 (λ z. cc) (λ w z. cc)
@@ -163,7 +163,7 @@ pub nodes_ordered : (s : Subject) → IsOrdered s.nodes → (items : List Item) 
 nodes_ordered s ordered items end l = leads_ordered s ordered items (first s) end (λ i n b. absurd (omega arith)) l
 
 -- a certificate's items are in order
-pub in_order : (o : Option Due) (items : List Item) → AreDue o items → AreInOrder o items
+pub in_order : (o : Option DueItem) (items : List Item) → AreDue o items → AreInOrder o items
 in_order None items g = absurd g
 in_order (Some d) [] g = g
 in_order (Some d) (i ∷ items) g = in_order (due_after d i) items g.1

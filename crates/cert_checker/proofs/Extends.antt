@@ -4,8 +4,8 @@ use Rattle.std.proofs.lemmas.List.{length-append}
 use Rattle.fx_model.specs.declared.Node.{Node}
 use Rattle.cert_bytes.specs.declared.item.Item.{Item}
 use Rattle.cert_bytes.specs.declared.item.Item.TheVariants as item
-use Rattle.cert_bytes.specs.declared.order.Due.{Due}
-use Rattle.cert_bytes.specs.declared.order.Due.TheVariants.{Head, Nodes, Marks, Sections, Done}
+use Rattle.cert_bytes.specs.declared.order.DueItem.{DueItem}
+use Rattle.cert_bytes.specs.declared.order.DueItem.TheVariants.{Head, Nodes, Marks, Sections, Done}
 use Rattle.cert_checker.specs.declared.subject.Subject.{Subject}
 use Rattle.cert_checker.specs.Contexts.{Context}
 use Rattle.cert_checker.specs.After.{after}
@@ -15,7 +15,7 @@ use Rattle.cert_checker.proofs.Own.{agrees_next}
 use Rattle.cert_checker.proofs.AcceptedHolds.{InSections, nodes_stay}
 
 -- the nodes so far are the script's, and with those that are due there are enough
-abbrev IsBegun : Subject → Due → Context → Type 0
+abbrev IsBegun : Subject → DueItem → Context → Type 0
 IsBegun s Head c = Agrees s.nodes c.nodes
 IsBegun s (Nodes k) c = Agrees s.nodes c.nodes × (length s.nodes ≤ length c.nodes + k)
 IsBegun s _ c = Agrees s.nodes c.nodes × (length s.nodes ≤ length c.nodes)
@@ -24,12 +24,12 @@ pub record Begins (own nodes : List Node) : Type 0 where
   pub agrees : Agrees own nodes
   pub enough : length own ≤ length nodes
 
-stays : (s : Subject) (items : List Item) (d : Due) (c end : Context) → InSections d → AreInOrder (Some d) items → LeadsTo s c items end → Agrees s.nodes c.nodes → length s.nodes ≤ length c.nodes → Begins s.nodes end.nodes
+stays : (s : Subject) (items : List Item) (d : DueItem) (c end : Context) → InSections d → AreInOrder (Some d) items → LeadsTo s c items end → Agrees s.nodes c.nodes → length s.nodes ≤ length c.nodes → Begins s.nodes end.nodes
 stays s items d c end p g l o e =
     let q = sym (nodes_stay s items d c end p g l) in
     record { agrees = subst (Agrees s.nodes) q o; enough = subst (λ (ns : List Node). length s.nodes ≤ length ns) q e }
 
-pub begins : (s : Subject) (items : List Item) (d : Due) (c end : Context) → IsBegun s d c → AreInOrder (Some d) items → LeadsTo s c items end → Begins s.nodes end.nodes
+pub begins : (s : Subject) (items : List Item) (d : DueItem) (c end : Context) → IsBegun s d c → AreInOrder (Some d) items → LeadsTo s c items end → Begins s.nodes end.nodes
 begins s items (Marks zero) c end b g l = stays s items (Marks zero) c end tt g l b.0 b.1
 begins s items (Sections w) c end b g l = stays s items (Sections w) c end tt g l b.0 b.1
 begins s items Done c end b g l = stays s items Done c end tt g l b.0 b.1

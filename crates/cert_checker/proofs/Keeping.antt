@@ -4,8 +4,8 @@ use Rattle.std.specs.Prelude.{IfOk}
 use Rattle.std.specs.List.{AllByRecursion}
 use Rattle.goals.specs.declared.line.Line.{Line}
 use Rattle.cert_bytes.specs.declared.item.Item.{Item}
-use Rattle.cert_bytes.specs.declared.order.Due.{Due}
-use Rattle.cert_bytes.specs.declared.order.Due.TheVariants.{Head, Done}
+use Rattle.cert_bytes.specs.declared.order.DueItem.{DueItem}
+use Rattle.cert_bytes.specs.declared.order.DueItem.TheVariants.{Head, Done}
 use Rattle.cert_bytes.specs.declared.style.Style.{Style}
 use Rattle.cert_bytes.specs.declared.style.Style.TheVariants.{First}
 use Rattle.cert_bytes.specs.Due.{due_after, due_behind, is_due}
@@ -34,18 +34,18 @@ led_more s c mid [] i l j = (subst (λ x. JudgesItem s x i None) (sym l) j, ap (
 led_more s c mid (k ∷ items) i l j = (l.0, led_more s (after c k) mid items i l.1 j)
 
 -- one item more, with which items that are due go on to the end
-pub whole_more : (d e : Due) (items more : List Item) (i : Item)
+pub whole_more : (d e : DueItem) (items more : List Item) (i : Item)
     → ((later : List Item) → AreDue (Some d) later → AreCertificate (items ++ later))
     → ¬ (d ≡ Done) → is_due d i ≡ true → e ≡ due_behind d i → HasSpelling i × Fits i
     → AreDue (Some e) more → AreCertificate ((items ++ i ∷ []) ++ more)
 whole_more d e items more i so_far going order is fits rest =
-    let P : Option Due → Type 0 = λ x. AreDue x more in
-    let Q : Due → Type 0 = λ x. AreDue (Some x) more in
+    let P : Option DueItem → Type 0 = λ x. AreDue x more in
+    let Q : DueItem → Type 0 = λ x. AreDue (Some x) more in
     let due : AreDue (due_after d i) more =
     subst P (sym (due_has_next d i going order)) (subst Q is rest) in
     subst AreCertificate (sym (append_assoc items (i ∷ []) more)) (so_far (i ∷ more) (fits, due))
 
-pub read_more : (start c : Cursor) (d e : Due) (next : Cursor) (items later : List Item) (i : Item) → ((more : List Item) → AreRead d c more → AreRead Head start (items ++ more)) → item_at d c ≡ Ok (i, next) → ¬ (d ≡ Done) → e ≡ due_behind d i → AreRead e next later
+pub read_more : (start c : Cursor) (d e : DueItem) (next : Cursor) (items later : List Item) (i : Item) → ((more : List Item) → AreRead d c more → AreRead Head start (items ++ more)) → item_at d c ≡ Ok (i, next) → ¬ (d ≡ Done) → e ≡ due_behind d i → AreRead e next later
     → AreRead Head start ((items ++ i ∷ []) ++ later)
 read_more start c d e next items later i so_far read going is rest =
     subst (AreRead Head start) (sym (append_assoc items (i ∷ []) later))
@@ -53,12 +53,12 @@ read_more start c d e next items later i so_far read going is rest =
 
 -- ---- items to the end
 
-in_order : (o : Option Due) (items : List Item) → AreDue o items → AreInOrder o items
+in_order : (o : Option DueItem) (items : List Item) → AreDue o items → AreInOrder o items
 in_order None items h = h
 in_order (Some d) [] h = h
 in_order (Some d) (i ∷ items) h = in_order (due_after d i) items h.1
 
-pub all_accepted : HaveEachRoot → (s : Subject) (items : List Item) (d : Due) (end : Context)
+pub all_accepted : HaveEachRoot → (s : Subject) (items : List Item) (d : DueItem) (end : Context)
     (rows : List Line)
     → ((later : List Item) → AreDue (Some d) later → AreCertificate (items ++ later)) → d ≡ Done
     → LeadsTo s (first s) items end → rows ≡ end.lines → Accepts s items rows
@@ -73,7 +73,7 @@ all_accepted roots s items d end rows so_far done leads are =
       shown = sym are;
     }
 
-spelled_in : (o : Option Due) (items : List Item)
+spelled_in : (o : Option DueItem) (items : List Item)
     → AreDue o items → AllByRecursion HasSpelling items
 spelled_in None items h = absurd h
 spelled_in (Some d) [] h = tt

@@ -3,8 +3,8 @@ use Rattle.std.proofs.Common.{◌≡◌, ◌⊎◌, ◌-◌, ◌+◌, ◌==◌, 
 use Rattle.std.specs.Prelude.{⊤, if◌then◌else◌}
 use Rattle.cert_bytes.specs.declared.item.Item.{Item}
 use Rattle.cert_bytes.specs.declared.item.Item.TheVariants as item
-use Rattle.cert_bytes.specs.declared.order.Due.{Due}
-use Rattle.cert_bytes.specs.declared.order.Due.TheVariants.{Head, Nodes, Marks, Sections, Done}
+use Rattle.cert_bytes.specs.declared.order.DueItem.{DueItem}
+use Rattle.cert_bytes.specs.declared.order.DueItem.TheVariants.{Head, Nodes, Marks, Sections, Done}
 use Rattle.cert_bytes.specs.Due.{due_behind, split_into, is_nodes, is_node, is_marks, is_mark, is_of_section, is_of_root, is_end, is_due, IsOfSection, IsOfRoot}
 use Rattle.cert_checker.proofs.ReadItems.{IsNext, first_of_root, of_section, a_node, a_mark}
 
@@ -105,7 +105,7 @@ by_end (item.Cut x ps) e = cc
 by_end (item.Leaf refs) e = cc
 by_end (item.Dead r) e = cc
 
-pub due_has_next : (d : Due) (i : Item) → ¬ (d ≡ Done) → is_due d i ≡ true → IsNext d i
+pub due_has_next : (d : DueItem) (i : Item) → ¬ (d ≡ Done) → is_due d i ≡ true → IsNext d i
 due_has_next Head i n e = by_head i e
 due_has_next (Nodes zero) i n e = by_marks i (at_zero (is_marks i) (is_node i) e)
 due_has_next (Nodes (suc k)) i n e = by_node k i (past_zero k (is_marks i) (is_node i) e)
@@ -116,25 +116,25 @@ due_has_next (Sections (suc w)) i n e = of_section w i (in_section i (past_zero 
 due_has_next Done i n e = absurd (n refl)
 
 -- ---- which items leave nothing due
-abbrev IsOpen : Due → Type 0
+abbrev IsOpen : DueItem → Type 0
 IsOpen Done = ⊥
 IsOpen _ = ⊤
 
-pub not_done : (d : Due) → IsOpen d → ¬ (d ≡ Done)
+pub not_done : (d : DueItem) → IsOpen d → ¬ (d ≡ Done)
 not_done d o e = subst IsOpen e o
 
-neither : (b : Bool) (x y : Due) → IsOpen x → IsOpen y → ¬ ((if b then x else y) ≡ Done)
+neither : (b : Bool) (x y : DueItem) → IsOpen x → IsOpen y → ¬ ((if b then x else y) ≡ Done)
 neither true x y o p e = not_done x o e
 neither false x y o p e = not_done y p e
 
-left_none : (n : ℕ) (d : Due) → ¬ (d ≡ Done) → ¬ (split_into n d ≡ Done)
+left_none : (n : ℕ) (d : DueItem) → ¬ (d ≡ Done) → ¬ (split_into n d ≡ Done)
 left_none n Head e f = not_done Head tt f
 left_none n (Nodes k) e f = not_done (Nodes k) tt f
 left_none n (Marks k) e f = neither (k == 0) (Sections n) (Marks k) tt tt f
 left_none n (Sections w) e f = neither (w == 0) (Sections w) (Sections (w - 1 + n)) tt tt f
 left_none n Done e f = e refl
 
-pub done_by_end : (d : Due) (i : Item) → ¬ (d ≡ Done) → due_behind d i ≡ Done → i ≡ item.End
+pub done_by_end : (d : DueItem) (i : Item) → ¬ (d ≡ Done) → due_behind d i ≡ Done → i ≡ item.End
 done_by_end d item.End e f = refl
 done_by_end d (item.Step r) e f = absurd (left_none 1 d e f)
 done_by_end d (item.Cut x ps) e f = absurd (left_none (length ps + 1) d e f)
@@ -166,12 +166,12 @@ never : (b : Bool) → ¬ ((if b then false else false) ≡ true)
 never true e = cc
 never false e = cc
 
-done_where : (b : Bool) (d : Due) → (if b then true else false) ≡ true → (if b then Done else d) ≡ Done
+done_where : (b : Bool) (d : DueItem) → (if b then true else false) ≡ true → (if b then Done else d) ≡ Done
 done_where true d e = refl
 done_where false d e = cc
 
 -- the end, where it is due, leaves nothing due
-pub end_is_last : (d : Due) → is_due d item.End ≡ true → due_behind d item.End ≡ Done
+pub end_is_last : (d : DueItem) → is_due d item.End ≡ true → due_behind d item.End ≡ Done
 end_is_last Head e = cc
 end_is_last (Nodes k) e = absurd (never (k == 0) e)
 end_is_last (Marks k) e = absurd (never (k == 0) e)

@@ -8,8 +8,8 @@ use Rattle.goals.specs.facts.declared.fact.Fact.{Fact}
 use Rattle.goals.specs.facts.Order.{slot_of}
 use Rattle.theorem_list.specs.Promises.{AreSound}
 use Rattle.cert_bytes.specs.declared.item.Item.{Item}
-use Rattle.cert_bytes.specs.declared.order.Due.{Due}
-use Rattle.cert_bytes.specs.declared.order.Due.TheVariants.{Head}
+use Rattle.cert_bytes.specs.declared.order.DueItem.{DueItem}
+use Rattle.cert_bytes.specs.declared.order.DueItem.TheVariants.{Head}
 use Rattle.cert_bytes.specs.Due.{due_behind}
 use Rattle.cert_bytes.specs.Reading.{Cursor}
 use Rattle.cert_checker.specs.Contexts.{Context, first}
@@ -63,12 +63,12 @@ accepted_holds laws sound stay s items lines ordered names acc a meets =
     subst (LinesHold s.nodes a s.goals) acc.shown (shown_hold_of_scripts laws sound stay s items acc.end (in_order (Some Head) items acc.certificate) acc.leads acc.cases ordered names a meets)
 
 -- items that are read and taken to the end are in order
-pub come_in_order : (s : Subject) (d : Due) (p : Cursor) (c end : Context) (items : List Item) → Comes s d p c items (accepted end) → AreInOrder (Some d) items × LeadsTo s c items end
+pub come_in_order : (s : Subject) (d : DueItem) (p : Cursor) (c end : Context) (items : List Item) → Comes s d p c items (accepted end) → AreInOrder (Some d) items × LeadsTo s c items end
 come_in_order s d p c end [] h = (h.0, h.1)
 come_in_order s d p c end (i ∷ items) h =
     let next = read_is_due d p h.0 i h.1.0 h.1.1 in
     let rest = come_in_order s (due_behind d i) h.1.0 (after c i) end items h.1.3 in
-    (subst (λ (o : Option Due). AreInOrder o items) (sym next) rest.0, (h.1.2, rest.1))
+    (subst (λ (o : Option DueItem). AreInOrder o items) (sym next) rest.0, (h.1.2, rest.1))
 
 pub checked_holds : LineLaws → AreSound → ValuesStay → CheckedHolds
 checked_holds laws sound stay s p end ordered names comes a meets =

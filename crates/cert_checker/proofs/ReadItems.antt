@@ -5,8 +5,8 @@ use Rattle.cert_bytes.specs.declared.fault.CertFault.{CertFault}
 use Rattle.cert_bytes.specs.declared.fault.CertKind.TheVariants.{TrailingBytes}
 use Rattle.cert_bytes.specs.declared.item.Item.{Item}
 use Rattle.cert_bytes.specs.declared.item.Item.TheVariants as item
-use Rattle.cert_bytes.specs.declared.order.Due.{Due}
-use Rattle.cert_bytes.specs.declared.order.Due.TheVariants.{Head, Nodes, Marks, Sections, Done}
+use Rattle.cert_bytes.specs.declared.order.DueItem.{DueItem}
+use Rattle.cert_bytes.specs.declared.order.DueItem.TheVariants.{Head, Nodes, Marks, Sections, Done}
 use Rattle.cert_bytes.specs.Due.{due_after, due_behind, IsOfSection, IsOfRoot, split_into, behind_node, behind_mark}
 use Rattle.cert_bytes.specs.Reading.{Cursor, Read, ◌>>=◌, byte_at, short_at, node_at, counted_at, reference_at, step_at, points_at, cut_head_at, preamble_at, cut_at, step_item_at, leaf_at, dead_at, section_by, section_item_at, case_count_at, cases_at, root_by, root_item_at, head_at, node_item_at, marks_at, mark_at, more_at, closed_at, node_or_marks_at, mark_or_section_at, section_or_end_at, item_at, entry_at, end_item_at, closed_by, trailer_at, styled}
 use Rattle.cert_bytes.specs.declared.style.Style.{Style}
@@ -72,7 +72,7 @@ module _ (P : Item → Type 0) where
       either (tag.0 == 5) _ _ (then_gives (case_count_at tag.1) _ (λ n. gives (item.Cases n.0) n.1 (h (item.Cases n.0) tt))) (by_tag (of_section_too h) p.at tag.0 tag.1))
 
 -- the item is due, and this is due behind it
-abbrev pub IsNext : Due → Item → Type 0
+abbrev pub IsNext : DueItem → Item → Type 0
 IsNext d i = due_after d i ≡ Some (due_behind d i)
 
 pub first_of_root : (i : Item) → IsOfRoot i → IsNext (Marks zero) i
@@ -122,7 +122,7 @@ closed_gives : (P : Item → Type 0) → P item.End → (style : Style) (p : Cur
 closed_gives P h First p = end_gives P h p
 closed_gives P h (Second seen) p = then_gives P (trailer_at seen p) _ (λ t. end_gives P h t.1)
 
-read_entry : (d : Due) (p : Cursor) → ¬ (d ≡ Done) → Gives (IsNext d) (entry_at d p)
+read_entry : (d : DueItem) (p : Cursor) → ¬ (d ≡ Done) → Gives (IsNext d) (entry_at d p)
 unfolding entry_at head_at node_or_marks_at mark_or_section_at section_or_end_at marks_at node_item_at mark_at closed_at
 read_entry Head p n = then_gives (IsNext Head) (preamble_at p) _ (λ v. then_gives (IsNext Head) (short_at v.1) _ (λ k. gives (IsNext Head) (item.Nodes k.0) k.1 refl))
 read_entry (Nodes zero) p n = at_zero (IsNext (Nodes zero)) zero (marks_at p) (node_item_at p) refl (then_gives (IsNext (Nodes zero)) (short_at p) _ (λ k. gives (IsNext (Nodes zero)) (item.Marks k.0) k.1 refl))
@@ -139,6 +139,6 @@ moved : (P : Item → Type 0) (r : Read Item) (f : Item × Cursor → Cursor) �
 moved P (Ok v) f h i q e = gives P v.0 (f v) (h v.0 v.1 refl) i q e
 moved P (Err g) f h i q e = cc
 
-pub read_is_due : (d : Due) (p : Cursor) → ¬ (d ≡ Done) → Gives (IsNext d) (item_at d p)
+pub read_is_due : (d : DueItem) (p : Cursor) → ¬ (d ≡ Done) → Gives (IsNext d) (item_at d p)
 unfolding item_at
 read_is_due d p n = moved (IsNext d) (entry_at d p) (λ v. styled (style_after v.1.style v.0) v.1) (read_entry d p n)

@@ -5,8 +5,8 @@ use Rattle.fx_model.specs.declared.ExprId.{ExprId}
 use Rattle.goals.specs.dyadic.declared.number.Dyadic.{Dyadic}
 use Rattle.cert_bytes.specs.declared.item.Item.{Item}
 use Rattle.cert_bytes.specs.declared.item.Item.TheVariants as item
-use Rattle.cert_bytes.specs.declared.order.Due.{Due}
-use Rattle.cert_bytes.specs.declared.order.Due.TheVariants.{Head, Nodes, Marks, Sections, Done}
+use Rattle.cert_bytes.specs.declared.order.DueItem.{DueItem}
+use Rattle.cert_bytes.specs.declared.order.DueItem.TheVariants.{Head, Nodes, Marks, Sections, Done}
 use Rattle.cert_checker.specs.declared.subject.Subject.{Subject}
 use Rattle.cert_checker.specs.Contexts.{Context, first}
 use Rattle.cert_checker.specs.After.{case_behind, cuts_behind, behind, lines_with, after}
@@ -23,7 +23,7 @@ record IsBefore (c : Context) : Type 0 where
   case : c.case ≡ 0
   begun : c.begun ≡ false
 
-abbrev At : ℕ → Due → Context → Type 0
+abbrev At : ℕ → DueItem → Context → Type 0
 At n (Sections w) c = IsWithin n w c
 At n Done c = c.case ≡ n
 At n _ c = IsBefore c
@@ -51,7 +51,7 @@ end_on n w b d c q =
     record { sections = omega (arith, s, m, next, left); case = omega (arith, s, m, next) })
     (cases_lt 0 (pending c.cuts))
 
-each_root : (s : Subject) (items : List Item) (d : Due) (c end : Context) → At (length s.cases) d c → AreInOrder (Some d) items → LeadsTo s c items end → end.case ≡ length s.cases
+each_root : (s : Subject) (items : List Item) (d : DueItem) (c end : Context) → At (length s.cases) d c → AreInOrder (Some d) items → LeadsTo s c items end → end.case ≡ length s.cases
 each_root s [] Done c end q g l = ap (λ (x : Context). x.case) (sym l) ∙ q
 each_root s (item.Nodes n ∷ items) Head c end q g l = each_root s items (Nodes n) (after c (item.Nodes n)) end (record { cuts = q.cuts; case = q.case; begun = q.begun }) g l.1
 each_root s (item.Node n ∷ items) (Nodes (suc k)) c end q g l = each_root s items (Nodes k) (after c (item.Node n)) end (record { cuts = q.cuts; case = q.case; begun = q.begun }) g l.1

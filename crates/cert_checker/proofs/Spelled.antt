@@ -1,8 +1,8 @@
 -- Bytes that are accepted spell a certificate that is accepted, and the other way round.
 use Rattle.std.proofs.Common.{List, [], ◌∷◌, refl}
 use Rattle.cert_bytes.specs.declared.item.Item.{Item}
-use Rattle.cert_bytes.specs.declared.order.Due.{Due}
-use Rattle.cert_bytes.specs.declared.order.Due.TheVariants.{Head}
+use Rattle.cert_bytes.specs.declared.order.DueItem.{DueItem}
+use Rattle.cert_bytes.specs.declared.order.DueItem.TheVariants.{Head}
 use Rattle.cert_bytes.specs.declared.style.Style.TheVariants.{First}
 use Rattle.cert_bytes.specs.Due.{due_behind}
 use Rattle.cert_bytes.specs.Reading.{Cursor, cursor}
@@ -15,11 +15,11 @@ use Rattle.cert_checker.specs.Outcomes.{accepted, Comes, AcceptedAreSpelled, Spe
 use Rattle.cert_checker.proofs.OverScripts.{come_in_order}
 use Rattle.cert_checker.proofs.Roots.{have_each_root}
 
-come_read : (s : Subject) (d : Due) (p : Cursor) (c end : Context) (items : List Item) → Comes s d p c items (accepted end) → AreRead d p items
+come_read : (s : Subject) (d : DueItem) (p : Cursor) (c end : Context) (items : List Item) → Comes s d p c items (accepted end) → AreRead d p items
 come_read s d p c end [] h = h.0
 come_read s d p c end (i ∷ items) h = (h.1.0, h.1.1, h.0, come_read s (due_behind d i) h.1.0 (after c i) end items h.1.3)
 
-read_come : (s : Subject) (d : Due) (p : Cursor) (c end : Context) (items : List Item) → AreRead d p items → LeadsTo s c items end → Comes s d p c items (accepted end)
+read_come : (s : Subject) (d : DueItem) (p : Cursor) (c end : Context) (items : List Item) → AreRead d p items → LeadsTo s c items end → Comes s d p c items (accepted end)
 read_come s d p c end [] r l = (r, l)
 read_come s d p c end (i ∷ items) r l = (r.2, (r.0, r.1, l.0, read_come s (due_behind d i) r.0 (after c i) end items r.3 l.1))
 

@@ -8,8 +8,8 @@ use Rattle.goals.specs.declared.line.Line.{Line}
 use Rattle.cert_bytes.specs.declared.fault.CertFault.{CertFault}
 use Rattle.cert_bytes.specs.declared.item.Item.{Item}
 use Rattle.cert_bytes.specs.declared.item.Item.TheVariants as item
-use Rattle.cert_bytes.specs.declared.order.Due.{Due}
-use Rattle.cert_bytes.specs.declared.order.Due.TheVariants.{Head, Done}
+use Rattle.cert_bytes.specs.declared.order.DueItem.{DueItem}
+use Rattle.cert_bytes.specs.declared.order.DueItem.TheVariants.{Head, Done}
 use Rattle.cert_bytes.specs.Due.{due_behind, is_end, is_due}
 use Rattle.cert_bytes.specs.Pieces.{cursor_of}
 use Rattle.cert_bytes.specs.Readers.{Progress}
@@ -127,12 +127,12 @@ steady_first s r f = record {
   few = λ e. record { steps = omega arith; sections = omega arith };
   ended = λ e. cc;
   going = λ e d. not_done Head tt (sym f.due ∙ d);
-  leads = λ items end o l. record { items = items; order = subst (λ (d : Due). AreInOrder (Some d) items) f.due o; leads = l };
+  leads = λ items end o l. record { items = items; order = subst (λ (d : DueItem). AreInOrder (Some d) items) f.due o; leads = l };
   count = simp length-map;
 }
 
 pub reaches_first : (s : Subject) (all : List ℕ) (r : Progress) → IsFresh r → Reaches s all r (begun s) r
-reaches_first s all r f = λ items o h. (items, subst (λ (d : Due). Comes s d (cursor_of all r.ahead) (first s) items o) f.due h)
+reaches_first s all r f = λ items o h. (items, subst (λ (d : DueItem). Comes s d (cursor_of all r.ahead) (first s) items o) f.due h)
 
 module _ (s : Subject) (told : Option (List ℕ)) (c d : Standing) (r q : Progress) (same : c.subject ≡ s) (t : TakesNext told c d r q) where
   context_is : d.context ≡ after c.context t.item
@@ -164,8 +164,8 @@ module _ (s : Subject) (told : Option (List ℕ)) (c d : Standing) (r q : Progre
         t.due ∙ ap (due_behind r.due) last ∙ end_is_last r.due (subst (λ (i : Item). is_due r.due i ≡ true) last t.order);
     going = λ e f. not_end t.item (sym ended_is ∙ e) (done_by_end r.due t.item (w.going open_on) (sym t.due ∙ f));
     leads = λ items end o l.
-        let P : Option Due → Type 0 = λ x. AreInOrder x items in
-        let Q : Due → Type 0 = λ x. AreInOrder (Some x) items in
+        let P : Option DueItem → Type 0 = λ x. AreInOrder x items in
+        let Q : DueItem → Type 0 = λ x. AreInOrder (Some x) items in
         let R : Context → Type 0 = λ x. LeadsTo s x items end in
         w.leads (t.item ∷ items) end (subst P (sym (due_has_next r.due t.item (w.going open_on) t.order)) (subst Q t.due o)) (judged, subst R context_is l);
     count = ap (λ (x : Context). length x.lines) context_is ∙ as_many c.context t.item ∙ w.count;
@@ -173,7 +173,7 @@ module _ (s : Subject) (told : Option (List ℕ)) (c d : Standing) (r q : Progre
 
   pub reaches_on : (all : List ℕ) (start : Progress) → told ≡ Some all → c.context.ended ≡ false → IsSteady s c r → Reaches s all start c r → Reaches s all start d q
   reaches_on all start is open_on w reaches = λ items o h.
-      let P : Due → Type 0 = λ x. Comes s x (cursor_of all q.ahead) d.context items o in
+      let P : DueItem → Type 0 = λ x. Comes s x (cursor_of all q.ahead) d.context items o in
       let Q : Context → Type 0 = λ x. Comes s (due_behind r.due t.item) (cursor_of all q.ahead) x items o in
       reaches (t.item ∷ items) o (w.going open_on, (cursor_of all q.ahead, t.read all is, judged, subst Q context_is (subst P t.due h)))
 

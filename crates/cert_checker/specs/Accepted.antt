@@ -2,8 +2,8 @@
 use Rattle.std.specs.Prelude.{◌≡◌, ◌⊎◌, List, [], ◌∷◌, length, Option, Some, None}
 use Rattle.goals.specs.declared.line.Line.{Line}
 use Rattle.cert_bytes.specs.declared.item.Item.{Item}
-use Rattle.cert_bytes.specs.declared.order.Due.{Due}
-use Rattle.cert_bytes.specs.declared.order.Due.TheVariants.{Head, Done}
+use Rattle.cert_bytes.specs.declared.order.DueItem.{DueItem}
+use Rattle.cert_bytes.specs.declared.order.DueItem.TheVariants.{Head, Done}
 use Rattle.cert_bytes.specs.Due.{due_after}
 use Rattle.cert_bytes.specs.Certificates.{AreCertificate}
 use Rattle.cert_checker.specs.declared.fault.CheckFault.{CheckFault}
@@ -34,7 +34,7 @@ pub record Accepts (s : Subject) (items : List Item) (lines : List Line) : Type 
 
 -- Each item is due where it stands, and behind the last nothing is. (Of a certificate, this and
 -- that each item has a spelling.)
-abbrev pub AreInOrder : Option Due → List Item → Type 0
+abbrev pub AreInOrder : Option DueItem → List Item → Type 0
 AreInOrder None items = ⊥
 AreInOrder (Some d) [] = d ≡ Done
 AreInOrder (Some d) (i ∷ items) = AreInOrder (due_after d i) items

@@ -18,7 +18,7 @@ use Rattle.goals.specs.declared.line.Line.{Line}
 use Rattle.goals.specs.Settles.{Settles}
 use Rattle.goals.specs.Holds.{LineHolds}
 use Rattle.cert_bytes.specs.declared.item.Item.{Item}
-use Rattle.cert_bytes.specs.declared.order.Due.TheVariants.{Head}
+use Rattle.cert_bytes.specs.declared.order.DueItem.TheVariants.{Head}
 use Rattle.cert_checker.specs.declared.subject.Subject.{Subject}
 use Rattle.cert_checker.specs.Steps.{case_facts}
 use Rattle.cert_checker.specs.Contexts.{Context, first}

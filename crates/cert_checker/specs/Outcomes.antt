@@ -4,8 +4,8 @@ use Rattle.std.specs.Prelude.{◌≡◌, ◌≤◌, ℕ, List, [], ◌∷◌, le
 use Rattle.fx_model.specs.Expression.{Assignment, IsOrdered}
 use Rattle.cert_bytes.specs.declared.fault.CertFault.{CertFault}
 use Rattle.cert_bytes.specs.declared.item.Item.{Item}
-use Rattle.cert_bytes.specs.declared.order.Due.{Due}
-use Rattle.cert_bytes.specs.declared.order.Due.TheVariants.{Head, Done}
+use Rattle.cert_bytes.specs.declared.order.DueItem.{DueItem}
+use Rattle.cert_bytes.specs.declared.order.DueItem.TheVariants.{Head, Done}
 use Rattle.cert_bytes.specs.declared.style.Style.TheVariants.{First}
 use Rattle.cert_bytes.specs.Due.{due_behind}
 use Rattle.cert_bytes.specs.Certificates.{SpellsCertificate}
@@ -28,7 +28,7 @@ pub data Outcome : Type 0 where
   refused : CheckFault → Outcome
 
 -- Where an item is due, no item is read or something is wrong with it; or none is due any more.
-abbrev pub StopsAt : Subject → Due → Cursor → Context → Outcome → Type 0
+abbrev pub StopsAt : Subject → DueItem → Cursor → Context → Outcome → Type 0
 StopsAt s d p c (accepted end) = (d ≡ Done) × (c ≡ end)
 StopsAt s d p c (unread f) = item_at d p ≡ Err f
 StopsAt s d p c (refused f) = (i : Item) × (q : Cursor) × (item_at d p ≡ Ok (i, q))
@@ -36,7 +36,7 @@ StopsAt s d p c (refused f) = (i : Item) × (q : Cursor) × (item_at d p ≡ Ok 
 
 -- Where items are due, these are read and nothing is wrong with them, and then reading and judging
 -- stop so.
-abbrev pub Comes : Subject → Due → Cursor → Context → List Item → Outcome → Type 0
+abbrev pub Comes : Subject → DueItem → Cursor → Context → List Item → Outcome → Type 0
 Comes s d p c [] o = StopsAt s d p c o
 Comes s d p c (i ∷ items) o = ¬ (d ≡ Done) × ((q : Cursor) × (item_at d p ≡ Ok (i, q))
     × JudgesItem s c i None × Comes s (due_behind d i) q (after c i) items o)

@@ -12,7 +12,7 @@ of_reading (stop.Fault f) = check_stop.Cert f
 of_reading stop.Failed = check_stop.Failed
 of_reading stop.OutOfMemory = check_stop.OutOfMemory
 
--- Why checking stops where an item wasn't taken: its fault, or want of memory.
+-- Why checking stops where an item wasn't taken: its fault, or lack of memory.
 abbrev pub of_taking : TakeStop → CheckStop
 of_taking (take_stop.Check f) = check_stop.Check f
 of_taking take_stop.OutOfMemory = check_stop.OutOfMemory

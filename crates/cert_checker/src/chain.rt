@@ -135,7 +135,7 @@ impl Chain {
     }
 
     /// Takes the next item. The first fault is answered, and answered again from then on. After
-    /// want of memory nothing has changed.
+    /// lack of memory nothing has changed.
     pub fn take(&mut self, item: &Item) -> Result<(), TakeStop>
         requires room { HasRoom self.old }
         requires spelled { HasSpelling item.now }

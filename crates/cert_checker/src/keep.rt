@@ -4,7 +4,7 @@ ghost use Rattle.std.specs.List.{AllByRecursion};
 ghost use Rattle.fx_edge.specs.Outside.{Rose};
 ghost use Rattle.cert_bytes.specs.Certificates.{HasSpelling, Fits, SpellsCertificate};
 ghost use Rattle.cert_bytes.specs.Pieces.{AgreesTold, cursor_of};
-ghost use Rattle.cert_bytes.specs.declared.order.Due.TheVariants.{Head};
+ghost use Rattle.cert_bytes.specs.declared.order.DueItem.TheVariants.{Head};
 ghost use Rattle.cert_bytes.specs.ReadOut.{AreBytes, AreRead};
 ghost use Rattle.cert_checker.specs.declared.fault.CheckStop.TheVariants as CheckStop;
 ghost use Rattle.cert_checker.specs.Standing.{HasRoom};

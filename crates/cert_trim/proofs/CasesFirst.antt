@@ -4,8 +4,8 @@ use Rattle.std.specs.Prelude.{⊤}
 use Rattle.cert_bytes.specs.declared.item.StepRow.{StepRow}
 use Rattle.cert_bytes.specs.declared.item.Item.{Item}
 use Rattle.cert_bytes.specs.declared.item.Item.TheVariants as item
-use Rattle.cert_bytes.specs.declared.order.Due.{Due}
-use Rattle.cert_bytes.specs.declared.order.Due.TheVariants.{Head, Nodes, Marks, Sections, Done}
+use Rattle.cert_bytes.specs.declared.order.DueItem.{DueItem}
+use Rattle.cert_bytes.specs.declared.order.DueItem.TheVariants.{Head, Nodes, Marks, Sections, Done}
 use Rattle.cert_bytes.specs.Due.{due_after}
 use Rattle.cert_checker.specs.declared.subject.Subject.{Subject}
 use Rattle.cert_checker.specs.Accepted.{AreInOrder}
@@ -36,7 +36,7 @@ no_cases (item.End ∷ items) zero h = none_behind items h
 no_cases (_ ∷ items) zero h = absurd h
 no_cases (_ ∷ items) (suc w) h = absurd h
 
-behind_step : (d : Due) (r : StepRow) (items : List Item)
+behind_step : (d : DueItem) (r : StepRow) (items : List Item)
     → AreInOrder (due_after d (item.Step r)) items → HasNoCases items
 behind_step (Marks zero) r items h = no_cases items 1 h
 behind_step (Sections (suc w)) r items h = no_cases items (suc w) h
@@ -47,7 +47,7 @@ behind_step (Marks (suc n)) r items h = absurd h
 behind_step (Sections zero) r items h = absurd h
 behind_step Done r items h = absurd h
 
-pub cases_first : (o : Option Due) (items : List Item) → AreInOrder o items → CasesFirst items
+pub cases_first : (o : Option DueItem) (items : List Item) → AreInOrder o items → CasesFirst items
 cases_first None items h = absurd h
 cases_first (Some d) [] h = tt
 cases_first (Some d) (item.Step r ∷ items) h =

@@ -7,8 +7,8 @@ use Rattle.std.proofs.lemmas.List.{length-map}
 use Rattle.cert_bytes.specs.declared.item.StepRow.{StepRow}
 use Rattle.cert_bytes.specs.declared.item.Item.{Item}
 use Rattle.cert_bytes.specs.declared.item.Item.TheVariants as item
-use Rattle.cert_bytes.specs.declared.order.Due.{Due}
-use Rattle.cert_bytes.specs.declared.order.Due.TheVariants.{Head, Nodes, Marks, Sections, Done}
+use Rattle.cert_bytes.specs.declared.order.DueItem.{DueItem}
+use Rattle.cert_bytes.specs.declared.order.DueItem.TheVariants.{Head, Nodes, Marks, Sections, Done}
 use Rattle.cert_bytes.specs.Due.{due_after}
 use Rattle.cert_bytes.specs.Certificates.{IsCounted, IsLong, HasRoomFor, HasSpelling, Fits, AreDue, AreCertificate}
 use Rattle.cert_checker.specs.Accepted.{AreInOrder}
@@ -51,7 +51,7 @@ module _ (used : ℕ → Bool) where
 
   -- ---- what is due doesn't depend on what is cited
 
-  step_due : (d : Due) (r t : StepRow) → due_after d (item.Step r) ≡ due_after d (item.Step t)
+  step_due : (d : DueItem) (r t : StepRow) → due_after d (item.Step r) ≡ due_after d (item.Step t)
   step_due (Marks zero) r t = refl
   step_due (Sections (suc w)) r t = refl
   step_due Head r t = refl
@@ -61,7 +61,7 @@ module _ (used : ℕ → Bool) where
   step_due (Sections zero) r t = refl
   step_due Done r t = refl
 
-  leaf_due : (d : Due) (r t : List ℕ) → due_after d (item.Leaf r) ≡ due_after d (item.Leaf t)
+  leaf_due : (d : DueItem) (r t : List ℕ) → due_after d (item.Leaf r) ≡ due_after d (item.Leaf t)
   leaf_due (Marks zero) r t = refl
   leaf_due (Sections (suc w)) r t = refl
   leaf_due Head r t = refl
@@ -71,7 +71,7 @@ module _ (used : ℕ → Bool) where
   leaf_due (Sections zero) r t = refl
   leaf_due Done r t = refl
 
-  dead_due : (d : Due) (r t : ℕ) → due_after d (item.Dead r) ≡ due_after d (item.Dead t)
+  dead_due : (d : DueItem) (r t : ℕ) → due_after d (item.Dead r) ≡ due_after d (item.Dead t)
   dead_due (Marks zero) r t = refl
   dead_due (Sections (suc w)) r t = refl
   dead_due Head r t = refl
@@ -93,7 +93,7 @@ module _ (used : ℕ → Bool) where
   root_begins (item.Dead r ∷ items) h = h
   root_begins (_ ∷ items) h = absurd h.1
 
-  without_step : (d : Due) (r : StepRow) (items : List Item)
+  without_step : (d : DueItem) (r : StepRow) (items : List Item)
       → AreDue (due_after d (item.Step r)) items → AreDue (Some d) items
   without_step (Marks zero) r items h = root_begins items h
   without_step (Sections (suc w)) r items h = h
@@ -104,7 +104,7 @@ module _ (used : ℕ → Bool) where
   without_step (Sections zero) r items h = absurd h
   without_step Done r items h = absurd h
 
-  row_left : (b : Bool) (d : Due) (r : StepRow) (items rest : List Item)
+  row_left : (b : Bool) (d : DueItem) (r : StepRow) (items rest : List Item)
       → HasSpelling (item.Step r) × Fits (item.Step r)
       → AreDue (due_after d (item.Step r)) (items ++ rest)
       → AreDue (Some d) (if_used b (moved_row used r) items ++ rest)
@@ -115,7 +115,7 @@ module _ (used : ℕ → Bool) where
   row_left false d r items rest h due = without_step d r (items ++ rest) due
 
   -- whatever stands behind
-  pub in_order : (items rest : List Item) (n : ℕ) (d : Option Due)
+  pub in_order : (items rest : List Item) (n : ℕ) (d : Option DueItem)
       → AreDue d (items ++ rest) → AreDue d (trimmed_by used n items ++ rest)
   in_order items rest n None h = absurd h
   in_order [] rest n (Some d) h = h
@@ -169,8 +169,8 @@ still_certificate used items h =
     (in_order used items [] 0 (Some Head) (subst AreCertificate (sym (append-nil items)) h))
 
 -- items behind others
-due_front : (before items others : List Item) (d : Option Due)
-    → ((o : Option Due) → AreDue o items → AreDue o others)
+due_front : (before items others : List Item) (d : Option DueItem)
+    → ((o : Option DueItem) → AreDue o items → AreDue o others)
     → AreDue d (before ++ items) → AreDue d (before ++ others)
 due_front [] items others d h due = h d due
 due_front (i ∷ before) items others None h due = absurd due
@@ -182,7 +182,7 @@ certificates_stay_so used n before items later h =
     due_front before (items ++ later) (trimmed_by used n items ++ later) (Some Head)
     (λ o due. in_order used items later n o due) h
 
-pub certificate_in_order : (o : Option Due) (items : List Item)
+pub certificate_in_order : (o : Option DueItem) (items : List Item)
     → AreDue o items → AreInOrder o items
 certificate_in_order None items h = h
 certificate_in_order (Some d) [] h = h

@@ -12,7 +12,7 @@ use Rattle.cert_checker.specs.Steps.{givens, IsConcluded}
 use Rattle.cert_checker.specs.After.{after, around_of, cuts_behind, case_behind, lines_with}
 use Rattle.cert_checker.specs.Accepted.{LeadsTo}
 use Rattle.cert_checker.specs.Faults.{HasCases}
-use Rattle.cert_bytes.specs.declared.order.Due.TheVariants.{Head}
+use Rattle.cert_bytes.specs.declared.order.DueItem.TheVariants.{Head}
 use Rattle.cert_trim.specs.Trimmed.{new_number, moved_row, if_used, trimmed_by}
 use Rattle.cert_trim.specs.Used.{cited, AreUsed, AreEnough}
 use Rattle.cert_trim.specs.Law.{TrimmedAreAccepted}

@@ -50,7 +50,7 @@ pub(crate) fn left_behind(
 /// The items, whose own steps begin with number `start`, without those of their own that aren't
 /// used by what stands behind them. Those that are left are numbered anew from `start` on; what the
 /// items cite below keeps its number. It takes time in proportion to the items and what they cite.
-/// Want of memory is the only error, and drops the items.
+/// Lack of memory is the only error, and drops the items.
 pub fn trim_behind(alloc: Global, items: Vec<Item>, start: u64) -> Result<Vec<Item>, AllocError>
     requires room { start + vec_len items < 2 ^ 64 }
     requires earlier { CiteEarlier start items.items }

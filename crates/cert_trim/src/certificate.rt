@@ -24,7 +24,7 @@ pub struct Trimmed {
 
 /// The items of a certificate, with which nothing is wrong for some subject, without the steps that
 /// aren't used. The steps that are left are numbered anew in their order. It takes time in
-/// proportion to the items and what they cite. Want of memory is the only error, and drops the
+/// proportion to the items and what they cite. Lack of memory is the only error, and drops the
 /// items.
 pub fn trim(alloc: Global, items: Vec<Item>) -> Result<Trimmed, AllocError>
     requires { AreLedBySome items.items }

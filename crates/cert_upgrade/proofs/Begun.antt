@@ -6,8 +6,8 @@ use Rattle.fx_model.specs.declared.Node.TheVariants.{Var}
 use Rattle.facts.specs.declared.hint.HintMark.TheVariants.{Checked}
 use Rattle.cert_bytes.specs.declared.item.Item.{Item}
 use Rattle.cert_bytes.specs.declared.item.Item.TheVariants as item
-use Rattle.cert_bytes.specs.declared.order.Due.{Due}
-use Rattle.cert_bytes.specs.declared.order.Due.TheVariants.{Head, Nodes, Marks, Sections, Done}
+use Rattle.cert_bytes.specs.declared.order.DueItem.{DueItem}
+use Rattle.cert_bytes.specs.declared.order.DueItem.TheVariants.{Head, Nodes, Marks, Sections, Done}
 use Rattle.cert_bytes.specs.Certificates.{HasSpelling, Fits, AreDue, AreCertificate}
 use Rattle.cert_bytes.specs.Due.{due_after}
 use Rattle.cert_bytes.specs.Fronts.{IsFront}
@@ -16,18 +16,18 @@ use Rattle.cert_upgrade.specs.Items.{AreBegun}
 use Rattle.cert_bytes.specs.Spelling.{spelled_behind, certificate_of}
 use Rattle.cert_upgrade.proofs.Spelled.{spelled_both}
 
-pub begun_none : (d : Due) → d ≡ Head → AreBegun [] d
-begun_none d e more a = subst (λ (x : Due). AreDue (Some x) more) e a
+pub begun_none : (d : DueItem) → d ≡ Head → AreBegun [] d
+begun_none d e more a = subst (λ (x : DueItem). AreDue (Some x) more) e a
 
 -- one more
-pub begun_more : (items : List Item) (i : Item) (d e : Due) → AreBegun items d
+pub begun_more : (items : List Item) (i : Item) (d e : DueItem) → AreBegun items d
     → due_after d i ≡ Some e → HasSpelling i × Fits i → AreBegun (items ++ i ∷ []) e
 begun_more items i d e b n f more a =
     let due : AreDue (due_after d i) more =
-    subst (λ (x : Option Due). AreDue x more) (sym n) a in
+    subst (λ (x : Option DueItem). AreDue x more) (sym n) a in
     subst AreCertificate (sym (append_assoc items (i ∷ []) more)) (b (i ∷ more) (f, due))
 
-pub begun_all : (items : List Item) (d : Due) → AreBegun items d → d ≡ Done → AreCertificate items
+pub begun_all : (items : List Item) (d : DueItem) → AreBegun items d → d ≡ Done → AreCertificate items
 begun_all items d b e = subst AreCertificate (append-nil items) (b [] e)
 
 -- ---- from each place some items lead to the end
@@ -45,7 +45,7 @@ nodes_end zero = let rest = marks_end 0 in (item.Marks 0 ∷ rest.0, ((tt, omega
 nodes_end (suc n) =
     let rest = nodes_end n in (item.Node (Var 0) ∷ rest.0, ((tt, omega arith), rest.1))
 
-pub some_end : (d : Due) → (more : List Item) × AreDue (Some d) more
+pub some_end : (d : DueItem) → (more : List Item) × AreDue (Some d) more
 some_end Head = let rest = nodes_end 0 in (item.Nodes 0 ∷ rest.0, ((tt, omega arith), rest.1))
 some_end (Nodes n) = nodes_end n
 some_end (Marks n) = marks_end n

@@ -3,12 +3,12 @@ use Rattle.std.specs.Prelude.{◌≡◌, ◌⊎◌, ◌+◌, ◌-◌, ◌==◌, 
 use Rattle.std.proofs.Common.{sym, ◌∙◌, ap, inl, inr, ⊎_elim, arith}
 use Rattle.cert_bytes.specs.declared.item.Item.{Item}
 use Rattle.cert_bytes.specs.declared.item.Item.TheVariants as item
-use Rattle.cert_bytes.specs.declared.order.Due.{Due}
-use Rattle.cert_bytes.specs.declared.order.Due.TheVariants.{Head, Nodes, Marks, Sections, Done}
+use Rattle.cert_bytes.specs.declared.order.DueItem.{DueItem}
+use Rattle.cert_bytes.specs.declared.order.DueItem.TheVariants.{Head, Nodes, Marks, Sections, Done}
 use Rattle.cert_bytes.specs.Due.{due_after, due_behind, behind_node, behind_mark, split_into, is_nodes, is_node, is_marks, is_mark, is_of_section, is_of_root, is_end, is_due}
 
 -- the item is due there
-abbrev pub IsNext : Due → Item → Type 0
+abbrev pub IsNext : DueItem → Item → Type 0
 IsNext d i = due_after d i ≡ Some (due_behind d i)
 
 -- which of the two holds
@@ -126,7 +126,7 @@ by_end (item.Leaf refs) e = cc
 by_end (item.Dead r) e = cc
 by_end item.End e = refl
 
-pub due_has_next : (d : Due) (i : Item) → ¬ (d ≡ Done) → is_due d i ≡ true → IsNext d i
+pub due_has_next : (d : DueItem) (i : Item) → ¬ (d ≡ Done) → is_due d i ≡ true → IsNext d i
 due_has_next Head i n e = by_head i e
 due_has_next (Nodes zero) i n e = by_marks i (at_zero (is_marks i) (is_node i) e)
 due_has_next (Nodes (suc k)) i n e = by_node k i (past_zero k (is_marks i) (is_node i) e)
@@ -137,7 +137,7 @@ due_has_next (Sections (suc w)) i n e = by_section w i (past_zero w (is_end i) (
 due_has_next Done i n e = absurd (n refl)
 
 -- ---- nothing is due behind the end, and behind it alone
-pub done_by_end : (d : Due) (i : Item) → due_after d i ≡ Some Done → i ≡ item.End
+pub done_by_end : (d : DueItem) (i : Item) → due_after d i ≡ Some Done → i ≡ item.End
 done_by_end Head (item.Nodes n) q = cc
 done_by_end (Nodes (suc k)) (item.Node n) q = cc
 done_by_end (Nodes zero) (item.Marks n) q = cc
@@ -154,7 +154,7 @@ done_by_end (Sections (suc w)) (item.Dead r) q = cc
 done_by_end (Sections zero) item.End q = refl
 done_by_end d i q = cc
 
-pub end_is_last : (d e : Due) → due_after d item.End ≡ Some e → e ≡ Done
+pub end_is_last : (d e : DueItem) → due_after d item.End ≡ Some e → e ≡ Done
 end_is_last Head e q = cc
 end_is_last (Nodes zero) e q = cc
 end_is_last (Nodes (suc k)) e q = cc

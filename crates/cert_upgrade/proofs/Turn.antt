@@ -3,8 +3,8 @@ use Rattle.std.specs.Prelude.{◌≡◌, ◌≤◌, ◌<◌, ◌++◌, ℕ, List
 use Rattle.std.proofs.Common.{sym, ◌∙◌, ap, subst, arith}
 use Rattle.cert_bytes.specs.declared.item.Item.{Item}
 use Rattle.cert_bytes.specs.declared.item.Item.TheVariants as item
-use Rattle.cert_bytes.specs.declared.order.Due.{Due}
-use Rattle.cert_bytes.specs.declared.order.Due.TheVariants.{Done}
+use Rattle.cert_bytes.specs.declared.order.DueItem.{DueItem}
+use Rattle.cert_bytes.specs.declared.order.DueItem.TheVariants.{Done}
 use Rattle.cert_bytes.specs.declared.style.Seen.{Seen}
 use Rattle.cert_bytes.specs.declared.style.Style.TheVariants.{Second}
 use Rattle.cert_bytes.specs.Certificates.{HasSpelling, Fits}
@@ -33,7 +33,7 @@ pub not_end : (i : Item) → is_end i ≡ false → ¬ (i ≡ item.End)
 not_end i e f = let no : true ≡ false = sym (ap is_end f) ∙ e in cc no
 
 -- the end is due last
-ends_so : (d e : Due) (i : Item) → due_after d i ≡ Some e
+ends_so : (d e : DueItem) (i : Item) → due_after d i ≡ Some e
     → (is_end i ≡ true → e ≡ Done) × (e ≡ Done → is_end i ≡ true)
 ends_so d e i n = (
   (λ q. end_is_last d e (subst (λ (x : Item). due_after d x ≡ Some e) (the_end i q) n)),

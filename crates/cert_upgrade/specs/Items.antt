@@ -1,8 +1,8 @@
 -- The items of a certificate under some name, as far as they were read.
 use Rattle.std.specs.Prelude.{◌≡◌, ◌++◌, ℕ, List, [], ◌∷◌, Bool, true, Option, Some, None, Ok}
 use Rattle.cert_bytes.specs.declared.item.Item.{Item}
-use Rattle.cert_bytes.specs.declared.order.Due.{Due}
-use Rattle.cert_bytes.specs.declared.order.Due.TheVariants.{Head, Done}
+use Rattle.cert_bytes.specs.declared.order.DueItem.{DueItem}
+use Rattle.cert_bytes.specs.declared.order.DueItem.TheVariants.{Head, Done}
 use Rattle.cert_bytes.specs.declared.fault.CertFault.{CertFault}
 use Rattle.cert_bytes.specs.declared.style.Seen.{Seen}
 use Rattle.cert_bytes.specs.declared.style.Style.TheVariants.{First, Second}
@@ -25,13 +25,13 @@ pub record AreItemsOf (all : List ℕ) (items : List Item) : Type 0 where
 
 -- From this place these items are read one after the other, and then that place is reached, where
 -- this is due.
-abbrev pub LeadsTo : Due → Cursor → List Item → Due → Cursor → Type 0
+abbrev pub LeadsTo : DueItem → Cursor → List Item → DueItem → Cursor → Type 0
 LeadsTo d c [] e end = (d ≡ e) × (c ≡ end)
 LeadsTo d c (i ∷ items) e end = (next : Cursor) × (item_at d c ≡ Ok (i, next)) × (¬ (d ≡ Done))
     × LeadsTo (due_behind d i) next items e end
 
 -- From the first byte on.
-abbrev pub LeadsFromStart : List ℕ → List Item → Due → Cursor → Type 0
+abbrev pub LeadsFromStart : List ℕ → List Item → DueItem → Cursor → Type 0
 LeadsFromStart all items e end = LeadsTo Head (cursor First all 0) items e end
 
 -- Bytes have one list of items at most, and none where they have a fault.
@@ -45,7 +45,7 @@ pub record ItemsAreOne : Type 0 where
 
 -- These items are in order from the first on: with any that are due behind them to the end they are
 -- a certificate's.
-abbrev pub AreBegun : List Item → Due → Type 0
+abbrev pub AreBegun : List Item → DueItem → Type 0
 AreBegun items d = (more : List Item) → AreDue (Some d) more → AreCertificate (items ++ more)
 
 -- These items are a certificate's, and where the bytes are told they are those of the bytes.

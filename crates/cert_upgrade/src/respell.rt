@@ -4,7 +4,7 @@ ghost use Rattle.fx_edge.specs.Outside.{Rose};
 ghost use Rattle.cert_bytes.specs.declared.item.Item.{Item};
 ghost use Rattle.cert_bytes.specs.declared.fault.CertFault.{CertFault};
 ghost use Rattle.cert_bytes.specs.declared.fault.Stop.TheVariants as CertStop;
-ghost use Rattle.cert_bytes.specs.declared.order.Due.TheVariants.{Done};
+ghost use Rattle.cert_bytes.specs.declared.order.DueItem.TheVariants.{Done};
 ghost use Rattle.cert_bytes.specs.declared.style.Style.TheVariants.{Second};
 ghost use Rattle.cert_bytes.specs.Pieces.{AgreesTold, cursor_of};
 ghost use Rattle.cert_bytes.specs.Due.{is_end};

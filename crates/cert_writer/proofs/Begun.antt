@@ -12,19 +12,19 @@ use Rattle.derivation.specs.Exists.{table_at}
 use Rattle.box_trace.specs.saturate.Universes.{setting_of}
 use Rattle.cert_trim.specs.cert_bytes.declared.item.Item.{Item}
 use Rattle.cert_trim.specs.cert_bytes.declared.item.Item.TheVariants as item
-use Rattle.cert_trim.specs.cert_bytes.declared.order.Due.TheVariants.{Nodes, Marks, Sections}
+use Rattle.cert_trim.specs.cert_bytes.declared.order.DueItem.TheVariants.{Nodes, Marks, Sections}
 use Rattle.cert_trim.specs.cert_bytes.Certificates.{AreDue}
 use Rattle.box_trace.specs.cert_checker.declared.subject.Subject.{Subject}
 use Rattle.box_trace.specs.cert_checker.Contexts.{Context, first, open_piece}
 use Rattle.box_trace.specs.cert_checker.After.{after, around_of, cuts_behind}
 use Rattle.box_trace.specs.cert_checker.Accepted.{LeadsTo}
-use Rattle.box_trace.specs.box_traces.Sections.{AllBelow}
-use Rattle.box_trace.specs.box_traces.Writing.{givens_of}
-use Rattle.box_trace.specs.box_traces.Traces.{Trace}
-use Rattle.box_trace.specs.box_traces.Trees.{Tree, IsProved, lines_of_tree, steps_in, AreTaken}
-use Rattle.box_trace.specs.box_traces.Roots.{roots_are_counted, cases_items}
-use Rattle.box_trace.specs.box_traces.Walks.{numbered, MayBegin, IsOpen}
-use Rattle.box_trace.specs.box_traces.Laws.{TracesExist}
+use Rattle.box_trace.specs.tree_certificates.Sections.{AllBelow}
+use Rattle.box_trace.specs.tree_certificates.Writing.{givens_of}
+use Rattle.box_trace.specs.tree_certificates.Traces.{Trace}
+use Rattle.box_trace.specs.tree_certificates.Trees.{Tree, IsProved, lines_of_tree, steps_in, AreTaken}
+use Rattle.box_trace.specs.tree_certificates.Roots.{roots_are_counted, cases_items}
+use Rattle.box_trace.specs.tree_certificates.Walks.{numbered, MayBegin, IsOpen}
+use Rattle.box_trace.specs.tree_certificates.Laws.{TracesExist}
 use Rattle.cert_writer.specs.Standing.{IsAt, most_for, steps_left, lines_left, at_root}
 use Rattle.cert_trim.specs.cert_bytes.declared.style.Seen.{Seen}
 use Rattle.cert_trim.specs.cert_bytes.Styles.{seen_in}
@@ -33,7 +33,7 @@ use Rattle.cert_writer.proofs.Sized.{head_sized}
 use Rattle.cert_writer.specs.Heads.{head_items}
 use Rattle.cert_writer.specs.Laws.{OfAims}
 use Rattle.cert_writer.proofs.Seen.{head_seen}
-use Rattle.box_trace.specs.box_traces.Moves.{lead_both, marks_due, root_due}
+use Rattle.box_trace.specs.tree_certificates.Moves.{lead_both, marks_due, root_due}
 
 -- ---- what they come to
 abbrev with_nodes : Context → List Node → Context

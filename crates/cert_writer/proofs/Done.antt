@@ -28,8 +28,8 @@ use Rattle.box_trace.specs.declared.known.Known.{Known}
 use Rattle.box_trace.specs.declared.tracing.Traced.{Traced}
 use Rattle.box_trace.specs.Boxes.{IsItsTable, AreItsSteps, log_of, most_steps}
 use Rattle.box_trace.specs.Tables.{known_at, place_in, HasRows}
-use Rattle.box_trace.specs.box_traces.Trees.{leaf, cut, IsProved}
-use Rattle.box_trace.specs.box_traces.Walks.{numbered, behind_steps}
+use Rattle.box_trace.specs.tree_certificates.Trees.{leaf, cut, IsProved}
+use Rattle.box_trace.specs.tree_certificates.Walks.{numbered, behind_steps}
 use Rattle.answer_certificates.specs.Boxes.{range_of_piece, pieces_from}
 use Rattle.box_trace.specs.Short.{BoxesAreShort}
 use Rattle.box_trace.specs.Rounds.{IsByRounds}
@@ -37,7 +37,7 @@ use Rattle.cert_trim.specs.Trimmed.{number_behind_all}
 use Rattle.cert_trim.specs.Used.{CiteEarlier}
 use Rattle.cert_trim.specs.Behind.{stays_behind, trimmed_behind, IsLeafOrDead, AreFewer, section_of}
 use Rattle.cert_writer.specs.Boxes.{HasShortList, KnowsVoid, CutsAt, IsEnd, written_of}
-use Rattle.cert_writer.specs.Standing.{Target, Place, IsAt, Ended, HasEnded, AreBoxSteps, inside, closed, trimmed}
+use Rattle.cert_writer.specs.Standing.{Target, SectionStart, IsAt, Ended, HasEnded, AreBoxSteps, inside, closed, trimmed}
 use Rattle.cert_writer.specs.Courses.{Course, IsCourse, HasBest, course, setting, below, IsBefore, IsKnownAt, AreOwnBytes}
 use Rattle.cert_writer.specs.Walks.{MayEnd, IsLast, WalkGoesOn}
 use Rattle.cert_writer.proofs.Seen.{seen_with}
@@ -88,7 +88,7 @@ own_length [] i = refl
 own_length (row ∷ rows) i = let h = own_length rows i in omega (arith, h)
 
 module _ (plan : PlanParts) (laws : WalkGoesOn plan) (u : World) (height : ℕ) (t : Target) (lines : List Line) (states : List ℕ → State) (is : IsCourse (course u plan height t lines states))
-    (path : List ℕ) (parent : Option (Bor Known)) (first : Seen) (p : Place) (before : IsBefore (course u plan height t lines states) path parent first p)
+    (path : List ℕ) (parent : Option (Bor Known)) (first : Seen) (p : SectionStart) (before : IsBefore (course u plan height t lines states) path parent first p)
     (tr : Traced) (its : IsItsTable u height (piece_at plan path) parent tr.known) (rows : HasRows u tr.known) (steps : AreItsSteps u (piece_at plan path) parent first.steps (log_of first.steps tr))
     (few : length tr.steps.items ≤ most_steps u height) (boxes : BoxesAreShort)
     (rounds : IsByRounds u parent height first.steps tr) (fewer : AreFewer) where
@@ -192,7 +192,7 @@ module _ (plan : PlanParts) (laws : WalkGoesOn plan) (u : World) (height : ℕ) 
     cut_done n next count same =
         let tree : p.tree ≡ cut x points (pieces_from plan (below c (35 - length path)) path 0 n) = node.1 ∙ ap (λ m. cut x points (pieces_from plan (below c (35 - length path)) path 0 m)) (sym count) in
         let of_variable : (k : ℕ) → k < n → piece_at plan (path ++ k ∷ []) ≡ Some (x, range_of_piece (piece_at plan (path ++ k ∷ []))) = λ k l. node.2 k (omega (arith, l, count)) in
-        let q : Place = inside p tr.steps.items x points (range_of_piece (piece_at plan (path ++ 0 ∷ []))) (below c (35 - length path) (path ++ 0 ∷ [])) (pieces_from plan (below c (35 - length path)) path (0 + 1) (length points)) in
+        let q : SectionStart = inside p tr.steps.items x points (range_of_piece (piece_at plan (path ++ 0 ∷ []))) (below c (35 - length path) (path ++ 0 ∷ [])) (pieces_from plan (below c (35 - length path)) path (0 + 1) (length points)) in
         let at : IsAt c.aim q = enter_at laws.tables laws.writing c is path parent first p before tr.steps.items box_steps x points (own.sized (item.Cut x points) few_points) n count tree in
         record {
           done = λ old new a. (

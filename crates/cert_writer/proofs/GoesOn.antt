@@ -19,7 +19,7 @@ use Rattle.box_trace.specs.saturate.Universes.{setting_of}
 use Rattle.cert_trim.specs.cert_bytes.declared.item.Item.{Item}
 use Rattle.cert_trim.specs.cert_bytes.declared.item.Item.TheVariants as item
 use Rattle.cert_trim.specs.cert_bytes.declared.item.StepRow.{StepRow}
-use Rattle.cert_trim.specs.cert_bytes.declared.order.Due.TheVariants.{Sections}
+use Rattle.cert_trim.specs.cert_bytes.declared.order.DueItem.TheVariants.{Sections}
 use Rattle.cert_trim.specs.cert_bytes.declared.style.Style.TheVariants.{Second}
 use Rattle.cert_trim.specs.cert_bytes.Certificates.{AreDue, AreCertificate, IsLong, IsShort}
 use Rattle.cert_trim.specs.cert_bytes.Spelling.{spelled_behind, certificate_of}
@@ -29,20 +29,20 @@ use Rattle.box_trace.specs.cert_checker.Steps.{step_fact}
 use Rattle.box_trace.specs.cert_checker.Faults.{AreSettled, IsVariable, JudgesItem}
 use Rattle.box_trace.specs.cert_checker.After.{after, case_behind, cuts_behind, lines_with}
 use Rattle.box_trace.specs.cert_checker.Accepted.{LeadsTo}
-use Rattle.box_trace.specs.box_traces.Sections.{AllBelow}
-use Rattle.box_trace.specs.box_traces.Traces.{most_steps}
-use Rattle.box_trace.specs.box_traces.Roots.{Root, AreRoots, steps_in_roots, lines_of_roots}
-use Rattle.box_trace.specs.box_traces.Trees.{Tree, Trees, leaf, cut, last, next, AreProved, ArePoints, lines_of_tree, lines_of_trees, lines_at, leaf_lines, steps_in, steps_in_each}
-use Rattle.box_trace.specs.box_traces.Walks.{behind_steps, IsEndOf, Frame, LiesIn, left_in, lines_behind, steps_behind, IsDue, Ending}
-use Rattle.box_trace.specs.box_traces.Moves.{WalksGoOn, WalksMove, AreSteps, IsEntered, lead_both, next_behind}
-use Rattle.cert_writer.specs.Standing.{Aim, IsAim, IsWhole, IsBegun, Place, IsAt, Ended, HasEnded, HasWritten, AreBoxSteps, AreShort, AreCited, most_for, roots_left, steps_left, lines_left, inside, closed, beside, around, next_aim, next_root, root_with}
+use Rattle.box_trace.specs.tree_certificates.Sections.{AllBelow}
+use Rattle.box_trace.specs.tree_certificates.Traces.{most_steps}
+use Rattle.box_trace.specs.tree_certificates.Roots.{Root, AreRoots, steps_in_roots, lines_of_roots}
+use Rattle.box_trace.specs.tree_certificates.Trees.{Tree, Trees, leaf, cut, last, next, AreProved, ArePoints, lines_of_tree, lines_of_trees, lines_at, leaf_lines, steps_in, steps_in_each}
+use Rattle.box_trace.specs.tree_certificates.Walks.{behind_steps, IsEndOf, Frame, LiesIn, left_in, lines_behind, steps_behind, IsDue, Ending}
+use Rattle.box_trace.specs.tree_certificates.Moves.{WalksGoOn, WalksMove, AreSteps, IsEntered, lead_both, next_behind}
+use Rattle.cert_writer.specs.Standing.{Aim, IsAim, IsWhole, IsBegun, SectionStart, IsAt, Ended, HasEnded, HasWritten, AreBoxSteps, AreShort, AreCited, most_for, roots_left, steps_left, lines_left, inside, closed, beside, around, next_aim, next_root, root_with}
 use Rattle.cert_writer.specs.Laws.{OfAims}
 use Rattle.cert_trim.specs.cert_bytes.Styles.{none_seen, seen_in}
 use Rattle.cert_trim.specs.cert_bytes.Sizes.{most_bytes_in, SpellingsAreShort}
 use Rattle.cert_trim.specs.Behind.{section_of}
 use Rattle.cert_writer.proofs.Sized.{sized_both}
 use Rattle.cert_writer.proofs.Seen.{spelled_both, EndsSection, sections_with}
-use Rattle.box_trace.specs.box_traces.Cited.{found_long}
+use Rattle.box_trace.specs.tree_certificates.Cited.{found_long}
 
 -- ---- items one behind the other
 more_due : (t : Aim) (items more rest : List Item) → AreCertificate (items ++ (more ++ rest)) → AreCertificate ((items ++ more) ++ rest)
@@ -127,7 +127,7 @@ pub enough : (t : Aim) → IsAim t → most_steps (setting_of t.world) t.height 
 enough t a = let l = a.enough in let h = a.writable.few_hypotheses in omega (arith, l, h)
 
 module _ (goes : WalksGoOn) (moves : WalksMove) where
-  pub begun : OfAims (λ t. (p : Place) → IsAt t p → IsBegun t (certificate_of p.items))
+  pub begun : OfAims (λ t. (p : SectionStart) → IsAt t p → IsBegun t (certificate_of p.items))
   begun t a p here =
       let v : Setting = setting_of t.world in
       let en = here.entered in
@@ -140,7 +140,7 @@ module _ (goes : WalksGoOn) (moves : WalksMove) where
       let r = moves.rest v t.world.hints a.writable t.height (most_for t) (enough t a) t.world.goals t.target.subject t.target.number a.subject e.begin e.context e.lines e.frames here.lies here.ended t.target.later a.later (let l = here.room in omega (arith, l)) in
       front t e.items e.context (left_in e.frames + roots_left t) here.written (subst (λ y. Ending t.target.subject e.context (left_in e.frames + roots_left t) y) (sym here.shown) r)
 
-  pub enters : OfAims (λ t. (p : Place) (rows : List StepRow) (x : ExprId) (points : List Dyadic) (i : Interval) (tree : Tree) (later : Trees) → p.tree ≡ cut x points (next i tree later) → IsAt t p →
+  pub enters : OfAims (λ t. (p : SectionStart) (rows : List StepRow) (x : ExprId) (points : List Dyadic) (i : Interval) (tree : Tree) (later : Trees) → p.tree ≡ cut x points (next i tree later) → IsAt t p →
       AreBoxSteps t p rows → AreShort t rows (item.Cut x points)
       → IsAt t (inside p rows x points i tree later))
   enters t a p rows x points i tree later e here own small =
@@ -192,7 +192,7 @@ module _ (goes : WalksGoOn) (moves : WalksMove) where
       }
 
   -- what is so of each end of a box's own section
-  close : (t : Aim) (p : Place) (rows : List StepRow) (l : Item) (lines : List Line) → p.tree ≡ leaf → IsAt t p → AreSteps t.target.subject p.context rows → length rows < most_for t → AreShort t rows l → EndsSection l → JudgesItem t.target.subject (behind_steps p.context rows) l None →
+  close : (t : Aim) (p : SectionStart) (rows : List StepRow) (l : Item) (lines : List Line) → p.tree ≡ leaf → IsAt t p → AreSteps t.target.subject p.context rows → length rows < most_for t → AreShort t rows l → EndsSection l → JudgesItem t.target.subject (behind_steps p.context rows) l None →
       ((rest : List Item) → AreDue (Some (Sections (left_in p.frames + roots_left t))) rest → AreDue (Some (Sections (suc (left_in p.frames + roots_left t)))) (l ∷ rest)) →
       IsEndOf p.context (after (behind_steps p.context rows) l) lines → (after (behind_steps p.context rows) l).next ≡ (behind_steps p.context rows).next →
       lines_of_tree (setting_of t.world) t.height t.world.goals leaf p.pieces p.context.lines ≡ lines → HasEnded t (closed p rows l lines)
@@ -224,7 +224,7 @@ module _ (goes : WalksGoOn) (moves : WalksMove) where
         shown = subst (λ y. t.lines ≡ lines_left t (lines_behind v t.height t.world.goals p.frames y)) shown all;
       }
 
-  pub settles : OfAims (λ t. (p : Place) (rows : List StepRow) (refs : List ℕ) → p.tree ≡ leaf → IsAt t p → AreBoxSteps t p rows → AreShort t rows (item.Leaf refs) →
+  pub settles : OfAims (λ t. (p : SectionStart) (rows : List StepRow) (refs : List ℕ) → p.tree ≡ leaf → IsAt t p → AreBoxSteps t p rows → AreShort t rows (item.Leaf refs) →
       table_at (setting_of t.world) t.height p.pieces slot.Void ≡ None → AreCited (behind_steps p.context rows).steps (table_at (setting_of t.world) t.height p.pieces) t.world.goals refs →
       HasEnded t (closed p rows (item.Leaf refs) (lines_of_tree (setting_of t.world) t.height t.world.goals leaf p.pieces p.context.lines)))
   settles t a p rows refs e here own small none cited =
@@ -251,7 +251,7 @@ module _ (goes : WalksGoOn) (moves : WalksMove) where
       (λ rest r. ((omega (arith, count, goals), cited_long d.steps at d.next t.world.goals refs own.behind.below long cited), r))
       (subst (λ y. IsEndOf p.context (after d (item.Leaf refs)) y) shown m.1) refl refl
 
-  pub voids : OfAims (λ t. (p : Place) (rows : List StepRow) (r : ℕ) → p.tree ≡ leaf → IsAt t p → AreSteps t.target.subject p.context rows → length rows < most_for t → AreShort t rows (item.Dead r) →
+  pub voids : OfAims (λ t. (p : SectionStart) (rows : List StepRow) (r : ℕ) → p.tree ≡ leaf → IsAt t p → AreSteps t.target.subject p.context rows → length rows < most_for t → AreShort t rows (item.Dead r) →
       table_at (setting_of t.world) t.height p.pieces slot.Void ≡ Some fact.Void → step_fact (behind_steps p.context rows).steps r ≡ Some fact.Void → HasEnded t (closed p rows (item.Dead r) p.context.lines))
   voids t a p rows r e here steps k small void is =
       let v : Setting = setting_of t.world in

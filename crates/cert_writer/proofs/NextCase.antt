@@ -15,9 +15,9 @@ use Rattle.answer_certificates.specs.box_tree.Regions.{PlanParts, region_below}
 use Rattle.cert_trim.specs.cert_bytes.declared.item.Item.{Item}
 use Rattle.box_trace.specs.cert_checker.Contexts.{open_piece}
 use Rattle.box_trace.specs.Boxes.{IsBox, IsOfUniverse, IsItsSection}
-use Rattle.box_trace.specs.box_traces.Roots.{Root, IsRoot}
-use Rattle.box_trace.specs.box_traces.Trees.{Tree}
-use Rattle.box_trace.specs.box_traces.Walks.{numbered, LiesIn}
+use Rattle.box_trace.specs.tree_certificates.Roots.{Root, IsRoot}
+use Rattle.box_trace.specs.tree_certificates.Trees.{Tree}
+use Rattle.box_trace.specs.tree_certificates.Walks.{numbered, LiesIn}
 use Rattle.box_trace.specs.saturate.Universes.{setting_of}
 use Rattle.answer_certificates.specs.Boxes.{boxes_of}
 use Rattle.answer_certificates.specs.Roots.{AreRootsOf}

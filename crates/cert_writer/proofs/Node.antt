@@ -24,7 +24,7 @@ use Rattle.answer_certificates.specs.bisect.Trees.{children}
 use Rattle.answer_certificates.specs.settler.Standing.{IsBestKnown, AreSettledBy, StandsAs}
 use Rattle.box_trace.specs.declared.known.Known as seen
 use Rattle.box_trace.specs.Tables.{known_at}
-use Rattle.box_trace.specs.box_traces.Trees.{Tree, Trees, leaf, cut, AllSettled}
+use Rattle.box_trace.specs.tree_certificates.Trees.{Tree, Trees, leaf, cut, AllSettled}
 use Rattle.answer_certificates.specs.Boxes.{range_of_piece, variable_of, pieces_from, cut_into, boxes_below}
 use Rattle.answer_certificates.specs.Laws.{PiecesAreOfCuts}
 use Rattle.cert_writer.specs.Boxes.{KnowsVoid, CutsAt}

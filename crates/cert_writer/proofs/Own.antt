@@ -29,15 +29,15 @@ use Rattle.box_trace.specs.declared.known.Known.{Known}
 use Rattle.box_trace.specs.declared.tracing.Traced.{Traced}
 use Rattle.box_trace.specs.Boxes.{IsSomeBox, IsItsTable, IsTracedIn, AreItsSteps, log_of, most_steps}
 use Rattle.box_trace.specs.Tables.{known_at, place_in}
-use Rattle.box_trace.specs.box_traces.Sections.{behind, ArePlaces}
-use Rattle.box_trace.specs.box_traces.Traces.{HaveFields}
-use Rattle.box_trace.specs.box_traces.Trees.{Tree, leaf, cut, AllSettled, IsProved, IsSettledLeaf, lines_of_tree, steps_in, steps_in_each}
-use Rattle.box_trace.specs.box_traces.Walks.{numbered, behind_steps, IsBehind, steps_behind}
-use Rattle.box_trace.specs.box_traces.Moves.{WalksMove, AreSteps}
+use Rattle.box_trace.specs.tree_certificates.Sections.{behind, ArePlaces}
+use Rattle.box_trace.specs.tree_certificates.Traces.{HaveFields}
+use Rattle.box_trace.specs.tree_certificates.Trees.{Tree, leaf, cut, AllSettled, IsProved, IsSettledLeaf, lines_of_tree, steps_in, steps_in_each}
+use Rattle.box_trace.specs.tree_certificates.Walks.{numbered, behind_steps, IsBehind, steps_behind}
+use Rattle.box_trace.specs.tree_certificates.Moves.{WalksMove, AreSteps}
 use Rattle.cert_writer.specs.Boxes.{HasShortList, KnowsVoid, IsClosed, IsEnd, refs_in}
 use Rattle.box_trace.specs.Short.{EndsBox, BoxesAreShort}
 use Rattle.box_trace.specs.Rounds.{IsByRounds}
-use Rattle.cert_writer.specs.Standing.{AreShort, Aim, IsAim, Place, IsAt, HasEnded, AreCited, most_for, steps_left, closed}
+use Rattle.cert_writer.specs.Standing.{AreShort, Aim, IsAim, SectionStart, IsAt, HasEnded, AreCited, most_for, steps_left, closed}
 use Rattle.cert_writer.specs.Courses.{Course, IsCourse, HasBest, IsBefore, setting, best_at}
 use Rattle.cert_writer.specs.Laws.{WritingGoesOn}
 use Rattle.cert_writer.proofs.GoesOn.{enough}
@@ -45,7 +45,7 @@ use Rattle.cert_writer.proofs.Turn.{next_is}
 use Rattle.goals.specs.facts.CommonParts.{at_option, void_is}
 
 -- What is so of a box's own steps.
-pub record OwnSteps (c : Course) (p : Place) (t : Traced) : Type 0 where
+pub record OwnSteps (c : Course) (p : SectionStart) (t : Traced) : Type 0 where
   pub steps : AreSteps c.aim.target.subject p.context t.steps.items
   pub few : length t.steps.items < most_for c.aim
   pub sized : (last : Item) → EndsBox last → AreShort c.aim t.steps.items last
@@ -105,7 +105,7 @@ fits start passed first sections most more rest tree e s h =
 fewer : (t : Aim) → IsAim t → most_steps t.world t.height < most_for t
 fewer t a = let l = a.enough in let h = a.writable.few_hypotheses in omega (arith, l, h)
 
-module _ (c : Course) (path : List ℕ) (parent : Option (Bor Known)) (first : Seen) (p : Place) (b : IsBefore c path parent first p) where
+module _ (c : Course) (path : List ℕ) (parent : Option (Bor Known)) (first : Seen) (p : SectionStart) (b : IsBefore c path parent first p) where
   pub first_is : p.context.next ≡ first.steps
   first_is = next_is c.aim.world (piece_at c.plan path) parent first.steps (numbered p.context) (open_piece p.context.cuts) b.section
 
@@ -133,7 +133,7 @@ few_hypotheses c a = a.aim.writable.few_hypotheses
 
 -- ---- the box's steps
 module _ (moves : WalksMove) (one : TablesAreOne) where
-  pub own_steps : (c : Course) → IsCourse c → HasBest c → (path : List ℕ) (parent : Option (Bor Known)) (first : Seen) (p : Place) → IsBefore c path parent first p → (t : Traced) →
+  pub own_steps : (c : Course) → IsCourse c → HasBest c → (path : List ℕ) (parent : Option (Bor Known)) (first : Seen) (p : SectionStart) → IsBefore c path parent first p → (t : Traced) →
       IsItsTable c.aim.world c.aim.height (piece_at c.plan path) parent t.known → AreItsSteps c.aim.world (piece_at c.plan path) parent first.steps (log_of first.steps t) →
       length t.steps.items ≤ most_steps c.aim.world c.aim.height
       → BoxesAreShort → IsByRounds c.aim.world parent c.aim.height first.steps t → OwnSteps c p t
@@ -168,7 +168,7 @@ module _ (moves : WalksMove) (one : TablesAreOne) where
       }
 
 -- a leaf has a reference for each goal
-refs_few : (c : Course) → IsCourse c → (p : Place) (t : Traced) (refs : List ℕ)
+refs_few : (c : Course) → IsCourse c → (p : SectionStart) (t : Traced) (refs : List ℕ)
     → refs ≡ refs_in c.aim.world t.known c.aim.world.goals → length refs ≤ 65535
 refs_few c a p t refs e =
     let l : length refs ≡ length c.aim.world.goals =
@@ -179,7 +179,7 @@ refs_few c a p t refs e =
 -- ---- a box that isn't cut
 module _ (one : TablesAreOne) where
   -- It shows something.
-  pub closed_here : (c : Course) → IsCourse c → HasBest c → (p : Place) → IsAt c.aim p → p.tree ≡ leaf → (k : Known) → IsTableAt (setting c) c.aim.height p.pieces (known_at c.aim.world k) →
+  pub closed_here : (c : Course) → IsCourse c → HasBest c → (p : SectionStart) → IsAt c.aim p → p.tree ≡ leaf → (k : Known) → IsTableAt (setting c) c.aim.height p.pieces (known_at c.aim.world k) →
       IsClosed (known_at c.aim.world k) c.aim.world.goals
   closed_here c a best p here e k b =
       let u : World = c.aim.world in
@@ -194,7 +194,7 @@ module _ (one : TablesAreOne) where
 
 module _ (goes : WritingGoesOn) (one : TablesAreOne) where
   -- Its section ends with its last item.
-  pub box_ends : (c : Course) → IsCourse c → HasBest c → (path : List ℕ) (parent : Option (Bor Known)) (first : Seen) (p : Place) → IsBefore c path parent first p → (t : Traced) → OwnSteps c p t →
+  pub box_ends : (c : Course) → IsCourse c → HasBest c → (path : List ℕ) (parent : Option (Bor Known)) (first : Seen) (p : SectionStart) → IsBefore c path parent first p → (t : Traced) → OwnSteps c p t →
       p.tree ≡ leaf → (i : Item) → IsEnd c.aim.world t.known i →
       (lines : List Line) × HasEnded c.aim (closed p t.steps.items i lines)
   box_ends c a best path parent first p b t own e (item.Dead r) h =

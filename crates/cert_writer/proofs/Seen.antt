@@ -9,7 +9,7 @@ use Rattle.cert_trim.specs.cert_bytes.declared.item.Item.TheVariants as item
 use Rattle.cert_trim.specs.cert_bytes.declared.item.StepRow.{StepRow}
 use Rattle.cert_trim.specs.cert_bytes.declared.style.Seen.{Seen}
 use Rattle.cert_trim.specs.cert_bytes.Styles.{none_seen, seen_after, seen_behind, seen_in}
-use Rattle.box_trace.specs.box_traces.Roots.{cases_items}
+use Rattle.box_trace.specs.tree_certificates.Roots.{cases_items}
 use Rattle.cert_trim.specs.cert_bytes.Spelling.{spelling_of, spelled_behind}
 use Rattle.cert_trim.specs.Behind.{section_of}
 use Rattle.cert_writer.specs.Heads.{head_items}

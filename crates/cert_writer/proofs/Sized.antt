@@ -6,7 +6,7 @@ use Rattle.goals.specs.facts.declared.hint.HintMark.{HintMark}
 use Rattle.cert_trim.specs.cert_bytes.declared.item.Item.{Item}
 use Rattle.cert_trim.specs.cert_bytes.declared.item.Item.TheVariants as item
 use Rattle.cert_trim.specs.cert_bytes.Sizes.{most_bytes_in}
-use Rattle.box_trace.specs.box_traces.Roots.{cases_items}
+use Rattle.box_trace.specs.tree_certificates.Roots.{cases_items}
 use Rattle.cert_writer.specs.Heads.{head_items}
 
 pub sized_both : (items more : List Item)

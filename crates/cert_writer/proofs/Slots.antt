@@ -16,7 +16,7 @@ use Rattle.box_trace.specs.rule_universe.Places.{block_place}
 use Rattle.box_trace.specs.declared.known.Cited.{Cited}
 use Rattle.box_trace.specs.declared.known.Known.{Known}
 use Rattle.box_trace.specs.Tables.{one_later, pair_number, behind_blocks, row_in, fact_of, known_at}
-use Rattle.box_trace.specs.box_traces.Trees.{AllSettled}
+use Rattle.box_trace.specs.tree_certificates.Trees.{AllSettled}
 
 module _ (rows : List (Option Cited)) (f : Fact) where
   in_block : (n block : ℕ) (x : ExprId) → fact_of (row_in rows (block_place n block x)) ≡ Some f → x.0 < n

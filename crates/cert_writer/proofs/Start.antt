@@ -21,8 +21,8 @@ use Rattle.cert_trim.specs.cert_bytes.declared.item.Item.{Item}
 use Rattle.box_trace.specs.cert_checker.declared.subject.Subject.{Subject}
 use Rattle.answer_certificates.specs.script_checker.rewrite_hints.Marks.{AreMarks}
 use Rattle.answer_certificates.specs.script_checker.Subjects.{IsSubjectOf, facts_of}
-use Rattle.box_trace.specs.box_traces.Roots.{Root, AreRoots, IsRoot, steps_in_roots, lines_of_roots}
-use Rattle.box_trace.specs.box_traces.Trees.{Tree}
+use Rattle.box_trace.specs.tree_certificates.Roots.{Root, AreRoots, IsRoot, steps_in_roots, lines_of_roots}
+use Rattle.box_trace.specs.tree_certificates.Trees.{Tree}
 use Rattle.answer_certificates.specs.Boxes.{boxes_of}
 use Rattle.answer_certificates.specs.Roots.{AreRootsOf, HasRoots}
 use Rattle.answer_certificates.specs.Scripts.{in_case, IsCaseOf, HasCases}

@@ -15,14 +15,14 @@ use Rattle.box_trace.specs.cert_checker.declared.subject.Subject.{Subject}
 use Rattle.box_trace.specs.cert_checker.Contexts.{Context, first}
 use Rattle.box_trace.specs.cert_checker.After.{after}
 use Rattle.box_trace.specs.cert_checker.Accepted.{LeadsTo}
-use Rattle.box_trace.specs.box_traces.Sections.{AllBelow}
-use Rattle.box_trace.specs.box_traces.Walks.{behind_steps}
-use Rattle.box_trace.specs.box_traces.Moves.{lead_both}
+use Rattle.box_trace.specs.tree_certificates.Sections.{AllBelow}
+use Rattle.box_trace.specs.tree_certificates.Walks.{behind_steps}
+use Rattle.box_trace.specs.tree_certificates.Moves.{lead_both}
 use Rattle.cert_trim.specs.Trimmed.{number_behind_all, moved_row, if_used, trimmed_by}
 use Rattle.cert_trim.specs.Used.{CiteEarlier}
 use Rattle.cert_trim.specs.Behind.{stays_behind, trimmed_behind, with_next, IsLeafOrDead, IsOpenAt, LeavesAreTrimmed, CertificatesStaySo, AreFewer, section_of}
 use Rattle.cert_writer.specs.Laws.{OfAims}
-use Rattle.cert_writer.specs.Standing.{Place, IsAt, HasEnded, closed, trimmed}
+use Rattle.cert_writer.specs.Standing.{SectionStart, IsAt, HasEnded, closed, trimmed}
 use Rattle.cert_writer.proofs.Seen.{seen_both}
 use Rattle.cert_writer.proofs.Sized.{sized_both}
 
@@ -89,7 +89,7 @@ module _ (used : ℕ → Bool) where
   sections_left (item.End ∷ items) n s q e = sections_left items n s q e
 
 module _ (leaves : LeavesAreTrimmed) (order : CertificatesStaySo) (fewer : AreFewer) where
-  pub trims : OfAims (λ t. (p : Place) (rows : List StepRow) (last : Item) (lines : List Line)
+  pub trims : OfAims (λ t. (p : SectionStart) (rows : List StepRow) (last : Item) (lines : List Line)
       → IsAt t p → IsLeafOrDead last → HasEnded t (closed p rows last lines)
       → CiteEarlier p.context.next (section_of rows last) × HasEnded t (trimmed p rows last lines))
   trims t a p rows last lines here ends ended =

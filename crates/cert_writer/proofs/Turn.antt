@@ -32,14 +32,14 @@ use Rattle.box_trace.specs.cert_checker.Steps.{step_fact, met_with, IsEnough}
 use Rattle.box_trace.specs.declared.known.Known.{Known}
 use Rattle.box_trace.specs.Boxes.{IsBox, IsOfUniverse, IsItsSection}
 use Rattle.box_trace.specs.Tables.{known_at, place_in, HasRows}
-use Rattle.box_trace.specs.box_traces.Sections.{ArePlaces}
-use Rattle.box_trace.specs.box_traces.Traces.{IsCutTo}
-use Rattle.box_trace.specs.box_traces.Trees.{Tree, Trees, cut, last, next, cut_of, IsProved, AreProved}
-use Rattle.box_trace.specs.box_traces.Walks.{numbered, behind_steps, Frame, IsPieceOf, LiesIn}
-use Rattle.box_trace.specs.box_traces.Moves.{frame_of, turned, next_behind}
+use Rattle.box_trace.specs.tree_certificates.Sections.{ArePlaces}
+use Rattle.box_trace.specs.tree_certificates.Traces.{IsCutTo}
+use Rattle.box_trace.specs.tree_certificates.Trees.{Tree, Trees, cut, last, next, cut_of, IsProved, AreProved}
+use Rattle.box_trace.specs.tree_certificates.Walks.{numbered, behind_steps, Frame, IsPieceOf, LiesIn}
+use Rattle.box_trace.specs.tree_certificates.Moves.{frame_of, turned, next_behind}
 use Rattle.answer_certificates.specs.Boxes.{range_of_piece, pieces_from}
 use Rattle.whole_texts.specs.Pieces.{AppendsFront, appends_both}
-use Rattle.cert_writer.specs.Standing.{Aim, IsBegun, Place, IsAt, Ended, HasEnded, AreBoxSteps, AreShort, inside, beside, around}
+use Rattle.cert_writer.specs.Standing.{Aim, IsBegun, SectionStart, IsAt, Ended, HasEnded, AreBoxSteps, AreShort, inside, beside, around}
 use Rattle.cert_writer.specs.Courses.{Course, IsCourse, HasBest, setting, best_at, below, Grew, GrewToFront, IsBefore, IsPast, IsKnownAt, IsWithin, HasDone}
 use Rattle.cert_writer.specs.Laws.{WritingGoesOn}
 use Rattle.cert_writer.proofs.Seen.{seen_both, spelled_both, own_steps_seen, seen_with}
@@ -106,7 +106,7 @@ IsCutAs c fr k i = (p : Fact) × (piece_fact (cut_of fr.var fr.points 0 0) k ≡
 cut_number : (x : ExprId) (points : List Dyadic) (n k : ℕ) (p : Fact) → piece_fact (cut_of x points 0 0) k ≡ Some p → piece_fact (cut_of x points (k + 1) n) (k + 1 - 1) ≡ Some p
 cut_number x points n k p e = let m : k + 1 - 1 ≡ k = omega arith in ap (λ j. piece_fact (cut_of x points 0 0) j) m ∙ e
 
-pub child_of : (c : Course) (path : List ℕ) (known : Known) (p : Place) (old : Option (List ℕ)) (n i : ℕ) (number : Seen) (new : Option (List ℕ)) (w : IsWithin c path known p old n i number new) (child : List ℕ) → child ≡ path ++ i ∷ [] →
+pub child_of : (c : Course) (path : List ℕ) (known : Known) (p : SectionStart) (old : Option (List ℕ)) (n i : ℕ) (number : Seen) (new : Option (List ℕ)) (w : IsWithin c path known p old n i number new) (child : List ℕ) → child ≡ path ++ i ∷ [] →
     (b : Bor Known) → b.now ≡ known → IsBefore c child (Some b) number w.place
 child_of c path known p old n i number new w child e b q = subst (λ y. IsBefore c y (Some b) number w.place) (sym e) (w.before b q)
 
@@ -116,7 +116,7 @@ module _ (one : TablesAreOne) where
       one (setting c) c.aim.height (pieces_at c.plan path) (known_at c.aim.world known) (best_at c (pieces_at c.plan path)) k.table (best (pieces_at c.plan path)) k.no_void
 
   -- The certificate stands where a piece of the box begins: the walk is before it.
-  pub piece_before : (c : Course) → HasBest c → (path : List ℕ) (known : Known) (i : ℕ) (first : Seen) (q : Place) (fr : Frame) (frames : List Frame) → IsAt c.aim q → q.frames ≡ fr ∷ frames →
+  pub piece_before : (c : Course) → HasBest c → (path : List ℕ) (known : Known) (i : ℕ) (first : Seen) (q : SectionStart) (fr : Frame) (frames : List Frame) → IsAt c.aim q → q.frames ≡ fr ∷ frames →
       IsKnownAt c path known (numbered fr.steps) → fr.pieces ≡ pieces_at c.plan path → q.pieces ≡ (fr.var, range_of_piece (piece_at c.plan (path ++ i ∷ []))) ∷ fr.pieces →
       piece_at c.plan (path ++ i ∷ []) ≡ Some (fr.var, range_of_piece (piece_at c.plan (path ++ i ∷ []))) →
       pieces_at c.plan (path ++ i ∷ []) ≡ with_last (piece_at c.plan (path ++ i ∷ [])) (pieces_at c.plan path) → q.tree ≡ below c (35 - length path) (path ++ i ∷ []) → q.context.next ≡ first.steps → seen_in q.items ≡ first →
@@ -153,7 +153,7 @@ module _ (one : TablesAreOne) where
       }
 
   module _ (go : WritingGoesOn) where
-    pub enter_at : (c : Course) → IsCourse c → (path : List ℕ) (parent : Option (Bor Known)) (first : Seen) (p : Place) → IsBefore c path parent first p → (rows : List StepRow) → AreBoxSteps c.aim p rows →
+    pub enter_at : (c : Course) → IsCourse c → (path : List ℕ) (parent : Option (Bor Known)) (first : Seen) (p : SectionStart) → IsBefore c path parent first p → (rows : List StepRow) → AreBoxSteps c.aim p rows →
         (x : ExprId) (points : List Dyadic) → AreShort c.aim rows (item.Cut x points) → (n : ℕ) → n ≡ length points + 1 → p.tree ≡ cut x points (pieces_from c.plan (below c (35 - length path)) path 0 n) →
         IsAt c.aim (inside p rows x points (range_of_piece (piece_at c.plan (path ++ 0 ∷ []))) (below c (35 - length path) (path ++ 0 ∷ [])) (pieces_from c.plan (below c (35 - length path)) path (0 + 1) (length points)))
     enter_at c a path parent first p before rows own x points small n count tree =
@@ -163,7 +163,7 @@ module _ (one : TablesAreOne) where
 
     -- Behind its steps the box is cut, and the walk is before its first piece.
     pub enter : (c : Course) → IsCourse c → HasBest c → ((path : List ℕ) (i : ℕ) → pieces_at c.plan (path ++ i ∷ []) ≡ with_last (piece_at c.plan (path ++ i ∷ [])) (pieces_at c.plan path)) →
-        (path : List ℕ) (parent : Option (Bor Known)) (first : Seen) (p : Place) → IsBefore c path parent first p → (rows : List StepRow) → AreBoxSteps c.aim p rows →
+        (path : List ℕ) (parent : Option (Bor Known)) (first : Seen) (p : SectionStart) → IsBefore c path parent first p → (rows : List StepRow) → AreBoxSteps c.aim p rows →
         (known : Known) → IsKnownAt c path known (numbered (behind_steps p.context rows)) → (x : ExprId) (points : List Dyadic) → AreShort c.aim rows (item.Cut x points) → (n : ℕ) → n ≡ length points + 1 →
         p.tree ≡ cut x points (pieces_from c.plan (below c (35 - length path)) path 0 n) →
         ((k : ℕ) → k < n → piece_at c.plan (path ++ k ∷ []) ≡ Some (x, range_of_piece (piece_at c.plan (path ++ k ∷ [])))) →
@@ -180,7 +180,7 @@ module _ (one : TablesAreOne) where
         let later : Trees = pieces_from c.plan (below c (35 - length path)) path (0 + 1) (length points) in
         let one_more : n ≡ suc (length points) = omega (arith, count) in
         let node : p.tree ≡ cut x points (next r inner later) = tree ∙ ap (λ m. cut x points (pieces_from c.plan (below c (35 - length path)) path 0 m)) one_more in
-        let q : Place = inside p rows x points r inner later in
+        let q : SectionStart = inside p rows x points r inner later in
         let fr : Frame = frame_of p.context rows x points later p.pieces (p.depth + 1) in
         let at : IsAt c.aim q = enter_at c a path parent first p before rows own x points small n count tree in
         let proved : IsProved v c.aim.height u.goals (cut x points (next r inner later)) p.pieces p.depth = subst (λ t. IsProved v c.aim.height u.goals t p.pieces p.depth) node before.here.entered.proved in
@@ -206,7 +206,7 @@ module _ (one : TablesAreOne) where
 
     -- Behind the section of a piece the walk is before the next piece, or behind the box.
     pub turn : (c : Course) → IsCourse c → HasBest c → ((path : List ℕ) (i : ℕ) → pieces_at c.plan (path ++ i ∷ []) ≡ with_last (piece_at c.plan (path ++ i ∷ [])) (pieces_at c.plan path)) →
-        (path : List ℕ) (known : Known) (p : Place) (old new : Option (List ℕ)) (n i : ℕ) (number : Seen) (w : IsWithin c path known p old n i number new) → i < n → (later : Seen) (newer : Option (List ℕ)) →
+        (path : List ℕ) (known : Known) (p : SectionStart) (old new : Option (List ℕ)) (n i : ℕ) (number : Seen) (w : IsWithin c path known p old n i number new) → i < n → (later : Seen) (newer : Option (List ℕ)) →
         IsPast c w.place new later newer → HasDone c path known p old n (i + 1) later newer
     turn c a best more path known p old new n i number w l later newer past = (goes_on, comes_out)
       where
@@ -235,7 +235,7 @@ module _ (one : TablesAreOne) where
             let rest : Trees = pieces_from c.plan (below c (35 - length path)) path (j + 1) (n - (j + 1)) in
             let count : n - (i + 1) ≡ suc (n - (j + 1)) = omega (arith, m) in
             let node : fr.later ≡ next r inner rest = w.later ∙ ap (λ k. pieces_from c.plan (below c (35 - length path)) path (i + 1) k) count in
-            let q : Place = beside e fr r inner rest p.frames in
+            let q : SectionStart = beside e fr r inner rest p.frames in
             let f : Frame = turned fr rest in
             let at : IsAt c.aim q = go.follows c.aim a.aim e fr r inner rest p.frames frames_are node ended in
             let lies : LiesIn v c.aim.height u.goals c.aim.target.number e.begin (fr ∷ p.frames) = subst (λ y. LiesIn v c.aim.height u.goals c.aim.target.number e.begin y) frames_are ended.lies in

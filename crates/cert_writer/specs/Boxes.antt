@@ -18,7 +18,7 @@ use Rattle.cert_trim.specs.cert_bytes.Certificates.{IsCounted}
 use Rattle.cert_trim.specs.Behind.{trimmed_behind}
 use Rattle.box_trace.specs.declared.known.Known.{Known}
 use Rattle.box_trace.specs.Tables.{known_at, place_in}
-use Rattle.box_trace.specs.box_traces.Trees.{AllSettled}
+use Rattle.box_trace.specs.tree_certificates.Trees.{AllSettled}
 
 -- the step's premises have room in its list
 abbrev pub HasShortList : StepRow → Type 0

@@ -16,14 +16,14 @@ use Rattle.cert_trim.specs.cert_bytes.declared.item.Item.{Item}
 use Rattle.cert_trim.specs.cert_bytes.declared.item.Item.TheVariants as item
 use Rattle.cert_trim.specs.cert_bytes.declared.style.Seen.{Seen}
 use Rattle.box_trace.specs.cert_checker.declared.subject.Subject.{Subject}
-use Rattle.box_trace.specs.box_traces.Roots.{Root}
+use Rattle.box_trace.specs.tree_certificates.Roots.{Root}
 use Rattle.answer_certificates.specs.Boxes.{boxes_of}
 use Rattle.answer_certificates.specs.Roots.{AreRootsOf}
 use Rattle.answer_certificates.specs.Scripts.{in_case}
 use Rattle.box_trace.specs.Short.{bytes_a_box}
 use Rattle.cert_trim.specs.cert_bytes.Styles.{seen_in}
 use Rattle.cert_trim.specs.cert_bytes.Spelling.{certificate_of}
-use Rattle.cert_writer.specs.Standing.{Target, Aim, IsAim, IsWhole, Place, IsAt}
+use Rattle.cert_writer.specs.Standing.{Target, Aim, IsAim, IsWhole, SectionStart, IsAt}
 use Rattle.cert_writer.specs.Courses.{Grew, GrewToFront}
 
 -- ---- what is written
@@ -103,7 +103,7 @@ pub record IsBeforeCase (w : Task) (number : ℕ) (claims : List Claim) (later :
   pub states : List ℕ → State
   pub are_states : AreStates (in_case w.world claims) (plan_in w claims) w.rounds states
   pub aim : IsAim (aim_of w number claims roots)
-  pub place : Place
+  pub place : SectionStart
   pub here : IsAt (aim_of w number claims roots) place
   pub tree : place.tree ≡ boxes_of (plan_in w claims) states
   pub pieces : place.pieces ≡ []

@@ -25,13 +25,13 @@ use Rattle.box_trace.specs.cert_checker.Open.{Numbered}
 use Rattle.box_trace.specs.declared.known.Known.{Known}
 use Rattle.box_trace.specs.Boxes.{IsBox, IsOfUniverse, IsItsSection}
 use Rattle.box_trace.specs.Tables.{known_at, place_in, HasRows}
-use Rattle.box_trace.specs.box_traces.Sections.{ArePlaces}
-use Rattle.box_trace.specs.box_traces.Trees.{Tree}
-use Rattle.box_trace.specs.box_traces.Walks.{numbered, Frame}
+use Rattle.box_trace.specs.tree_certificates.Sections.{ArePlaces}
+use Rattle.box_trace.specs.tree_certificates.Trees.{Tree}
+use Rattle.box_trace.specs.tree_certificates.Walks.{numbered, Frame}
 use Rattle.answer_certificates.specs.Scripts.{HasSlots}
 use Rattle.answer_certificates.specs.Boxes.{range_of_piece, pieces_from, boxes_below}
 use Rattle.whole_texts.specs.Pieces.{AppendsFront}
-use Rattle.cert_writer.specs.Standing.{Target, Aim, IsAim, IsBegun, Place, IsAt, Ended, HasEnded}
+use Rattle.cert_writer.specs.Standing.{Target, Aim, IsAim, IsBegun, SectionStart, IsAt, Ended, HasEnded}
 
 -- ---- what is walked over
 -- For what the certificate is written, how boxes are cut, and how they stand.
@@ -95,7 +95,7 @@ GrewToFront t before old new = (bytes : List ℕ) × Appends old new bytes
 -- Before the box at the path: the place is that of its section, before which the items so far were
 -- seen; what is known at its parent is given.
 pub record IsBefore (c : Course) (path : List ℕ) (parent : Option (Bor Known)) (seen : Seen)
-    (p : Place) : Type 0 where
+    (p : SectionStart) : Type 0 where
   pub here : IsAt c.aim p
   pub tree : p.tree ≡ below c (36 - length path) path
   pub pieces : p.pieces ≡ pieces_at c.plan path
@@ -110,21 +110,22 @@ pub record IsBefore (c : Course) (path : List ℕ) (parent : Option (Bor Known))
 abbrev pub IsSomewhere : World → PlanParts → ℕ → List ℕ → Option (Bor Known) → Seen → Type 0
 IsSomewhere u plan height path parent seen =
     (t : Target) × (lines : List Line)
-    × (states : List ℕ → State) × (p : Place) × IsCourse (course u plan height t lines states)
+    × (states : List ℕ → State) × (p : SectionStart)
+    × IsCourse (course u plan height t lines states)
     × IsBefore (course u plan height t lines states) path parent seen p
 
 -- This is so wherever it may stand.
 abbrev pub OnCourses : World → PlanParts
-    → ℕ → List ℕ → Option (Bor Known) → Seen → (Course → Place → Type 0) → Type 0
+    → ℕ → List ℕ → Option (Bor Known) → Seen → (Course → SectionStart → Type 0) → Type 0
 OnCourses u plan height path parent seen P =
-    (t : Target) (lines : List Line) (states : List ℕ → State) (p : Place)
+    (t : Target) (lines : List Line) (states : List ℕ → State) (p : SectionStart)
     → IsCourse (course u plan height t lines states)
     → IsBefore (course u plan height t lines states) path parent seen p →
     P (course u plan height t lines states) p
 
 -- Behind the section that began at the place p, where the file held what `old` tells: so much was
 -- seen.
-abbrev pub IsPast : Course → Place → Option (List ℕ) → Seen → Option (List ℕ) → Type 0
+abbrev pub IsPast : Course → SectionStart → Option (List ℕ) → Seen → Option (List ℕ) → Type 0
 IsPast c p old seen new = (e : Ended) × HasEnded c.aim e × (e.frames ≡ p.frames)
     × (seen.steps ≡ e.context.next) × Grew p.items old new e.items × (seen_in e.items ≡ seen)
 
@@ -137,9 +138,9 @@ pub record IsKnownAt (c : Course) (path : List ℕ) (known : Known) (steps : Num
   pub placed : ArePlaces steps (known_at c.aim.world known) (place_in c.aim.world known)
 
 -- In the box at the path, whose section began at p and which is cut into n pieces: before piece i.
-pub record IsWithin (c : Course) (path : List ℕ) (known : Known) (p : Place)
+pub record IsWithin (c : Course) (path : List ℕ) (known : Known) (p : SectionStart)
     (old : Option (List ℕ)) (n i : ℕ) (seen : Seen) (new : Option (List ℕ)) : Type 0 where
-  pub place : Place
+  pub place : SectionStart
   pub frame : Frame
   pub before : (b : Bor Known) → b.now ≡ known → IsBefore c (path ++ i ∷ []) (Some b) seen place
   pub frames : place.frames ≡ frame ∷ p.frames
@@ -153,7 +154,7 @@ pub record IsWithin (c : Course) (path : List ℕ) (known : Known) (p : Place)
 
 -- The first i of its n pieces have ended: the walk stands before piece i, or behind the box.
 abbrev pub HasDone : Course → List ℕ
-    → Known → Place → Option (List ℕ) → ℕ → ℕ → Seen → Option (List ℕ) → Type 0
+    → Known → SectionStart → Option (List ℕ) → ℕ → ℕ → Seen → Option (List ℕ) → Type 0
 HasDone c path known p old n i seen new = (i < n → IsWithin c path known p old n i seen new)
     × (i ≡ n → IsPast c p old seen new)
 
@@ -161,7 +162,7 @@ HasDone c path known p old n i seen new = (i < n → IsWithin c path known p old
 -- a front of them it holds a front. Of a box that isn't cut they are a leaf or a dead end behind
 -- steps, without those of the steps that it doesn't need.
 pub record AreOwnBytes (c : Course) (path : List ℕ)
-    (p : Place) (known : Known) (n : ℕ) (seen : Seen) (bytes : List ℕ) : Type 0 where
+    (p : SectionStart) (known : Known) (n : ℕ) (seen : Seen) (bytes : List ℕ) : Type 0 where
   pub done : (old new : Option (List ℕ))
       → Appends old new bytes → HasDone c path known p old n 0 seen new
   pub front : (old new : Option (List ℕ)) → AppendsFront old new bytes

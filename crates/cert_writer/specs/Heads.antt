@@ -4,7 +4,7 @@ use Rattle.goals.specs.fx_model.declared.Node.{Node}
 use Rattle.goals.specs.facts.declared.hint.HintMark.{HintMark}
 use Rattle.cert_trim.specs.cert_bytes.declared.item.Item.{Item}
 use Rattle.cert_trim.specs.cert_bytes.declared.item.Item.TheVariants as item
-use Rattle.box_trace.specs.box_traces.Roots.{cases_items}
+use Rattle.box_trace.specs.tree_certificates.Roots.{cases_items}
 
 -- the nodes and the marks, each behind their count, and how many cases there are, where there are
 -- several

@@ -17,13 +17,13 @@ use Rattle.box_trace.specs.Short.{bytes_a_box}
 use Rattle.cert_trim.specs.cert_bytes.Spelling.{certificate_of}
 use Rattle.box_trace.specs.cert_checker.Contexts.{Context}
 use Rattle.box_trace.specs.cert_checker.Steps.{step_fact}
-use Rattle.box_trace.specs.box_traces.Trees.{Tree, Trees, leaf, cut, last, next, IsProved, lines_of_tree, steps_in}
-use Rattle.box_trace.specs.box_traces.Roots.{Root}
-use Rattle.box_trace.specs.box_traces.Walks.{behind_steps, Frame}
-use Rattle.box_trace.specs.box_traces.Moves.{AreSteps}
+use Rattle.box_trace.specs.tree_certificates.Trees.{Tree, Trees, leaf, cut, last, next, IsProved, lines_of_tree, steps_in}
+use Rattle.box_trace.specs.tree_certificates.Roots.{Root}
+use Rattle.box_trace.specs.tree_certificates.Walks.{behind_steps, Frame}
+use Rattle.box_trace.specs.tree_certificates.Moves.{AreSteps}
 use Rattle.cert_trim.specs.Behind.{IsLeafOrDead, section_of}
 use Rattle.cert_trim.specs.Used.{CiteEarlier}
-use Rattle.cert_writer.specs.Standing.{Aim, IsAim, IsWhole, IsBegun, Place, IsAt, Ended, HasEnded, AreBoxSteps, AreShort, AreCited, most_for, steps_left, lines_left, at_root, inside, closed, trimmed, beside, around, next_aim, next_root, root_with}
+use Rattle.cert_writer.specs.Standing.{Aim, IsAim, IsWhole, IsBegun, SectionStart, IsAt, Ended, HasEnded, AreBoxSteps, AreShort, AreCited, most_for, steps_left, lines_left, at_root, inside, closed, trimmed, beside, around, next_aim, next_root, root_with}
 
 -- This is so of each aim.
 abbrev pub OfAims : (Aim → Type 0) → Type 0
@@ -42,17 +42,17 @@ pub record WritingGoesOn : Type 0 where
       → (c : Context) × (c.next ≡ 0) × IsAt t (at_root t c tree))
   -- Where a section is to begin, what was written is a front of an accepted certificate with all
   -- lines,
-  pub begun : OfAims (λ t. (p : Place) → IsAt t p → IsBegun t (certificate_of p.items))
+  pub begun : OfAims (λ t. (p : SectionStart) → IsAt t p → IsBegun t (certificate_of p.items))
   -- and where one has ended.
   pub ended : OfAims (λ t. (e : Ended) → HasEnded t e → IsBegun t (certificate_of e.items))
   -- Behind its steps a box is cut, and its first piece begins;
-  pub enters : OfAims (λ t. (p : Place) (rows : List StepRow)
+  pub enters : OfAims (λ t. (p : SectionStart) (rows : List StepRow)
       (x : ExprId) (points : List Dyadic) (i : Interval) (tree : Tree) (later : Trees)
       → p.tree ≡ cut x points (next i tree later) → IsAt t p
       → AreBoxSteps t p rows → AreShort t rows (item.Cut x points)
       → IsAt t (inside p rows x points i tree later))
   -- or a leaf ends it,
-  pub settles : OfAims (λ t. (p : Place) (rows : List StepRow) (refs : List ℕ)
+  pub settles : OfAims (λ t. (p : SectionStart) (rows : List StepRow) (refs : List ℕ)
       → p.tree ≡ leaf → IsAt t p → AreBoxSteps t p rows → AreShort t rows (item.Leaf refs) →
       table_at (setting_of t.world) t.height p.pieces slot.Void ≡ None
       → AreCited (behind_steps p.context rows).steps
@@ -60,7 +60,7 @@ pub record WritingGoesOn : Type 0 where
       → HasEnded t (closed p rows (item.Leaf refs)
       (lines_of_tree (setting_of t.world) t.height t.world.goals leaf p.pieces p.context.lines)))
   -- or a step that concludes VOID, whatever else its steps conclude.
-  pub voids : OfAims (λ t. (p : Place) (rows : List StepRow) (r : ℕ) → p.tree ≡ leaf
+  pub voids : OfAims (λ t. (p : SectionStart) (rows : List StepRow) (r : ℕ) → p.tree ≡ leaf
       → IsAt t p → AreSteps t.target.subject p.context rows → length rows < most_for t
       → AreShort t rows (item.Dead r) →
       table_at (setting_of t.world) t.height p.pieces slot.Void ≡ Some fact.Void
@@ -68,7 +68,8 @@ pub record WritingGoesOn : Type 0 where
       → HasEnded t (closed p rows (item.Dead r) p.context.lines))
   -- Of a section that has ended so the items cite earlier steps alone, and it has also ended
   -- without the steps that its end doesn't need.
-  pub trims : OfAims (λ t. (p : Place) (rows : List StepRow) (last : Item) (lines : List Line)
+  pub trims : OfAims (λ t. (p : SectionStart) (rows : List StepRow)
+      (last : Item) (lines : List Line)
       → IsAt t p → IsLeafOrDead last → HasEnded t (closed p rows last lines)
       → CiteEarlier p.context.next (section_of rows last) × HasEnded t (trimmed p rows last lines))
   -- Behind a section the next piece begins,

@@ -14,7 +14,7 @@ use Rattle.box_trace.specs.saturate.Universes.{setting_of}
 use Rattle.cert_trim.specs.cert_bytes.declared.item.Item.{Item}
 use Rattle.cert_trim.specs.cert_bytes.declared.item.Item.TheVariants as item
 use Rattle.cert_trim.specs.cert_bytes.declared.item.StepRow.{StepRow}
-use Rattle.cert_trim.specs.cert_bytes.declared.order.Due.TheVariants.{Sections}
+use Rattle.cert_trim.specs.cert_bytes.declared.order.DueItem.TheVariants.{Sections}
 use Rattle.cert_trim.specs.cert_bytes.Certificates.{AreDue, AreCertificate}
 use Rattle.cert_trim.specs.cert_bytes.Fronts.{IsFront}
 use Rattle.cert_trim.specs.cert_bytes.Sizes.{most_bytes_in}
@@ -28,12 +28,12 @@ use Rattle.box_trace.specs.cert_checker.Contexts.{Context, first}
 use Rattle.box_trace.specs.cert_checker.Steps.{step_fact}
 use Rattle.box_trace.specs.cert_checker.After.{after}
 use Rattle.box_trace.specs.cert_checker.Accepted.{LeadsTo, Accepts}
-use Rattle.box_trace.specs.box_traces.Writing.{IsWritable}
-use Rattle.box_trace.specs.box_traces.Trees.{Tree, Trees, lines_of_tree, steps_in}
-use Rattle.box_trace.specs.box_traces.Trees as trees
-use Rattle.box_trace.specs.box_traces.Roots.{Root, AreRoots, steps_in_roots, lines_of_roots}
-use Rattle.box_trace.specs.box_traces.Walks.{behind_steps, IsBehind, IsEndOf, Frame, LiesIn, left_in, lines_behind, steps_behind}
-use Rattle.box_trace.specs.box_traces.Moves.{AreSteps, IsEntered, frame_of, turned}
+use Rattle.box_trace.specs.tree_certificates.Writing.{IsWritable}
+use Rattle.box_trace.specs.tree_certificates.Trees.{Tree, Trees, lines_of_tree, steps_in}
+use Rattle.box_trace.specs.tree_certificates.Trees as trees
+use Rattle.box_trace.specs.tree_certificates.Roots.{Root, AreRoots, steps_in_roots, lines_of_roots}
+use Rattle.box_trace.specs.tree_certificates.Walks.{behind_steps, IsBehind, IsEndOf, Frame, LiesIn, left_in, lines_behind, steps_behind}
+use Rattle.box_trace.specs.tree_certificates.Moves.{AreSteps, IsEntered, frame_of, turned}
 use Rattle.cert_trim.specs.Behind.{section_of, trimmed_behind, with_next}
 use Rattle.cert_trim.specs.Trimmed.{number_behind_all}
 use Rattle.cert_writer.specs.Heads.{head_items}
@@ -55,9 +55,9 @@ pub record Aim : Type 0 where
   pub target : Target
   pub lines : List Line
 
--- How many steps a box may need: no fewer than the laws of box_traces have of it (in each round a
--- step for each instance at most), and more than box_trace makes of it (in each round 8,192 at
--- most). A case has 2^16 hypotheses at most, so that it is the same in each case.
+-- How many steps a box may need: no fewer than the laws of tree_certificates have of it (in each
+-- round a step for each instance at most), and more than box_trace makes of it (in each round 8,192
+-- at most). A case has 2^16 hypotheses at most, so that it is the same in each case.
 abbrev pub steps_needed : World → ℕ → ℕ
 steps_needed u height = 2 ^ 16 + length u.nodes + 2 + height * length u.instances + height * 8192
 
@@ -112,7 +112,7 @@ pub record HasWritten (t : Aim) (items : List Item) (c : Context) (n : ℕ) : Ty
 
 -- The section of a box is to begin: the items so far, what they come to, the box with those below
 -- it, its pieces, how many cuts there are around it, and these.
-pub record Place : Type 0 where
+pub record SectionStart : Type 0 where
   pub items : List Item
   pub context : Context
   pub tree : Tree
@@ -121,7 +121,7 @@ pub record Place : Type 0 where
   pub frames : List Frame
 
 -- The certificate stands there.
-pub record IsAt (t : Aim) (p : Place) : Type 0 where
+pub record IsAt (t : Aim) (p : SectionStart) : Type 0 where
   pub written : HasWritten t p.items p.context (suc (left_in p.frames + roots_left t))
   pub entered : IsEntered (setting_of t.world) t.world.hints t.height (most_for t) t.world.goals
       t.target.subject t.target.number p.context p.tree p.pieces p.depth p.frames
@@ -159,7 +159,7 @@ pub record HasEnded (t : Aim) (e : Ended) : Type 0 where
 
 -- ---- how it goes on
 -- the root's section is to begin behind the head
-abbrev pub at_root : Aim → Context → Tree → Place
+abbrev pub at_root : Aim → Context → Tree → SectionStart
 at_root t c tree = record {
   items = head_items t.world.nodes t.target.subject.marks
       (length t.target.subject.cases);
@@ -171,7 +171,7 @@ at_root t c tree = record {
 }
 
 -- The steps of the box may be written, and conclude its best facts.
-pub record AreBoxSteps (t : Aim) (p : Place) (rows : List StepRow) : Type 0 where
+pub record AreBoxSteps (t : Aim) (p : SectionStart) (rows : List StepRow) : Type 0 where
   pub steps : AreSteps t.target.subject p.context rows
   pub behind : IsBehind (setting_of t.world) t.height t.target.number
       (behind_steps p.context rows) p.pieces
@@ -189,7 +189,8 @@ abbrev pub AreShort : Aim → List StepRow → Item → Type 0
 AreShort t rows last = most_bytes_in (section_of rows last) ≤ most_for t
 
 -- the box's first piece is to begin
-abbrev pub inside : Place → List StepRow → ExprId → List Dyadic → Interval → Tree → Trees → Place
+abbrev pub inside : SectionStart → List StepRow → ExprId → List Dyadic → Interval
+    → Tree → Trees → SectionStart
 inside p rows x points i tree later = record {
   items = p.items ++ section_of rows (item.Cut x points);
   context = after (behind_steps p.context rows) (item.Cut x points);
@@ -200,7 +201,7 @@ inside p rows x points i tree later = record {
 }
 
 -- its own section has ended, with this item
-abbrev pub closed : Place → List StepRow → Item → List Line → Ended
+abbrev pub closed : SectionStart → List StepRow → Item → List Line → Ended
 closed p rows last lines = record {
   items = p.items ++ section_of rows last;
   begin = p.context;
@@ -210,7 +211,7 @@ closed p rows last lines = record {
 }
 
 -- it has ended without the steps that its end doesn't need
-abbrev pub trimmed : Place → List StepRow → Item → List Line → Ended
+abbrev pub trimmed : SectionStart → List StepRow → Item → List Line → Ended
 trimmed p rows last lines = record {
   items = p.items ++ trimmed_behind p.context.next (section_of rows last);
   begin = p.context;
@@ -221,7 +222,7 @@ trimmed p rows last lines = record {
 }
 
 -- behind a section the next piece is to begin
-abbrev pub beside : Ended → Frame → Interval → Tree → Trees → List Frame → Place
+abbrev pub beside : Ended → Frame → Interval → Tree → Trees → List Frame → SectionStart
 beside e fr i tree later frames = record {
   items = e.items;
   context = e.context;
@@ -250,7 +251,7 @@ next_aim t hypotheses later = record t {
 }
 
 -- behind a root section that of the next case is to begin
-abbrev pub next_root : Ended → Tree → Place
+abbrev pub next_root : Ended → Tree → SectionStart
 next_root e tree = record {
   items = e.items;
   context = e.context;

@@ -10,7 +10,7 @@ use Rattle.cert_trim.specs.cert_bytes.declared.item.Item.{Item}
 use Rattle.cert_trim.specs.cert_bytes.declared.item.Item.TheVariants as item
 use Rattle.box_trace.specs.declared.known.Known.{Known}
 use Rattle.box_trace.specs.Tables.{known_at}
-use Rattle.box_trace.specs.box_traces.Moves.{WalksMove}
+use Rattle.box_trace.specs.tree_certificates.Moves.{WalksMove}
 use Rattle.answer_certificates.specs.Laws.{PiecesAreOfCuts}
 use Rattle.cert_writer.specs.declared.walk.WriteStop.{WriteStop}
 use Rattle.cert_writer.specs.declared.walk.WriteStop.TheVariants as write_stop

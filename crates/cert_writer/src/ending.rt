@@ -2,7 +2,7 @@
 ghost use Rattle.std.specs.Prelude.{◌≡◌, ◌↔◌, ◌∷◌, [], IsTrue, IfOk};
 ghost use Rattle.box_trace.specs.rule_universe.Worlds.{HasSlot};
 ghost use Rattle.box_trace.specs.Tables.{known_at, HasRows};
-ghost use Rattle.box_trace.specs.box_traces.Trees.{AllSettled};
+ghost use Rattle.box_trace.specs.tree_certificates.Trees.{AllSettled};
 ghost use Rattle.answer_certificates.specs.Scripts.{HasSlots};
 ghost use Rattle.cert_writer.specs.Boxes.{IsSettled, CutsAt, IsEnd, IsClosed};
 

@@ -4,7 +4,7 @@ ghost use Rattle.cert_trim.specs.cert_bytes.declared.item.Item.TheVariants as it
 ghost use Rattle.cert_trim.specs.cert_bytes.Certificates.{HasSpelling};
 ghost use Rattle.cert_trim.specs.cert_bytes.Styles.{none_seen};
 ghost use Rattle.cert_trim.specs.cert_bytes.Spelling.{spelling_of, certificate_of};
-ghost use Rattle.box_trace.specs.box_traces.Roots.{cases_items};
+ghost use Rattle.box_trace.specs.tree_certificates.Roots.{cases_items};
 ghost use Rattle.cert_writer.specs.Heads.{head_items};
 
 use cert_trim::{Item, Seen, write_item2};

@@ -7,7 +7,7 @@ ghost use Rattle.cert_trim.specs.Used.{CiteEarlier};
 ghost use Rattle.cert_trim.specs.cert_bytes.Styles.{seen_behind};
 ghost use Rattle.cert_trim.specs.cert_bytes.Spelling.{spelled_behind};
 ghost use Rattle.box_trace.specs.Tables.{known_at};
-ghost use Rattle.box_trace.specs.box_traces.Trees.{AllSettled};
+ghost use Rattle.box_trace.specs.tree_certificates.Trees.{AllSettled};
 ghost use Rattle.cert_writer.specs.Boxes.{refs_in, written_of};
 ghost use Rattle.cert_trim.specs.Behind.{section_of};
 

@@ -6,7 +6,7 @@ use Rattle.script_checker.specs.script_grammar.Spells.{View, Spells, GoalsHaveSp
 use Rattle.script_checker.specs.script_meets.Meets.{Meets}
 use Rattle.script_checker.specs.rewrite_hints.Marks.{AreMarks}
 use Rattle.cert_bytes.specs.declared.fault.CertFault.{CertFault}
-use Rattle.cert_bytes.specs.declared.order.Due.TheVariants.{Head}
+use Rattle.cert_bytes.specs.declared.order.DueItem.TheVariants.{Head}
 use Rattle.cert_bytes.specs.declared.style.Style.TheVariants.{First}
 use Rattle.cert_bytes.specs.Reading.{cursor}
 use Rattle.cert_bytes.specs.Pieces.{cursor_of}

@@ -64,7 +64,7 @@ pub data Ending : Type 0 where
   Cut : Ending
   Starved : Ending
 
--- The way in which a run of this status ends; each comes to its end but for a write fault and want
+-- The way in which a run of this status ends; each comes to its end but for a write fault and lack
 -- of memory.
 abbrev pub ending : Status → Ending
 ending status.WriteFault = Cut
@@ -91,7 +91,7 @@ pub record Runs (name : Option Bytes) (P : Fate) (r : Run) : Type 0 where
   pub others : (other : Bytes) → name ≢ Some other → IsKept r other
   pub cause : r.status ≡ status.WriteFault → PutFailed r ⊎ ((name ≢ None) × WriteFailed r)
 
--- this status came; or in its place a fault of the outside, or want of memory
+-- this status came; or in its place a fault of the outside, or lack of memory
 abbrev pub Comes : Status → Status → Type 0
 Comes s t = (t ≡ s)
     ⊎ (t ≡ status.ReadFault) ⊎ (t ≡ status.WriteFault) ⊎ (t ≡ status.OutOfMemory)

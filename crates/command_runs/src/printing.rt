@@ -38,7 +38,7 @@ fn print_read_fault<O: Sink>(alloc: Global, name: &str, out: &mut O) -> Status
     }
 }
 
-/// Puts why the file of this name wasn't read: the line of a read fault; nothing for want of
+/// Puts why the file of this name wasn't read: the line of a read fault; nothing for lack of
 /// memory.
 pub fn print_stop<O: Sink>(alloc: Global, name: &str, stop: ReadStop, out: &mut O) -> Status
     ensures { IsStopPut stop name.now

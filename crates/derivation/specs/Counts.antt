@@ -12,7 +12,7 @@ use Rattle.goals.specs.dyadic.Compared.{BoundLe_in}
 use Rattle.goals.specs.interval.declared.interval.Interval.{Interval}
 use Rattle.goals.specs.interval.Intervals.{range_of}
 use Rattle.goals.specs.facts.declared.relative.RelativeError.{RelativeError}
-use Rattle.goals.specs.facts.declared.place.Place.{Place}
+use Rattle.goals.specs.facts.declared.place.FixPlace.{FixPlace}
 use Rattle.goals.specs.facts.declared.fact.Fact.{Fact}
 use Rattle.goals.specs.facts.declared.fact.Slot.{Slot}
 use Rattle.goals.specs.facts.declared.fact.Fact.TheVariants as fact
@@ -58,7 +58,7 @@ errors_in (Some d) (Some e) t = intervals_in d.interval e.interval t
 errors_in None (Some e) t = cc
 errors_in (Some d) None t = cc
 
-places_in : (x y : ExprId) (k n : Place) → x ≡ y → int_eq k.exponent n.exponent ≡ true
+places_in : (x y : ExprId) (k n : FixPlace) → x ≡ y → int_eq k.exponent n.exponent ≡ true
     → AreEqual (fact.Fix x k) (fact.Fix y n)
 places_in x y k n p e =
     let q : k.exponent ≡ n.exponent = (Decides-int_eq k.exponent n.exponent).0 e in

@@ -6,7 +6,7 @@ use Rattle.expr_dag.specs.fx_model.declared.Node.TheVariants as node
 use Rattle.goals.specs.interval.declared.interval.Interval.{Interval}
 use Rattle.goals.specs.interval.Results.{whole_interval}
 use Rattle.goals.specs.facts.declared.size.Size.{Size}
-use Rattle.goals.specs.facts.declared.place.Place.{Place}
+use Rattle.goals.specs.facts.declared.place.FixPlace.{FixPlace}
 use Rattle.goals.specs.facts.declared.fact.Fact.TheVariants as fact
 use Rattle.goals.specs.facts.declared.fact.Slot.TheVariants as slot
 use Rattle.goals.specs.facts.Order.{is_same}
@@ -94,7 +94,7 @@ zeros_settle_all x y = refl
 sizes_settle_nothing : (x : ExprId) (s : Size) → answers Ask (Some (fact.Abs x s)) ≡ false
 sizes_settle_nothing x s = refl
 
-multiples_settle_nothing : (x : ExprId) (k : Place) → answers Ask (Some (fact.Fix x k)) ≡ false
+multiples_settle_nothing : (x : ExprId) (k : FixPlace) → answers Ask (Some (fact.Fix x k)) ≡ false
 multiples_settle_nothing x k = refl
 
 -- ---- what a box comes to

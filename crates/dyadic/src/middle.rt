@@ -8,7 +8,7 @@ ghost use Rattle.dyadic.specs.Cut.{IsLong, IsSigned};
 ghost use Rattle.dyadic.specs.Middle.{halfway, part_of, IsMiddle, IsBetween};
 ghost use Rattle.dyadic.specs.Values.{value_of};
 
-use crate::cut::Cut;
+use crate::cut::LeadingDigits;
 use crate::number::{Dyadic, End};
 use crate::products::Signed;
 use crate::rounding::{round_down, round_up};

@@ -9,7 +9,7 @@ ghost use Rattle.dyadic.specs.Ends.{bound_of};
 ghost use Rattle.dyadic.specs.Values.{value_of};
 ghost use Rattle.dyadic.specs.Places.{IsRatio};
 
-use crate::cut::Cut;
+use crate::cut::LeadingDigits;
 use crate::floor::Floor;
 use crate::number::{Dyadic, End, again};
 use crate::rounding::{down, up};
@@ -18,7 +18,7 @@ use crate::rounding::{down, up};
 #[derive(Clone, Copy)]
 pub struct Signed {
     pub negative: bool,
-    pub size: Cut,
+    pub size: LeadingDigits,
 }
 
 /// Whether the number is below 0.
@@ -44,7 +44,7 @@ fn product(a: Dyadic, b: Dyadic) -> Signed
 {
     Signed {
         negative: is_negative(a) ^ is_negative(b),
-        size: Cut::exact(size_of(a) * size_of(b), a.exponent() + b.exponent()),
+        size: LeadingDigits::exact(size_of(a) * size_of(b), a.exponent() + b.exponent()),
     }
 }
 
@@ -59,7 +59,7 @@ fn quotient(a: Dyadic, b: Dyadic) -> Signed
 {
     Signed {
         negative: is_negative(a) ^ is_negative(b),
-        size: Cut::exact(size_of(a), a.exponent() - b.exponent()).divided(size_of(b)),
+        size: LeadingDigits::exact(size_of(a), a.exponent() - b.exponent()).divided(size_of(b)),
     }
 }
 
@@ -157,7 +157,7 @@ fn ratio(n: i128, d: u128, two: i32) -> Signed
 {
     Signed {
         negative: n < 0,
-        size: Cut::exact(n.unsigned_abs(), two).divided(d),
+        size: LeadingDigits::exact(n.unsigned_abs(), two).divided(d),
     }
 }
 

@@ -7,12 +7,12 @@ ghost use Rattle.dyadic.specs.Cut.{IsLong, IsSigned, IsSize};
 ghost use Rattle.dyadic.specs.Ends.{bound_of, upper};
 ghost use Rattle.dyadic.specs.Values.{value_of};
 
-use crate::cut::Cut;
+use crate::cut::LeadingDigits;
 use crate::number::{Dyadic, End, canonical};
 use crate::products::Signed;
 
 // The number that a cut is as it stands: it is exact, and its digits and its place are of the grid.
-fn exact_number(cut: Cut) -> Option<Dyadic>
+fn exact_number(cut: LeadingDigits) -> Option<Dyadic>
     ensures { IfSome result (λ number. (x : Fraction) → IsSize cut x → x ≡ value_of number) }
 {
     if cut.inexact || 1152921504606846975 < cut.digits {
@@ -61,7 +61,7 @@ pub fn up(value: Signed) -> End
 
 // The greatest grid number that is at most the value of a cut.
 #[inline(always)]
-fn toward_zero(cut: Cut) -> Dyadic
+fn toward_zero(cut: LeadingDigits) -> Dyadic
     requires long { IsLong cut }
     requires low { negsuc 2999 ≤ℤ cut.two }
     requires high { cut.two ≤ℤ pos 3000 }
@@ -77,7 +77,7 @@ fn toward_zero(cut: Cut) -> Dyadic
 
 // The least grid number that is at least the value of a cut.
 #[inline(always)]
-fn from_zero(cut: Cut) -> Option<Dyadic>
+fn from_zero(cut: LeadingDigits) -> Option<Dyadic>
     requires long { IsLong cut }
     requires low { negsuc 2999 ≤ℤ cut.two }
     requires high { cut.two ≤ℤ pos 3000 }
@@ -100,7 +100,7 @@ fn from_zero(cut: Cut) -> Option<Dyadic>
 
 /// The same as `down`, of a value of this sign whose size is long already.
 #[inline(always)]
-pub fn round_down(negative: bool, cut: Cut) -> End
+pub fn round_down(negative: bool, cut: LeadingDigits) -> End
     requires long { IsLong cut }
     requires low { negsuc 2999 ≤ℤ cut.two }
     requires high { cut.two ≤ℤ pos 3000 }
@@ -118,7 +118,7 @@ pub fn round_down(negative: bool, cut: Cut) -> End
 
 /// The same as `up`, of a value of this sign whose size is long already.
 #[inline(always)]
-pub fn round_up(negative: bool, cut: Cut) -> End
+pub fn round_up(negative: bool, cut: LeadingDigits) -> End
     requires long { IsLong cut }
     requires low { negsuc 2999 ≤ℤ cut.two }
     requires high { cut.two ≤ℤ pos 3000 }

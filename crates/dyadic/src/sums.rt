@@ -9,7 +9,7 @@ ghost use Rattle.dyadic.specs.Ends.{bound_of};
 ghost use Rattle.dyadic.specs.Values.{value_of};
 ghost use Rattle.dyadic.specs.Places.{IsShort, IsFar};
 
-use crate::cut::{Cut, split};
+use crate::cut::{LeadingDigits, split};
 use crate::floor::Floor;
 use crate::number::{Dyadic, End, again};
 use crate::products::Signed;
@@ -78,7 +78,7 @@ fn alone(a: Term) -> Signed
 {
     Signed {
         negative: a.is_negative(),
-        size: Cut::exact(a.size(), a.exponent),
+        size: LeadingDigits::exact(a.size(), a.exponent),
     }
 }
 
@@ -155,23 +155,23 @@ fn near_sum(negative: bool, minus: bool, high: u128, low: u128, base: i32) -> Si
     if !minus {
         Signed {
             negative,
-            size: Cut::exact(high + low, base),
+            size: LeadingDigits::exact(high + low, base),
         }
     } else if low <= high {
         Signed {
             negative,
-            size: Cut::exact(high - low, base),
+            size: LeadingDigits::exact(high - low, base),
         }
     } else {
         Signed {
             negative: !negative,
-            size: Cut::exact(low - high, base),
+            size: LeadingDigits::exact(low - high, base),
         }
     }
 }
 
 // `top * 2^lost` with `low` added or taken away, all at 2^base, down to the place of `top`.
-fn far_sum(top: u128, low: u128, lost: u32, minus: bool, base: i32) -> Cut
+fn far_sum(top: u128, low: u128, lost: u32, minus: bool, base: i32) -> LeadingDigits
     requires { IsFar top low lost base }
     ensures plus { minus ≡ false → (x : Fraction)
         → x ≡ scaled (pos (top * 2 ^ lost + low)) base → IsSize result x }
@@ -185,16 +185,16 @@ fn far_sum(top: u128, low: u128, lost: u32, minus: bool, base: i32) -> Cut
     let rest = parts.rest;
     let two = base + lost as i32;
     if !minus {
-        return Cut {
+        return LeadingDigits {
             digits: top + kept,
             two,
             inexact: 0 < rest,
         };
     }
     if rest == 0 {
-        return Cut::exact(top - kept, two);
+        return LeadingDigits::exact(top - kept, two);
     }
-    Cut {
+    LeadingDigits {
         digits: top - kept - 1,
         two,
         inexact: true,

@@ -25,14 +25,14 @@ impl<E: Drop> Model for Board<E> {
 }
 
 impl<E: Drop> Board<E> {
-    /// A board with no entry. Want of memory is the only error.
+    /// A board with no entry. Lack of memory is the only error.
     pub fn new(alloc: Global) -> Result<Board<E>, AllocError> {
         Ok(Board {
             entries: boxcar::Vec::new(alloc)?,
         })
     }
 
-    /// Publishes the entry. The only error is want of memory, which hands it back. It may wait for
+    /// Publishes the entry. The only error is lack of memory, which hands it back. It may wait for
     /// another thread's publication.
     pub fn publish<R: Wait>(&self, rt: &R, entry: E) -> Result<Token<E>, E>
         ensures { MatchResult result

@@ -15,7 +15,7 @@ use Rattle.interval.specs.dyadic.Extremes.{BoundLe-trans}
 use Rattle.interval.specs.Meets.{common_of, common-within, within-common}
 use Rattle.facts.specs.declared.size.Size.{Size}
 use Rattle.facts.specs.declared.relative.RelativeError.{RelativeError}
-use Rattle.facts.specs.declared.place.Place.{Place}
+use Rattle.facts.specs.declared.place.FixPlace.{FixPlace}
 use Rattle.facts.specs.Ranges.{IsBelow, IsBelow-mono}
 use Rattle.facts.specs.Parts.{size_from-some, size_from_out, error_from-some, error_from_out, common_size, common_error, greater_place, size_of_part, error_of_part}
 use Rattle.facts.specs.Order.{IsWithin, IsWithinError, is_same, slot_of}
@@ -134,7 +134,7 @@ error_meet_right (Some d) None = tt
 error_meet_right (Some d) (Some e) = at_option (common_error (Some d) (Some e))
     (λ o. IsWithinError o (Some e)) (λ _. tt) (λ c p. (common_error-within d e c p).1)
 
-pub place_left : (k n : Place) → k.exponent ≤ℤ (greater_place k n).exponent
+pub place_left : (k n : FixPlace) → k.exponent ≤ℤ (greater_place k n).exponent
 place_left k n = by_test (int_lt k.exponent n.exponent) refl
   where
     by_test : (b : Bool) → int_lt k.exponent n.exponent ≡ b
@@ -142,7 +142,7 @@ place_left k n = by_test (int_lt k.exponent n.exponent) refl
     by_test true e = grind (arith, ints)
     by_test false e = omega (arith, ints)
 
-pub place_right : (k n : Place) → n.exponent ≤ℤ (greater_place k n).exponent
+pub place_right : (k n : FixPlace) → n.exponent ≤ℤ (greater_place k n).exponent
 place_right k n = by_test (int_lt k.exponent n.exponent) refl
   where
     by_test : (b : Bool) → int_lt k.exponent n.exponent ≡ b
@@ -150,7 +150,7 @@ place_right k n = by_test (int_lt k.exponent n.exponent) refl
     by_test true e = omega (arith, ints)
     by_test false e = grind (arith, ints)
 
-pub place_most : (g k n : Place) → k.exponent ≤ℤ g.exponent → n.exponent ≤ℤ g.exponent
+pub place_most : (g k n : FixPlace) → k.exponent ≤ℤ g.exponent → n.exponent ≤ℤ g.exponent
     → (greater_place k n).exponent ≤ℤ g.exponent
 place_most g k n p q = by_test (int_lt k.exponent n.exponent)
   where

@@ -3,7 +3,7 @@ use Rattle.std.specs.Prelude.{◌≡◌, ◌⊎◌, ◌≤ℤ◌, Bool, true, fa
 use Rattle.std.proofs.Common.{ap, subst, inl}
 use Rattle.interval.specs.fx_model.declared.ExprId.{ExprId}
 use Rattle.interval.specs.declared.interval.Interval.{Interval}
-use Rattle.facts.specs.declared.place.Place.{Place}
+use Rattle.facts.specs.declared.place.FixPlace.{FixPlace}
 use Rattle.facts.specs.declared.size.Size.{Size}
 use Rattle.facts.specs.declared.fact.Fact.{Fact}
 use Rattle.facts.specs.declared.fact.Slot.{Slot}
@@ -31,7 +31,7 @@ abs_of x None = None
 abs_of x (Some s) = Some (fact.Abs x s)
 
 -- a FIX fact, where there is a place
-abbrev pub fix_of : ExprId → Option Place → Option Fact
+abbrev pub fix_of : ExprId → Option FixPlace → Option Fact
 fix_of x None = None
 fix_of x (Some k) = Some (fact.Fix x k)
 
@@ -84,8 +84,8 @@ improves_abs x (Some s) v h c e = let t = h s refl in (
   subst (IsStronger (fact.Abs x t.0)) (let g : fact.Abs x s ≡ c = cc in g) (refl, t.2),
 )
 
-pub improves_fix : (x : ExprId) (u v : Option Place)
-    → ((k : Place) → u ≡ Some k → (n : Place) × (v ≡ Some n) × (k.exponent ≤ℤ n.exponent))
+pub improves_fix : (x : ExprId) (u v : Option FixPlace)
+    → ((k : FixPlace) → u ≡ Some k → (n : FixPlace) × (v ≡ Some n) × (k.exponent ≤ℤ n.exponent))
     → Improves (fix_of x u) (fix_of x v)
 improves_fix x None v h c e = cc
 improves_fix x (Some k) v h c e = let n = h k refl in (
@@ -120,6 +120,6 @@ pub abs_stands : (x : ExprId) (o : Option Size) → StandsOn (slot.Abs x) (abs_o
 abs_stands x None f e = cc
 abs_stands x (Some s) f e = fact_stands (slot.Abs x) (fact.Abs x s) (inl refl) f e
 
-pub fix_stands : (x : ExprId) (o : Option Place) → StandsOn (slot.Fix x) (fix_of x o)
+pub fix_stands : (x : ExprId) (o : Option FixPlace) → StandsOn (slot.Fix x) (fix_of x o)
 fix_stands x None f e = cc
 fix_stands x (Some k) f e = fact_stands (slot.Fix x) (fact.Fix x k) (inl refl) f e

@@ -16,7 +16,7 @@ use Rattle.interval.specs.Intervals.{range_of}
 use Rattle.interval.specs.Meets.{common_of, lies-common}
 use Rattle.facts.specs.declared.size.Size.{Size}
 use Rattle.facts.specs.declared.relative.RelativeError.{RelativeError}
-use Rattle.facts.specs.declared.place.Place.{Place}
+use Rattle.facts.specs.declared.place.FixPlace.{FixPlace}
 use Rattle.facts.specs.declared.fact.Fact.{Fact}
 use Rattle.facts.specs.declared.fact.Fact.TheVariants as fact
 use Rattle.facts.specs.Parts.{common_size, common_error, greater_place}
@@ -104,7 +104,7 @@ related_by-meet (Some d) (Some e) x y p q = ⊎_elim
         subst (λ o. IsRelatedBy o x y) (sym c.1)
         (inr (n, subst (λ i. Lies (range_of i) ((x /ℚ y) -ℚ one_ℚ)) (sym c.2) h.2))
 
-place-meet : (k n : Place) (x : Fraction) → IsMultiple k.exponent x → IsMultiple n.exponent x
+place-meet : (k n : FixPlace) (x : Fraction) → IsMultiple k.exponent x → IsMultiple n.exponent x
     → IsMultiple (greater_place k n).exponent x
 place-meet k n x p q = by_test (int_lt k.exponent n.exponent)
   where

@@ -13,7 +13,7 @@ use Rattle.interval.specs.Intervals.{range_of, same_range}
 use Rattle.interval.specs.Meets.{common_of}
 use Rattle.facts.specs.declared.size.Size.{Size}
 use Rattle.facts.specs.declared.relative.RelativeError.{RelativeError}
-use Rattle.facts.specs.declared.place.Place.{Place}
+use Rattle.facts.specs.declared.place.FixPlace.{FixPlace}
 use Rattle.facts.specs.declared.fact.Fact.{Fact}
 use Rattle.facts.specs.declared.fact.Fact.TheVariants as fact
 use Rattle.facts.specs.declared.fact.Slot.TheVariants as slot
@@ -44,7 +44,7 @@ errors_same (Some d) (Some e) p q =
 le_prop_ℤ : (m n : ℤ) → IsProp (m ≤ℤ n)
 le_prop_ℤ m n = hlevel T_prop
 
-places_same : (k n : Place) → n.exponent ≤ℤ k.exponent → k.exponent ≤ℤ n.exponent → k ≡ n
+places_same : (k n : FixPlace) → n.exponent ≤ℤ k.exponent → k.exponent ≤ℤ n.exponent → k ≡ n
 places_same k n p q = λ i. record {
   exponent = same i;
   lowest = is_prop→PathP (λ i. negsuc 1023 ≤ℤ same i)

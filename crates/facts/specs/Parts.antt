@@ -13,7 +13,7 @@ use Rattle.interval.specs.Decided.{made, made-some, made-none, made_out}
 use Rattle.interval.specs.Meets.{common_of}
 use Rattle.facts.specs.declared.size.Size.{Size}
 use Rattle.facts.specs.declared.relative.RelativeError.{RelativeError}
-use Rattle.facts.specs.declared.place.Place.{Place}
+use Rattle.facts.specs.declared.place.FixPlace.{FixPlace}
 use Rattle.facts.specs.Ranges.{IsFromZero, IsFromZero-prop, IsAboveMinusOne, IsAboveMinusOne-prop, is_below, is_below_in, is_below_out}
 
 -- ---- absolute values
@@ -110,7 +110,7 @@ common_error (Some d) (Some e) = error_of_part (common_of d.interval e.interval)
 common_error _ _ = None
 
 -- the greater of two exponents
-abbrev pub greater_place : Place → Place → Place
+abbrev pub greater_place : FixPlace → FixPlace → FixPlace
 greater_place k n = if int_lt k.exponent n.exponent then n else k
 
 -- what of an interval is at least 0, as an interval of absolute values; none where it lies below 0

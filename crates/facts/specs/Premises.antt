@@ -3,7 +3,7 @@ use Rattle.std.specs.Prelude.{◌≡◌, ◌≤ℤ◌, List, [], ◌∷◌, Opti
 use Rattle.std.proofs.Common.{ap, ◌∙◌}
 use Rattle.interval.specs.fx_model.declared.ExprId.{ExprId}
 use Rattle.interval.specs.declared.interval.Interval.{Interval}
-use Rattle.facts.specs.declared.place.Place.{Place}
+use Rattle.facts.specs.declared.place.FixPlace.{FixPlace}
 use Rattle.facts.specs.declared.size.Size.{Size}
 use Rattle.facts.specs.declared.fact.Fact.{Fact}
 use Rattle.facts.specs.declared.fact.Fact.TheVariants as fact
@@ -27,8 +27,8 @@ strong_abs (fact.Abs y j) x i n s = (j, ap (λ z. fact.Abs z j) s.0, s.1)
 strong_abs fact.Void x i n s = absurd (n refl)
 strong_abs _ x i n s = absurd s
 
-pub strong_fix : (p : Fact) (x : ExprId) (k : Place) → ¬ (p ≡ fact.Void)
-    → IsStronger p (fact.Fix x k) → (n : Place) × (p ≡ fact.Fix x n) × (k.exponent ≤ℤ n.exponent)
+pub strong_fix : (p : Fact) (x : ExprId) (k : FixPlace) → ¬ (p ≡ fact.Void)
+    → IsStronger p (fact.Fix x k) → (n : FixPlace) × (p ≡ fact.Fix x n) × (k.exponent ≤ℤ n.exponent)
 strong_fix (fact.Fix y n) x k v s = (n, ap (λ z. fact.Fix z n) s.0, s.1)
 strong_fix fact.Void x k v s = absurd (v refl)
 strong_fix _ x k v s = absurd s
@@ -85,8 +85,8 @@ one_abs ps x i s = let a = one_premise ps (fact.Abs x i) s in
     let b = strong_abs a.0 x i a.1.not_void a.1.first in
     (b.0, a.1.is ∙ ap (λ p. p ∷ []) b.1, b.2)
 
-pub one_fix : (ps : List Fact) (x : ExprId) (k : Place) → EachStronger ps (fact.Fix x k ∷ [])
-    → (n : Place) × (ps ≡ fact.Fix x n ∷ []) × (k.exponent ≤ℤ n.exponent)
+pub one_fix : (ps : List Fact) (x : ExprId) (k : FixPlace) → EachStronger ps (fact.Fix x k ∷ [])
+    → (n : FixPlace) × (ps ≡ fact.Fix x n ∷ []) × (k.exponent ≤ℤ n.exponent)
 one_fix ps x k s = let a = one_premise ps (fact.Fix x k) s in
     let b = strong_fix a.0 x k a.1.not_void a.1.first in
     (b.0, a.1.is ∙ ap (λ p. p ∷ []) b.1, b.2)
@@ -116,9 +116,9 @@ two_abs ps x i y k s =
     let c = one_abs a.1 y k a.2.others in
     (b.0, c.0, a.2.is ∙ ap (λ p. p ∷ a.1) b.1 ∙ ap (λ l. fact.Abs x b.0 ∷ l) c.1, b.2, c.2)
 
-pub two_fix : (ps : List Fact) (x : ExprId) (k : Place) (y : ExprId) (n : Place)
+pub two_fix : (ps : List Fact) (x : ExprId) (k : FixPlace) (y : ExprId) (n : FixPlace)
     → EachStronger ps (fact.Fix x k ∷ fact.Fix y n ∷ [])
-    → (l : Place) × (m : Place) × (ps ≡ fact.Fix x l ∷ fact.Fix y m ∷ [])
+    → (l : FixPlace) × (m : FixPlace) × (ps ≡ fact.Fix x l ∷ fact.Fix y m ∷ [])
     × (k.exponent ≤ℤ l.exponent) × (n.exponent ≤ℤ m.exponent)
 two_fix ps x k y n s =
     let a = first_premise ps (fact.Fix x k) (fact.Fix y n ∷ []) s in

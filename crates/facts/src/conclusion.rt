@@ -4,7 +4,7 @@ ghost use Rattle.facts.specs.Conclusions.{bnd_of, abs_of, fix_of};
 ghost use Rattle.facts.specs.RelativeConclusions.{rel_of, void_only};
 
 use crate::fact::Fact;
-use crate::place::Place;
+use crate::place::FixPlace;
 use crate::relative::RelativeError;
 use crate::size::Size;
 use interval::{ExprId, Interval};
@@ -33,7 +33,7 @@ impl Fact {
     }
 
     /// That the expression is a multiple, where there is an exponent.
-    pub fn fix(x: ExprId, place: Option<Place>) -> Option<Fact>
+    pub fn fix(x: ExprId, place: Option<FixPlace>) -> Option<Fact>
         ensures { result ≡ fix_of x place }
     {
         match place {

@@ -1,4 +1,4 @@
-use crate::place::Place;
+use crate::place::FixPlace;
 use crate::relative::RelativeError;
 use crate::size::Size;
 use interval::{ExprId, Interval};
@@ -14,7 +14,7 @@ pub enum Fact {
     /// an interval both are 0.
     Rel(ExprId, ExprId, Option<RelativeError>),
     /// The expression has a value, a whole multiple of 2^k.
-    Fix(ExprId, Place),
+    Fix(ExprId, FixPlace),
     /// The expression has a value other than 0.
     Nzr(ExprId),
     /// No assignment is left.

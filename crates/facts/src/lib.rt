@@ -23,6 +23,6 @@ pub use law::{
     stronger_is_an_order, void_and_none_are_strongest,
 };
 pub use order::{meet, slot, stronger};
-pub use place::Place;
+pub use place::FixPlace;
 pub use relative::RelativeError;
 pub use size::Size;

@@ -4,7 +4,7 @@ ghost use Rattle.facts.specs.Parts.{common_size, common_error, greater_place};
 ghost use Rattle.facts.specs.Order.{slot_of, bounded, sized, IsWithinError, IsStronger, meet_of, AreUnlike};
 
 use crate::fact::{Fact, Slot};
-use crate::place::Place;
+use crate::place::FixPlace;
 use crate::relative::RelativeError;
 use crate::size::Size;
 use interval::{ExprId, Interval};

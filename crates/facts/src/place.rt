@@ -2,24 +2,24 @@ ghost use Rattle.std.specs.Prelude.{◌↔◌, ◌≡◌, IsNone, IfSome, negsuc
 
 /// The exponent k of a power 2^k of which a value is a whole multiple: from -1024 to 512.
 #[derive(Clone, Copy, PartialEq, Eq, Debug)]
-pub struct Place {
+pub struct FixPlace {
     exponent: i16,
     pub ghost lowest: { negsuc 1023 ≤ℤ exponent },
     pub ghost highest: { exponent ≤ℤ pos 512 },
 }
 
-impl Place {
+impl FixPlace {
     ghost use Rattle.facts.specs.Parts.{greater_place};
     ghost use Rattle.facts.specs.Places.{place_from};
 
     /// The place of 2^exponent. None exactly where the exponent isn't from -1024 to 512.
-    pub fn new(exponent: i16) -> Option<Place>
+    pub fn new(exponent: i16) -> Option<FixPlace>
         ensures refused { IsNone result ↔ (¬ ((negsuc 1023 ≤ℤ exponent) × (exponent ≤ℤ pos 512))) }
         ensures made { IfSome result (λ place. place.exponent ≡ exponent) }
         ensures is { result ≡ place_from exponent }
     {
         if -1024 <= exponent && exponent <= 512 {
-            Some(Place { exponent })
+            Some(FixPlace { exponent })
         } else {
             None
         }
@@ -35,7 +35,7 @@ impl Place {
     }
 
     /// The greater of two.
-    pub fn greater(self, other: Place) -> Place
+    pub fn greater(self, other: FixPlace) -> FixPlace
         ensures { result ≡ greater_place self other }
     {
         if self.exponent < other.exponent {

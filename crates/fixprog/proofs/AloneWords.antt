@@ -3,7 +3,7 @@ use Rattle.std.proofs.Common.{◌≡◌, ℕ, ◌+◌, ◌-◌, ◌≤◌, ◌==
 use Rattle.std.specs.List.{AllByRecursion}
 use Rattle.std.specs.Str.{bytes_eq}
 use Rattle.std.proofs.lemmas.List.{drop-drop, length-take-le}
-use Rattle.script_words.specs.declared.class.Sign.{Sign}
+use Rattle.script_words.specs.declared.class.Symbol.{Symbol}
 use Rattle.script_words.specs.declared.lex.Run.TheVariants.{Word as WordRun, Digit}
 use Rattle.script_words.specs.declared.lex.TokenKind.{TokenKind}
 use Rattle.script_words.specs.declared.lex.TokenKind.TheVariants as script
@@ -12,7 +12,7 @@ use Rattle.script_words.specs.Signs.{sign_at, reserved_word}
 use Rattle.script_words.specs.Lex.{blank_len, word_kind, sign_token, front as script_front}
 use Rattle.fixprog.specs.declared.token.Kind.{Kind}
 use Rattle.fixprog.specs.declared.token.Kind.TheVariants as kind
-use Rattle.fixprog.specs.declared.token.Token.{Token}
+use Rattle.fixprog.specs.declared.token.ProgramToken.{ProgramToken}
 use Rattle.fixprog.specs.Words.{kind_word}
 use Rattle.fixprog.specs.Lex.{front, format_len, own_sign, of_script, or_else, Lexes, ends, bad, token, token_word, words_of}
 use Rattle.fixprog.specs.First.{IsAlone, IsAloneWord, WordsAreAlone}
@@ -42,11 +42,11 @@ IsAloneScript bs (Some (script.Sign g, n)) = Unit {0}
 IsAloneScript bs (Some (script.Name, n)) = IsAlone script.Name (take n bs)
 IsAloneScript bs (Some (script.Literal, n)) = IsAlone script.Literal (take n bs)
 
-sign_plain : (bs : List ℕ) (o : Option (Sign × ℕ)) → IsAloneScript bs (sign_token o)
+sign_plain : (bs : List ℕ) (o : Option (Symbol × ℕ)) → IsAloneScript bs (sign_token o)
 sign_plain bs None = tt
 sign_plain bs (Some found) = tt
 
-kind_plain : (bs : List ℕ) (n : ℕ) (o : Option Sign) → IsAlone (word_kind o) (take n bs)
+kind_plain : (bs : List ℕ) (n : ℕ) (o : Option Symbol) → IsAlone (word_kind o) (take n bs)
     → IsAloneScript bs (Some (word_kind o, n))
 kind_plain bs n None h = h
 kind_plain bs n (Some g) h = tt
@@ -157,7 +157,7 @@ token_plain text start len k e =
     (word_by k len (drop start text) (subst (IsAloneFound (drop start text)) e
     (front_plain (drop start text))))
 
-words_plain : (text : List ℕ) (at : ℕ) (rest : List ℕ) (ts : List Token) (o : Option ℕ) → rest
+words_plain : (text : List ℕ) (at : ℕ) (rest : List ℕ) (ts : List ProgramToken) (o : Option ℕ) → rest
     ≡ drop at text → Lexes at rest ts o → AllByRecursion IsAloneWord (words_of text ts)
 words_plain text at rest ts o e (ends h) = tt
 words_plain text at rest ts o e (bad h n) = tt
@@ -170,7 +170,7 @@ words_plain text at rest ts o e (token {k = k} {len = len} {more = more} f l) =
       words_plain text (at + b + len) (drop (b + len) rest) more o behind l,
     )
 
-pub all_words_plain : (text : List ℕ) (ts : List Token) (o : Option ℕ) → Lexes 0 text ts o
+pub all_words_plain : (text : List ℕ) (ts : List ProgramToken) (o : Option ℕ) → Lexes 0 text ts o
     → AllByRecursion IsAloneWord (words_of text ts)
 all_words_plain text ts o l = words_plain text 0 text ts o refl l
 

@@ -3,7 +3,7 @@ use Rattle.std.proofs.Common.{◌≡◌, ℕ, ◌+◌, ◌-◌, ◌==◌, ◌&&�
 use Rattle.std.specs.List.{AllByRecursion}
 use Rattle.std.specs.Str.{bytes_eq}
 use Rattle.std.proofs.lemmas.List.{drop-drop}
-use Rattle.script_words.specs.declared.class.Sign.{Sign}
+use Rattle.script_words.specs.declared.class.Symbol.{Symbol}
 use Rattle.script_words.specs.declared.lex.Run.TheVariants.{Word as WordRun, Digit}
 use Rattle.script_words.specs.declared.lex.TokenKind.{TokenKind}
 use Rattle.script_words.specs.declared.lex.TokenKind.TheVariants as script
@@ -14,7 +14,7 @@ use Rattle.fixprog.specs.declared.program.Mark.{Mark}
 use Rattle.fixprog.specs.declared.program.Mark.TheVariants as mark
 use Rattle.fixprog.specs.declared.token.Kind.{Kind}
 use Rattle.fixprog.specs.declared.token.Kind.TheVariants as kind
-use Rattle.fixprog.specs.declared.token.Token.{Token}
+use Rattle.fixprog.specs.declared.token.ProgramToken.{ProgramToken}
 use Rattle.fixprog.specs.Words.{Word, name, literal, kind_word}
 use Rattle.fixprog.specs.Lex.{front, format_len, own_sign, of_script, or_else, Lexes, ends, bad, token, token_word, words_of}
 use Rattle.fixprog.specs.Grammar.{Operand, named, given, operand_words, Operation, copy, negation, sum, difference, product, shift_right, shift_left, operation_words, bound_words, Input, Way, called, reserved, reserved_out, way_words, Step, Statement, input, step, output, statement_words, words_from}
@@ -44,11 +44,11 @@ IsPlainScript bs (Some (script.Sign g, n)) = Unit {0}
 IsPlainScript bs (Some (script.Name, n)) = Plain (take n bs)
 IsPlainScript bs (Some (script.Literal, n)) = Plain (take n bs)
 
-sign_plain : (bs : List ℕ) (o : Option (Sign × ℕ)) → IsPlainScript bs (sign_token o)
+sign_plain : (bs : List ℕ) (o : Option (Symbol × ℕ)) → IsPlainScript bs (sign_token o)
 sign_plain bs None = tt
 sign_plain bs (Some found) = tt
 
-kind_plain : (bs : List ℕ) (n : ℕ) (o : Option Sign) → Plain (take n bs)
+kind_plain : (bs : List ℕ) (n : ℕ) (o : Option Symbol) → Plain (take n bs)
     → IsPlainScript bs (Some (word_kind o, n))
 kind_plain bs n None h = h
 kind_plain bs n (Some g) h = tt
@@ -153,7 +153,7 @@ token_plain text start len k e =
     (word_by k len (drop start text) (subst (IsPlainFound (drop start text)) e
     (front_plain (drop start text))))
 
-words_plain : (text : List ℕ) (at : ℕ) (rest : List ℕ) (ts : List Token) (o : Option ℕ) → rest
+words_plain : (text : List ℕ) (at : ℕ) (rest : List ℕ) (ts : List ProgramToken) (o : Option ℕ) → rest
     ≡ drop at text → Lexes at rest ts o → AllByRecursion IsPlainWord (words_of text ts)
 words_plain text at rest ts o e (ends h) = tt
 words_plain text at rest ts o e (bad h n) = tt
@@ -166,7 +166,7 @@ words_plain text at rest ts o e (token {k = k} {len = len} {more = more} f l) =
       words_plain text (at + b + len) (drop (b + len) rest) more o behind l,
     )
 
-pub all_words_plain : (text : List ℕ) (ts : List Token) (o : Option ℕ) → Lexes 0 text ts o
+pub all_words_plain : (text : List ℕ) (ts : List ProgramToken) (o : Option ℕ) → Lexes 0 text ts o
     → AllByRecursion IsPlainWord (words_of text ts)
 all_words_plain text ts o l = words_plain text 0 text ts o refl l
 

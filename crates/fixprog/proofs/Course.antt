@@ -3,7 +3,7 @@ use Rattle.std.proofs.Common.{◌≡◌, ℕ, ◌+◌, ◌<◌, ◌&&◌, Bool, 
 use Rattle.std.specs.Option.{option_map}
 use Rattle.std.specs.List.{All}
 use Rattle.std.proofs.lemmas.List.{map-append}
-use Rattle.script_words.specs.declared.class.Sign.TheVariants as s
+use Rattle.script_words.specs.declared.class.Symbol.TheVariants as s
 use Rattle.fixprog.specs.Words.{Name, Word, sign}
 use Rattle.fixprog.specs.Grammar.{Input, Step, Statement, input, step, output, statement_words, words_from}
 use Rattle.fixprog.specs.Standing.{Part, part_words, input_name, input_colon, input_format, input_open, lower, lower_marked, comma, upper, upper_marked, input_close, input_end, step_colon, step_format, step_way, step_equal, step_operand, step_negated, step_operator, step_second, step_places, step_end, output_end, is_semicolon, Opening, ending, ended, Standing, is_none, with_statement, stands_after}

@@ -6,7 +6,7 @@ use Rattle.std.proofs.lemmas.List.{get_or-map, length-map, length-take-le}
 use Rattle.std.proofs.Math.Seq.{take-length}
 use Rattle.fixprog.specs.declared.fault.ProgKind.TheVariants as kind
 use Rattle.fixprog.specs.declared.fault.ProgFault.{ProgFault}
-use Rattle.fixprog.specs.declared.token.Token.{Token}
+use Rattle.fixprog.specs.declared.token.ProgramToken.{ProgramToken}
 use Rattle.fixprog.specs.Words.{Name, Word}
 use Rattle.fixprog.specs.Lex.{Lexes, words_of}
 use Rattle.fixprog.specs.Grammar.{input, step, output, words_from, Program, outputs, program_words}
@@ -269,7 +269,7 @@ complete_faults c ws p e w =
     ∙ x.1) in
     sym x.2.faults ∙ ap (λ d. d.faults) same
 
-pub no_faults : (tokens : List Token) (c : Course) → first_from None (map (placed tokens) c.faults)
+pub no_faults : (tokens : List ProgramToken) (c : Course) → first_from None (map (placed tokens) c.faults)
     ≡ None → c.faults ≡ []
 no_faults tokens c e = none_mapped (placed tokens) c.faults
     (subst (IsFirstOf (map (placed tokens) c.faults)) e (first_of (map (placed tokens) c.faults)))

@@ -7,12 +7,12 @@ use Rattle.fixprog.specs.declared.fault.ProgKind.{ProgKind}
 use Rattle.fixprog.specs.declared.fault.ProgKind.TheVariants as kind
 use Rattle.fixprog.specs.declared.program.Mark.{Mark}
 use Rattle.fixprog.specs.declared.program.Mark.TheVariants as mark
-use Rattle.fixprog.specs.declared.token.Token.{Token}
+use Rattle.fixprog.specs.declared.token.ProgramToken.{ProgramToken}
 use Rattle.fixprog.specs.declared.program.Joint.{Joint}
 use Rattle.fixprog.specs.declared.program.Joint.TheVariants as joint
 use Rattle.fixprog.specs.declared.program.Shift.{Shift}
 use Rattle.fixprog.specs.declared.program.Shift.TheVariants as shift
-use Rattle.script_words.specs.declared.class.Sign.TheVariants as s
+use Rattle.script_words.specs.declared.class.Symbol.TheVariants as s
 use Rattle.fixprog.specs.Words.{Name, Word, sign}
 use Rattle.fixprog.specs.Grammar.{Operand, named, given, operand_words, Digits, Bound, mark_words, bound_words, Way, called, reserved, reserved_out, way_words}
 use Rattle.fixprog.specs.Formats.{format_of, is_format}
@@ -177,7 +177,7 @@ IsMarked (upper_marked h a m) = length (mark_words m) ≡ 1
 IsMarked p = Unit {0}
 
 -- The faults that a word tells in its statement are those that it tells in the text.
-module _ (tokens : List Token) (i last at : ℕ) where
+module _ (tokens : List ProgramToken) (i last at : ℕ) where
   due_start : (p : Part) → IsMarked p → at ≡ start_of tokens (due i p)
       → (0 < due i p → last ≡ start_of tokens (due i p - 1)) → start_of tokens (bound_due i p)
       ≡ bound_at p last at

@@ -2,7 +2,7 @@
 use Rattle.std.proofs.Common.{◌≡◌, ℕ, ◌+◌, ◌≤◌, false, List, ◌∷◌, length, drop, Option, Some, None, refl, sym, ap, ◌∙◌, subst, arith}
 use Rattle.std.proofs.Math.ListN.{drop_of_length-le}
 use Rattle.fixprog.specs.declared.token.Kind.{Kind}
-use Rattle.fixprog.specs.declared.token.Token.{Token}
+use Rattle.fixprog.specs.declared.token.ProgramToken.{ProgramToken}
 use Rattle.script_words.specs.Lex.{blank_len, front as script_front}
 use Rattle.fixprog.specs.Lex.{front, SameLexing, Lexes, ends, bad, token}
 
@@ -17,12 +17,12 @@ no_more text k len e f =
     no_front text (blank_len false text) (omega arith) in
     cc
 
-same_head : (t : Token) {ts us : List Token} {a b : Option ℕ} → SameLexing ts us a b
+same_head : (t : ProgramToken) {ts us : List ProgramToken} {a b : Option ℕ} → SameLexing ts us a b
     → SameLexing (t ∷ ts) (t ∷ us) a b
 same_head t s = record { tokens = ap (λ l. t ∷ l) s.tokens; bad = s.bad }
 
 -- the token at the front is one
-with_front : (at blank : ℕ) (text : List ℕ) (k j : Kind) (m n : ℕ) (ts us : List Token)
+with_front : (at blank : ℕ) (text : List ℕ) (k j : Kind) (m n : ℕ) (ts us : List ProgramToken)
     (a b : Option ℕ) → k ≡ j → m ≡ n → SameLexing ts us a b
     → SameLexing (record { kind = k; start = at + blank; end = at + blank + m } ∷ ts)
     (record { kind = j; start = at + blank; end = at + blank + n } ∷ us) a b
@@ -41,7 +41,7 @@ abbrev len_in : Option (Kind × ℕ) → ℕ → ℕ
 len_in None n = n
 len_in (Some p) n = p.1
 
-pub lexed_once : {at : ℕ} {text : List ℕ} {ts us : List Token} {a b : Option ℕ}
+pub lexed_once : {at : ℕ} {text : List ℕ} {ts us : List ProgramToken} {a b : Option ℕ}
     → Lexes at text ts a → Lexes at text us b → SameLexing ts us a b
 lexed_once (ends e) (ends e') = record { tokens = refl; bad = refl }
 lexed_once (ends e) (bad h n) = absurd (omega arith)

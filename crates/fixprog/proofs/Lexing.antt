@@ -5,16 +5,16 @@ use Rattle.std.proofs.lemmas.List.{drop-drop}
 use Rattle.std.proofs.lemmas.List.Elements.{All-nil, All-push}
 use Rattle.std.proofs.Math.ListN.{drop_of_length-le}
 use Rattle.fixprog.specs.declared.token.Kind.{Kind}
-use Rattle.fixprog.specs.declared.token.Token.{Token}
+use Rattle.fixprog.specs.declared.token.ProgramToken.{ProgramToken}
 use Rattle.script_words.specs.Lex.{blank_len}
 use Rattle.fixprog.specs.Lex.{front, IsWithin, Lexes, ends, bad, token}
 
 -- The tokens so far, and those of the rest, are those of the whole text.
-pub record LexedTo (text : List ℕ) (at : ℕ) (found : List Token) : Type 0 where
+pub record LexedTo (text : List ℕ) (at : ℕ) (found : List ProgramToken) : Type 0 where
   pub within : at ≤ length text
   pub inside : All (IsWithin text) found
   pub few : length found ≤ at
-  pub rest : (more : List Token) (end : Option ℕ) → Lexes at (drop at text) more end
+  pub rest : (more : List ProgramToken) (end : Option ℕ) → Lexes at (drop at text) more end
       → Lexes 0 text (found ++ more) end
 
 pub lexed_none : (text : List ℕ) → LexedTo text 0 []
@@ -26,16 +26,16 @@ lexed_none text = record {
   rest = λ more end h. h;
 }
 
-done : (text : List ℕ) (found : List Token) (end : Option ℕ) → Lexes 0 text (found ++ []) end
+done : (text : List ℕ) (found : List ProgramToken) (end : Option ℕ) → Lexes 0 text (found ++ []) end
     → Lexes 0 text found end
 done text found end h = subst (λ l. Lexes 0 text l end) (append-nil found) h
 
-pub lexed_all : (text : List ℕ) (at : ℕ) (found : List Token) → LexedTo text at found → at
+pub lexed_all : (text : List ℕ) (at : ℕ) (found : List ProgramToken) → LexedTo text at found → at
     + blank_len false (drop at text) ≡ length text → Lexes 0 text found None
 lexed_all text at found l e = done text found None
     (l.rest [] None (ends (omega (arith, length-drop at text, l.within))))
 
-pub lexed_bad : (text : List ℕ) (at start : ℕ) (found : List Token) → LexedTo text at found → start
+pub lexed_bad : (text : List ℕ) (at start : ℕ) (found : List ProgramToken) → LexedTo text at found → start
     ≡ at + blank_len false (drop at text) → start < length text → front (drop start text) ≡ None
     → Lexes 0 text found (Some start)
 lexed_bad text at start found l e h n =
@@ -44,9 +44,9 @@ lexed_bad text at start found l e h n =
     (ap front (drop-drop (blank_len false (drop at text)) at text
     ∙ ap (λ k. drop k text) (sym e)) ∙ n))))
 
-module _ (text : List ℕ) (at : ℕ) (found : List Token) (l : LexedTo text at found) where
+module _ (text : List ℕ) (at : ℕ) (found : List ProgramToken) (l : LexedTo text at found) where
   more_at : (blank len : ℕ) (k : Kind) → blank ≡ blank_len false (drop at text)
-      → front (drop (at + blank) text) ≡ Some (k, len) → (more : List Token) (end : Option ℕ)
+      → front (drop (at + blank) text) ≡ Some (k, len) → (more : List ProgramToken) (end : Option ℕ)
       → Lexes (at + blank + len) (drop (at + blank + len) text) more end
       → Lexes 0 text ((found ++ (record { kind = k; start = at + blank; end = at + blank + len } ∷
       [])) ++ more) end
@@ -89,7 +89,7 @@ module _ (text : List ℕ) (at : ℕ) (found : List Token) (l : LexedTo text at 
     rest = more_at blank len k e n;
   }
 
-pub lexed_end : (text : List ℕ) (at : ℕ) (found : List Token) → LexedTo text at found
+pub lexed_end : (text : List ℕ) (at : ℕ) (found : List ProgramToken) → LexedTo text at found
     → length text ≤ at → Lexes 0 text found None
 lexed_end text at found l h =
     let none : drop at text ≡ [] = drop_of_length-le text h in

@@ -6,8 +6,8 @@ use Rattle.std.proofs.Math.Seq.{take-length}
 use Rattle.fixprog.specs.declared.fault.ProgKind.TheVariants as kind
 use Rattle.fixprog.specs.declared.fault.ProgFault.{ProgFault}
 use Rattle.fixprog.specs.declared.program.Program.{Program as CodeProgram}
-use Rattle.fixprog.specs.declared.reader.Reader.{Reader}
-use Rattle.fixprog.specs.declared.token.Token.{Token}
+use Rattle.fixprog.specs.declared.reader.ProgramReader.{ProgramReader}
+use Rattle.fixprog.specs.declared.token.ProgramToken.{ProgramToken}
 use Rattle.fixprog.specs.Words.{Word, colon}
 use Rattle.fixprog.specs.Lex.{Lexes, token_word, words_of}
 use Rattle.fixprog.specs.First.{Reading, fault, start_of, is_before, IsReadable, IsFirstFault}
@@ -25,7 +25,7 @@ use Rattle.fixprog.proofs.Decided.{IsTakenBy, IsEnd, at_word as ends_at_word, at
 
 -- Behind so many tokens the reader stands where the course of their words does, with the first of
 -- its faults.
-pub record RunsTo (text : List ℕ) (tokens : List Token) (r : Reader) (i : ℕ) : Type 0 where
+pub record RunsTo (text : List ℕ) (tokens : List ProgramToken) (r : ProgramReader) (i : ℕ) : Type 0 where
   pub course : Course
   pub stands : course.stands ≡ standing_of r
   pub is : IsCourse course (take i (words_of text tokens))
@@ -34,7 +34,7 @@ pub record RunsTo (text : List ℕ) (tokens : List Token) (r : Reader) (i : ℕ)
   pub last : 0 < i → r.last ≡ start_of tokens (i - 1)
   pub weight : r.names.weight ≤ 2 * i
 
-pub runs_from : (text : List ℕ) (tokens : List Token) (r : Reader) → standing_of r ≡ nothing_read
+pub runs_from : (text : List ℕ) (tokens : List ProgramToken) (r : ProgramReader) → standing_of r ≡ nothing_read
     → r.first ≡ None → r.names.weight ≡ 0 → RunsTo text tokens r 0
 runs_from text tokens r s f w = record {
   course = nothing_judged;
@@ -46,11 +46,11 @@ runs_from text tokens r s f w = record {
   weight = omega arith;
 }
 
-start_is : (tokens : List Token) (i : ℕ) (d : Token) → i < length tokens → start_of tokens i
+start_is : (tokens : List ProgramToken) (i : ℕ) (d : ProgramToken) → i < length tokens → start_of tokens i
     ≡ (get_or tokens i d).start
 start_is tokens i d h = get_or-map (λ t. t.start) tokens i d 0 h
 
-next_words : (text : List ℕ) (tokens : List Token) (i : ℕ) (d : Token) → i < length tokens
+next_words : (text : List ℕ) (tokens : List ProgramToken) (i : ℕ) (d : ProgramToken) → i < length tokens
     → take (i + 1) (words_of text tokens) ≡ take i (words_of text tokens)
     ++ (token_word text (get_or tokens i d) ∷ [])
 next_words text tokens i d h =
@@ -59,7 +59,7 @@ next_words text tokens i d h =
     ∙ ap (λ w. take i (words_of text tokens) ++ (w ∷ [])) (get_or-map (token_word text) tokens i d
     colon h)
 
-words_len : (text : List ℕ) (tokens : List Token) (i : ℕ) → i ≤ length tokens
+words_len : (text : List ℕ) (tokens : List ProgramToken) (i : ℕ) → i ≤ length tokens
     → length (take i (words_of text tokens)) ≡ i
 words_len text tokens i h = length-take-le i (words_of text tokens)
     (subst (λ n. i ≤ n) (sym (length-map tokens (token_word text))) h)
@@ -72,7 +72,7 @@ course_with c w s = record {
   faults = c.faults ++ finds (at_word c.begin c.stands.part) c.stands.before c.stands.part w;
 }
 
-pub runs_on : (text : List ℕ) (tokens : List Token) (r next : Reader) (i : ℕ) (d : Token)
+pub runs_on : (text : List ℕ) (tokens : List ProgramToken) (r next : ProgramReader) (i : ℕ) (d : ProgramToken)
     → RunsTo text tokens r i → i < length tokens
     → IsTaken r next (token_word text (get_or tokens i d)) (get_or tokens i d).start
     → next.names.weight ≤ r.names.weight + 2 → RunsTo text tokens next (i + 1)
@@ -119,7 +119,7 @@ runs_on text tokens r next i d h l t w =
 -- ---- where it ends
 
 -- what stays of the text's tokens
-abbrev reading : List ℕ → List Token → Option ℕ → ℕ → Reading
+abbrev reading : List ℕ → List ProgramToken → Option ℕ → ℕ → Reading
 reading text tokens bad i = record {
   tokens = tokens;
   bad = bad;
@@ -128,7 +128,7 @@ reading text tokens bad i = record {
   taken = i;
 }
 
-taken_all : (text : List ℕ) (tokens : List Token) (bad : Option ℕ) (r : Reader) (i : ℕ)
+taken_all : (text : List ℕ) (tokens : List ProgramToken) (bad : Option ℕ) (r : ProgramReader) (i : ℕ)
     (h : RunsTo text tokens r i) → Lexes 0 text tokens bad → i ≤ length tokens
     → (i < length (words_of text tokens) → course_of (Some nothing_judged)
     (take (i + 1) (words_of text tokens)) ≡ None)
@@ -143,7 +143,7 @@ taken_all text tokens bad r i h x l s = record {
 }
 
 -- with the fault at which the reading ends
-ends_with : (text : List ℕ) (tokens : List Token) (bad : Option ℕ) (r : Reader) (i : ℕ)
+ends_with : (text : List ℕ) (tokens : List ProgramToken) (bad : Option ℕ) (r : ProgramReader) (i : ℕ)
     (h : RunsTo text tokens r i) (e : List ProgFault) → IsReadable text
     → IsTakenBy text (reading text tokens bad i) h.course
     → IsEnd text (reading text tokens bad i) h.course e
@@ -166,8 +166,8 @@ some_answer text (Some first) f p h = by_test (is_before f first) h
     by_test true k = k
     by_test false k = k
 
-pub read_stuck : (text : List ℕ) (tokens : List Token) (bad : Option ℕ) (r : Reader) (i : ℕ)
-    (d : Token) (p : CodeProgram) → RunsTo text tokens r i → IsReadable text
+pub read_stuck : (text : List ℕ) (tokens : List ProgramToken) (bad : Option ℕ) (r : ProgramReader) (i : ℕ)
+    (d : ProgramToken) (p : CodeProgram) → RunsTo text tokens r i → IsReadable text
     → Lexes 0 text tokens bad
     → i < length tokens → stands_after (standing_of r) (token_word text (get_or tokens i d)) ≡ None
     → IsRead text (answer_of (earlier r.first (fault kind.Unexpected (get_or tokens i d).start)) p)
@@ -186,7 +186,7 @@ read_stuck text tokens bad r i d p h u x l s =
     (λ k. none)) (ends_at_word (subst (λ n. i < n) (sym (length-map tokens (token_word text)))
     l))))
 
-module _ (text : List ℕ) (tokens : List Token) (bad : Option ℕ) (r : Reader) (p : CodeProgram)
+module _ (text : List ℕ) (tokens : List ProgramToken) (bad : Option ℕ) (r : ProgramReader) (p : CodeProgram)
     (h : RunsTo text tokens r (length tokens)) (u : IsReadable text) (x : Lexes 0 text tokens bad)
   where
     all_taken : IsTakenBy text (reading text tokens bad (length tokens)) h.course
@@ -206,7 +206,7 @@ module _ (text : List ℕ) (tokens : List Token) (bad : Option ℕ) (r : Reader)
     read_short e w = some_answer text r.first _ p (ends_with text tokens bad r (length tokens) h _ u
         all_taken (too_soon all_len e (ap is_whole h.stands ∙ w)))
 
-pub read_whole : (text : List ℕ) (tokens : List Token) (r : Reader)
+pub read_whole : (text : List ℕ) (tokens : List ProgramToken) (r : ProgramReader)
     → RunsTo text tokens r (length tokens) → IsReadable text → Lexes 0 text tokens None
     → is_whole (standing_of r) ≡ true → IsRead text (answer_of r.first r.program)
 read_whole text tokens r h u x w = by_first r.first refl

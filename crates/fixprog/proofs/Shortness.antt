@@ -7,7 +7,7 @@ use Rattle.std.specs.Str.Parse.{digits_value}
 use Rattle.std.proofs.lemmas.List.{drop-drop, length-map}
 use Rattle.std.proofs.lemmas.Fmt.{length-decimal-le_wide}
 use Rattle.std.proofs.Math.Nat.{pow-le-pow_right}
-use Rattle.script_words.specs.declared.class.Sign.TheVariants as s
+use Rattle.script_words.specs.declared.class.Symbol.TheVariants as s
 use Rattle.script_words.specs.Lex.{blank_len}
 use Rattle.fixprog.specs.declared.format.Format.{Format}
 use Rattle.fixprog.specs.declared.program.Mark.{Mark}
@@ -15,7 +15,7 @@ use Rattle.fixprog.specs.declared.program.Mark.TheVariants as mark
 use Rattle.fixprog.specs.declared.fault.ProgFault.{ProgFault}
 use Rattle.fixprog.specs.declared.token.Kind.{Kind}
 use Rattle.fixprog.specs.declared.token.Kind.TheVariants as kind
-use Rattle.fixprog.specs.declared.token.Token.{Token}
+use Rattle.fixprog.specs.declared.token.ProgramToken.{ProgramToken}
 use Rattle.fixprog.specs.Words.{Name, Word, name, literal, format, sign, kind_word}
 use Rattle.fixprog.specs.Lex.{Lexes, ends, bad, token, words_of}
 use Rattle.fixprog.specs.Grammar.{Operand, named, given, operand_words, Operation, copy, negation, sum, difference, product, shift_right, shift_left, operation_words, Bound, bound_words, Input, Way, called, reserved, reserved_out, way_words, Step, input, step, output, statement_words, words_from, outputs, statements, program_words}
@@ -61,7 +61,7 @@ both_parts (suc n) [] = omega arith
 both_parts (suc n) (x ∷ xs) = omega (arith, both_parts n xs)
 
 -- the texts of the tokens lie apart in the text
-words_fit : (text : List ℕ) (at : ℕ) (rest : List ℕ) (ts : List Token) (o : Option ℕ)
+words_fit : (text : List ℕ) (at : ℕ) (rest : List ℕ) (ts : List ProgramToken) (o : Option ℕ)
     → rest ≡ drop at text → Lexes at rest ts o → sizes (words_of text ts) ≤ length rest
 words_fit text at rest ts o e (ends h) = omega arith
 words_fit text at rest ts o e (bad h n) = omega arith

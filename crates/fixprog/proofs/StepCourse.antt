@@ -4,8 +4,8 @@ use Rattle.std.proofs.Math.Bool.{Bool-set}
 use Rattle.std.specs.List.{list_all}
 use Rattle.std.specs.Char.{is_ascii_digit}
 use Rattle.script_judge.specs.Fault.{is_reserved}
-use Rattle.script_words.specs.declared.class.Sign.{Sign}
-use Rattle.script_words.specs.declared.class.Sign.TheVariants as s
+use Rattle.script_words.specs.declared.class.Symbol.{Symbol}
+use Rattle.script_words.specs.declared.class.Symbol.TheVariants as s
 use Rattle.fixprog.specs.declared.program.Joint.{Joint}
 use Rattle.fixprog.specs.declared.program.Joint.TheVariants as joint
 use Rattle.fixprog.specs.declared.program.Shift.{Shift}
@@ -29,7 +29,7 @@ digits_by text false e d = absurd (cc)
 pub digits_are : (k : Digits) → digits_of k.text ≡ Some k
 digits_are k = digits_by k.text (list_all is_ascii_digit k.text) refl k.decimal
 
-reserved_by : (g : Sign) (b : Bool) (e : is_reserved g ≡ b) (d : is_reserved g ≡ true)
+reserved_by : (g : Symbol) (b : Bool) (e : is_reserved g ≡ b) (d : is_reserved g ≡ true)
     → reserved_if g b e ≡ Some (reserved (record { sign = g; reserved = d }))
 reserved_by g true e d = ap (λ f. Some (reserved (record { sign = g; reserved = f })))
     (Bool-set _ _ e d)

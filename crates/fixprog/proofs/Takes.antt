@@ -4,8 +4,8 @@ use Rattle.std.specs.List.{list_all}
 use Rattle.std.specs.Char.{is_ascii_digit}
 use Rattle.std.specs.Option.{option_map}
 use Rattle.script_judge.specs.Fault.{is_reserved}
-use Rattle.script_words.specs.declared.class.Sign.{Sign}
-use Rattle.script_words.specs.declared.class.Sign.TheVariants as s
+use Rattle.script_words.specs.declared.class.Symbol.{Symbol}
+use Rattle.script_words.specs.declared.class.Symbol.TheVariants as s
 use Rattle.fixprog.specs.declared.program.Mark.{Mark}
 use Rattle.fixprog.specs.declared.program.Mark.TheVariants as mark
 use Rattle.fixprog.specs.declared.program.Joint.{Joint}
@@ -99,7 +99,7 @@ digits_is right k e = absurd (cc)
 digits_is left k e = absurd (cc)
 digits_is out k e = absurd (cc)
 
-reserved_by : (g : Sign) (b : Bool) (d : is_reserved g ≡ b) (v : Way) → reserved_if g b d ≡ Some v
+reserved_by : (g : Symbol) (b : Bool) (d : is_reserved g ≡ b) (v : Way) → reserved_if g b d ≡ Some v
     → way_words v ≡ sign g ∷ []
 reserved_by g true d v e = ap way_words (one_value _ v e)
 reserved_by g false d v e = absurd (cc)

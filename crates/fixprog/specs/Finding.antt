@@ -7,7 +7,7 @@ use Rattle.fixprog.specs.declared.fault.ProgKind.TheVariants as kind
 use Rattle.fixprog.specs.declared.fault.ProgFault.{ProgFault}
 use Rattle.fixprog.specs.declared.program.Mark.{Mark}
 use Rattle.fixprog.specs.declared.program.Mark.TheVariants as mark
-use Rattle.fixprog.specs.declared.token.Token.{Token}
+use Rattle.fixprog.specs.declared.token.ProgramToken.{ProgramToken}
 use Rattle.fixprog.specs.Words.{Name, Word}
 use Rattle.fixprog.specs.Grammar.{Operand, named, given, Digits, Bound, mark_words, bound_words, Way, Statement, statement_words}
 use Rattle.fixprog.specs.Formats.{format_of, is_format}
@@ -168,7 +168,7 @@ bound_due i (upper_marked h a m) = i + 5 + length (bound_words a) + 1
 bound_due i p = due i p
 
 -- A fault by the byte at which its word's token begins, in place of the word's number.
-abbrev pub placed : List Token → Fault → ProgFault
+abbrev pub placed : List ProgramToken → Fault → ProgFault
 placed tokens f = fault f.kind (start_of tokens f.word)
 
 -- A fault of the due word, or, where `e` holds, of its bound's first word; it is the due word that

@@ -5,7 +5,7 @@ use Rattle.std.specs.Str.{IsUtf8, IsValidUpTo}
 use Rattle.fixprog.specs.declared.fault.ProgKind.{ProgKind}
 use Rattle.fixprog.specs.declared.fault.ProgKind.TheVariants as kind
 use Rattle.fixprog.specs.declared.fault.ProgFault.{ProgFault}
-use Rattle.fixprog.specs.declared.token.Token.{Token}
+use Rattle.fixprog.specs.declared.token.ProgramToken.{ProgramToken}
 use Rattle.script_words.specs.declared.lex.TokenKind.{TokenKind}
 use Rattle.script_words.specs.declared.lex.TokenKind.TheVariants as script
 use Rattle.script_words.specs.Lex.{front as script_front}
@@ -34,7 +34,7 @@ BeginsProgram ws = (p : Program) × Begins ws p
 -- A text's tokens up to the first byte that begins none, their words, and how many of these begin
 -- a program.
 pub record Reading : Type 0 where
-  pub tokens : List Token
+  pub tokens : List ProgramToken
   pub bad : Option ℕ
   pub words : List Word
   pub taken : ℕ
@@ -54,7 +54,7 @@ abbrev pub fault : ProgKind → ℕ → ProgFault
 fault k at = record { kind = k; at = at }
 
 -- the byte at which a word begins
-abbrev pub start_of : List Token → ℕ → ℕ
+abbrev pub start_of : List ProgramToken → ℕ → ℕ
 start_of tokens i = get_or (map (λ t. t.start) tokens) i 0
 
 -- The faults of a text that is read so: where its reading ends, and those of a program that its
@@ -108,7 +108,7 @@ pub data IsFirstFault : List ℕ → Option ProgFault → Type 0 where
 -- The text spells the program: it has no fault, and its tokens are the program's words.
 pub record Spells (text : List ℕ) (p : Program) : Type 0 where
   pub accepted : IsFirstFault text None
-  pub tokens : List Token
+  pub tokens : List ProgramToken
   pub lexed : Lexes 0 text tokens None
   pub words : program_words p ≡ words_of text tokens
 

@@ -5,8 +5,8 @@ use Rattle.std.specs.Prelude.{◌≡◌, ℕ, List, [], ◌∷◌, ◌++◌, map
 use Rattle.std.specs.List.{list_all}
 use Rattle.std.specs.Char.{is_ascii_digit}
 use Rattle.script_judge.specs.Fault.{is_reserved}
-use Rattle.script_words.specs.declared.class.Sign.{Sign}
-use Rattle.script_words.specs.declared.class.Sign.TheVariants as s
+use Rattle.script_words.specs.declared.class.Symbol.{Symbol}
+use Rattle.script_words.specs.declared.class.Symbol.TheVariants as s
 use Rattle.fixprog.specs.declared.program.Mark.{Mark}
 use Rattle.fixprog.specs.declared.program.Mark.TheVariants as mark
 use Rattle.fixprog.specs.Words.{Name, Word, name, literal, format, sign, colon, right, left, out}
@@ -78,7 +78,7 @@ input_words x =
 
 -- a reserved word of scripts
 pub record Reserved : Type 0 where
-  pub sign : Sign
+  pub sign : Symbol
   pub reserved : is_reserved sign ≡ true
 
 -- what stands for a direction: any name or reserved word, of which the checks leave the eleven

@@ -6,7 +6,7 @@ use Rattle.std.specs.Char.{is_ascii_digit}
 use Rattle.script_words.specs.Lex.{blank_len, front as script_front}
 use Rattle.fixprog.specs.declared.token.Kind.{Kind}
 use Rattle.fixprog.specs.declared.token.Kind.TheVariants as kind
-use Rattle.fixprog.specs.declared.token.Token.{Token}
+use Rattle.fixprog.specs.declared.token.ProgramToken.{ProgramToken}
 use Rattle.fixprog.specs.Words.{Word, kind_of, kind_word}
 
 -- digits, a point and digits behind it; each of them with one digit at least, or nothing
@@ -63,12 +63,12 @@ front bs =
 -- From the place `at` on, the text has these tokens, and then none but blanks, or a byte at the
 -- place given
 -- that begins no token.
-pub data Lexes : ℕ → List ℕ → List Token → Option ℕ → Type 0 where
+pub data Lexes : ℕ → List ℕ → List ProgramToken → Option ℕ → Type 0 where
   ends : {at : ℕ} {text : List ℕ} → blank_len false text ≡ length text → Lexes at text [] None
   bad : {at : ℕ} {text : List ℕ} → blank_len false text < length text
       → front (drop (blank_len false text) text) ≡ None
       → Lexes at text [] (Some (at + blank_len false text))
-  token : {at : ℕ} {text : List ℕ} {k : Kind} {len : ℕ} {more : List Token} {end : Option ℕ}
+  token : {at : ℕ} {text : List ℕ} {k : Kind} {len : ℕ} {more : List ProgramToken} {end : Option ℕ}
       → front (drop (blank_len false text) text) ≡ Some (k, len)
       → Lexes (at + blank_len false text + len) (drop (blank_len false text + len) text) more end
       → Lexes at text (record {
@@ -79,16 +79,16 @@ pub data Lexes : ℕ → List ℕ → List Token → Option ℕ → Type 0 where
       } ∷ more) end
 
 -- the same tokens, and the same byte that begins none
-pub record SameLexing (ts us : List Token) (a b : Option ℕ) : Type 0 where
+pub record SameLexing (ts us : List ProgramToken) (a b : Option ℕ) : Type 0 where
   pub tokens : ts ≡ us
   pub bad : a ≡ b
 
 -- The word that a token of this text is, by its kind and the bytes at its place.
-abbrev pub token_word : List ℕ → Token → Word
+abbrev pub token_word : List ℕ → ProgramToken → Word
 token_word text t = kind_word t.kind (slice_range text t.start t.end)
 
 -- the words of the tokens of a text
-abbrev pub words_of : List ℕ → List Token → List Word
+abbrev pub words_of : List ℕ → List ProgramToken → List Word
 words_of text tokens = map (token_word text) tokens
 
 -- A word that a token can be: some bytes are one token, and it is that word.
@@ -99,6 +99,6 @@ pub record IsToken (w : Word) : Type 0 where
   pub word : kind_word kind text ≡ w
 
 -- the token lies within the text
-pub record IsWithin (text : List ℕ) (t : Token) : Type 0 where
+pub record IsWithin (text : List ℕ) (t : ProgramToken) : Type 0 where
   pub ordered : t.start ≤ t.end
   pub inside : t.end ≤ length text

@@ -5,8 +5,8 @@ use Rattle.std.specs.List.{list_all}
 use Rattle.std.specs.Option.{option_map}
 use Rattle.std.specs.Char.{is_ascii_digit}
 use Rattle.script_judge.specs.Fault.{is_reserved}
-use Rattle.script_words.specs.declared.class.Sign.{Sign}
-use Rattle.script_words.specs.declared.class.Sign.TheVariants as s
+use Rattle.script_words.specs.declared.class.Symbol.{Symbol}
+use Rattle.script_words.specs.declared.class.Symbol.TheVariants as s
 use Rattle.fixprog.specs.declared.program.Mark.{Mark}
 use Rattle.fixprog.specs.declared.program.Mark.TheVariants as mark
 use Rattle.fixprog.specs.declared.program.Joint.{Joint}
@@ -75,7 +75,7 @@ digits_in (literal text) = digits_of text
 digits_in w = None
 
 -- with the fact that it is reserved
-abbrev pub reserved_if : (g : Sign) (b : Bool) → is_reserved g ≡ b → Option Way
+abbrev pub reserved_if : (g : Symbol) (b : Bool) → is_reserved g ≡ b → Option Way
 reserved_if g true e = Some (reserved (record { sign = g; reserved = e }))
 reserved_if g false e = None
 

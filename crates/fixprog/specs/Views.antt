@@ -22,7 +22,7 @@ use Rattle.fixprog.specs.declared.part.Head.{Head as CodeHead}
 use Rattle.fixprog.specs.declared.part.Begun.{Begun as CodeBegun}
 use Rattle.fixprog.specs.declared.fault.ProgFault.{ProgFault}
 use Rattle.fixprog.specs.declared.judge.Names.{Names}
-use Rattle.fixprog.specs.declared.reader.Reader.{Reader}
+use Rattle.fixprog.specs.declared.reader.ProgramReader.{ProgramReader}
 use Rattle.fixprog.specs.Faults.{Before}
 use Rattle.fixprog.specs.Words.{Name, Word, name, literal, format, sign, colon, right, left, out}
 use Rattle.fixprog.specs.Grammar as g
@@ -144,7 +144,7 @@ before_seen n = record { names = map (λ t. t.now) n.names.items; weight = n.wei
 
 -- How far the code's reader has come, without its faults: its whole statements, and the part of one
 -- that isn't ended.
-abbrev pub standing_of : Reader → st.Standing
+abbrev pub standing_of : ProgramReader → st.Standing
 standing_of r = record {
   inputs = map input_of r.program.inputs.items;
   steps = map step_of r.program.steps.items;

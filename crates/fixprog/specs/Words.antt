@@ -1,7 +1,7 @@
 -- A program's text as a list of words: its tokens without blanks, comments and places.
 use Rattle.std.specs.Prelude.{ℕ, codes, List, if◌then◌else◌}
 use Rattle.std.specs.Str.{bytes_eq}
-use Rattle.script_words.specs.declared.class.Sign.{Sign}
+use Rattle.script_words.specs.declared.class.Symbol.{Symbol}
 use Rattle.script_words.specs.declared.lex.TokenKind.{TokenKind}
 use Rattle.script_words.specs.declared.lex.TokenKind.TheVariants as script
 use Rattle.fixprog.specs.declared.token.Kind.{Kind}
@@ -16,7 +16,7 @@ pub data Word : Type 0 where
   name : Name → Word
   literal : (text : List ℕ) → Word
   format : (text : List ℕ) → Word
-  sign : Sign → Word
+  sign : Symbol → Word
   colon : Word
   right : Word
   left : Word

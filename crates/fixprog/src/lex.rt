@@ -5,7 +5,7 @@ ghost use Rattle.fixprog.specs.Words as words;
 ghost use Rattle.fixprog.specs.Lex as spec;
 ghost use Rattle.fixprog.specs.Lex.{IsWithin, Lexes};
 
-use crate::token::{Kind, Token};
+use crate::token::{Kind, ProgramToken};
 use script_words::lex::{TokenKind, blank_len, front as script_front};
 use std::alloc::{AllocError, Global};
 
@@ -112,7 +112,7 @@ fn front(text: &[u8]) -> Option<(Kind, usize)>
 /// The tokens of a text, up to the first byte outside of blanks and comments that begins none.
 #[derive(Drop)]
 pub struct Lexed {
-    pub tokens: Vec<Token>,
+    pub tokens: Vec<ProgramToken>,
     pub bad: Option<u32>,
 }
 
@@ -144,7 +144,7 @@ pub fn lex(alloc: Global, text: &[u8]) -> Result<Lexed, AllocError>
                 bad: Some(start as u32),
             });
         };
-        tokens.push(Token {
+        tokens.push(ProgramToken {
             kind,
             start: start as u32,
             end: (start + len) as u32,

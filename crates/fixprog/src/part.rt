@@ -14,7 +14,7 @@ use crate::program::{
     Bound, Digits, Input, Joint, Mark, Operand, Operation, Shift, Statement, Step, Way,
 };
 use crate::word::Word;
-use script_words::class::Sign;
+use script_words::class::Symbol;
 
 /// `name : format`
 #[derive(Clone, Copy)]
@@ -113,8 +113,8 @@ fn mark_in(word: Word<'_>) -> Option<Mark>
     ensures { result ≡ spec.mark_in (word_of word.entry) }
 {
     match word {
-        Word::Sign(Sign::Plus) => Some(Mark::Plus),
-        Word::Sign(Sign::Minus) => Some(Mark::Minus),
+        Word::Sign(Symbol::Plus) => Some(Mark::Plus),
+        Word::Sign(Symbol::Minus) => Some(Mark::Minus),
         _ => None,
     }
 }
@@ -123,9 +123,9 @@ fn joint_in(word: Word<'_>) -> Option<Joint>
     ensures { result ≡ spec.joint_in (word_of word.entry) }
 {
     match word {
-        Word::Sign(Sign::Plus) => Some(Joint::Plus),
-        Word::Sign(Sign::Minus) => Some(Joint::Minus),
-        Word::Sign(Sign::Star) => Some(Joint::Times),
+        Word::Sign(Symbol::Plus) => Some(Joint::Plus),
+        Word::Sign(Symbol::Minus) => Some(Joint::Minus),
+        Word::Sign(Symbol::Star) => Some(Joint::Times),
         _ => None,
     }
 }
@@ -160,12 +160,18 @@ pub fn digits_in<'a>(word: Word<'a>) -> Option<Digits<'a>>
     }
 }
 
-fn is_reserved(sign: Sign) -> bool
+fn is_reserved(sign: Symbol) -> bool
     ensures { result ≡ fault.is_reserved sign }
 {
     matches!(
         sign,
-        Sign::In | Sign::Not | Sign::Fixed | Sign::Int | Sign::Fma | Sign::Float | Sign::Sqrt
+        Symbol::In
+            | Symbol::Not
+            | Symbol::Fixed
+            | Symbol::Int
+            | Symbol::Fma
+            | Symbol::Float
+            | Symbol::Sqrt
     )
 }
 
@@ -184,7 +190,7 @@ pub fn way_in<'a>(word: Word<'a>) -> Option<Way<'a>>
 fn is_in(word: Word<'_>) -> bool
     ensures { result ≡ spec.is_in (word_of word.entry) }
 {
-    matches!(word, Word::Sign(Sign::In))
+    matches!(word, Word::Sign(Symbol::In))
 }
 
 fn is_out(word: Word<'_>) -> bool
@@ -202,37 +208,37 @@ fn is_colon(word: Word<'_>) -> bool
 fn is_open(word: Word<'_>) -> bool
     ensures { result ≡ spec.is_open (word_of word.entry) }
 {
-    matches!(word, Word::Sign(Sign::OpenBracket))
+    matches!(word, Word::Sign(Symbol::OpenBracket))
 }
 
 fn is_comma(word: Word<'_>) -> bool
     ensures { result ≡ spec.is_comma (word_of word.entry) }
 {
-    matches!(word, Word::Sign(Sign::Comma))
+    matches!(word, Word::Sign(Symbol::Comma))
 }
 
 fn is_close(word: Word<'_>) -> bool
     ensures { result ≡ spec.is_close (word_of word.entry) }
 {
-    matches!(word, Word::Sign(Sign::CloseBracket))
+    matches!(word, Word::Sign(Symbol::CloseBracket))
 }
 
 fn is_semicolon(word: Word<'_>) -> bool
     ensures { result ≡ spec.is_semicolon (word_of word.entry) }
 {
-    matches!(word, Word::Sign(Sign::Semicolon))
+    matches!(word, Word::Sign(Symbol::Semicolon))
 }
 
 fn is_equal(word: Word<'_>) -> bool
     ensures { result ≡ spec.is_equal (word_of word.entry) }
 {
-    matches!(word, Word::Sign(Sign::Equal))
+    matches!(word, Word::Sign(Symbol::Equal))
 }
 
 fn is_minus(word: Word<'_>) -> bool
     ensures { result ≡ spec.is_minus (word_of word.entry) }
 {
-    matches!(word, Word::Sign(Sign::Minus))
+    matches!(word, Word::Sign(Symbol::Minus))
 }
 
 fn some_if<'a>(test: bool, part: Part<'a>) -> Option<Part<'a>>

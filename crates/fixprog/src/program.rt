@@ -4,7 +4,7 @@ ghost use Rattle.std.specs.Prelude.{◌≡◌, true};
 ghost use Rattle.std.specs.List.{list_all};
 ghost use Rattle.std.specs.Char.{is_ascii_digit};
 
-use script_words::class::Sign;
+use script_words::class::Symbol;
 
 /// An operand, by its text.
 #[derive(Clone, Copy)]
@@ -77,7 +77,7 @@ pub struct Input<'a> {
 #[derive(Clone, Copy)]
 pub enum Way<'a> {
     Called(&'a [u8]),
-    Reserved(Sign),
+    Reserved(Symbol),
     Out,
 }
 

@@ -20,7 +20,7 @@ use std::alloc::{AllocError, Global};
 /// The whole statements, the part of one that isn't ended, where the last word began, and the
 /// first fault so far.
 #[derive(Drop)]
-pub struct Reader<'a> {
+pub struct ProgramReader<'a> {
     program: Program<'a>,
     names: Names<'a>,
     part: Part<'a>,
@@ -28,13 +28,13 @@ pub struct Reader<'a> {
     first: Option<ProgFault>,
 }
 
-impl<'a> Reader<'a> {
-    fn new(alloc: Global) -> Reader<'a>
+impl<'a> ProgramReader<'a> {
+    fn new(alloc: Global) -> ProgramReader<'a>
         ensures stands { standing_of result ≡ standing.nothing_read }
         ensures first { result.first ≡ None }
         ensures weight { result.names.weight ≡ 0 }
     {
-        Reader {
+        ProgramReader {
             program: Program {
                 inputs: Vec::new(alloc),
                 steps: Vec::new(alloc),
@@ -120,7 +120,7 @@ impl<'a> Reader<'a> {
     }
 }
 
-impl<'a> Reader<'a> {
+impl<'a> ProgramReader<'a> {
     // The program, where there is no fault.
     fn answer(self) -> Result<Program<'a>, ProgFault>
         ensures { result ≡ answer_of self.entry.first self.entry.program }
@@ -144,7 +144,7 @@ pub fn read<'a>(
     requires few { length lexed.now.tokens.items ≤ length text.now }
     ensures { IfOk result (IsRead text.now) }
 {
-    let mut reader = Reader::new(alloc);
+    let mut reader = ProgramReader::new(alloc);
     for i in 0..lexed.tokens.len() {
         let token = lexed.tokens[i];
         if !reader.take(token_word(text, token), token.start)? {

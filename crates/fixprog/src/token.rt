@@ -1,6 +1,6 @@
 //! The tokens of a program.
 
-use script_words::class::Sign;
+use script_words::class::Symbol;
 
 /// What a token is, to the reader of a program.
 #[derive(Clone, Copy, Debug, PartialEq, Eq)]
@@ -9,7 +9,7 @@ pub enum Kind {
     Literal,
     Format,
     /// A sign or a reserved word of scripts.
-    Sign(Sign),
+    Sign(Symbol),
     /// `:`
     Colon,
     /// `>>`
@@ -22,7 +22,7 @@ pub enum Kind {
 
 /// A token. Its text is that part of the source.
 #[derive(Clone, Copy, Debug, PartialEq, Eq)]
-pub struct Token {
+pub struct ProgramToken {
     pub kind: Kind,
     pub start: u32,
     pub end: u32,

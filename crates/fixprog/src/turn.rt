@@ -34,7 +34,7 @@ pub fn turn(alloc: Global, text: &[u8]) -> Result<Turned, ProgStop>
     ensures turned { IfOk result (Turns text.now) }
     ensures refused { (f : ProgFault) → result ≡ Err (ProgStop.Fault f)
         → IsFirstFault text.now (Some f) }
-    // A text that spells a program is turned, want of memory aside.
+    // A text that spells a program is turned, lack of memory aside.
     ensures answered { (p : grammar.Program) → Spells text.now p → (f : ProgFault)
         → ¬ (result ≡ Err (ProgStop.Fault f)) }
 {

@@ -6,8 +6,8 @@ ghost use Rattle.fixprog.specs.Lex.{IsWithin};
 ghost use Rattle.fixprog.specs.Words as words;
 ghost use Rattle.fixprog.specs.Views as views;
 
-use crate::token::{Kind, Token};
-use script_words::class::Sign;
+use crate::token::{Kind, ProgramToken};
+use script_words::class::Symbol;
 
 /// A token without its place.
 #[derive(Clone, Copy)]
@@ -15,7 +15,7 @@ pub enum Word<'a> {
     Name(&'a [u8]),
     Literal(&'a [u8]),
     Format(&'a [u8]),
-    Sign(Sign),
+    Sign(Symbol),
     Colon,
     Right,
     Left,
@@ -38,7 +38,7 @@ fn kind_word<'a>(kind: Kind, text: &'a [u8]) -> Word<'a>
 }
 
 /// The word of a token.
-pub fn token_word<'a>(text: &'a [u8], token: Token) -> Word<'a>
+pub fn token_word<'a>(text: &'a [u8], token: ProgramToken) -> Word<'a>
     requires { IsWithin text.now token }
     ensures { views.word_of result ≡ spec.token_word text.now token }
 {

@@ -70,7 +70,7 @@ pub fn fx_run<R: Threads + Wait + Sync, F: Folder, O: Sink, G: Gate>(
     // lines, which the sink took whole, and with its defined bytes in the file that the command
     // writes, which are there before the lines. A run that broke off put a front of such lines, and
     // left what the file held or a front of such bytes. Where the folder tells what is read, the
-    // defined status comes, or else a fault of the outside or want of memory. No other name's bytes
+    // defined status comes, or else a fault of the outside or lack of memory. No other name's bytes
     // change.
     ensures run { let before = seen (F.told folder.old) (O.taken out.old)
         (F.read_faults folder.old) (F.write_faults folder.old) (O.faults out.old) in

@@ -1,7 +1,7 @@
 -- Words of a script that the reading only counts.
 use Rattle.std.specs.Prelude.{◌≡◌, ℕ, suc, ◌+◌, List, [], ◌∷◌, ◌++◌, length, refl}
 use Rattle.std.proofs.Common.{ap, ◌∙◌, arith}
-use Rattle.script_shape.specs.script_words.declared.class.Sign.TheVariants as s
+use Rattle.script_shape.specs.script_words.declared.class.Symbol.TheVariants as s
 use Rattle.script_shape.specs.script_words.declared.class.Spelled.TheVariants as spelled
 use Rattle.script_shape.specs.script_words.Words.{Word, sign}
 use Rattle.script_shape.specs.declared.due.Due.{Due}
@@ -12,7 +12,7 @@ use Rattle.script_shape.specs.Inner.{EachRole, each_of_both, each_as, IsInner, n
 use Rattle.goal_spans.specs.declared.span.Span.{Span}
 use Rattle.goal_spans.specs.declared.reader.Stage.{Stage}
 use Rattle.goal_spans.specs.declared.reader.Stage.TheVariants as stage
-use Rattle.goal_spans.specs.Reading.{State, at_stage, read_word, read_words}
+use Rattle.goal_spans.specs.Reading.{State, at_stage, read_word, read_leaves}
 
 abbrev pub state : Stage → ℕ → ℕ → ℕ → List Span → State
 state g n first end spans = record { stage = g; at = n; first = first; end = end; spans = spans }
@@ -34,14 +34,14 @@ kept_word : (g : Stage) (r : Due) (w : Word) (n f e : ℕ) (ss : List Span) → 
 unfolding read_word
 kept_word g r w n f e ss h = ap (λ (st : State). state st.stage (n + 1) st.first st.end st.spans) (h (state g n f e ss))
 
-pub kept_words : (g : Stage) (ls rest : List Leaf) (n f e : ℕ) (ss : List Span) → AreKept g ls → read_words (ls ++ rest) (state g n f e ss) ≡ read_words rest (state g (n + length ls) f e ss)
-unfolding read_words
+pub kept_words : (g : Stage) (ls rest : List Leaf) (n f e : ℕ) (ss : List Span) → AreKept g ls → read_leaves (ls ++ rest) (state g n f e ss) ≡ read_leaves rest (state g (n + length ls) f e ss)
+unfolding read_leaves
 kept_words g [] rest n f e ss h =
     let c : n ≡ n + 0 = omega arith in
-    ap (λ (k : ℕ). read_words rest (state g k f e ss)) c
+    ap (λ (k : ℕ). read_leaves rest (state g k f e ss)) c
 kept_words g (l ∷ ls) rest n f e ss h =
     let c : n + 1 + length ls ≡ n + suc (length ls) = omega arith in
-    ap (read_words (ls ++ rest)) (kept_word g l.role l.word n f e ss h.0) ∙ kept_words g ls rest (n + 1) f e ss h.1 ∙ ap (λ (k : ℕ). read_words rest (state g k f e ss)) c
+    ap (read_leaves (ls ++ rest)) (kept_word g l.role l.word n f e ss h.0) ∙ kept_words g ls rest (n + 1) f e ss h.1 ∙ ap (λ (k : ℕ). read_leaves rest (state g k f e ss)) c
 
 -- ---- words of definitions
 

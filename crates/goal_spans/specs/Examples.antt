@@ -6,7 +6,7 @@ use Rattle.script_shape.specs.Tree.{plain, free, digits, natural, Bound, unsigne
 use Rattle.script_shape.specs.Roles.{script_leaves}
 use Rattle.goal_spans.specs.declared.span.Span.{Span}
 use Rattle.goal_spans.specs.Spans.{goal_spans}
-use Rattle.goal_spans.specs.Reading.{read_word, read_words, spans_read}
+use Rattle.goal_spans.specs.Reading.{read_word, read_leaves, spans_read}
 
 abbrev x_atom : Atom
 x_atom = variable Plain (codes "x")
@@ -35,49 +35,49 @@ Gives tree spans = (goal_spans tree ≡ spans) × (spans_read (script_leaves tre
 
 -- `{ x + y in ? }`
 one_goal : Gives (formula (single (affirmed (lies_in x_plus_y asked))) no_hint) (words 1 4 ∷ [])
-unfolding read_word read_words
+unfolding read_word read_leaves
 one_goal = (refl, refl)
 
 -- `{ x in [1, 1] -> x in ? /\ x + y <= 1 }`
 two_goals : Gives (formula (and (implies (single (affirmed (lies_in x (between one one))))
     (affirmed (lies_in x asked))) (affirmed (at_most x_plus_y one))) no_hint)
     (words 9 10 ∷ words 13 16 ∷ [])
-unfolding read_word read_words
+unfolding read_word read_leaves
 two_goals = (refl, refl)
 
 -- `{ x >= 1 -> y <= 1 -> x + y >= 1 }`: only what stands behind the last arrow is a goal
 two_arrows : Gives (formula (implies (implies (single (affirmed (at_least x one)))
     (affirmed (at_most y one))) (affirmed (at_least x_plus_y one))) no_hint) (words 9 12 ∷ [])
-unfolding read_word read_words
+unfolding read_word read_leaves
 two_arrows = (refl, refl)
 
 -- `{ x + y -/ y in ? }`: both sides
 relative_goal : Gives (formula (single (affirmed (relative_in x_plus_y y asked))) no_hint)
     (words 1 6 ∷ [])
-unfolding read_word read_words
+unfolding read_word read_leaves
 relative_goal = (refl, refl)
 
 -- `{ @FIX(x, 1) /\ y in ? }`: a multiple has none of these words
 multiple_goal : Gives (formula
     (and (single (affirmed (multiple (free (codes "FIX")) x (natural (digits (codes "1"))))))
     (affirmed (lies_in y asked))) no_hint) (words 1 1 ∷ words 9 10 ∷ [])
-unfolding read_word read_words
+unfolding read_word read_leaves
 multiple_goal = (refl, refl)
 
 -- `{ x >= 1 \/ not y <= 1 -> x in ? }`
 two_cases : Gives (formula (implies (or (single (affirmed (at_least x one)))
     (denied (at_most y one))) (affirmed (lies_in x asked))) no_hint) (words 10 11 ∷ [])
-unfolding read_word read_words
+unfolding read_word read_leaves
 two_cases = (refl, refl)
 
 -- `z = x + y; { x in ? }`
 behind_definition : Gives (define (names_value (plain Plain (codes "z")) exactly x_plus_y)
     (formula (single (affirmed (lies_in x asked))) no_hint)) (words 7 8 ∷ [])
-unfolding read_word read_words
+unfolding read_word read_leaves
 behind_definition = (refl, refl)
 
 -- `{ x in ? } x -> y { y <> 0 };`: a hint has a brace of its own
 before_hint : Gives (formula (single (affirmed (lies_in x asked)))
     (hint (rewrite x y (provided (last_need (nonzero y (codes "0"))))) no_hint)) (words 1 2 ∷ [])
-unfolding read_word read_words
+unfolding read_word read_leaves
 before_hint = (refl, refl)

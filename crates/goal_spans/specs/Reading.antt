@@ -1,6 +1,6 @@
 -- The spans of a script's goals, word by word from the left.
 use Rattle.std.specs.Prelude.{◌≡◌, ℕ, ◌+◌, List, [], ◌∷◌, ◌++◌}
-use Rattle.script_shape.specs.script_words.declared.class.Sign.TheVariants as s
+use Rattle.script_shape.specs.script_words.declared.class.Symbol.TheVariants as s
 use Rattle.script_shape.specs.script_words.Words.{Word, sign}
 use Rattle.script_shape.specs.declared.due.Due.{Due}
 use Rattle.script_shape.specs.declared.due.Due.TheVariants as d
@@ -77,9 +77,9 @@ unfoldable pub read_word : Due → Word → State → State
 read_word r w st = record (at_stage st.stage r w st) { at = st.at + 1 }
 
 -- The reading behind all these words, each with the part of the grammar that it is read as.
-unfoldable pub read_words : List Leaf → State → State
-read_words [] st = st
-read_words (l ∷ ls) st = read_words ls (read_word l.role l.word st)
+unfoldable pub read_leaves : List Leaf → State → State
+read_leaves [] st = st
+read_leaves (l ∷ ls) st = read_leaves ls (read_word l.role l.word st)
 
 -- Where the reading stands before the first word, which has number 0, with no goal found.
 abbrev pub start : State
@@ -87,7 +87,7 @@ start = record { stage = stage.Definitions; at = 0; first = 0; end = 0; spans = 
 
 -- The spans of goals that reading these words from the left finds, in order.
 abbrev pub spans_read : List Leaf → List Span
-spans_read ls = (read_words ls start).spans
+spans_read ls = (read_leaves ls start).spans
 
 -- Reading the words of a script from the left gives the spans of its tree.
 abbrev pub ReadsSpans : Type 0

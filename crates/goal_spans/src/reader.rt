@@ -8,7 +8,7 @@ ghost use Rattle.goal_spans.specs.Reading as spec;
 
 use crate::span::Span;
 use script_shape::due::Due;
-use script_shape::{Sign, Word, WordList};
+use script_shape::{Symbol, Word, WordList};
 use std::alloc::{AllocError, Global};
 use std::marker::Model;
 
@@ -87,7 +87,7 @@ impl SpanReader {
         requires { self.old.at + 1 < 2 ^ 64 }
         ensures { self.new ≡ spec.opened role (word_of word.entry) self.old }
     {
-        if matches!((role, word), (Due::Script, Word::Sign(Sign::OpenBrace))) {
+        if matches!((role, word), (Due::Script, Word::Sign(Symbol::OpenBrace))) {
             self.stage = Stage::Formula;
             self.begin();
         }
@@ -97,7 +97,7 @@ impl SpanReader {
     fn relate(&mut self, word: Word<'_>)
         ensures { self.new ≡ spec.related (word_of word.entry) self.old }
     {
-        if !matches!(word, Word::Sign(Sign::Against)) {
+        if !matches!(word, Word::Sign(Symbol::Against)) {
             self.end = self.at;
         }
     }
@@ -108,7 +108,7 @@ impl SpanReader {
         ensures connected { OnOk result (self.new ≡ spec.connected (word_of word.entry) self.old) }
         ensures refused { OnErr result (self.new ≡ self.old) }
     {
-        if matches!(word, Word::Sign(Sign::Arrow)) {
+        if matches!(word, Word::Sign(Symbol::Arrow)) {
             self.spans.clear();
             self.begin();
             return Ok(());
@@ -173,7 +173,7 @@ impl SpanReader {
 
 /// Which words are the expression part of each goal: of a script's words with their roles, those of
 /// `goal_spans` of its tree (`spans_are_read`). `Err` only where memory runs out.
-#[tactic(auto, unfolding(crate::specs::Reading::read_words))]
+#[tactic(auto, unfolding(crate::specs::Reading::read_leaves))]
 pub fn goal_spans(
     alloc: Global,
     words: WordList<'_, '_>,

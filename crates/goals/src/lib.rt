@@ -3,8 +3,8 @@
 
 // What callers name of the crates below.
 pub use facts::{
-    Dyadic, End, ExprId, Fact, HintMark, HintRow, Instance, Interval, Place, Points, RelativeError,
-    Size, Slot, meet, slot, stronger,
+    Dyadic, End, ExprId, Fact, FixPlace, HintMark, HintRow, Instance, Interval, Points,
+    RelativeError, Size, Slot, meet, slot, stronger,
 };
 
 mod goal;

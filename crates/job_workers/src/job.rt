@@ -16,7 +16,7 @@ pub trait Job: Sync {
     /// begun first; no result depends on it.
     fn size(&self, number: u16) -> usize;
 
-    /// Does the job with this number. Want of memory is the only error.
+    /// Does the job with this number. Lack of memory is the only error.
     fn run(&self, number: u16) -> Result<Self::Out, AllocError>
         ensures { IfOk result (is_result self.now number) };
 }

@@ -41,7 +41,7 @@ pub record HasChecked (b : AskedCheck) (q : Run) (text bytes : Bytes) : Type 0 w
   pub script : q.before.told b.script ≡ Some text
   pub cert : q.before.told b.cert ≡ Some bytes
 
--- What `prove` wrote, `check` answers, or else a fault of the outside comes, or want of memory; and
+-- What `prove` wrote, `check` answers, or else a fault of the outside comes, or lack of memory; and
 -- then it puts the lines that `prove` put.
 abbrev pub WrittenAreAnswered : Type 0
 WrittenAreAnswered = (a : Asked) (b : AskedCheck) (r q : Run) (text bytes : Bytes)

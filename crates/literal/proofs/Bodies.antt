@@ -3,7 +3,7 @@ use Rattle.std.proofs.Common.{◌≡◌, ◌≢◌, ℕ, ◌<◌, List, [], ◌�
 use Rattle.std.specs.Str.Parse.{AllDigits}
 use Rattle.literal.specs.declared.scan.Form.{Form}
 use Rattle.literal.specs.declared.scan.Form.TheVariants.{Decimal, Binary, Hexadecimal}
-use Rattle.literal.specs.declared.scan.Parts.{Parts}
+use Rattle.literal.specs.declared.scan.LiteralParts.{LiteralParts}
 use Rattle.literal.specs.Spelling.{Exponent, Spelling, opening, point_bytes, scale_bytes, body_bytes, is_hexadecimal, base, IsFraction, Spells}
 use denote.Ref.{Bor}
 use borrow.Author.Tests.{eqb-true, eqb-false}
@@ -138,17 +138,17 @@ no_opening Decimal body k = refl
 no_opening Binary body k = refl
 no_opening Hexadecimal body k = let m : true ≡ false = k in cc
 
-pub finds_hexadecimal : (text rest : List ℕ) (r : Option Parts) → text ≡ 48 ∷ (120 ∷ rest) → FindsBody true rest r → FindsParts text r
+pub finds_hexadecimal : (text rest : List ℕ) (r : Option LiteralParts) → text ≡ 48 ∷ (120 ∷ rest) → FindsBody true rest r → FindsParts text r
 finds_hexadecimal text rest r t f = find_same spelling_of (IsBody true rest) (Spells text) r
     (λ x i. record { bytes = opening_is x.form (body_bytes x) i.form ∙ ap (λ (l : List ℕ). 48 ∷ (120 ∷ l)) i.bytes ∙ sym t; parts = i.parts })
     (λ x s. let o = opened_at x.form x.whole x.fraction x.exponent text rest t s.bytes s.parts.whole.1 in record { form = o.0; bytes = o.1; parts = s.parts }) f
 
-pub finds_plain : (text : List ℕ) (r : Option Parts) → ((u : List ℕ) → text ≢ 48 ∷ (120 ∷ u)) → FindsBody false text r → FindsParts text r
+pub finds_plain : (text : List ℕ) (r : Option LiteralParts) → ((u : List ℕ) → text ≢ 48 ∷ (120 ∷ u)) → FindsBody false text r → FindsParts text r
 finds_plain text r n f = find_same spelling_of (IsBody false text) (Spells text) r
     (λ x i. record { bytes = no_opening x.form (body_bytes x) i.form ∙ i.bytes; parts = i.parts })
     (λ x s. let o = plain_at x.form (body_bytes x) text n s.bytes in record { form = o.0; bytes = o.1; parts = s.parts }) f
 
-pub one_spelling : (text : List ℕ) (r : Option Parts) → FindsParts text r → (x y : Spelling) → Spells text x → Spells text y → x ≡ y
+pub one_spelling : (text : List ℕ) (r : Option LiteralParts) → FindsParts text r → (x y : Spelling) → Spells text x → Spells text y → x ≡ y
 one_spelling text None f x y s t = absurd (f x s)
 one_spelling text (Some p) f x y s t = f.1 x s ∙ sym (f.1 y t)
 

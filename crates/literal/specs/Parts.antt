@@ -9,7 +9,7 @@ use Rattle.literal.specs.declared.scan.Mark.{Mark}
 use Rattle.literal.specs.declared.scan.Mark.TheVariants.{Unmarked, Plus, Minus}
 use Rattle.literal.specs.declared.scan.Power.{Power}
 use Rattle.literal.specs.declared.scan.End.{End}
-use Rattle.literal.specs.declared.scan.Parts.{Parts}
+use Rattle.literal.specs.declared.scan.LiteralParts.{LiteralParts}
 use Rattle.literal.specs.Spelling.{Exponent, Spelling, exponent_bytes, mark_bytes, letter, scale_bytes, body_bytes, is_hexadecimal, IsExponent, IsSpelling, Spells, written_as, IsWithinAs}
 
 -- ---- the code's parts, read as lists
@@ -24,7 +24,7 @@ power_of None = None
 power_of (Some p) = Some (exponent_of p)
 
 -- the parts that the code keeps, as a spelling
-abbrev pub spelling_of : Parts → Spelling
+abbrev pub spelling_of : LiteralParts → Spelling
 spelling_of p = record {
   form = p.form;
   whole = p.whole.now;
@@ -126,11 +126,11 @@ pub record IsBody (h : Bool) (text : List ℕ) (x : Spelling) : Type 0 where
 
 -- the one spelling whose digits, fraction and exponent the text is; none exactly where there is
 -- none
-abbrev pub FindsBody : Bool → List ℕ → Option Parts → Type 0
+abbrev pub FindsBody : Bool → List ℕ → Option LiteralParts → Type 0
 FindsBody h text r = FindsOne spelling_of (IsBody h text) r
 
 -- the one spelling of the text; none exactly where it is no literal
-abbrev pub FindsParts : List ℕ → Option Parts → Type 0
+abbrev pub FindsParts : List ℕ → Option LiteralParts → Type 0
 FindsParts text r = FindsOne spelling_of (Spells text) r
 
 -- ---- numbers

@@ -7,7 +7,7 @@ ghost use Rattle.literal.specs.Spelling.{IsSpelling, IsBetween, exponent_value};
 ghost use Rattle.literal.specs.Parts.{power_of, spelling_of, IsSizeOf, GivesAs, GivesWritten};
 ghost use Rattle.literal.specs.Normal.{IsSmall};
 
-use crate::scan::{Form, Mark, Parts, Power, digit};
+use crate::scan::{Form, LiteralParts, Mark, Power, digit};
 use fx_model::Literal;
 
 // 10^30: a number below it has at most 30 digits.
@@ -19,7 +19,7 @@ const POWER_LIMIT: u128 = 100_000_000_000_000_000_000;
 
 /// The number of a spelling, with the point removed into the exponent; `None` exactly where it is
 /// past the limits.
-pub fn written(parts: &Parts) -> Option<Literal>
+pub fn written(parts: &LiteralParts) -> Option<Literal>
     requires { IsSpelling (spelling_of parts.now) }
     ensures written { GivesWritten (spelling_of parts.now) result }
     ensures small { IfSome result (IsSmall parts.now.form) }

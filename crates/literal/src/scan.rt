@@ -37,7 +37,7 @@ pub struct Power<'a> {
 
 /// A literal as it is written; where it has no point, it has no digits behind one.
 #[derive(Clone, Copy)]
-pub struct Parts<'a> {
+pub struct LiteralParts<'a> {
     pub form: Form,
     pub whole: &'a [u8],
     pub fraction: &'a [u8],
@@ -52,7 +52,7 @@ pub struct End<'a> {
 }
 
 /// The parts of a text that spells a literal; `None` exactly where it spells none.
-pub fn parts_of(text: &[u8]) -> Option<Parts<'_>>
+pub fn parts_of(text: &[u8]) -> Option<LiteralParts<'_>>
     ensures { FindsParts text.now result }
 {
     match behind_opening(text) {
@@ -72,7 +72,7 @@ fn behind_opening(text: &[u8]) -> Option<&[u8]>
 }
 
 // The parts behind what opens a literal.
-fn body(hexadecimal: bool, text: &[u8]) -> Option<Parts<'_>>
+fn body(hexadecimal: bool, text: &[u8]) -> Option<LiteralParts<'_>>
     ensures { FindsBody hexadecimal text.now result }
 {
     let (whole, rest) = split_digits(hexadecimal, text);
@@ -86,7 +86,7 @@ fn body(hexadecimal: bool, text: &[u8]) -> Option<Parts<'_>>
 }
 
 // The parts where a point stands behind the first digits.
-fn pointed<'a>(hexadecimal: bool, whole: &'a [u8], tail: &'a [u8]) -> Option<Parts<'a>>
+fn pointed<'a>(hexadecimal: bool, whole: &'a [u8], tail: &'a [u8]) -> Option<LiteralParts<'a>>
     requires digits { AllDigits (base hexadecimal) whole.now }
     requires some { 0 < length whole.now }
     ensures { FindsBody hexadecimal (whole.now ++ (46 ∷ tail.now)) result }
@@ -101,7 +101,7 @@ fn pointed<'a>(hexadecimal: bool, whole: &'a [u8], tail: &'a [u8]) -> Option<Par
     if end.form == Form::Binary {
         return None;
     }
-    Some(Parts {
+    Some(LiteralParts {
         form: end.form,
         whole,
         fraction,
@@ -110,7 +110,7 @@ fn pointed<'a>(hexadecimal: bool, whole: &'a [u8], tail: &'a [u8]) -> Option<Par
 }
 
 // The parts where none does.
-fn unpointed<'a>(hexadecimal: bool, whole: &'a [u8], rest: &'a [u8]) -> Option<Parts<'a>>
+fn unpointed<'a>(hexadecimal: bool, whole: &'a [u8], rest: &'a [u8]) -> Option<LiteralParts<'a>>
     requires front { IsFrontDigits (base hexadecimal) (whole.now ++ rest.now) whole.now rest.now }
     requires some { 0 < length whole.now }
     requires apart { BeginsWithNo 46 rest.now }
@@ -119,7 +119,7 @@ fn unpointed<'a>(hexadecimal: bool, whole: &'a [u8], rest: &'a [u8]) -> Option<P
     let Some(end) = end_of(hexadecimal, rest) else {
         return None;
     };
-    Some(Parts {
+    Some(LiteralParts {
         form: end.form,
         whole,
         fraction: &[],

@@ -7,7 +7,7 @@ use Rattle.std.proofs.lemmas.Bool.{or_parts}
 use Rattle.script_judge.specs.fx_model.declared.Rounding.{Rounding}
 use Rattle.script_judge.specs.fx_model.declared.ExprId.{ExprId}
 use Rattle.script_judge.specs.script_words.declared.class.Spelled.TheVariants as spelled
-use Rattle.script_judge.specs.script_words.declared.class.Sign.TheVariants as s
+use Rattle.script_judge.specs.script_words.declared.class.Symbol.TheVariants as s
 use Rattle.script_judge.specs.script_words.Words.{Word, name, rounding, sign}
 use Rattle.script_judge.specs.script_shape.declared.due.Due.{Due}
 use Rattle.script_judge.specs.script_shape.declared.due.Due.TheVariants as d
@@ -16,12 +16,12 @@ use Rattle.script_judge.specs.script_shape.Roles.{Leaf, at, name_leaves, whole_l
 use Rattle.script_judge.specs.script_shape.Inner.{EachRole, IsInner, each_of_both, each_as, digits_roles, special_roles, expr_inner}
 use Rattle.script_judge.specs.Names.{Name, is_among, is_some_among, is_used, is_used_before_end, defines, with_some, ended, operand_name, split_name}
 use Rattle.script_judge.specs.Bounds.{is_bad_bound}
-use Rattle.script_judge.specs.Numbers.{Verdict, has_no_pieces}
+use Rattle.script_judge.specs.Numbers.{Notes, has_no_pieces}
 use Rattle.script_judge.specs.Subject.{Subject, nothing, node_of, other, Alias, aliases_after}
 use Rattle.script_judge.specs.Splits.{is_rangeless, is_bad_point}
 use Rattle.script_judge.specs.script_cases.Parts.{nothing as nothing_read}
 use Rattle.script_judge.specs.Judge.{Seen, seen_after, has_arrow, is_on_wrong_side, form_kind, form_refusal, limit_refusal, refusal_at, nothing_seen, fails, both_none}
-use Rattle.script_hints.specs.script_nodes.Known.{Known, Placed, entry_of, with_entry}
+use Rattle.script_hints.specs.script_nodes.Known.{Known, PlacedNode, entry_of, with_entry}
 use Rattle.script_hints.specs.script_nodes.Operators.{rounding_of}
 use Rattle.script_hints.specs.script_nodes.Values.{expr_value}
 use Rattle.script_hints.specs.script_nodes.Definitions.{name_text, rounding_by, with_value, with_operator, definition_value}
@@ -53,15 +53,15 @@ entry_other (e ∷ es) new text a h = by_test (bytes_eq new e.0) refl (entry_oth
         ap (λ b. if b then Some a else entry_of es text) apart ∙ sym (ap (λ b. if b then Some e.1 else entry_of es text) apart)
     by_test false same more = ap (λ o. if bytes_eq text e.0 then Some e.1 else o) more
 
-value_new : (new : Name) (p : Placed) → HasNumber (with_value new p) new p.1
+value_new : (new : Name) (p : PlacedNode) → HasNumber (with_value new p) new p.1
 value_new new p = by_value (entry_new p.0.values new p.1)
 
-value_keeps : (new : Name) (p : Placed) (text : Name) (x : ExprId) → bytes_eq text new ≡ false → HasNumber p.0 text x → HasNumber (with_value new p) text x
+value_keeps : (new : Name) (p : PlacedNode) (text : Name) (x : ExprId) → bytes_eq text new ≡ false → HasNumber p.0 text x → HasNumber (with_value new p) text x
 value_keeps new p text x h (by_value e) = by_value (entry_other p.0.values new text p.1 h ∙ e)
 value_keeps new p text x h (by_variable v) = by_variable (record { none = entry_other p.0.values new text p.1 h ∙ v.none; among = v.among; there = v.there; at = v.at })
 
 -- a name whose number is that of the value, be it the new name or another
-value_same : (new : Name) (p : Placed) (text : Name) → HasNumber p.0 text p.1 → HasNumber (with_value new p) text p.1
+value_same : (new : Name) (p : PlacedNode) (text : Name) → HasNumber p.0 text p.1 → HasNumber (with_value new p) text p.1
 value_same new p text h = by_test (bytes_eq text new) refl
   where
     by_test : (b : Bool) → bytes_eq text new ≡ b → HasNumber (with_value new p) text p.1
@@ -99,7 +99,7 @@ apart_from names text new h n = by_test (bytes_eq text new) refl
     by_test true e = absurd (true≢false (sym (subst (Among names) ((bytes_eq-Decides text new).0 e) h) ∙ n))
     by_test false e = refl
 
-value_tied : (new : Name) (p : Placed) (names : List Name) → is_among names new ≡ false → (ls : List Alias) → AllAmong names ls → Tied p.0 ls → Tied (with_value new p) ls
+value_tied : (new : Name) (p : PlacedNode) (names : List Name) → is_among names new ≡ false → (ls : List Alias) → AllAmong names ls → Tied p.0 ls → Tied (with_value new p) ls
 value_tied new p names n [] a h = tt
 value_tied new p names n (b ∷ ls) a h =
     let one = h.0 in
@@ -188,7 +188,7 @@ used_test : (side used bad rangeless defined none point past : Bool) → form_ki
 used_test side used bad rangeless defined none point past e = let a = fails side _ _ e in (fails used _ _ a.1).0
 
 -- a name that may be defined is new
-fresh_at : (v : Verdict) (seen : Seen) (r : Due) (w : Word) (behind : List Leaf) (text : Name) → refusal_at v seen r w behind ≡ None → defines r w ≡ Some text → is_among seen.names.known text ≡ false
+fresh_at : (v : Notes) (seen : Seen) (r : Due) (w : Word) (behind : List Leaf) (text : Name) → refusal_at v seen r w behind ≡ None → defines r w ≡ Some text → is_among seen.names.known text ≡ false
 fresh_at v seen r w behind text e n =
     let form = both_none (form_refusal v seen r w (has_arrow behind) behind) (limit_refusal (seen_after v seen r w) r w) e in
     let named = split_name r w in
@@ -234,7 +234,7 @@ end_of : (seen last : Seen) → Passes seen (semicolon ∷ []) last → IsCalm s
 end_of seen last p k = subst (IsEnd seen.names.pending seen) p.3 (record { known = refl; aliases = refl; ranges = word_ranges p.0 seen d.Semicolon (sign s.Semicolon) k.lower; calm = record { lower = k.lower; due = refl } })
 
 -- the aliases behind a definition's end are tied, where the name stands for what the judge says
-joined_tied : (text : Name) (p : Placed) (ls : List Alias) (x : Subject) → Tied (with_value text p) ls → Says p x → Tied (with_value text p) (aliases_after ls x (Some text))
+joined_tied : (text : Name) (p : PlacedNode) (ls : List Alias) (x : Subject) → Tied (with_value text p) ls → Says p x → Tied (with_value text p) (aliases_after ls x (Some text))
 joined_tied text p ls nothing h says = h
 joined_tied text p ls (node_of v) h says = all_last (IsTied (with_value text p)) ls (record { name = text; variable = v }) h (p.1, value_new text p, value_same text p v says)
 joined_tied text p ls other h says = h

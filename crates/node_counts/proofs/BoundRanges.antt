@@ -21,7 +21,7 @@ use Rattle.script_judge.specs.literal_order.declared.written.Written.{Written}
 use Rattle.script_judge.specs.literal_order.Values.{written_value}
 use Rattle.script_judge.specs.bound_order.Texts.{IsNumber}
 use Rattle.script_judge.specs.bound_order.Tests.{number_at, down_number, up_number}
-use Rattle.script_judge.specs.script_words.declared.class.Sign.TheVariants as s
+use Rattle.script_judge.specs.script_words.declared.class.Symbol.TheVariants as s
 use Rattle.script_judge.specs.script_words.Words.{Word, literal, sign}
 use Rattle.script_judge.specs.script_shape.declared.due.Due.{Due}
 use Rattle.script_judge.specs.script_shape.declared.due.Due.TheVariants as d
@@ -29,7 +29,7 @@ use Rattle.script_judge.specs.script_shape.Tree.{Bound, unsigned, positive, nega
 use Rattle.script_judge.specs.script_shape.Roles.{Leaf, at, bound_leaves, range_leaves}
 use Rattle.script_judge.specs.Names.{is_some_among, is_used, defines, split_name}
 use Rattle.script_judge.specs.Bounds.{is_crossed, is_bad_bound, is_some_too_low, IsBoundOf}
-use Rattle.script_judge.specs.Numbers.{Verdict, Tells, has_no_pieces}
+use Rattle.script_judge.specs.Numbers.{Notes, Tells, has_no_pieces}
 use Rattle.script_judge.specs.Sides.{has_arrow}
 use Rattle.script_judge.specs.Splits.{Ends, ends_at, ends_between, ranges_after, parts_after, is_rangeless, is_bad_point}
 use Rattle.script_judge.specs.Judge.{Seen, seen_after, is_on_wrong_side, form_kind, form_refusal, limit_refusal, refusal_at, fails, both_none}
@@ -81,7 +81,7 @@ gives_range law x lower upper ends ordered e =
 abbrev IsOf : Bound → Option Fraction → Type 0
 IsOf b o = (x : Fraction) → o ≡ Some x → x ≡ written_value (bound_written b)
 
-no_number : (v : Verdict) (r : Due) (w : Word) (behind : List Leaf) → Tells v r w behind → ((x : Fraction) → IsBoundOf r w behind x → ⊥) → v.number ≡ None
+no_number : (v : Notes) (r : Due) (w : Word) (behind : List Leaf) → Tells v r w behind → ((x : Fraction) → IsBoundOf r w behind x → ⊥) → v.number ≡ None
 no_number v r w behind t f = by_value v.number refl
   where
     by_value : (o : Option Fraction) → v.number ≡ o → v.number ≡ None
@@ -93,7 +93,7 @@ no_ends None = refl
 no_ends (Some low) = refl
 
 -- no range where no bound begins
-numberless : (v : Verdict) (seen : Seen) (r : Due) (w : Word) (behind : List Leaf) → Tells v r w behind → ((x : Fraction) → IsBoundOf r w behind x → ⊥) → (seen_after v seen r w).splits.ranges ≡ parts_after seen.splits.ranges r w
+numberless : (v : Notes) (seen : Seen) (r : Due) (w : Word) (behind : List Leaf) → Tells v r w behind → ((x : Fraction) → IsBoundOf r w behind x → ⊥) → (seen_after v seen r w).splits.ranges ≡ parts_after seen.splits.ranges r w
 numberless v seen r w behind t f =
     ap (λ o. parts_after (ranges_after seen.splits.ranges seen.splits.subject v.arrow_behind (ends_between seen.bounds.lower o)) r w) (no_number v r w behind t f)
     ∙ ap (λ o. parts_after (ranges_after seen.splits.ranges seen.splits.subject v.arrow_behind o) r w) (no_ends seen.bounds.lower)
@@ -131,7 +131,7 @@ bad_test : (side used bad rangeless defined none point past : Bool) → form_kin
 bad_test side used bad rangeless defined none point past e = let a = fails side _ _ e in let b = fails used _ _ a.1 in (fails bad _ _ b.1).0
 
 -- bounds that aren't refused are in order
-in_order : (v : Verdict) (seen : Seen) (r : Due) (w : Word) (behind : List Leaf) → refusal_at v seen r w behind ≡ None → (x y : Fraction) → seen.bounds.lower ≡ Some x → v.number ≡ Some y → le_ℚ x y ≡ true
+in_order : (v : Notes) (seen : Seen) (r : Due) (w : Word) (behind : List Leaf) → refusal_at v seen r w behind ≡ None → (x y : Fraction) → seen.bounds.lower ≡ Some x → v.number ≡ Some y → le_ℚ x y ≡ true
 in_order v seen r w behind e x y low high =
     let form = both_none (form_refusal v seen r w (has_arrow behind) behind) (limit_refusal (seen_after v seen r w) r w) e in
     let named = split_name r w in

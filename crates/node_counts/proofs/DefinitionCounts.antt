@@ -2,7 +2,7 @@
 use Rattle.std.proofs.Common.{◌≡◌, ℕ, ◌≤◌, List, [], ◌∷◌, ◌++◌, Some, None, Bool, true, false, ◌||◌, refl, ap, ◌∙◌, subst, arith, append_assoc}
 use Rattle.std.specs.Str.{bytes_eq}
 use Rattle.script_judge.specs.script_words.declared.class.Spelled.TheVariants as spelled
-use Rattle.script_judge.specs.script_words.declared.class.Sign.TheVariants as s
+use Rattle.script_judge.specs.script_words.declared.class.Symbol.TheVariants as s
 use Rattle.script_judge.specs.script_words.Words.{Word, rounding, sign}
 use Rattle.script_judge.specs.script_words.Named.{nothing, pending}
 use Rattle.script_judge.specs.script_shape.declared.due.Due.{Due}
@@ -12,7 +12,7 @@ use Rattle.script_judge.specs.script_shape.Roles.{Leaf, at, name_leaves, whole_l
 use Rattle.script_judge.specs.script_shape.Inner.{EachRole, IsInner, each_of_both, each_as, digits_roles, special_roles, operator_rest, operator_roles, expr_inner}
 use Rattle.script_judge.specs.Counts.{one_if}
 use Rattle.script_judge.specs.Names.{Name, is_among, with_some}
-use Rattle.script_judge.specs.Numbers.{Verdict}
+use Rattle.script_judge.specs.Numbers.{Notes}
 use Rattle.script_judge.specs.Judge.{Seen, seen_after}
 use Rattle.script_hints.specs.script_nodes.Known.{Known}
 use Rattle.script_hints.specs.script_nodes.Operators.{rounding_of}
@@ -71,7 +71,7 @@ record IsRounded (n : ℕ) (seen last : Seen) : Type 0 where
   more : seen.counts.nodes ≤ last.counts.nodes
 
 -- an operator's first word, and the others
-then_quiet : (v : Verdict) (seen last : Seen) (w : Word) (ls : List Leaf) → (seen_after v seen d.DefinedBy w).counts.rounds ≡ true → EachRole IsStill ls → Passes (seen_after v seen d.DefinedBy w) ls last → IsRounded 1 seen last
+then_quiet : (v : Notes) (seen last : Seen) (w : Word) (ls : List Leaf) → (seen_after v seen d.DefinedBy w).counts.rounds ≡ true → EachRole IsStill ls → Passes (seen_after v seen d.DefinedBy w) ls last → IsRounded 1 seen last
 then_quiet v seen last w ls e h p =
     let next = seen_after v seen d.DefinedBy w in
     let c = passes_quiet ls next last h p in

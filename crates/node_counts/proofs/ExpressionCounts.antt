@@ -9,7 +9,7 @@ use Rattle.script_judge.specs.script_shape.Roles.{Leaf, expr_leaves}
 use Rattle.script_judge.specs.script_shape.Inner.{EachRole, IsInner, expr_inner}
 use Rattle.script_judge.specs.Counts.{one_if, nodes_at}
 use Rattle.script_judge.specs.Names.{Name, with_some, operand_name, is_some_apart}
-use Rattle.script_judge.specs.Numbers.{Verdict}
+use Rattle.script_judge.specs.Numbers.{Notes}
 use Rattle.script_judge.specs.Judge.{Seen, seen_after}
 use Rattle.script_hints.specs.script_nodes.Known.{Known}
 use Rattle.script_hints.specs.script_nodes.Values.{expr_value}
@@ -26,7 +26,7 @@ record IsNext (seen next : Seen) (r : Due) (w : Word) : Type 0 where
   pending : next.names.pending ≡ seen.names.pending
   rounds : next.counts.rounds ≡ seen.counts.rounds
 
-inner_next : (v : Verdict) (seen : Seen) (r : Due) (w : Word) → IsInner r → IsNext seen (seen_after v seen r w) r w
+inner_next : (v : Notes) (seen : Seen) (r : Due) (w : Word) → IsInner r → IsNext seen (seen_after v seen r w) r w
 inner_next v seen d.Operand w h = record { known = refl; pending = refl; rounds = refl }
 inner_next v seen d.Tail w h = record { known = refl; pending = refl; rounds = refl }
 inner_next v seen d.OpenParen w h = record { known = refl; pending = refl; rounds = refl }

@@ -1,10 +1,10 @@
 -- A script that the judge lets pass has few cuts, of few pieces each.
 use Rattle.std.proofs.Common.{◌≡◌, ℕ, ◌+◌, ◌≤◌, ◌<◌, nat_lt, List, [], ◌∷◌, ◌++◌, refl, ap, subst, arith, le_refl}
 use Rattle.std.proofs.lemmas.Bool.{lt-ltb}
-use Rattle.script_judge.specs.script_words.declared.class.Sign.TheVariants as s
+use Rattle.script_judge.specs.script_words.declared.class.Symbol.TheVariants as s
 use Rattle.script_judge.specs.script_words.Words.{sign}
 use Rattle.script_judge.specs.script_shape.declared.due.Due.TheVariants as d
-use Rattle.script_judge.specs.script_shape.Tree.{Bound, unsigned, positive, negative, Points, last_point, more_points, Cut, in_four, pieces, at_points, Hint, rewrite, like, split, halving, Hints, no_hint, hint}
+use Rattle.script_judge.specs.script_shape.Tree.{Bound, unsigned, positive, negative, Points, last_point, more_points, CutForm, in_four, pieces, at_points, Hint, rewrite, like, split, halving, Hints, no_hint, hint}
 use Rattle.script_judge.specs.script_shape.Roles.{Leaf, at, bound_leaves, name_leaves, points_leaves, cut_leaves, hint_leaves, hints_leaves}
 use Rattle.script_judge.specs.Counts.{one_if}
 use Rattle.script_judge.specs.Judge.{Seen, seen_after}
@@ -63,11 +63,11 @@ points_counted (more_points b l) seen last p h =
     let more = points_counted l (seen_after rest.0 both.0 d.Points (sign s.Comma)) last rest.3 (omega (arith, a)) in
     omega (arith, a, more)
 
-abbrev pub CutIsFew : Cut → Type 0
+abbrev pub CutIsFew : CutForm → Type 0
 CutIsFew (at_points l) = point_count l ≤ 63
 CutIsFew c = Unit {0}
 
-cut_few : (c : Cut) (seen last : Seen) → Passes seen (cut_leaves c) last → IsWithin seen → CutIsFew c
+cut_few : (c : CutForm) (seen last : Seen) → Passes seen (cut_leaves c) last → IsWithin seen → CutIsFew c
 cut_few in_four seen last p w = tt
 cut_few (pieces n) seen last p w = tt
 cut_few (at_points l) seen last p w =

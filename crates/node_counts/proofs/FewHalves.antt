@@ -4,15 +4,15 @@ use Rattle.std.specs.List.{AllByRecursion, list_any}
 use Rattle.std.specs.Str.{bytes_eq}
 use Rattle.std.proofs.lemmas.Slice.Eq.{bytes_eq-Decides}
 use Rattle.script_judge.specs.fx_model.declared.ExprId.{ExprId}
-use Rattle.script_judge.specs.script_words.declared.class.Sign.TheVariants as s
+use Rattle.script_judge.specs.script_words.declared.class.Symbol.TheVariants as s
 use Rattle.script_judge.specs.script_words.Words.{Word, sign}
 use Rattle.script_judge.specs.script_shape.declared.due.Due.{Due}
 use Rattle.script_judge.specs.script_shape.declared.due.Due.TheVariants as d
-use Rattle.script_judge.specs.script_shape.Tree.{AnyName, plain, operator, Expr, Need, nonzero, below, not_above, above, not_below, NeedList, last_need, more_needs, Needs, always, provided, Cut, Names, last_name, more_names, Halving, halved_by, with_goal, Hint, rewrite, like, split, halving, Hints, no_hint, hint, Prop, Stated, affirmed, denied, Formula, single, and, or, implies, How, exactly, rounded_by, rounded_apart, rounded_joined, Definition, names_operator, names_value, Script, formula, define}
+use Rattle.script_judge.specs.script_shape.Tree.{AnyName, plain, operator, Expr, Need, nonzero, below, not_above, above, not_below, NeedList, last_need, more_needs, Needs, always, provided, CutForm, Names, last_name, more_names, Halving, halved_by, with_goal, Hint, rewrite, like, split, halving, Hints, no_hint, hint, Prop, Stated, affirmed, denied, Formula, single, and, or, implies, How, exactly, rounded_by, rounded_apart, rounded_joined, Definition, names_operator, names_value, Script, formula, define}
 use Rattle.script_judge.specs.script_shape.Roles.{Leaf, expr_leaves, name_leaves, needs_leaves, cut_leaves, names_leaves, halving_leaves, hint_leaves, hints_leaves, operator_leaves, prop_leaves, stated_leaves, formula_leaves, how_leaves, definition_leaves, script_leaves}
 use Rattle.script_judge.specs.script_shape.Inner.{EachRole, IsInner, each_of_both, each_as, name_roles, operator_roles, expr_inner}
 use Rattle.script_judge.specs.Names.{Name, is_among, split_name, halved_after}
-use Rattle.script_judge.specs.Numbers.{Verdict}
+use Rattle.script_judge.specs.Numbers.{Notes}
 use Rattle.script_judge.specs.Judge.{Seen, seen_after, has_arrow, form_refusal, limit_refusal, Judged, nothing_seen, both_none}
 use Rattle.script_hints.specs.script_nodes.Definitions.{definition_value}
 use Rattle.script_claims.specs.Claims.{formula_claims}
@@ -138,7 +138,7 @@ part_is_no_split r h = tt
 needs_quiet : (n : Needs) → EachRole IsNoSplit (needs_leaves n)
 needs_quiet n = each_as IsOfPart IsNoSplit part_is_no_split (needs_leaves n) (needs_roles n)
 
-cut_quiet : (c : Cut) → EachRole IsNoSplit (cut_leaves c)
+cut_quiet : (c : CutForm) → EachRole IsNoSplit (cut_leaves c)
 cut_quiet c = each_as IsOfPart IsNoSplit part_is_no_split (cut_leaves c) (cut_roles c)
 
 -- ---- what is known stays while hints are read
@@ -194,12 +194,12 @@ turn_quiet : (r : Due) → IsTurn r → IsNoSplit r
 turn_quiet r (inl e) = subst IsNoSplit (sym e) tt
 turn_quiet r (inr e) = subst IsNoSplit (sym e) tt
 
-turned : (r : Due) → IsTurn r → (v : Verdict) (m : Seen) (w : Word) → (seen_after v m r w).counts.halves ≡ true
+turned : (r : Due) → IsTurn r → (v : Notes) (m : Seen) (w : Word) → (seen_after v m r w).counts.halves ≡ true
 turned r (inl e) v m w = ap (λ r. (seen_after v m r w).counts.halves) e
 turned r (inr e) v m w = ap (λ r. (seen_after v m r w).counts.halves) e
 
 -- one word that is no variable of a split
-one_quiet : (x : HintsSoFar) (v : Verdict) (m : Seen) (r : Due) (w : Word) → IsNoSplit r → Halves m x → Halves (seen_after v m r w) x
+one_quiet : (x : HintsSoFar) (v : Notes) (m : Seen) (r : Due) (w : Word) → IsNoSplit r → Halves m x → Halves (seen_after v m r w) x
 one_quiet x v m r w q h = subst (λ l. AreHalved l x) (sym (role_halved m r w q)) h
 
 halving_halves : (l : Halving) (x : HintsSoFar) (r : Due) (seen last : Seen) → IsTurn r → Passes seen (halving_leaves r l) last → Halves seen x → Halves last (with_halving l x)

@@ -1,13 +1,13 @@
 -- A script that the judge lets pass has few hints.
 use Rattle.std.proofs.Common.{◌≡◌, ℕ, ◌+◌, ◌≤◌, nat_lt, List, [], ◌∷◌, length, None, Bool, refl, ap, subst, arith, le_refl}
 use Rattle.std.proofs.lemmas.Bool.{ltb-false, or_parts}
-use Rattle.script_judge.specs.script_words.declared.class.Sign.TheVariants as s
+use Rattle.script_judge.specs.script_words.declared.class.Symbol.TheVariants as s
 use Rattle.script_judge.specs.script_words.Words.{sign}
 use Rattle.script_judge.specs.script_shape.declared.due.Due.TheVariants as d
 use Rattle.script_judge.specs.script_shape.Tree.{Prop, Stated, affirmed, denied, Formula, single, and, or, implies, Hints, no_hint, hint, Script, formula, define}
 use Rattle.script_judge.specs.script_shape.Roles.{Leaf, at, prop_leaves, stated_leaves, formula_leaves, hint_leaves, hints_leaves, definition_leaves, script_leaves}
 use Rattle.script_judge.specs.declared.counts.Counts.{Counts}
-use Rattle.script_judge.specs.declared.counts.Place.TheVariants as place
+use Rattle.script_judge.specs.declared.counts.ScriptPart.TheVariants as place
 use Rattle.script_judge.specs.Counts.{one_if, begins_hint, place_after}
 use Rattle.script_judge.specs.Judge.{Seen, seen_after, has_arrow, form_refusal, limit_kind, limit_refusal, Judged, nothing_seen, fails, both_none}
 use Rattle.node_counts.proofs.Passing.{Passes, passes_all, passes_both}

@@ -7,7 +7,7 @@ use Rattle.script_judge.specs.dyadic.declared.number.End.{End}
 use Rattle.script_judge.specs.dyadic.declared.number.End.TheVariants as end
 use Rattle.script_judge.specs.interval.Results.{point_of}
 use Rattle.script_judge.specs.literal_order.Values.{written_value}
-use Rattle.script_judge.specs.script_shape.Tree.{Points, last_point, more_points, Cut, in_four, pieces, at_points, Names, last_name, more_names, Halving, halved_by, with_goal, Hint, rewrite, like, split, halving, Hints, no_hint, hint, Script, formula, define}
+use Rattle.script_judge.specs.script_shape.Tree.{Points, last_point, more_points, CutForm, in_four, pieces, at_points, Names, last_name, more_names, Halving, halved_by, with_goal, Hint, rewrite, like, split, halving, Hints, no_hint, hint, Script, formula, define}
 use Rattle.script_hints.specs.script_nodes.Known.{Known}
 use Rattle.script_hints.specs.script_nodes.Operators.{digits_text, number_of}
 use Rattle.script_hints.specs.script_nodes.Values.{expr_value}
@@ -47,7 +47,7 @@ few_pieces n = by_test (nat_lt n 64) refl
     by_test true e = let h = ltb-true n 64 e in omega arith
     by_test false e = omega arith
 
-cutting_few : (c : Cut) → CutIsFew c → HasFewPieces (cutting_of c)
+cutting_few : (c : CutForm) → CutIsFew c → HasFewPieces (cutting_of c)
 cutting_few in_four h = omega arith
 cutting_few (pieces n) h = few_pieces (number_of (digits_text n))
 cutting_few (at_points l) h = let a = points_joined l [] in omega (arith, a)

@@ -1,7 +1,7 @@
 -- The words of a formula add no more nodes than are counted.
 use Rattle.std.proofs.Common.{◌≡◌, ◌+◌, ◌≤◌, List, [], ◌∷◌, Option, Some, None, refl, ap, subst, arith}
 use Rattle.script_judge.specs.fx_model.declared.ExprId.{ExprId}
-use Rattle.script_judge.specs.script_words.declared.class.Sign.TheVariants as s
+use Rattle.script_judge.specs.script_words.declared.class.Symbol.TheVariants as s
 use Rattle.script_judge.specs.script_words.Words.{Word, sign}
 use Rattle.script_judge.specs.script_shape.declared.due.Due.{Due}
 use Rattle.script_judge.specs.script_shape.declared.due.Due.TheVariants as d
@@ -10,7 +10,7 @@ use Rattle.script_judge.specs.script_shape.Roles.{Leaf, at, prop_leaves, stated_
 use Rattle.script_judge.specs.script_shape.Inner.{EachRole, each_of_both, each_as}
 use Rattle.script_judge.specs.Counts.{nodes_at}
 use Rattle.script_judge.specs.Names.{with_some, operand_name, is_some_apart}
-use Rattle.script_judge.specs.Numbers.{Verdict}
+use Rattle.script_judge.specs.Numbers.{Notes}
 use Rattle.script_judge.specs.Judge.{Seen, seen_after}
 use Rattle.script_hints.specs.script_nodes.Known.{Name, Known}
 use Rattle.script_hints.specs.script_nodes.Waits.{Reading, Complete, expr_done, read}
@@ -31,7 +31,7 @@ pub record IsLater (seen next : Seen) (r : Due) (w : Word) : Type 0 where
   pub known : next.names.known ≡ with_some (operand_name r w) seen.names.known
   pub pending : next.names.pending ≡ None
 
-pub body_later : (v : Verdict) (seen : Seen) (r : Due) (w : Word) → IsBody r → seen.names.pending ≡ None → IsLater seen (seen_after v seen r w) r w
+pub body_later : (v : Notes) (seen : Seen) (r : Due) (w : Word) → IsBody r → seen.names.pending ≡ None → IsLater seen (seen_after v seen r w) r w
 body_later v seen d.Script w h e = absurd h
 body_later v seen d.NewName w h e = absurd h
 body_later v seen d.DefinedBy w h e = absurd h
@@ -45,7 +45,7 @@ pub record IsWithin (ops : List Name) (seen : Seen) (r : Reading) : Type 0 where
   pub within : total None ops seen.names.known r ≤ seen.counts.nodes
 
 -- one more word
-pub word_within : (ops : List Name) (v : Verdict) (seen : Seen) (r : Due) (w : Word) (old new : Reading) → IsBody r → IsWithin ops seen old
+pub word_within : (ops : List Name) (v : Notes) (seen : Seen) (r : Due) (w : Word) (old new : Reading) → IsBody r → IsWithin ops seen old
     → total None ops (with_some (operand_name r w) seen.names.known) new ≤ total None ops seen.names.known old + nodes_at seen.counts.rounds (is_some_apart seen.names.known (operand_name r w)) r w
     → IsWithin ops (seen_after v seen r w) new
 word_within ops v seen r w old new h t a =
@@ -84,7 +84,7 @@ module _ (ops names : List Name) where
   role_total d.CloseBrace w st = ended_total st
   role_total _ w st = omega arith
 
-claim_within : (ops : List Name) (v : Verdict) (seen : Seen) (r : Due) (w : Word) (st : State) → IsBody r → Free ops w → IsWithin ops seen st.reading → IsWithin ops (seen_after v seen r w) (read_claim r w st).reading
+claim_within : (ops : List Name) (v : Notes) (seen : Seen) (r : Due) (w : Word) (st : State) → IsBody r → Free ops w → IsWithin ops seen st.reading → IsWithin ops (seen_after v seen r w) (read_claim r w st).reading
 unfolding read_claim
 claim_within ops v seen r w st h f t =
     let next : State = record st { reading = read None r w st.reading } in

@@ -8,7 +8,7 @@ use Rattle.script_judge.specs.script_shape.Roles.{Leaf, hint_leaves, hints_leave
 use Rattle.script_judge.specs.script_shape.Inner.{EachRole, each_of_both, each_as}
 use Rattle.script_judge.specs.Counts.{nodes_at}
 use Rattle.script_judge.specs.Names.{is_among, with_some, operand_name, split_name, is_some_apart}
-use Rattle.script_judge.specs.Numbers.{Verdict}
+use Rattle.script_judge.specs.Numbers.{Notes}
 use Rattle.script_judge.specs.Judge.{Seen, seen_after, refusal_at}
 use Rattle.script_hints.specs.script_nodes.Known.{Name, Known}
 use Rattle.script_hints.specs.script_nodes.Waits.{Complete, expr_done}
@@ -63,11 +63,11 @@ hint_total ops rounds names r role w f h = read_total None ops rounds (omega ari
 -- ---- all words
 
 module _ (ops : List Name) where
-  name_split : (v : Verdict) (seen : Seen) (w : Word) (behind : List Leaf) (o : Option Name) → refusal_at v seen d.SplitName w behind ≡ None → IsKept ops seen → split_name d.SplitName w ≡ o → IsSplit ops seen.names.known o
+  name_split : (v : Notes) (seen : Seen) (w : Word) (behind : List Leaf) (o : Option Name) → refusal_at v seen d.SplitName w behind ≡ None → IsKept ops seen → split_name d.SplitName w ≡ o → IsSplit ops seen.names.known o
   name_split v seen w behind None e k n = tt
   name_split v seen w behind (Some text) e k n = split_among ops v seen w behind text e k n
 
-  word_split : (v : Verdict) (seen : Seen) (r : Due) (w : Word) (behind : List Leaf) → refusal_at v seen r w behind ≡ None → IsKept ops seen → IsSplit ops seen.names.known (split_name r w)
+  word_split : (v : Notes) (seen : Seen) (r : Due) (w : Word) (behind : List Leaf) → refusal_at v seen r w behind ≡ None → IsKept ops seen → IsSplit ops seen.names.known (split_name r w)
   word_split v seen d.SplitName w behind e k = name_split v seen w behind (split_name d.SplitName w) e k refl
   word_split v seen r w behind e k = tt
 

@@ -5,7 +5,7 @@ use Rattle.std.specs.Option.{is_some}
 use Rattle.std.specs.Str.{bytes_eq}
 use Rattle.std.proofs.lemmas.Slice.Eq.{bytes_eq-Decides}
 use Rattle.script_judge.specs.fx_model.declared.ExprId.{ExprId}
-use Rattle.script_judge.specs.script_words.declared.class.Sign.TheVariants as s
+use Rattle.script_judge.specs.script_words.declared.class.Symbol.TheVariants as s
 use Rattle.script_judge.specs.script_words.Words.{Word, name, rounding, sign}
 use Rattle.script_judge.specs.script_shape.declared.due.Due.{Due}
 use Rattle.script_judge.specs.script_shape.declared.due.Due.TheVariants as d
@@ -13,7 +13,7 @@ use Rattle.script_judge.specs.script_shape.Tree.{AnyName, plain, operator, Expr,
 use Rattle.script_judge.specs.script_shape.Roles.{Leaf, at, expr_leaves, name_leaves, cut_leaves, names_leaves, halving_leaves, hint_leaves, hints_leaves, formula_leaves, definition_leaves, script_leaves}
 use Rattle.script_judge.specs.script_shape.Inner.{EachRole, IsInner, each_as, name_roles, expr_inner}
 use Rattle.script_judge.specs.Names.{Name}
-use Rattle.script_judge.specs.Numbers.{Verdict}
+use Rattle.script_judge.specs.Numbers.{Notes}
 use Rattle.script_judge.specs.Splits.{SplitRange, range_of}
 use Rattle.script_judge.specs.Judge.{Seen, seen_after, nothing_seen}
 use Rattle.script_hints.specs.script_nodes.Literals.{LiteralsAreTold, SpelledOnce}
@@ -85,7 +85,7 @@ module _ (claims : List Claim) (rs : List SplitRange) where
       let still = words_still ls seen last q p h.calm in
       record { calm = still.calm; is_case = subst (λ (p : Parts SplitRange). SomeOf (λ c. c ≡ rs) (cases p.before)) (sym still.ranges) h.is_case; ranges = ranged_later x.0 j keeps rs h.ranges; said = h.said }
 
-  fine_word : (v : Verdict) (r : Due) (w : Word) (x : HintsSoFar) (seen : Seen) → IsNoRange r → Fine claims rs seen x → Fine claims rs (seen_after v seen r w) x
+  fine_word : (v : Notes) (r : Due) (w : Word) (x : HintsSoFar) (seen : Seen) → IsNoRange r → Fine claims rs seen x → Fine claims rs (seen_after v seen r w) x
   fine_word v r w x seen q h = record { calm = word_calm v seen r w (no_bracket r q) h.calm; is_case = subst (λ (p : Parts SplitRange). SomeOf (λ c. c ≡ rs) (cases p.before)) (sym (word_ranges v seen r w h.calm.lower ∙ no_sign seen.splits.ranges r w q)) h.is_case; ranges = h.ranges; said = h.said }
 
   with_one : (xs : List ExprId) (x : ExprId) (b : Bool) → AllByRecursion (HasRange claims) xs → HasRange claims x → AllByRecursion (HasRange claims) (if b then xs else xs ++ (x ∷ []))

@@ -5,8 +5,8 @@ use Rattle.std.specs.Option.{is_some}
 use Rattle.std.specs.Str.{bytes_eq}
 use Rattle.std.proofs.lemmas.Bool.{ltb-false, or_right, or_parts}
 use Rattle.std.proofs.lemmas.Slice.Eq.{bytes_eq-Decides}
-use Rattle.script_judge.specs.script_words.declared.class.Sign.{Sign}
-use Rattle.script_judge.specs.script_words.declared.class.Sign.TheVariants as s
+use Rattle.script_judge.specs.script_words.declared.class.Symbol.{Symbol}
+use Rattle.script_judge.specs.script_words.declared.class.Symbol.TheVariants as s
 use Rattle.script_judge.specs.script_words.Words.{Word, name, rounding, literal, sign}
 use Rattle.script_judge.specs.script_shape.declared.due.Due.{Due}
 use Rattle.script_judge.specs.script_shape.declared.due.Due.TheVariants as d
@@ -24,7 +24,7 @@ use Rattle.script_judge.specs.script_cases.Counted.{all_of_cases}
 use Rattle.script_judge.specs.script_cases.Met.{SomeOf}
 use Rattle.script_judge.specs.script_cases.Parts.{Parts, begun_cases}
 use Rattle.node_counts.proofs.InParts.{AllInParts, all_parts_as, item_in_parts, or_in_parts, arrow_in_parts, AreFilled, filled_more, some_case}
-use Rattle.script_judge.specs.Numbers.{Verdict, has_no_pieces, is_past_lsb, is_past_pieces}
+use Rattle.script_judge.specs.Numbers.{Notes, has_no_pieces, is_past_lsb, is_past_pieces}
 use Rattle.script_judge.specs.Judge.{Seen, seen_after, has_arrow, is_on_wrong_side, form_kind, form_refusal, limit_kind, is_past_cases, limit_refusal, or_else, refusal_at, fails, both_none}
 
 -- ---- names that were seen
@@ -115,7 +115,7 @@ module _ (names : List Name) where
   first_among (node_of variable) ls b text h k = tt
   first_among other ls b text h k = tt
 
-  signed_among : (x : Subject) (g : Sign) → SubjectAmong names x → SubjectAmong names (signed_subject x g)
+  signed_among : (x : Subject) (g : Symbol) → SubjectAmong names x → SubjectAmong names (signed_subject x g)
   signed_among x s.OpenParen h = h
   signed_among x _ h = tt
 
@@ -172,7 +172,7 @@ within_limits opened halved c lsb pieces cases h =
     let cut = fails (nat_lt 64 c.pieces || pieces) _ _ splits.1 in
     (ltb-false 512 c.nodes nodes.0, (fails cases _ _ cut.1).0)
 
-pub kept_after : (ops : List Name) (v : Verdict) (seen : Seen) (r : Due) (w : Word) (behind : List Leaf) → refusal_at v seen r w behind ≡ None → IsKept ops seen → IsKept ops (seen_after v seen r w)
+pub kept_after : (ops : List Name) (v : Notes) (seen : Seen) (r : Due) (w : Word) (behind : List Leaf) → refusal_at v seen r w behind ≡ None → IsKept ops seen → IsKept ops (seen_after v seen r w)
 kept_after ops v seen r w behind e k =
     let after = seen_after v seen r w in
     let known = seen.names.known in
@@ -249,7 +249,7 @@ record IsSplit (seen : Seen) (text : Name) : Type 0 where
   plain : is_among seen.names.defined text ≡ false
   ranged : AreRanged (cases seen.splits.ranges.before) text
 
-split_passed : (v : Verdict) (seen : Seen) (w : Word) (behind : List Leaf) (text : Name) → refusal_at v seen d.SplitName w behind ≡ None → split_name d.SplitName w ≡ Some text → IsSplit seen text
+split_passed : (v : Notes) (seen : Seen) (w : Word) (behind : List Leaf) (text : Name) → refusal_at v seen d.SplitName w behind ≡ None → split_name d.SplitName w ≡ Some text → IsSplit seen text
 split_passed v seen w behind text e n =
     let named = split_name d.SplitName w in
     let form = both_none (form_refusal v seen d.SplitName w (has_arrow behind) behind) (limit_refusal (seen_after v seen d.SplitName w) d.SplitName w) e in
@@ -261,11 +261,11 @@ split_passed v seen w behind text e n =
     record { plain = plain; ranged = lacks_none (is_among seen.names.defined text) (list_any splits.is_none (case_ranges seen.splits.ranges text)) plain ranged }
 
 -- it has a range
-pub split_ranged : (v : Verdict) (seen : Seen) (w : Word) (behind : List Leaf) (text : Name) → refusal_at v seen d.SplitName w behind ≡ None → split_name d.SplitName w ≡ Some text → AreRanged (cases seen.splits.ranges.before) text
+pub split_ranged : (v : Notes) (seen : Seen) (w : Word) (behind : List Leaf) (text : Name) → refusal_at v seen d.SplitName w behind ≡ None → split_name d.SplitName w ≡ Some text → AreRanged (cases seen.splits.ranges.before) text
 split_ranged v seen w behind text e n = (split_passed v seen w behind text e n).ranged
 
 -- it was seen, and is no operator's name
-pub split_among : (ops : List Name) (v : Verdict) (seen : Seen) (w : Word) (behind : List Leaf) (text : Name) → refusal_at v seen d.SplitName w behind ≡ None → IsKept ops seen → split_name d.SplitName w ≡ Some text → Among seen.names.known text × (is_among ops text ≡ false)
+pub split_among : (ops : List Name) (v : Notes) (seen : Seen) (w : Word) (behind : List Leaf) (text : Name) → refusal_at v seen d.SplitName w behind ≡ None → IsKept ops seen → split_name d.SplitName w ≡ Some text → Among seen.names.known text × (is_among ops text ≡ false)
 split_among ops v seen w behind text e k n =
     let p = split_passed v seen w behind text e n in
     (ranged_among seen.names.known seen.splits.ranges text k.ranges k.filled p.ranged, none_more (is_among ops text) (is_among seen.names.defined text) (k.operators text) p.plain)

@@ -4,7 +4,7 @@ use Rattle.std.proofs.lemmas.List.{length-map}
 use Rattle.std.proofs.Math.Seq.{take-length}
 use Rattle.script_judge.specs.script_words.declared.class.Class.{Class}
 use Rattle.script_judge.specs.script_words.declared.class.Class.TheVariants.{Sign}
-use Rattle.script_judge.specs.script_words.declared.class.Sign.TheVariants as s
+use Rattle.script_judge.specs.script_words.declared.class.Symbol.TheVariants as s
 use Rattle.script_judge.specs.script_words.declared.lex.Token.{Token}
 use Rattle.script_judge.specs.script_words.declared.lex.TokenKind.{TokenKind}
 use Rattle.script_judge.specs.script_words.declared.lex.TokenKind.TheVariants as kind

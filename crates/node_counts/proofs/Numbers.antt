@@ -9,7 +9,7 @@ use Rattle.script_judge.specs.fx_model.declared.Node.TheVariants.{Var, Neg, Add,
 use Rattle.script_hints.specs.expr_dag.Nodes.{same_node, place_of, placed, with_node}
 use Rattle.script_hints.specs.expr_dag.Same.{itself}
 use Rattle.script_judge.specs.script_shape.Tree.{Expr, term, sum, difference, Term, factor, product, quotient, Factor, negation, atom, Atom, number, variable, parenthesized, absolute, called, rounded, fused}
-use Rattle.script_hints.specs.script_nodes.Known.{Name, Known, Placed, entry_of, put, variables_with, variable_put, name_put, named}
+use Rattle.script_hints.specs.script_nodes.Known.{Name, Known, PlacedNode, entry_of, put, variables_with, variable_put, name_put, named}
 use Rattle.script_hints.specs.script_nodes.Values.{then_rounded, fused_sum, expr_value, term_value, factor_value, atom_value}
 use Rattle.node_counts.proofs.There.{past, stays, joins, any_before, any_last, node_stays, node_joins, absent, found, has_node, itself_eq, name_joins, same_place}
 
@@ -89,14 +89,14 @@ named_keeps k t = name_keeps k t (entry_of k.values t)
 -- ---- expressions
 
 module _ (q : Option Rounding) where
-  rounded_keeps : (o : Option Rounding) (k : Known) (p : Placed) → Keeps k p.0 → Keeps k (then_rounded o p).0
+  rounded_keeps : (o : Option Rounding) (k : Known) (p : PlacedNode) → Keeps k p.0 → Keeps k (then_rounded o p).0
   rounded_keeps None k p h = h
   rounded_keeps (Some r) k p h = keeps_both h (put_keeps p.0 (Round r p.1))
 
-  operation_keeps : (k : Known) (p : Placed) (n : Node) → Keeps k p.0 → Keeps k (then_rounded q (put p.0 n)).0
+  operation_keeps : (k : Known) (p : PlacedNode) (n : Node) → Keeps k p.0 → Keeps k (then_rounded q (put p.0 n)).0
   operation_keeps k p n h = rounded_keeps q k (put p.0 n) (keeps_both h (put_keeps p.0 n))
 
-  fused_keeps : (a b : ExprId) (k : Known) (c : Placed) → Keeps k c.0 → Keeps k (fused_sum q a b c).0
+  fused_keeps : (a b : ExprId) (k : Known) (c : PlacedNode) → Keeps k c.0 → Keeps k (fused_sum q a b c).0
   fused_keeps a b k c h = operation_keeps k (put c.0 (Mul a b)) (Add (put c.0 (Mul a b)).1 c.1) (keeps_both h (put_keeps c.0 (Mul a b)))
 
   mutual

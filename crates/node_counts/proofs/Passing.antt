@@ -7,14 +7,14 @@ use Rattle.script_judge.specs.script_shape.Roles.{Leaf}
 use Rattle.script_judge.specs.script_shape.Inner.{EachRole}
 use Rattle.script_judge.specs.declared.fault.Fault.{Fault}
 use Rattle.script_judge.specs.Names.{Name}
-use Rattle.script_judge.specs.Numbers.{Verdict}
+use Rattle.script_judge.specs.Numbers.{Notes}
 use Rattle.script_judge.specs.Judge.{Seen, seen_after, refusal_at, Judged, refused, passed}
 use Rattle.node_counts.proofs.Kept.{IsKept, kept_after}
 
 -- the judge lets the words pass from one place to another
 abbrev pub Passes : Seen → List Leaf → Seen → Type 0
 Passes seen [] last = seen ≡ last
-Passes seen (l ∷ ls) last = (v : Verdict) × (behind : List Leaf) × (refusal_at v seen l.role l.word behind ≡ None) × Passes (seen_after v seen l.role l.word) ls last
+Passes seen (l ∷ ls) last = (v : Notes) × (behind : List Leaf) × (refusal_at v seen l.role l.word behind ≡ None) × Passes (seen_after v seen l.role l.word) ls last
 
 -- words that pass, and others behind them
 pub record PassesFirst (seen : Seen) (a b : List Leaf) : Type 0 where
@@ -71,7 +71,7 @@ IsStill d.Semicolon = ⊥
 IsStill d.Operand = ⊥
 IsStill r = Unit {0}
 
-one_quiet : (v : Verdict) (seen : Seen) (r : Due) (w : Word) → IsStill r → IsQuiet seen (seen_after v seen r w)
+one_quiet : (v : Notes) (seen : Seen) (r : Due) (w : Word) → IsStill r → IsQuiet seen (seen_after v seen r w)
 one_quiet v seen d.Script w h = absurd h
 one_quiet v seen d.NewName w h = absurd h
 one_quiet v seen d.DefinedBy w h = absurd h

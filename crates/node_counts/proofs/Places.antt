@@ -6,8 +6,8 @@ use Rattle.script_judge.specs.script_shape.declared.due.Due.TheVariants as d
 use Rattle.script_judge.specs.script_shape.Tree.{Operator, fixed, int, Expr, term, sum, difference, Term, factor, product, quotient, Factor, negation, atom, Atom, number, variable, parenthesized, absolute, called, rounded, fused, Prop, lies_in, relative_in, at_most, at_least, multiple, Halving, halved_by, with_goal, Hint, rewrite, like, split, halving}
 use Rattle.script_judge.specs.script_shape.Roles.{Leaf, operator_leaves, expr_leaves, term_leaves, factor_leaves, atom_leaves, prop_leaves, halving_leaves, hint_leaves}
 use Rattle.script_judge.specs.script_shape.Inner.{EachRole}
-use Rattle.script_judge.specs.declared.counts.Place.{Place}
-use Rattle.script_judge.specs.declared.counts.Place.TheVariants as place
+use Rattle.script_judge.specs.declared.counts.ScriptPart.{ScriptPart}
+use Rattle.script_judge.specs.declared.counts.ScriptPart.TheVariants as place
 use Rattle.script_judge.specs.Counts.{place_after}
 use Rattle.script_judge.specs.Judge.{Seen, seen_after}
 use Rattle.node_counts.proofs.Passing.{Passes}
@@ -102,7 +102,7 @@ hint_stays d.Semicolon w h = absurd h
 hint_stays r w h = refl
 
 -- words that stay at a place, behind one that comes there
-module _ (P : Due → Type 0) (from to : Place) (enters : (r : Due) (w : Word) → P r → place_after from r w ≡ to) (stays : (r : Due) (w : Word) → P r → place_after to r w ≡ to) where
+module _ (P : Due → Type 0) (from to : ScriptPart) (enters : (r : Due) (w : Word) → P r → place_after from r w ≡ to) (stays : (r : Due) (w : Word) → P r → place_after to r w ≡ to) where
   all_stay : (ls : List Leaf) (seen last : Seen) → EachRole P ls → Passes seen ls last → seen.counts.place ≡ to → last.counts.place ≡ to
   all_stay [] seen last h p e = subst (λ (x : Seen). x.counts.place ≡ to) p e
   all_stay (l ∷ ls) seen last h p e = all_stay ls (seen_after p.0 seen l.role l.word) last h.1 p.3 (ap (λ q. place_after q l.role l.word) e ∙ stays l.role l.word h.0)

@@ -6,7 +6,7 @@ use Rattle.script_judge.specs.script_shape.declared.due.Due.TheVariants as d
 use Rattle.script_judge.specs.script_shape.Roles.{Leaf}
 use Rattle.script_judge.specs.script_shape.Inner.{EachRole, IsInner}
 use Rattle.script_judge.specs.Names.{operand_name, is_some_among}
-use Rattle.script_judge.specs.Numbers.{Verdict}
+use Rattle.script_judge.specs.Numbers.{Notes}
 use Rattle.script_judge.specs.Subject.{Subject, nothing, node_of, other, Alias, aliases_after, subject_after}
 use Rattle.script_judge.specs.Splits.{SplitRange, ends_between, ranges_after, parts_after}
 use Rattle.script_judge.specs.script_cases.Parts.{Parts}
@@ -45,12 +45,12 @@ no_range rs (node_of text) false = refl
 no_range rs other b = refl
 
 -- no upper bound gives a range where no lower one stands before
-pub word_ranges : (v : Verdict) (seen : Seen) (r : Due) (w : Word) → seen.bounds.lower ≡ None → (seen_after v seen r w).splits.ranges ≡ parts_after seen.splits.ranges r w
+pub word_ranges : (v : Notes) (seen : Seen) (r : Due) (w : Word) → seen.bounds.lower ≡ None → (seen_after v seen r w).splits.ranges ≡ parts_after seen.splits.ranges r w
 word_ranges v seen r w e =
     ap (λ o. parts_after (ranges_after seen.splits.ranges seen.splits.subject v.arrow_behind (ends_between o v.number)) r w) e
     ∙ ap (λ p. parts_after p r w) (no_range seen.splits.ranges seen.splits.subject v.arrow_behind)
 
-pub word_calm : (v : Verdict) (seen : Seen) (r : Due) (w : Word) → IsNoBracket r → IsCalm seen → IsCalm (seen_after v seen r w)
+pub word_calm : (v : Notes) (seen : Seen) (r : Due) (w : Word) → IsNoBracket r → IsCalm seen → IsCalm (seen_after v seen r w)
 word_calm v seen d.Range w h c = absurd h
 word_calm v seen d.Bound w h c = record { lower = ap (λ b. if b then v.number else None) c.due; due = refl }
 word_calm v seen r w h c = record { lower = c.lower; due = refl }
@@ -83,7 +83,7 @@ pub record KeepsAliases (seen last : Seen) : Type 0 where
   pub aliases : last.splits.aliases ≡ seen.splits.aliases
   pub pending : last.names.pending ≡ seen.names.pending
 
-word_plain : (v : Verdict) (seen : Seen) (r : Due) (w : Word) → IsPlain r → KeepsAliases seen (seen_after v seen r w)
+word_plain : (v : Notes) (seen : Seen) (r : Due) (w : Word) → IsPlain r → KeepsAliases seen (seen_after v seen r w)
 word_plain v seen d.Script w h = absurd h
 word_plain v seen d.NewName w h = absurd h
 word_plain v seen d.Semicolon w h = absurd h

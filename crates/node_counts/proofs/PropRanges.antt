@@ -3,7 +3,7 @@ use Rattle.std.proofs.Common.{◌≡◌, ◌⊎◌, inl, inr, suc, List, [], ◌
 use Rattle.std.specs.List.{flat_map, AllByRecursion}
 use Rattle.script_judge.specs.fx_model.declared.ExprId.{ExprId}
 use Rattle.script_judge.specs.script_words.declared.class.Spelled.TheVariants as spelled
-use Rattle.script_judge.specs.script_words.declared.class.Sign.TheVariants as s
+use Rattle.script_judge.specs.script_words.declared.class.Symbol.TheVariants as s
 use Rattle.script_judge.specs.script_words.Words.{Word, sign}
 use Rattle.script_judge.specs.script_shape.declared.due.Due.{Due}
 use Rattle.script_judge.specs.script_shape.declared.due.Due.TheVariants as d

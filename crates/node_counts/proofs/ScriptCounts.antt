@@ -1,6 +1,6 @@
 -- A script that the judge lets pass has few nodes.
 use Rattle.std.proofs.Common.{◌≡◌, ℕ, ◌≤◌, List, [], ◌∷◌, ◌++◌, length, None, refl, sym, subst, arith, append_assoc, append-nil}
-use Rattle.script_judge.specs.script_words.declared.class.Sign.TheVariants as s
+use Rattle.script_judge.specs.script_words.declared.class.Symbol.TheVariants as s
 use Rattle.script_judge.specs.script_words.Words.{sign}
 use Rattle.script_judge.specs.script_words.Named.{nothing}
 use Rattle.script_judge.specs.script_shape.declared.due.Due.TheVariants as d

@@ -8,7 +8,7 @@ use Rattle.script_judge.specs.fx_model.declared.Node.{Node}
 use Rattle.script_hints.specs.expr_dag.Nodes.{place_of}
 use Rattle.script_judge.specs.Counts.{one_if}
 use Rattle.script_judge.specs.Names.{is_among}
-use Rattle.script_hints.specs.script_nodes.Known.{Name, Known, Placed, put, named}
+use Rattle.script_hints.specs.script_nodes.Known.{Name, Known, PlacedNode, put, named}
 use Rattle.script_hints.specs.script_nodes.Definitions.{with_value, with_operator}
 use Rattle.node_counts.proofs.There.{is_there, Later, placed_most, put_later, named_later, named_there, named_most, named_same, value_later, value_there, or_more, or_first}
 
@@ -105,7 +105,7 @@ module _ (ops names : List Name) (k : Known) (text : Name) (free : is_among ops 
 
 -- ---- a definition ends
 
-pub value_size : (ops names : List Name) (text : Name) (p : Placed) → size ops (text ∷ names) (with_value text p) ≤ size ops names p.0
+pub value_size : (ops names : List Name) (text : Name) (p : PlacedNode) → size ops (text ∷ names) (with_value text p) ≤ size ops names p.0
 value_size ops names text p =
     let b = later_less ops p.0 (with_value text p) (value_later text p) names in
     omega (arith, ap (λ t. one_if (not t)) (or_left (is_there (with_value text p) text) (is_among ops text) (value_there text p)))

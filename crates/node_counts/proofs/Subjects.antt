@@ -5,8 +5,8 @@ use Rattle.std.specs.Str.{bytes_eq}
 use Rattle.std.proofs.lemmas.Slice.Eq.{bytes_eq-Decides}
 use Rattle.script_judge.specs.fx_model.declared.Rounding.{Rounding}
 use Rattle.script_judge.specs.fx_model.declared.ExprId.{ExprId}
-use Rattle.script_judge.specs.script_words.declared.class.Sign.{Sign}
-use Rattle.script_judge.specs.script_words.declared.class.Sign.TheVariants as s
+use Rattle.script_judge.specs.script_words.declared.class.Symbol.{Symbol}
+use Rattle.script_judge.specs.script_words.declared.class.Symbol.TheVariants as s
 use Rattle.script_judge.specs.script_words.Words.{Word, name, rounding, literal, sign}
 use Rattle.script_judge.specs.script_shape.declared.due.Due.{Due}
 use Rattle.script_judge.specs.script_shape.declared.due.Due.TheVariants as d
@@ -14,11 +14,11 @@ use Rattle.script_judge.specs.script_shape.Tree.{fixed, int, Expr, term, sum, di
 use Rattle.script_judge.specs.script_shape.Roles.{Leaf, expr_leaves, term_leaves, factor_leaves, atom_leaves}
 use Rattle.script_judge.specs.script_shape.Inner.{EachRole, IsInner, expr_inner}
 use Rattle.script_judge.specs.Names.{Name, is_among, is_some_among, operand_name}
-use Rattle.script_judge.specs.Numbers.{Verdict}
+use Rattle.script_judge.specs.Numbers.{Notes}
 use Rattle.script_judge.specs.Subject.{Subject, nothing, node_of, other, Alias, alias_of, first_name, signed_subject, operand_subject, subject_after}
 use Rattle.script_judge.specs.Subject as subject
 use Rattle.script_judge.specs.Judge.{Seen, seen_after}
-use Rattle.script_hints.specs.script_nodes.Known.{Known, Placed, named}
+use Rattle.script_hints.specs.script_nodes.Known.{Known, PlacedNode, named}
 use Rattle.script_hints.specs.script_nodes.Values.{expr_value, term_value, factor_value, atom_value}
 use Rattle.node_counts.proofs.Passing.{Passes, passes_both}
 use Rattle.node_counts.proofs.Numbers.{HasNumber, Keeps, named_keeps, named_has, number_once}
@@ -78,7 +78,7 @@ module _ (q : Option Rounding) (text : Name) where
 
 -- ---- another expression stays one
 
-signed_other : (g : Sign) → signed_subject other g ≡ other
+signed_other : (g : Symbol) → signed_subject other g ≡ other
 signed_other s.OpenParen = refl
 signed_other g = refl
 
@@ -117,7 +117,7 @@ later [] = []
 later (l ∷ ls) = ls
 
 -- the words of a factor behind one that makes it another expression than a name
-behind_first : (a : Atom) (w : Word) (seen last : Seen) → EachRole IsInner (later (atom_leaves a)) → operand_subject seen.splits.subject seen.splits.aliases (is_some_among seen.names.defined (operand_name d.Operand w)) w ≡ other → (v : Verdict) → Passes (seen_after v seen d.Operand w) (later (atom_leaves a)) last → last.splits.subject ≡ other
+behind_first : (a : Atom) (w : Word) (seen last : Seen) → EachRole IsInner (later (atom_leaves a)) → operand_subject seen.splits.subject seen.splits.aliases (is_some_among seen.names.defined (operand_name d.Operand w)) w ≡ other → (v : Notes) → Passes (seen_after v seen d.Operand w) (later (atom_leaves a)) last → last.splits.subject ≡ other
 behind_first a w seen last h o v p = others_stay (later (atom_leaves a)) (seen_after v seen d.Operand w) last h p o
 
 mutual
@@ -166,7 +166,7 @@ mutual
 -- ---- what is said is so
 
 -- the variable of the name has this number
-abbrev pub Says : Placed → Subject → Type 0
+abbrev pub Says : PlacedNode → Subject → Type 0
 Says p nothing = Unit {0}
 Says p (node_of text) = HasNumber p.0 text p.1
 Says p other = Unit {0}

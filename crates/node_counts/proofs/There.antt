@@ -11,7 +11,7 @@ use Rattle.script_judge.specs.fx_model.declared.Node.{Node}
 use Rattle.script_judge.specs.fx_model.declared.Node.TheVariants.{Var}
 use Rattle.script_hints.specs.expr_dag.Nodes.{same_node, numbered, place_of, placed, with_node}
 use Rattle.script_hints.specs.expr_dag.Same.{itself}
-use Rattle.script_hints.specs.script_nodes.Known.{Name, Known, Placed, entry_of, with_entry, put, variables_with, variable_put, name_put, named}
+use Rattle.script_hints.specs.script_nodes.Known.{Name, Known, PlacedNode, entry_of, with_entry, put, variables_with, variable_put, name_put, named}
 use Rattle.script_hints.specs.script_nodes.Definitions.{with_value}
 
 -- ---- places
@@ -212,8 +212,8 @@ or_first true b c f h = ap (λ x. x || c) (f refl)
 or_first false true c f h = refl
 or_first false false c f h = h
 
-pub value_later : (new : Name) (p : Placed) → Later p.0 (with_value new p)
+pub value_later : (new : Name) (p : PlacedNode) → Later p.0 (with_value new p)
 value_later new p text h = or_first (is_some (entry_of p.0.values text)) _ _ (entry_stays p.0.values new text p.1) h
 
-pub value_there : (text : Name) (p : Placed) → is_there (with_value text p) text ≡ true
+pub value_there : (text : Name) (p : PlacedNode) → is_there (with_value text p) text ≡ true
 value_there text p = ap (λ b. b || variable_there p.0.nodes p.0.variables text) (entry_joins p.0.values text p.1)

@@ -2,14 +2,14 @@
 use Rattle.std.proofs.Common.{◌≡◌, ℕ, List, [], ◌∷◌, ◌++◌, Option, None, refl, sym, subst, append_assoc, append-nil}
 use Rattle.script_judge.specs.script_shape.Roles.{Leaf}
 use Rattle.script_judge.specs.declared.fault.Fault.{Fault}
-use Rattle.script_judge.specs.Numbers.{Verdict, Tells}
+use Rattle.script_judge.specs.Numbers.{Notes, Tells}
 use Rattle.script_judge.specs.Judge.{Seen, seen_after, refusal_at, Judged, refused, passed}
 use Rattle.node_counts.proofs.Passing.{Passes}
 
 -- the judge lets the words pass from one place to another, with these behind them
 abbrev pub Reads : Seen → List Leaf → List Leaf → Seen → Type 0
 Reads seen [] rest last = seen ≡ last
-Reads seen (l ∷ ls) rest last = (v : Verdict) × Tells v l.role l.word (ls ++ rest) × (refusal_at v seen l.role l.word (ls ++ rest) ≡ None) × Reads (seen_after v seen l.role l.word) ls rest last
+Reads seen (l ∷ ls) rest last = (v : Notes) × Tells v l.role l.word (ls ++ rest) × (refusal_at v seen l.role l.word (ls ++ rest) ≡ None) × Reads (seen_after v seen l.role l.word) ls rest last
 
 pub reads_pass : (ls rest : List Leaf) (seen last : Seen) → Reads seen ls rest last → Passes seen ls last
 reads_pass [] rest seen last p = p

@@ -4,8 +4,8 @@ use Rattle.script_judge.specs.fx_model.declared.Rounding.{Rounding}
 use Rattle.script_judge.specs.fx_model.declared.ExprId.{ExprId}
 use Rattle.script_judge.specs.fx_model.declared.Node.{Node}
 use Rattle.script_judge.specs.fx_model.declared.Node.TheVariants.{Lit, Neg, Add, Sub, Mul, Div, Abs, Round}
-use Rattle.script_judge.specs.script_words.declared.class.Sign.{Sign}
-use Rattle.script_judge.specs.script_words.declared.class.Sign.TheVariants as s
+use Rattle.script_judge.specs.script_words.declared.class.Symbol.{Symbol}
+use Rattle.script_judge.specs.script_words.declared.class.Symbol.TheVariants as s
 use Rattle.script_judge.specs.script_words.Words.{Word, name, rounding, literal, sign}
 use Rattle.script_judge.specs.script_shape.declared.due.Due.{Due}
 use Rattle.script_judge.specs.script_shape.declared.due.Due.TheVariants as d
@@ -14,7 +14,7 @@ use Rattle.script_judge.specs.Names.{plain_text, operand_name, is_some_apart, wi
 use Rattle.script_hints.specs.script_nodes.declared.waits.Waits.{Waits}
 use Rattle.script_hints.specs.script_nodes.declared.waits.Waits.TheVariants as wait
 use Rattle.script_hints.specs.script_nodes.Literals.{literal_of}
-use Rattle.script_hints.specs.script_nodes.Known.{Name, Known, Placed, put, named}
+use Rattle.script_hints.specs.script_nodes.Known.{Name, Known, PlacedNode, put, named}
 use Rattle.script_hints.specs.script_nodes.Values.{then_rounded, one_operand, fused_sum}
 use Rattle.script_hints.specs.script_nodes.OperatorWords.{with_lsb, operator_ended, whole_read, opposite_read, direction_read}
 use Rattle.script_hints.specs.script_nodes.Waits.{Reading, Complete, factor_done, term_done, expr_done, closing, closed, parting, parted, then_operation, term_operation, sign_operand, operand, operation, read}
@@ -55,14 +55,14 @@ module _ (q : Option Rounding) (ops names : List Name) where
 
   -- ---- operations
 
-  rounded_size : (o : Option Rounding) (p : Placed) → size ops names (then_rounded o p).0 ≤ own o + size ops names p.0
+  rounded_size : (o : Option Rounding) (p : PlacedNode) → size ops names (then_rounded o p).0 ≤ own o + size ops names p.0
   rounded_size None p = omega arith
   rounded_size (Some r) p = put_size ops names p.0 (Round r p.1)
 
   two_size : (k : Known) (n : Node) → size ops names (then_rounded q (put k n)).0 ≤ 1 + own q + size ops names k
   two_size k n = let a = put_size ops names k n in let b = rounded_size q (put k n) in omega arith
 
-  fused_size : (a b : ExprId) (p : Placed) → size ops names (fused_sum q a b p).0 ≤ 2 + own q + size ops names p.0
+  fused_size : (a b : ExprId) (p : PlacedNode) → size ops names (fused_sum q a b p).0 ≤ 2 + own q + size ops names p.0
   fused_size a b p =
       let c = put_size ops names p.0 (Mul a b) in
       let e = two_size (put p.0 (Mul a b)).0 (Add (put p.0 (Mul a b)).1 p.1) in
@@ -70,7 +70,7 @@ module _ (q : Option Rounding) (ops names : List Name) where
 
   -- ---- a factor is complete, a term, an expression
 
-  factor_total : (ws : List Waits) (p : Placed) → total q ops names (factor_done q ws p) ≤ size ops names p.0 + load ws
+  factor_total : (ws : List Waits) (p : PlacedNode) → total q ops names (factor_done q ws p) ≤ size ops names p.0 + load ws
   factor_total [] p = omega arith
   factor_total (wait.Minus ∷ ws) p = let a = put_size ops names p.0 (Neg p.1) in let b = factor_total ws (one_operand Neg p) in omega arith
   factor_total (wait.Product u ∷ ws) p = let a = two_size p.0 (Mul u p.1) in omega arith
@@ -94,7 +94,7 @@ module _ (q : Option Rounding) (ops names : List Name) where
 
   -- ---- signs
 
-  closing_total : (p : Placed) (ws : List Waits) → total q ops names (closing q p ws) ≤ size ops names p.0 + load ws
+  closing_total : (p : PlacedNode) (ws : List Waits) → total q ops names (closing q p ws) ≤ size ops names p.0 + load ws
   closing_total p [] = omega arith
   closing_total p (wait.Paren ∷ ws) = let a = factor_total ws p in omega arith
   closing_total p (wait.Bar ∷ ws) = let a = put_size ops names p.0 (Abs p.1) in let b = factor_total ws (one_operand Abs p) in omega arith
@@ -106,7 +106,7 @@ module _ (q : Option Rounding) (ops names : List Name) where
   closed_total r None h = omega arith
   closed_total r (Some c) h = let a = closing_total c.0 c.1 in omega arith
 
-  parting_total : (p : Placed) (ws : List Waits) → total q ops names (parting p ws) ≤ size ops names p.0 + load ws
+  parting_total : (p : PlacedNode) (ws : List Waits) → total q ops names (parting p ws) ≤ size ops names p.0 + load ws
   parting_total p [] = omega arith
   parting_total p (wait.Fma ∷ ws) = omega arith
   parting_total p (wait.FmaWithOne x ∷ ws) = omega arith
@@ -159,7 +159,7 @@ module _ (q : Option Rounding) (ops names : List Name) where
 
 -- the operations are rounded only where the judge says so
 module _ (q : Option Rounding) (ops : List Name) (rounds : Bool) (same : own q ≤ one_if rounds) where
-  sign_total : (names : List Name) (r : Reading) (g : Sign) → total q ops names (sign_operand g r) ≤ total q ops names r + sign_nodes rounds g
+  sign_total : (names : List Name) (r : Reading) (g : Symbol) → total q ops names (sign_operand g r) ≤ total q ops names r + sign_nodes rounds g
   sign_total names r s.Minus = omega arith
   sign_total names r s.OpenParen = omega arith
   sign_total names r s.Bar = omega arith

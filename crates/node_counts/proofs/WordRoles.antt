@@ -3,7 +3,7 @@ use Rattle.std.proofs.Common.{◌++◌, List}
 use Rattle.script_judge.specs.script_words.declared.class.Spelled.TheVariants as spelled
 use Rattle.script_judge.specs.script_shape.declared.due.Due.{Due}
 use Rattle.script_judge.specs.script_shape.declared.due.Due.TheVariants as d
-use Rattle.script_judge.specs.script_shape.Tree.{Whole, natural, opposite, Expr, Range, asked, between, Prop, lies_in, relative_in, at_most, at_least, multiple, Need, nonzero, below, not_above, above, not_below, NeedList, last_need, more_needs, Needs, always, provided, Points, last_point, more_points, Cut, in_four, pieces, at_points, Names, last_name, more_names, Halving, halved_by, with_goal, Hint, rewrite, like, split, halving}
+use Rattle.script_judge.specs.script_shape.Tree.{Whole, natural, opposite, Expr, Range, asked, between, Prop, lies_in, relative_in, at_most, at_least, multiple, Need, nonzero, below, not_above, above, not_below, NeedList, last_need, more_needs, Needs, always, provided, Points, last_point, more_points, CutForm, in_four, pieces, at_points, Names, last_name, more_names, Halving, halved_by, with_goal, Hint, rewrite, like, split, halving}
 use Rattle.script_judge.specs.script_shape.Roles.{Leaf, special_leaves, whole_leaves, bound_leaves, expr_leaves, range_leaves, prop_leaves, name_leaves, need_leaves, need_list_leaves, needs_leaves, points_leaves, cut_leaves, names_leaves, halving_leaves, hint_leaves}
 use Rattle.script_judge.specs.script_shape.Inner.{EachRole, IsInner, each_of_both, each_as, name_roles, special_roles, digits_roles, bound_roles, expr_inner}
 
@@ -101,7 +101,7 @@ points_roles : (l : Points) → EachRole IsOfPart (points_leaves l)
 points_roles (last_point b) = bound_roles IsOfPart b tt tt
 points_roles (more_points b l) = each_of_both IsOfPart (bound_leaves b) _ (bound_roles IsOfPart b tt tt) (tt, points_roles l)
 
-pub cut_roles : (c : Cut) → EachRole IsOfPart (cut_leaves c)
+pub cut_roles : (c : CutForm) → EachRole IsOfPart (cut_leaves c)
 cut_roles in_four = tt
 cut_roles (pieces n) = (tt, digits_roles IsOfPart d.Cut n tt)
 cut_roles (at_points l) = (tt, (tt, each_of_both IsOfPart (points_leaves l) _ (points_roles l) (tt, tt)))

@@ -13,7 +13,7 @@ pub use script_hints::hint::HintList;
 pub use script_hints::laws::{hints_only_grow, reads_hints, rounded_needs_are_enough};
 pub use script_hints::reader::HintReader;
 pub use script_hints::{
-    Dag, DagFault, Definitions, Reader, literals_are_told, nodes_only_grow, reads_definitions,
+    Dag, DagFault, Definitions, NodeReader, literals_are_told, nodes_only_grow, reads_definitions,
 };
 use script_hints::{outward_is_least, reads_trees};
 pub use script_judge::first::{Judgement, firsts_are_unique, judge_text};

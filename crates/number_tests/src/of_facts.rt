@@ -1,7 +1,7 @@
 // Each public call, at values that were worked out by hand.
 use dyadic::{Dyadic, End};
 use facts::{
-    Fact, Place, RelativeError, Size, Slot, held_facts, meet,
+    Fact, FixPlace, RelativeError, Size, Slot, held_facts, meet,
     meet_is_the_weakest_as_strong_as_both, sizes_within_an_interval, slot, stronger,
     stronger_is_an_order, void_and_none_are_strongest,
 };
@@ -49,7 +49,7 @@ fn rel(rt: &impl Abort, lo: i64, hi: i64) -> Fact {
 }
 
 fn fix(rt: &impl Abort, exponent: i16) -> Fact {
-    Fact::Fix(X, Place::new(exponent).expect(rt, "a place"))
+    Fact::Fix(X, FixPlace::new(exponent).expect(rt, "a place"))
 }
 
 #[test]
@@ -160,13 +160,13 @@ fn orders(rt: HostRuntime) {
 fn keeps_the_ranges(rt: HostRuntime) {
     sizes_within_an_interval();
     for (exponent, made) in [(512, true), (513, false), (-1024, true), (-1025, false)] {
-        let found = Place::new(exponent).map(|place| place.exponent());
+        let found = FixPlace::new(exponent).map(|place| place.exponent());
         assert!(rt;
             found == if made { Some(exponent) } else { None },
             "{exponent}"
         );
     }
-    let of = |exponent: i16| Place::new(exponent).expect(&rt, "a place");
+    let of = |exponent: i16| FixPlace::new(exponent).expect(&rt, "a place");
     assert_eq!(rt; of(-3).greater(of(5)), of(5));
     for (lo, hi, size, error) in [
         (0, 1, true, true),

@@ -74,7 +74,7 @@ pub fn closure_of(
     ensures closed { IfOk result (λ c. IsClosure script.now starts.now c.nodes c.pairs) }
     ensures known { IfOk result (λ c. AreKnown c.nodes c.pairs) }
     ensures short { IfOk result (λ c. length c.pairs ≤ 1024) }
-    // There are too many exactly where that is answered, want of memory aside.
+    // There are too many exactly where that is answered, lack of memory aside.
     ensures few { IfOk result (λ c. ¬ AreTooMany (IsExpression script.now starts.now)) }
     ensures many { result ≡ Err ClosureFault.TooMany
         → AreTooMany (IsExpression script.now starts.now) }

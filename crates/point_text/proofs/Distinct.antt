@@ -9,7 +9,7 @@ use Rattle.fx_model.specs.declared.Rounding.{Rounding}
 use Rattle.fx_model.specs.declared.ExprId.{ExprId}
 use Rattle.fx_model.specs.declared.Node.{Node}
 use Rattle.script_shape.specs.Tree.{Expr, term, sum, difference, Term, factor, product, quotient, Factor, negation, atom, Atom, number, variable, parenthesized, absolute, called, rounded, fused, Prop, lies_in, relative_in, at_most, at_least, multiple, Stated, affirmed, denied, Formula, single, and, or, implies, Need, nonzero, below, not_above, above, not_below, NeedList, last_need, more_needs, Needs, always, provided, Names, last_name, more_names, Halving, halved_by, with_goal, Hint, rewrite, like, split, halving, Hints, no_hint, hint, Definition, names_operator, names_value, Script, formula, define}
-use Rattle.script_nodes.specs.Known.{Name, Known, Placed, nothing_known, put, variables_with, variable_put, name_put, named, entry_of}
+use Rattle.script_nodes.specs.Known.{Name, Known, PlacedNode, nothing_known, put, variables_with, variable_put, name_put, named, entry_of}
 use Rattle.script_nodes.specs.Values.{then_rounded, expr_value, term_value, factor_value, atom_value}
 use Rattle.script_nodes.specs.Definitions.{name_text, rounding_by, definition_value}
 use Rattle.point_eval.specs.script_claims.Claims.{prop_claim, stated_claim, formula_claims}
@@ -80,12 +80,12 @@ distinct_named k text h = distinct_name k text (entry_of k.values text) h
 -- ---- expressions
 
 module _ (q : Option Rounding) where
-  distinct_rounded : (o : Option Rounding) (p : Placed) → Distinct p.0
+  distinct_rounded : (o : Option Rounding) (p : PlacedNode) → Distinct p.0
       → Distinct (then_rounded o p).0
   distinct_rounded None p h = h
   distinct_rounded (Some r) p h = distinct_put p.0 _ h
 
-  then_operation : (p : Placed) (n : Node) → Distinct p.0 → Distinct (then_rounded q (put p.0 n)).0
+  then_operation : (p : PlacedNode) (n : Node) → Distinct p.0 → Distinct (then_rounded q (put p.0 n)).0
   then_operation p n h = distinct_rounded q (put p.0 n) (distinct_put p.0 n h)
 
   mutual

@@ -1,7 +1,7 @@
 -- What stands behind a name is no row.
 use Rattle.std.specs.Prelude.{ℕ, List, Option, Bool}
 use Rattle.fx_model.specs.declared.Literal.{Literal}
-use Rattle.script_words.specs.declared.class.Sign.TheVariants as s
+use Rattle.script_words.specs.declared.class.Symbol.TheVariants as s
 use Rattle.script_words.specs.declared.lex.Token.{Token}
 use Rattle.script_words.specs.declared.lex.TokenKind.TheVariants as kind
 use Rattle.point_text.specs.declared.fault.PointFault.{PointFault}

@@ -4,7 +4,7 @@ use Rattle.std.specs.Prelude.{◌≡◌, ℕ, zero, suc, ◌+◌, ◌<◌, ◌�
 use Rattle.std.proofs.Common.{arith, sym, ap, ◌∙◌, subst, length-drop}
 use Rattle.std.proofs.lemmas.Bool.{ltb-true}
 use Rattle.std.proofs.lemmas.Option.{none-some, same_Some}
-use Rattle.script_words.specs.declared.class.Sign.{Sign}
+use Rattle.script_words.specs.declared.class.Symbol.{Symbol}
 use Rattle.script_words.specs.declared.lex.Run.TheVariants.{Word, Digit}
 use Rattle.script_words.specs.declared.lex.TokenKind.{TokenKind}
 use Rattle.script_words.specs.declared.lex.TokenKind.TheVariants as kind
@@ -34,7 +34,7 @@ literal_some bs h = longest (is_hex bs) (nat_lt 0 (exponent_len 98 (drop (run_le
     longest false true p n m k = omega arith
     longest false false p n m k = omega arith
 
-sign_some : (one two : Option Sign) (k : TokenKind) (len : ℕ)
+sign_some : (one two : Option Symbol) (k : TokenKind) (len : ℕ)
     → sign_token (longer_sign two one) ≡ Some (k, len) → 0 < len
 sign_some one (Some g) k len e = let n : 2 ≡ len = ap len_in e in omega arith
 sign_some (Some g) None k len e = let n : 1 ≡ len = ap len_in e in omega arith

@@ -1,6 +1,6 @@
 -- Tokens at which the machine doesn't go on.
 use Rattle.std.specs.Prelude.{◌≡◌, ℕ, List, None, refl}
-use Rattle.script_words.specs.declared.class.Sign.TheVariants as s
+use Rattle.script_words.specs.declared.class.Symbol.TheVariants as s
 use Rattle.script_words.specs.declared.lex.TokenKind.{TokenKind}
 use Rattle.script_words.specs.declared.lex.TokenKind.TheVariants as kind
 use Rattle.point_text.specs.Points.{part_of}

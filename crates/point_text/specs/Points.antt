@@ -5,7 +5,7 @@ use Rattle.std.specs.Str.{IsUtf8}
 use Rattle.fx_model.specs.declared.Literal.{Literal}
 use Rattle.literal.specs.Normal.{IsNormal, IsReading}
 use Rattle.point_eval.specs.point_values.Rows.{Row, IsRow}
-use Rattle.script_words.specs.declared.class.Sign.TheVariants as s
+use Rattle.script_words.specs.declared.class.Symbol.TheVariants as s
 use Rattle.script_words.specs.declared.lex.Token.{Token}
 use Rattle.script_words.specs.declared.lex.TokenKind.{TokenKind}
 use Rattle.script_words.specs.declared.lex.TokenKind.TheVariants as kind

@@ -20,7 +20,7 @@ use literal::{Literal, LiteralFault, read_bytes};
 use literal_order::Written;
 use point_eval::{Point, Script};
 use script_nodes::laws::reads_literals;
-use script_words::class::Sign;
+use script_words::class::Symbol;
 use script_words::lex::{Token, TokenKind, lexed_once};
 use script_words::words::read_words;
 use std::alloc::{AllocError, Global};
@@ -64,7 +64,7 @@ fn unexpected(rest: &[Token], end: PointFault) -> PointFault
 // The tokens behind a sign.
 fn behind_sign<'t>(
     rest: &'t [Token],
-    sign: Sign,
+    sign: Symbol,
     end: PointFault,
 ) -> Result<&'t [Token], PointFault>
     ensures shorter { IfOk result (λ later. length later.now < length rest.now) }
@@ -96,10 +96,10 @@ fn signed_rest<'t>(rest: &'t [Token]) -> (bool, &'t [Token])
     ensures tail { (result.1.now ≡ rest.now) ⊎ (result.1.now ≡ drop 1 rest.now) }
 {
     if let [token, later @ ..] = rest {
-        if token.kind == TokenKind::Sign(Sign::Minus) {
+        if token.kind == TokenKind::Sign(Symbol::Minus) {
             return (true, later);
         }
-        if token.kind == TokenKind::Sign(Sign::Plus) {
+        if token.kind == TokenKind::Sign(Symbol::Plus) {
             return (false, later);
         }
     }
@@ -173,7 +173,7 @@ fn divisor_of<'t>(
     ensures refused { IfErr result (IsDivisorRefused text.now rest.now end) }
 {
     if let [token, later @ ..] = rest {
-        if token.kind == TokenKind::Sign(Sign::Slash) {
+        if token.kind == TokenKind::Sign(Symbol::Slash) {
             let (literal, at, later) = literal_of(text, later, end)?;
             if literal.num == 0 {
                 return Err(PointFault {
@@ -201,11 +201,11 @@ fn row_of<'t>(
     ensures shorter { IfOk result (λ read. length read.1.now < length rest.now) }
     ensures refused { IfErr result (IsRowRefused text.now rest.now end) }
 {
-    let rest = behind_sign(rest, Sign::Equal, end)?;
+    let rest = behind_sign(rest, Symbol::Equal, end)?;
     let (negative, rest) = signed_rest(rest);
     let (literal, _, rest) = literal_of(text, rest, end)?;
     let (divisor, rest) = divisor_of(text, rest, end)?;
-    let rest = behind_sign(rest, Sign::Semicolon, end)?;
+    let rest = behind_sign(rest, Symbol::Semicolon, end)?;
     Ok(((Written { literal, negative }, divisor), rest))
 }
 
@@ -422,7 +422,7 @@ pub fn read_point(alloc: Global, script: &Script<'_>, text: &[u8]) -> Result<Poi
     ensures rows { IfOk result (λ point. AreRowsOf script.now.variables point.rows) }
     ensures fault { (f : PointFault) → result ≡ Err (PointStop.Fault f)
         → IsPointFault script.now.variables text.now f }
-    // What is spelled is answered, want of memory aside.
+    // What is spelled is answered, lack of memory aside.
     ensures answered { (rows : List Row) → SpellsPoint script.now.variables text.now rows
         → IfOk result (λ point. point.rows ≡ rows)
         × ((f : PointFault) → ¬ (result ≡ Err (PointStop.Fault f))) }

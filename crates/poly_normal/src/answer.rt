@@ -159,7 +159,7 @@ fn compare(alloc: Global, f: &Quotient, g: &Quotient) -> Result<Sameness, AllocE
 }
 
 /// Whether a and b are equal as rational functions, by the limits and normal forms of `specs/Mark`.
-/// Want of memory is the only error.
+/// Lack of memory is the only error.
 pub fn same(alloc: Global, nodes: &[Node], a: ExprId, b: ExprId) -> Result<Sameness, AllocError>
     requires ordered { IsOrdered nodes.now }
     requires plain { ArePlain nodes.now }

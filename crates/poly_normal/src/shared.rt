@@ -9,7 +9,7 @@ use crate::sameness::Sameness;
 use expr_dag::{Dag, ExprId, Node};
 use std::alloc::{AllocError, Global};
 
-/// Whether two expressions are equal as rational functions. Both are numbers of the list. Want of
+/// Whether two expressions are equal as rational functions. Both are numbers of the list. Lack of
 /// memory is the only error.
 pub fn same(alloc: Global, dag: &Dag, a: ExprId, b: ExprId) -> Result<Sameness, AllocError>
     requires left { a.0 < length dag.now }

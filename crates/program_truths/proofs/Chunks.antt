@@ -1,6 +1,6 @@
 -- Texts that are read as words wherever they stand, and how they are joined.
 use Rattle.std.proofs.Common.{◌≡◌, ℕ, suc, ◌+◌, arith, false, List, [], ◌∷◌, ◌++◌, length, map, Some, refl, sym, ap, ◌∙◌, subst, append_assoc}
-use Rattle.script_words.specs.declared.class.Sign.{Sign}
+use Rattle.script_words.specs.declared.class.Symbol.{Symbol}
 use Rattle.script_words.specs.declared.lex.TokenKind.{TokenKind}
 use Rattle.script_words.specs.declared.lex.TokenKind.TheVariants as kind
 use Rattle.script_words.specs.Lex.{blank_len, front}
@@ -159,10 +159,10 @@ module _ (law : EndsBeforeQuiet) where
 -- ---- signs
 
 -- this sign is what stands at the front before the tail
-abbrev pub Before : Sign → List ℕ → List ℕ → Type 0
+abbrev pub Before : Symbol → List ℕ → List ℕ → Type 0
 Before g t tail = front (t ++ tail) ≡ Some (kind.Sign g, length t)
 
-pub sign_chunk : (g : Sign) (t : List ℕ) → ((tail : List ℕ) → blank_len false (t ++ tail) ≡ 0)
+pub sign_chunk : (g : Symbol) (t : List ℕ) → ((tail : List ℕ) → blank_len false (t ++ tail) ≡ 0)
     → naming_after nothing (sign g) ≡ nothing → Chunk (Before g t) t (sign g ∷ [])
 sign_chunk g t h e = record {
   first = piece [] (kind.Sign g) t;

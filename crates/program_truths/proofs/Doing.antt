@@ -11,7 +11,7 @@ use Rattle.fx_model.specs.declared.Node.TheVariants.{Lit}
 use Rattle.fx_model.specs.Expression.{IsOrdered}
 use Rattle.expr_dag.specs.Extended.{ValuesStay}
 use Rattle.script_nodes.specs.Literals.{literal_of}
-use Rattle.script_nodes.specs.Known.{Name, Known, Placed, put, variable_put, name_put, entry_of, named as name_placed}
+use Rattle.script_nodes.specs.Known.{Name, Known, PlacedNode, put, variable_put, name_put, entry_of, named as name_placed}
 use Rattle.script_nodes.specs.Values.{atom_value, expr_value}
 use Rattle.fixprog.specs.Grammar.{Operand, named, given, Operation, copy, negation, sum, difference, product, shift_right, shift_left}
 use Rattle.fixprog.specs.Execution.{Values, operand_value, exact_value}
@@ -62,7 +62,7 @@ module _ (stay : ValuesStay) (f : Name → Fraction) (vars : List Name) where
   abbrev Have : Values → Operand → Type 0
   Have vs x = HasValue stay f vars vs x
 
-  abbrev placed : Operand → Known → Placed
+  abbrev placed : Operand → Known → PlacedNode
   placed x k = atom_value None (operand_atom x) k
 
   operands_give : (vs : Values) (k : Known) (x y : Operand) → IsOrdered k.nodes

@@ -11,10 +11,10 @@ use Rattle.fx_model.specs.declared.Node.{Node}
 use Rattle.fx_model.specs.declared.Node.TheVariants.{Var, Lit, Neg, Add, Sub, Mul, Round}
 use Rattle.fx_model.specs.Expression.{Assignment, ChildrenBelow, IsOrdered, node_value, value, literal_value, lift₁, lift₂}
 use Rattle.expr_dag.specs.Extended.{ValuesStay}
-use Rattle.script_nodes.specs.Known.{Name, Known, Placed, put, variable_put, variables_with}
+use Rattle.script_nodes.specs.Known.{Name, Known, PlacedNode, put, variable_put, variables_with}
 use Rattle.program_truths.proofs.Nodes.{put_is}
 
-pub record Gives (a : Assignment) (k : Known) (q : Placed) (v : Option Fraction) : Type 0 where
+pub record Gives (a : Assignment) (k : Known) (q : PlacedNode) (v : Option Fraction) : Type 0 where
   pub ordered : IsOrdered q.0.nodes
   pub longer : length k.nodes ≤ length q.0.nodes
   pub kept : (y : ExprId) → y.0 < length k.nodes → value q.0.nodes a y ≡ value k.nodes a y
@@ -34,7 +34,7 @@ module _ (stay : ValuesStay) (a : Assignment) where
   unfolding put
   variables_put k n = refl
 
-  pub put_behind : (k : Known) (q : Placed) (v w : Option Fraction) (n : Node) → Gives a k q v
+  pub put_behind : (k : Known) (q : PlacedNode) (v w : Option Fraction) (n : Node) → Gives a k q v
       → ChildrenBelow (length q.0.nodes) n → node_value a (value q.0.nodes a) n ≡ w
       → Gives a k (put q.0 n) w
   put_behind k q v w n g c e =
@@ -51,7 +51,7 @@ module _ (stay : ValuesStay) (a : Assignment) where
       }
 
   -- one behind the other
-  pub gives_both : (k : Known) (p q : Placed) (v w : Option Fraction) → Gives a k p v
+  pub gives_both : (k : Known) (p q : PlacedNode) (v w : Option Fraction) → Gives a k p v
       → Gives a p.0 q w → Gives a k q w
   gives_both k p q v w g h = record {
     ordered = h.ordered;
@@ -80,40 +80,40 @@ module _ (stay : ValuesStay) (a : Assignment) where
         variables = variables_put k (Lit l) ∙ sym (append-nil k.variables);
       }
 
-  pub negation_gives : (k : Known) (q : Placed) (v : Option Fraction) → Gives a k q v
+  pub negation_gives : (k : Known) (q : PlacedNode) (v : Option Fraction) → Gives a k q v
       → Gives a k (put q.0 (Neg q.1)) (lift₁ neg_ℚ v)
   negation_gives k q v g = put_behind k q v (lift₁ neg_ℚ v) (Neg q.1) g g.within
       (ap (lift₁ neg_ℚ) g.is)
 
-  pub rounded_gives : (r : Rounding) (k : Known) (q : Placed) (v : Option Fraction) → Gives a k q v
+  pub rounded_gives : (r : Rounding) (k : Known) (q : PlacedNode) (v : Option Fraction) → Gives a k q v
       → Gives a k (put q.0 (Round r q.1)) (lift₁ (rounded r.dir r.lsb) v)
   rounded_gives r k q v g = put_behind k q v (lift₁ (rounded r.dir r.lsb) v) (Round r q.1) g
       g.within (ap (lift₁ (rounded r.dir r.lsb)) g.is)
 
   -- the first operand is still there behind the second
-  first_within : (k : Known) (p q : Placed) (v w : Option Fraction) → Gives a k p v
+  first_within : (k : Known) (p q : PlacedNode) (v w : Option Fraction) → Gives a k p v
       → Gives a p.0 q w → p.1.0 < length q.0.nodes
   first_within k p q v w g h = let x = g.within in let y = h.longer in omega (arith, x, y)
 
-  first_is : (k : Known) (p q : Placed) (v w : Option Fraction) → Gives a k p v → Gives a p.0 q w
+  first_is : (k : Known) (p q : PlacedNode) (v w : Option Fraction) → Gives a k p v → Gives a p.0 q w
       → value q.0.nodes a p.1 ≡ v
   first_is k p q v w g h = h.kept p.1 g.within ∙ g.is
 
-  pub sum_gives : (k : Known) (p q : Placed) (v w : Option Fraction) → Gives a k p v
+  pub sum_gives : (k : Known) (p q : PlacedNode) (v w : Option Fraction) → Gives a k p v
       → Gives a p.0 q w → Gives a k (put q.0 (Add p.1 q.1)) (lift₂ ◌+ℚ◌ v w)
   sum_gives k p q v w g h = put_behind k q w (lift₂ ◌+ℚ◌ v w) (Add p.1 q.1)
       (gives_both k p q v w g h) (first_within k p q v w g h, h.within)
       (ap (λ x. lift₂ ◌+ℚ◌ x (value q.0.nodes a q.1)) (first_is k p q v w g h)
       ∙ ap (lift₂ ◌+ℚ◌ v) h.is)
 
-  pub difference_gives : (k : Known) (p q : Placed) (v w : Option Fraction) → Gives a k p v
+  pub difference_gives : (k : Known) (p q : PlacedNode) (v w : Option Fraction) → Gives a k p v
       → Gives a p.0 q w → Gives a k (put q.0 (Sub p.1 q.1)) (lift₂ ◌-ℚ◌ v w)
   difference_gives k p q v w g h = put_behind k q w (lift₂ ◌-ℚ◌ v w) (Sub p.1 q.1)
       (gives_both k p q v w g h) (first_within k p q v w g h, h.within)
       (ap (λ x. lift₂ ◌-ℚ◌ x (value q.0.nodes a q.1)) (first_is k p q v w g h)
       ∙ ap (lift₂ ◌-ℚ◌ v) h.is)
 
-  pub product_gives : (k : Known) (p q : Placed) (v w : Option Fraction) → Gives a k p v
+  pub product_gives : (k : Known) (p q : PlacedNode) (v w : Option Fraction) → Gives a k p v
       → Gives a p.0 q w → Gives a k (put q.0 (Mul p.1 q.1)) (lift₂ ◌*ℚ◌ v w)
   product_gives k p q v w g h = put_behind k q w (lift₂ ◌*ℚ◌ v w) (Mul p.1 q.1)
       (gives_both k p q v w g h) (first_within k p q v w g h, h.within)

@@ -8,7 +8,7 @@ use Rattle.fx_model.specs.declared.ExprId.{ExprId}
 use Rattle.fx_model.specs.declared.Node.{Node}
 use Rattle.fx_model.specs.declared.Node.TheVariants.{Lit}
 use Rattle.script_nodes.specs.Literals.{literal_of}
-use Rattle.script_nodes.specs.Known.{Name, Known, Placed, put, variable_put, name_put, entry_of, named as name_placed}
+use Rattle.script_nodes.specs.Known.{Name, Known, PlacedNode, put, variable_put, name_put, entry_of, named as name_placed}
 use Rattle.script_nodes.specs.Definitions.{with_value}
 use Rattle.script_nodes.specs.Values.{atom_value, expr_value}
 use Rattle.fixprog.specs.Grammar.{Operand, named, given, Operation, copy, negation, sum, difference, product, shift_right, shift_left, Step}
@@ -95,7 +95,7 @@ abbrev pub steps_known : List Step → Known → Known
 steps_known [] k = k
 steps_known (x ∷ xs) k = steps_known xs (with_value x.name (expr_value None (step_expr x) k))
 
-named_so : (n : Name) (k : Known) (q : Placed) → Grows k q.0 → Grows k (with_value n q)
+named_so : (n : Name) (k : Known) (q : PlacedNode) → Grows k q.0 → Grows k (with_value n q)
 named_so n k q g = record { more = g.more; all = g.all }
 
 pub steps_grow : (xs : List Step) (k : Known) → Grows k (steps_known xs k)

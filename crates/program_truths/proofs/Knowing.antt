@@ -7,7 +7,7 @@ use Rattle.fx_model.specs.declared.ExprId.{ExprId}
 use Rattle.fx_model.specs.Expression.{Assignment, IsOrdered, value}
 use Rattle.expr_dag.specs.Extended.{ValuesStay}
 use Rattle.script_nodes.specs.Literals.{literal_of}
-use Rattle.script_nodes.specs.Known.{Name, Known, Placed, entry_of, put, variable_put, variables_with, name_put, named as name_placed}
+use Rattle.script_nodes.specs.Known.{Name, Known, PlacedNode, entry_of, put, variable_put, variables_with, name_put, named as name_placed}
 use Rattle.script_nodes.specs.Values.{atom_value}
 use Rattle.fixprog.specs.Grammar.{Operand, named, given}
 use Rattle.fixprog.specs.Execution.{Values, value_or_zero, operand_value}
@@ -28,7 +28,7 @@ abbrev pub Knows : Assignment → (Name → Fraction) → Values → Known → T
 Knows a f vs k = (t : Name) (v : Fraction) → entry_of vs t ≡ Some v → NameIs a f k t v
 
 -- What is known stays so.
-pub knows_behind : (a : Assignment) (f : Name → Fraction) (vs : Values) (k : Known) (q : Placed)
+pub knows_behind : (a : Assignment) (f : Name → Fraction) (vs : Values) (k : Known) (q : PlacedNode)
     (w : Option Fraction) → Gives a k q w → Knows a f vs k → Knows a f vs q.0
 knows_behind a f vs k q w g h t v e = elim (h t v e) [
   | inl n ↦ inl (
@@ -66,7 +66,7 @@ module _ (stay : ValuesStay) (f : Name → Fraction) (vars : List Name) where
       ap (λ l. slice_index_or (map f l) (position_or_len (bytes_eq t) k.variables) zero_ℚ) (h.1
       ∙ ap (λ l. l ++ h.0) (put_variables k t)) ∙ variable_value f t h.0 k.variables
 
-  retold : (k : Known) (q : Placed) (v w : Option Fraction) → v ≡ w → Gives (map f vars) k q v
+  retold : (k : Known) (q : PlacedNode) (v w : Option Fraction) → v ≡ w → Gives (map f vars) k q v
       → Gives (map f vars) k q w
   retold k q v w e g = subst (Gives (map f vars) k q) e g
 

@@ -2,8 +2,8 @@
 use Rattle.std.proofs.Common.{◌≡◌, ℕ, ◌+◌, ◌==◌, ◌||◌, Bool, true, false, cond, List, [], ◌∷◌, ◌++◌, length, map, Some, None, refl, sym, ap, ◌∙◌, subst, arith}
 use Rattle.std.specs.Prelude.{codes}
 use Rattle.std.proofs.lemmas.Bool.{eqb-true}
-use Rattle.script_words.specs.declared.class.Sign.{Sign}
-use Rattle.script_words.specs.declared.class.Sign.TheVariants as s
+use Rattle.script_words.specs.declared.class.Symbol.{Symbol}
+use Rattle.script_words.specs.declared.class.Symbol.TheVariants as s
 use Rattle.script_words.specs.declared.lex.TokenKind.{TokenKind}
 use Rattle.script_words.specs.declared.lex.TokenKind.TheVariants as kind
 use Rattle.script_words.specs.Literals.{is_word}
@@ -24,10 +24,10 @@ piece gap k text = record { gap = gap; kind = k; text = text }
 abbrev pub blank : List ℕ
 blank = 32 ∷ []
 
-abbrev pub sign_piece : Sign → List ℕ → Piece
+abbrev pub sign_piece : Symbol → List ℕ → Piece
 sign_piece g text = piece [] (kind.Sign g) text
 
-abbrev pub spaced_sign : Sign → List ℕ → Piece
+abbrev pub spaced_sign : Symbol → List ℕ → Piece
 spaced_sign g text = piece blank (kind.Sign g) text
 
 -- ---- texts that are a name or a literal

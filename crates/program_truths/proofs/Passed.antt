@@ -2,14 +2,14 @@
 use Rattle.std.proofs.Common.{◌≡◌, ◌≤◌, ◌+◌, ◌*◌, ◌||◌, not, nat_lt, ℕ, Bool, true, false, List, [], ◌∷◌, ◌++◌, length, map, None, refl, sym, ap, ◌∙◌, subst, arith, append_assoc}
 use Rattle.std.specs.List.{AllByRecursion}
 use Rattle.std.specs.Str.{bytes_eq}
-use Rattle.script_words.specs.declared.class.Sign.TheVariants as s
+use Rattle.script_words.specs.declared.class.Symbol.TheVariants as s
 use Rattle.script_words.specs.Words.{name, sign}
 use Rattle.script_words.specs.Named.{spelled_of}
 use Rattle.script_shape.specs.declared.due.Due.TheVariants as d
 use Rattle.script_shape.specs.Tree.{Prop, Formula}
 use Rattle.script_shape.specs.Roles.{Leaf, at, prop_leaves, formula_leaves, script_leaves}
 use Rattle.script_nodes.specs.Literals.{LiteralsAreTold, LiteralsAreTested, SpelledOnce}
-use Rattle.script_judge.specs.declared.counts.Place.TheVariants as place
+use Rattle.script_judge.specs.declared.counts.ScriptPart.TheVariants as place
 use Rattle.script_judge.specs.Names.{NamesSeen, no_names, is_new, is_among as judged_among}
 use Rattle.script_judge.specs.Counts.{one_if}
 use Rattle.script_judge.specs.Sides.{has_arrow}

@@ -6,21 +6,21 @@ use Rattle.fx_model.specs.Expression.{literal_value}
 use Rattle.literal.specs.Spelling.{IsWithin, written}
 use Rattle.literal.specs.Normal.{IsPastLimits}
 use Rattle.bound_order.specs.Texts.{IsNumber}
-use Rattle.script_words.specs.declared.class.Sign.TheVariants as s
+use Rattle.script_words.specs.declared.class.Symbol.TheVariants as s
 use Rattle.script_words.specs.Words.{Word, name, literal, sign}
 use Rattle.script_shape.specs.declared.due.Due.{Due}
 use Rattle.script_shape.specs.declared.due.Due.TheVariants as d
 use Rattle.script_shape.specs.Roles.{Leaf}
 use Rattle.script_nodes.specs.Literals.{literal_of, LiteralsAreTested, SpelledOnce}
 use Rattle.script_judge.specs.declared.counts.Counts.{Counts}
-use Rattle.script_judge.specs.declared.counts.Place.{Place}
+use Rattle.script_judge.specs.declared.counts.ScriptPart.{ScriptPart}
 use Rattle.script_judge.specs.declared.nesting.Open.{Open}
 use Rattle.script_judge.specs.Names.{NamesSeen, names_after, halved_after, is_new, is_used, is_some_among, defines, split_name}
 use Rattle.script_judge.specs.Nesting.{opened_after}
 use Rattle.script_judge.specs.Counts.{one_if, is_equal_sign, place_after, begins_definition, begins_proposition, begins_hint, nodes_at, splits_at, pieces_after, rounds_after, halves_after}
 use Rattle.script_judge.specs.Bounds.{IsBoundOf, IsBoundText, IsWordNumber, BoundsSeen, bounds_after, is_bad_bound}
 use Rattle.script_judge.specs.Splits.{is_rangeless, is_bad_point}
-use Rattle.script_judge.specs.Numbers.{digits_of, has_no_pieces, is_past_lsb, is_past_pieces, Verdict, is_number, IsPastWord, IsPast, Tells}
+use Rattle.script_judge.specs.Numbers.{digits_of, has_no_pieces, is_past_lsb, is_past_pieces, Notes, is_number, IsPastWord, IsPast, Tells}
 use Rattle.script_judge.specs.Judge.{Seen, seen_after, is_ask, is_or, has_arrow, is_empty, is_on_wrong_side, form_kind, limit_kind, is_past_cases, refusal_at, Judged, none_refused, passed}
 use Rattle.script_cases.specs.Parts.{begun_cases}
 use Rattle.fixprog.specs.Faults.{is_literal}
@@ -103,7 +103,7 @@ opened_ok os (l ∷ ls) =
     let next = opened_after os l.role l.word in
     not (nat_lt 64 (length next)) && opened_ok next ls
 
-abbrev pub places_ok : Place → List Leaf → Bool
+abbrev pub places_ok : ScriptPart → List Leaf → Bool
 places_ok p [] = true
 places_ok p (l ∷ ls) = not (begins_hint p) && places_ok (place_after p l.role l.word) ls
 
@@ -117,7 +117,7 @@ abbrev pub definition_weight : List Leaf → ℕ
 definition_weight [] = 0
 definition_weight (l ∷ ls) = one_if (begins_definition l.role l.word) + definition_weight ls
 
-abbrev pub proposition_weight : Place → List Leaf → ℕ
+abbrev pub proposition_weight : ScriptPart → List Leaf → ℕ
 proposition_weight p [] = 0
 proposition_weight p (l ∷ ls) =
     one_if (begins_proposition p l.role) + proposition_weight (place_after p l.role l.word) ls
@@ -151,8 +151,8 @@ bounds_ok b (l ∷ ls) =
     let n = number_at l.role l.word ls in
     not (is_bad_bound b n) && bounds_ok (bounds_after b n l.role l.word) ls
 
-abbrev pub verdict : Due → Word → List Leaf → Verdict
-verdict r w behind = record {
+abbrev pub notes : Due → Word → List Leaf → Notes
+notes r w behind = record {
   past = false;
   number = number_at r w behind;
   arrow_behind = has_arrow behind;
@@ -316,7 +316,7 @@ module _ (tested : LiteralsAreTested) (once : SpelledOnce) where
   number_tells r w behind x h = no_number x
 
   tells : (r : Due) (w : Word) (behind : List Leaf) → leaf_ok r w behind ≡ true
-      → Tells (verdict r w behind) r w behind
+      → Tells (notes r w behind) r w behind
   tells r w behind h = record {
     past = (λ p. absurd (cc), λ p. absurd (no_past r w behind h p));
     number = λ x. number_tells r w behind x h;
@@ -327,7 +327,7 @@ module _ (tested : LiteralsAreTested) (once : SpelledOnce) where
 
   module _ (x : Seen) (l : Leaf) (ls : List Leaf) (h : Stands x (l ∷ ls)) where
     abbrev next : Seen
-    next = seen_after (verdict l.role l.word ls) x l.role l.word
+    next = seen_after (notes l.role l.word ls) x l.role l.word
 
     fine : leaf_ok l.role l.word ls ≡ true
     fine = (both (leaf_ok l.role l.word ls) (form_ok ls) h.form).0
@@ -416,7 +416,7 @@ module _ (tested : LiteralsAreTested) (once : SpelledOnce) where
         (no_pieces l.role l.word ls fine)
         (no_cases l.role l.word ls (begun_cases next.splits.ranges) fine)
 
-    not_refused : refusal_at (verdict l.role l.word ls) x l.role l.word ls ≡ None
+    not_refused : refusal_at (notes l.role l.word ls) x l.role l.word ls ≡ None
     not_refused = rw (no_form, no_limit) refl
 
   -- All pass.

@@ -4,15 +4,15 @@ use Rattle.std.specs.Str.Parse.{digits_value}
 use Rattle.std.specs.Fmt.{decimal, digits}
 use Rattle.fx_model.specs.Fraction.{Fraction}
 use Rattle.bound_order.specs.Tests.{is_less}
-use Rattle.script_words.specs.declared.class.Sign.TheVariants as s
+use Rattle.script_words.specs.declared.class.Symbol.TheVariants as s
 use Rattle.script_words.specs.declared.class.Spelled.TheVariants as spelled
 use Rattle.script_words.specs.Words.{name, sign}
 use Rattle.script_words.specs.Named.{spelled_of}
 use Rattle.script_shape.specs.declared.due.Due.TheVariants as d
 use Rattle.script_shape.specs.Tree.{Bound, unsigned, positive, negative, between, lies_in}
 use Rattle.script_shape.specs.Roles.{Leaf, at, whole_leaves, bound_leaves, prop_leaves}
-use Rattle.script_judge.specs.declared.counts.Place.{Place}
-use Rattle.script_judge.specs.declared.counts.Place.TheVariants as place
+use Rattle.script_judge.specs.declared.counts.ScriptPart.{ScriptPart}
+use Rattle.script_judge.specs.declared.counts.ScriptPart.TheVariants as place
 use Rattle.script_judge.specs.declared.nesting.Open.{Open}
 use Rattle.script_judge.specs.declared.nesting.Open.TheVariants as open_is
 use Rattle.script_judge.specs.Names.{NamesSeen, is_new}
@@ -26,7 +26,7 @@ use Rattle.program_truths.proofs.Texts.{all_below, below}
 use Rattle.program_truths.proofs.Passing.{form_ok, names_ok, opened_ok, places_ok, node_weight, definition_weight, proposition_weight, literal_number, bounds_ok}
 
 -- These words pass all tests, with so many nodes, definitions and propositions at most.
-pub record Passes (n : NamesSeen) (p : Place) (os : List Open) (ns ds ps : ℕ) (ls : List Leaf)
+pub record Passes (n : NamesSeen) (p : ScriptPart) (os : List Open) (ns ds ps : ℕ) (ls : List Leaf)
     : Type 0 where
   pub form : form_ok ls ≡ true
   pub names : names_ok n ls ≡ true
@@ -345,7 +345,7 @@ end_passes n = record {
 }
 
 -- with more that is allowed
-pub allowed : (n : NamesSeen) (p : Place) (os : List Open) (ns ms ds es ps qs : ℕ)
+pub allowed : (n : NamesSeen) (p : ScriptPart) (os : List Open) (ns ms ds es ps qs : ℕ)
     (ys : List Leaf) → ns ≤ ms → ds ≤ es → ps ≤ qs → Passes n p os ns ds ps ys
     → Passes n p os ms es qs ys
 allowed n p os ns ms ds es ps qs ys a b c h = record {

@@ -3,15 +3,15 @@ use Rattle.std.proofs.Common.{◌≡◌, ◌<◌, ◌≤◌, ◌+◌, ◌&&◌, 
 use Rattle.std.specs.Str.{bytes_eq}
 use Rattle.std.specs.Str.Parse.{digits_value}
 use Rattle.std.specs.Fmt.{decimal, digits}
-use Rattle.script_words.specs.declared.class.Sign.{Sign}
-use Rattle.script_words.specs.declared.class.Sign.TheVariants as s
+use Rattle.script_words.specs.declared.class.Symbol.{Symbol}
+use Rattle.script_words.specs.declared.class.Symbol.TheVariants as s
 use Rattle.script_words.specs.declared.class.Spelled.TheVariants as spelled
 use Rattle.script_words.specs.Words.{name, literal, sign}
 use Rattle.script_words.specs.Named.{spelled_of, number_of}
 use Rattle.script_shape.specs.declared.due.Due.TheVariants as d
 use Rattle.script_shape.specs.Roles.{Leaf, at, whole_leaves, atom_leaves, expr_leaves, definition_leaves}
 use Rattle.script_nodes.specs.Literals.{parts_of}
-use Rattle.script_judge.specs.declared.counts.Place.TheVariants as place
+use Rattle.script_judge.specs.declared.counts.ScriptPart.TheVariants as place
 use Rattle.script_judge.specs.declared.nesting.Open.{Open}
 use Rattle.script_judge.specs.declared.nesting.Open.TheVariants as open_is
 use Rattle.script_judge.specs.Names.{NamesSeen, is_new, is_among, is_used_before_end}
@@ -90,7 +90,7 @@ operand_passes n (given t) os us ns ds ps ys f e few h =
 abbrev pair : List Open
 pair = open_is.Pair ∷ []
 
-tail_passes : (n : NamesSeen) (g : Sign) (ns ds ps : ℕ) (ys : List Leaf)
+tail_passes : (n : NamesSeen) (g : Symbol) (ns ds ps : ℕ) (ys : List Leaf)
     → Passes n place.Definitions pair ns ds ps ys
     → Passes n place.Definitions pair (1 + ns) ds ps (at d.Tail (sign g) ∷ ys)
 tail_passes n g ns ds ps ys h =
@@ -147,7 +147,7 @@ right_text k = codes "1b-" ++ decimal (digits_value 10 k)
 abbrev left_text : List ℕ → List ℕ
 left_text k = codes "1b" ++ decimal (digits_value 10 k)
 
-abbrev two_row : Operand → Sign → Operand → List Leaf → List Leaf
+abbrev two_row : Operand → Symbol → Operand → List Leaf → List Leaf
 two_row a g b ys = operand_row a (at d.Tail (sign g) ∷ operand_row b ys)
 
 abbrev pub operation_row : Operation → List Leaf → List Leaf
@@ -159,7 +159,7 @@ operation_row (product a b) ys = two_row a s.Star b ys
 operation_row (shift_right a k) ys = two_row a s.Star (given (right_text k.text)) ys
 operation_row (shift_left a k) ys = two_row a s.Star (given (left_text k.text)) ys
 
-two_is : (a b : Operand) (g : Sign) (ys : List Leaf)
+two_is : (a b : Operand) (g : Symbol) (ys : List Leaf)
     → (atom_leaves (operand_atom a) ++ (at d.Tail (sign g) ∷ atom_leaves (operand_atom b))) ++ ys
     ≡ two_row a g b ys
 two_is a b g ys =
@@ -210,7 +210,7 @@ right_fine n l = below 64 n (λ n. is_literal (codes "1b-" ++ decimal n)) rights
 left_fine : (n : ℕ) → n < 64 → is_literal (codes "1b" ++ decimal n) ≡ true
 left_fine n l = below 64 n (λ n. is_literal (codes "1b" ++ decimal n)) lefts_are_read l
 
-two_pass : (n : NamesSeen) (a b : Operand) (g : Sign) (ns ds ps : ℕ) (ys : List Leaf)
+two_pass : (n : NamesSeen) (a b : Operand) (g : Symbol) (ns ds ps : ℕ) (ys : List Leaf)
     → OperandFine a → OperandFine b
     → Passes (known_as n (operand_known b (operand_known a n.known))) place.Definitions pair ns ds
     ps ys → Passes n place.Definitions pair (3 + ns) ds ps (two_row a g b ys)
@@ -263,7 +263,7 @@ operand_unused : (t : Name) (a : Operand) (ys : List Leaf) → OperandApart t a
 operand_unused t (named u) ys h = ap (λ b. b || is_used_before_end t ys) h
 operand_unused t (given u) ys h = refl
 
-two_unused : (t : Name) (a b : Operand) (g : Sign) (ys : List Leaf) → OperandApart t a
+two_unused : (t : Name) (a b : Operand) (g : Symbol) (ys : List Leaf) → OperandApart t a
     → OperandApart t b → is_used_before_end t (two_row a g b ys) ≡ is_used_before_end t ys
 two_unused t a b g ys h k = operand_unused t a (at d.Tail (sign g) ∷ operand_row b ys) h
     ∙ operand_unused t b ys k

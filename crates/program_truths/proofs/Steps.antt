@@ -9,7 +9,7 @@ use Rattle.fx_model.specs.Rounded.{rounded}
 use Rattle.fx_model.specs.Expression.{IsOrdered}
 use Rattle.expr_dag.specs.Extended.{ValuesStay}
 use Rattle.script_nodes.specs.Operators.{direction_of, number_of, whole_value, rounding_of}
-use Rattle.script_nodes.specs.Known.{Name, Known, Placed, entry_of, with_entry}
+use Rattle.script_nodes.specs.Known.{Name, Known, PlacedNode, entry_of, with_entry}
 use Rattle.script_nodes.specs.Definitions.{with_value}
 use Rattle.script_nodes.specs.Values.{expr_value}
 use Rattle.script_shape.specs.Tree.{free, fixed}
@@ -89,7 +89,7 @@ module _ (stay : ValuesStay) (f : Name → Fraction) (vars : List Name) where
       (place_value n0 l) (rounded_gives stay (map f vars) r k q _ g)
 
 -- A name that takes a value is known by it.
-pub knows_with : (f : Name → Fraction) (vars : List Name) (vs : Values) (k : Known) (q : Placed)
+pub knows_with : (f : Name → Fraction) (vars : List Name) (vs : Values) (k : Known) (q : PlacedNode)
     (n : Name) (v : Fraction) → Gives (map f vars) k q (Some v) → Knows (map f vars) f vs k
     → Knows (map f vars) f ((n, v) ∷ vs) (with_value n q)
 knows_with f vars vs k q n v g h t w e = by_name (bytes_eq t n) refl e

@@ -7,7 +7,7 @@ use Rattle.std.proofs.Math.Seq.{drop-append_seam}
 use Rattle.std.proofs.lemmas.Fmt.{decimal_is_IsNumeral_wide}
 use Rattle.script_words.specs.declared.class.Number.{Number}
 use Rattle.script_words.specs.declared.class.Number.TheVariants as digits_kind
-use Rattle.script_words.specs.declared.class.Sign.{Sign}
+use Rattle.script_words.specs.declared.class.Symbol.{Symbol}
 use Rattle.script_words.specs.declared.lex.Run.{Run}
 use Rattle.script_words.specs.declared.lex.Run.TheVariants.{Word as WordRun, Digit, HexDigit}
 use Rattle.script_words.specs.declared.lex.TokenKind.{TokenKind}
@@ -52,7 +52,7 @@ abbrev is_found : Option (TokenKind × ℕ) → Bool
 is_found (Some found) = true
 is_found None = false
 
-no_sign : (o : Option (Sign × ℕ)) (k : TokenKind) (n : ℕ) → IsWordKind k → sign_token o
+no_sign : (o : Option (Symbol × ℕ)) (k : TokenKind) (n : ℕ) → IsWordKind k → sign_token o
     ≡ Some (k, n) → ⊥
 no_sign None k n w h = let e : false ≡ true = ap is_found h in cc
 no_sign (Some found) kind.Name n w h = let e : true ≡ false = ap is_sign h in cc

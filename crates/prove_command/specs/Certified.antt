@@ -43,7 +43,8 @@ pub record IsCertified (o : Options) (text : Bytes) (cert : Option Bytes) (old n
   pub file : (n : Bytes) → cert ≡ Some n → Leaves (left_by c.written left) (old n) (new n)
   pub named : IsStopped c.written → cert ≢ None
 
--- The text isn't proved, but answered by this status and these lines, and nothing was to be written.
+-- The text isn't proved, but answered by this status and these lines, and nothing was to be
+-- written.
 pub record IsSpared (o : Options) (text : Bytes) (c : Certified) : Type 0 where
   pub other : c.status ≢ status.Answered
   pub prints : ProvePrints o text c.status c.lines.items

@@ -48,7 +48,7 @@ pub fn run_prove<F: Folder, O: Sink, G: Gate, R: Threads + Wait + Sync>(
     // 2^44 bytes at most. After a write fault, and where memory ran out, the sink took a front of
     // such lines, and the file holds what it held or a front of such a certificate; no line is put
     // before the file is whole. Each other status comes with its lines, and no file changes.
-    // Where the script's text is told, its status comes, or else a fault of the outside or want of
+    // Where the script's text is told, its status comes, or else a fault of the outside or lack of
     // memory.
     ensures run { let before = seen (F.told folder.old) (O.taken out.old)
         (F.read_faults folder.old) (F.write_faults folder.old) (O.faults out.old) in

@@ -8,7 +8,7 @@ use Rattle.dyadic.specs.declared.number.Dyadic.{Dyadic}
 use Rattle.dyadic.specs.declared.number.End.TheVariants as end
 use Rattle.dyadic.specs.Canonical.{IsCanonical}
 use Rattle.cert_checker.specs.interval.declared.interval.Interval.{Interval}
-use Rattle.script_words.specs.declared.class.Sign.TheVariants as sign
+use Rattle.script_words.specs.declared.class.Symbol.TheVariants as sign
 use Rattle.script_words.specs.declared.lex.Token.{Token}
 use Rattle.script_words.specs.declared.lex.TokenKind.TheVariants as token
 use Rattle.cert_checker.specs.cert_bytes.declared.fault.CertKind.TheVariants as cert

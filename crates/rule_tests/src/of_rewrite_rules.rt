@@ -1,7 +1,7 @@
 // Each rule, at values that were worked out by hand.
 use dyadic::{Dyadic, End};
 use expr_dag::{Dag, ExprId, Node};
-use facts::{Fact, HintRow, Need, Place, RelativeError, Size, Slot};
+use facts::{Fact, FixPlace, HintRow, Need, RelativeError, Size, Slot};
 use fx_edge::Items;
 use interval::Interval;
 use rewrite_rules::{
@@ -190,7 +190,7 @@ fn hint(rt: &(impl AllocGlobal + Abort), apart: bool) -> Result<HintRow, Fail> {
 #[test]
 fn hints_are_used_where_all_is_shown(rt: HostRuntime) -> Result<(), Fail> {
     let dag = list(&rt)?;
-    let place = Place::new(3).expect(&rt, "a place");
+    let place = FixPlace::new(3).expect(&rt, "a place");
     let size = Size::new(Interval::one()).expect(&rt, "a size");
     let nzr = |x: u16| Fact::Nzr(ExprId(x));
     let rows = [

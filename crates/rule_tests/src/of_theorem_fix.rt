@@ -1,7 +1,7 @@
 // The rules on multiples and on values other than 0, at values that were worked out by hand.
 use dyadic::{Dyadic, End};
 use expr_dag::{Dag, Direction, ExprId, Node, Rounding};
-use facts::{Fact, Place, RelativeError, Size, Slot};
+use facts::{Fact, FixPlace, RelativeError, Size, Slot};
 use interval::Interval;
 use std::process::Abort;
 use std::test::Fail;
@@ -101,7 +101,7 @@ fn fact_of(rt: &impl Abort, said: Said) -> Option<Fact> {
     Some(match said {
         B(x, lo, hi) => Fact::Bnd(ExprId(x), range(rt, lo, hi)),
         A(x, lo, hi) => Fact::Abs(ExprId(x), size(rt, lo, hi)),
-        F(x, k) => Fact::Fix(ExprId(x), Place::new(k).expect(rt, "a place")),
+        F(x, k) => Fact::Fix(ExprId(x), FixPlace::new(k).expect(rt, "a place")),
         N(x) => Fact::Nzr(ExprId(x)),
         Near(x, y) => Fact::Rel(ExprId(x), ExprId(y), Some(error(rt))),
         Equal(x, y) => Fact::Rel(ExprId(x), ExprId(y), None),

@@ -4,7 +4,7 @@
 
 // What callers name of the crates below.
 pub use derivation::{
-    Dag, Fact, HintMark, HintRow, Interval, Node, Place, RelativeError, Size, Slot, answers,
+    Dag, Fact, FixPlace, HintMark, HintRow, Interval, Node, RelativeError, Size, Slot, answers,
     best_tables_exist, boxes_come_to_one_state, known_facts_hold, meet, settling_facts, slot,
     stronger,
 };

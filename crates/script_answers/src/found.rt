@@ -94,9 +94,9 @@ fn found_of(
     }
 }
 
-/// What is found of a script over its universe and its cases, by so many workers. What is assumed in
-/// the universe before the call is no matter. It stays the script's, with some claims assumed, also
-/// where memory runs out, which is the only error. It may wait.
+/// What is found of a script over its universe and its cases, by so many workers. What is assumed
+/// in the universe before the call is no matter. It stays the script's, with some claims assumed,
+/// also where memory runs out, which is the only error. It may wait.
 pub fn prove_over<G: Gate, R: Threads + Wait + Sync>(
     rt: &R,
     alloc: Global,
@@ -154,8 +154,8 @@ fn prove_over_alone(
     found_of(alloc, script, cases, options, outcome)
 }
 
-// What is found of a script over its universe, whose cases are planned here. `Err` only where memory
-// runs out.
+// What is found of a script over its universe, whose cases are planned here. `Err` only where
+// memory runs out.
 fn prove_planned<G: Gate, R: Threads + Wait + Sync>(
     rt: &R,
     alloc: Global,

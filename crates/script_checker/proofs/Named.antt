@@ -9,7 +9,7 @@ use Rattle.fx_model.specs.declared.Node.{Node}
 use Rattle.fx_model.specs.declared.Node.TheVariants.{Div}
 use Rattle.rewrite_hints.specs.interval.declared.interval.Interval.{Interval}
 use Rattle.rewrite_hints.specs.facts.declared.relative.RelativeError.{RelativeError}
-use Rattle.rewrite_hints.specs.facts.declared.place.Place.{Place}
+use Rattle.rewrite_hints.specs.facts.declared.place.FixPlace.{FixPlace}
 use Rattle.rewrite_hints.specs.facts.declared.fact.Fact.{Fact}
 use Rattle.rewrite_hints.specs.facts.declared.hint.HintRow.{HintRow}
 use Rattle.rewrite_hints.specs.facts.Order.{slot_of}
@@ -49,7 +49,7 @@ rel_named : (n : ℕ) (x y : ExprId) (o : Option RelativeError) → (x.0 < n) ×
 rel_named n x y None l = tt
 rel_named n x y (Some e) l = (l.0, l.1)
 
-fix_named : (n : ℕ) (x : ExprId) (o : Option Place) → x.0 < n → IfNamed n (fix_of x o)
+fix_named : (n : ℕ) (x : ExprId) (o : Option FixPlace) → x.0 < n → IfNamed n (fix_of x o)
 fix_named n x None l = tt
 fix_named n x (Some k) l = l
 

@@ -5,7 +5,7 @@ ghost use Rattle.fx_edge.specs.Outside.{Rose};
 ghost use Rattle.cert_checker.specs.cert_bytes.Certificates.{HasSpelling, SpellsCertificate};
 ghost use Rattle.cert_checker.specs.cert_bytes.Pieces.{AgreesTold, cursor_of};
 ghost use Rattle.cert_checker.specs.cert_bytes.ReadOut.{AreBytes, AreRead};
-ghost use Rattle.cert_checker.specs.cert_bytes.declared.order.Due.TheVariants.{Head};
+ghost use Rattle.cert_checker.specs.cert_bytes.declared.order.DueItem.TheVariants.{Head};
 ghost use Rattle.cert_checker.specs.declared.fault.CheckStop.TheVariants as CheckStop;
 ghost use Rattle.cert_checker.specs.Checking.{IsFresh};
 ghost use Rattle.cert_checker.specs.Keeping.{lines_of};

@@ -2,7 +2,7 @@
 use Rattle.std.specs.Prelude.{◌≡◌, ℤ, pos, List, [], ◌∷◌, ◌++◌, Some, None, Bool, true, false, refl}
 use Rattle.std.proofs.Common.{ap, sym, ◌∙◌, append_assoc, append-nil}
 use Rattle.goals.specs.fx_model.declared.ExprId.{ExprId}
-use Rattle.script_nodes.specs.script_words.declared.class.Sign.TheVariants as s
+use Rattle.script_nodes.specs.script_words.declared.class.Symbol.TheVariants as s
 use Rattle.script_nodes.specs.script_words.declared.class.Spelled.TheVariants as spelled
 use Rattle.script_nodes.specs.script_words.Words.{Word, name, rounding, literal, sign}
 use Rattle.script_nodes.specs.script_shape.declared.due.Due.{Due}
@@ -10,7 +10,7 @@ use Rattle.script_nodes.specs.script_shape.declared.due.Due.TheVariants as d
 use Rattle.script_nodes.specs.script_shape.Tree.{Special, free, defined, zero_alone, digits, Whole, natural, opposite, Bound, unsigned, positive, negative, Expr, Range, asked, between, Prop, lies_in, relative_in, at_most, at_least, multiple, Stated, affirmed, denied, Formula, single, and, or, implies}
 use Rattle.script_nodes.specs.script_shape.Roles.{Leaf, at, special_leaves, whole_leaves, bound_leaves, expr_leaves, range_leaves, prop_leaves, stated_leaves, formula_leaves}
 use Rattle.script_nodes.specs.script_shape.Inner.{EachRole, IsInner, expr_inner}
-use Rattle.script_nodes.specs.Known.{Known, Placed}
+use Rattle.script_nodes.specs.Known.{Known, PlacedNode}
 use Rattle.script_nodes.specs.Values.{expr_value}
 use Rattle.script_nodes.specs.Waits.{Reading, waiting, expr_done, parted as comma_parted, read, read_all}
 use Rattle.script_nodes.specs.ReadingLaw.{ReadsTrees}
@@ -138,7 +138,7 @@ whole_reads (opposite (zero_alone t)) rest st v k = refl
 whole_reads (opposite (digits t)) rest st v k = refl
 
 -- the expression of a multiple waits until the proposition ends
-multiple_ends : (g : Ending) (rest : List Leaf) (sides : Sides) (p : Placed) (n : ℤ) (t : Bool) → read_claims (at d.CloseParen (sign s.CloseParen) ∷ (ending_leaf g ∷ rest)) (record { reading = waiting p []; proposition = record { part = Nothing; exponent = n; negative = false; denied = t }; sides = sides }) ≡ read_claims rest (from_claims (ended_by g (then_stated t sides (p.0, Multiple p.1 n))))
+multiple_ends : (g : Ending) (rest : List Leaf) (sides : Sides) (p : PlacedNode) (n : ℤ) (t : Bool) → read_claims (at d.CloseParen (sign s.CloseParen) ∷ (ending_leaf g ∷ rest)) (record { reading = waiting p []; proposition = record { part = Nothing; exponent = n; negative = false; denied = t }; sides = sides }) ≡ read_claims rest (from_claims (ended_by g (then_stated t sides (p.0, Multiple p.1 n))))
 unfolding read read_claim read_claims
 multiple_ends joined rest sides p n t = refl
 multiple_ends disjoined rest sides p n t = refl

@@ -2,8 +2,8 @@
 use Rattle.std.specs.Prelude.{ℕ, ◌≤◌, Option, Some, None, IfSome}
 use Rattle.std.proofs.Common.{le_refl, le_trans}
 use Rattle.goals.specs.fx_model.declared.ExprId.{ExprId}
-use Rattle.script_nodes.specs.script_words.declared.class.Sign.{Sign}
-use Rattle.script_nodes.specs.script_words.declared.class.Sign.TheVariants as s
+use Rattle.script_nodes.specs.script_words.declared.class.Symbol.{Symbol}
+use Rattle.script_nodes.specs.script_words.declared.class.Symbol.TheVariants as s
 use Rattle.script_nodes.specs.script_words.Words.{Word, name, rounding, literal, sign}
 use Rattle.script_nodes.specs.script_shape.declared.due.Due.{Due}
 use Rattle.script_nodes.specs.script_shape.declared.due.Due.TheVariants as d
@@ -29,7 +29,7 @@ ended_with_grows st (Made c) o h = le_refl (count st)
 ended_with_grows st Nothing (Some c) h = h
 ended_with_grows st _ o h = le_refl (count st)
 
-sign_grows : (g : Sign) (st : State) → count st ≤ count (connected (sign g) st)
+sign_grows : (g : Symbol) (st : State) → count st ≤ count (connected (sign g) st)
 sign_grows s.Or st = le_refl (count st)
 sign_grows s.Arrow st = le_refl (count st)
 sign_grows _ st = le_refl (count st)

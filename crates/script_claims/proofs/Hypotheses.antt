@@ -13,7 +13,7 @@ use Rattle.goals.specs.interval.declared.interval.Interval.{Interval}
 use Rattle.goals.specs.interval.Intervals.{range_of}
 use Rattle.goals.specs.interval.Meets.{interval_from_out}
 use Rattle.goals.specs.facts.declared.relative.RelativeError.{RelativeError}
-use Rattle.goals.specs.facts.declared.place.Place.{Place}
+use Rattle.goals.specs.facts.declared.place.FixPlace.{FixPlace}
 use Rattle.goals.specs.facts.declared.fact.Fact.{Fact}
 use Rattle.goals.specs.facts.declared.fact.Fact.TheVariants as fact
 use Rattle.goals.specs.facts.Parts.{error_from-some, error_from_out, error_of_part}
@@ -92,7 +92,7 @@ module _ (outward-least : OutwardIsLeast) where
 
   -- ---- multiples
 
-  multiple_holds : (nodes : List Node) (a : Assignment) (x : ExprId) (k : ℤ) (f : Fact) (o : Option Place) → place_from k ≡ o → fix_of x o ≡ Some f → IsSomeAnd (value nodes a x) (IsMultiple k) → Holds nodes a f
+  multiple_holds : (nodes : List Node) (a : Assignment) (x : ExprId) (k : ℤ) (f : Fact) (o : Option FixPlace) → place_from k ≡ o → fix_of x o ≡ Some f → IsSomeAnd (value nodes a x) (IsMultiple k) → Holds nodes a f
   multiple_holds nodes a x k f None p e t = cc
   multiple_holds nodes a x k f (Some n) p e t = subst (Holds nodes a) (some-inj (fact.Fix x n) f e) (subst (λ j. IsSomeAnd (value nodes a x) (IsMultiple j)) (sym (place_from_out k n p)) t)
 

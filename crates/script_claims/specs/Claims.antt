@@ -7,7 +7,7 @@ use Rattle.script_cases.specs.Cases.{all_items}
 use Rattle.script_cases.specs.Parts.{Parts, nothing, with_item, behind_or, behind_arrow as parts_behind_arrow}
 use Rattle.script_nodes.specs.Written.{bound_written}
 use Rattle.script_nodes.specs.Operators.{digits_text}
-use Rattle.script_nodes.specs.Known.{Known, Placed}
+use Rattle.script_nodes.specs.Known.{Known, PlacedNode}
 use Rattle.script_nodes.specs.Values.{expr_value}
 use Rattle.script_claims.specs.declared.claim.Claim.{Claim}
 use Rattle.script_claims.specs.declared.claim.Claim.TheVariants.{Bounded, Asked, Relative, RelativeAsked, Above, Below, Multiple}
@@ -43,7 +43,7 @@ relative asked x y = RelativeAsked x y
 relative (between a b) x y = Relative x y (bound_written a) (bound_written b)
 
 -- The claim about an expression that has been placed among the nodes, with what is known behind it.
-abbrev pub of_value : (ExprId → Claim) → Placed → Known × Claim
+abbrev pub of_value : (ExprId → Claim) → PlacedNode → Known × Claim
 of_value claim p = (p.0, claim p.1)
 
 -- its claim, and what is known behind it

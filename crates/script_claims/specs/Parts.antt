@@ -1,8 +1,8 @@
 -- What signs, bounds and whole numbers make of a proposition that is being read.
 use Rattle.std.specs.Prelude.{⊤, pos, neg_ℤ, true, false, Some, None}
 use Rattle.goals.specs.fx_model.declared.ExprId.{ExprId}
-use Rattle.script_nodes.specs.script_words.declared.class.Sign.{Sign}
-use Rattle.script_nodes.specs.script_words.declared.class.Sign.TheVariants as s
+use Rattle.script_nodes.specs.script_words.declared.class.Symbol.{Symbol}
+use Rattle.script_nodes.specs.script_words.declared.class.Symbol.TheVariants as s
 use Rattle.script_nodes.specs.script_words.Words.{Word, literal, sign}
 use Rattle.script_nodes.specs.script_shape.declared.due.Due.{Due}
 use Rattle.script_nodes.specs.script_shape.declared.due.Due.TheVariants as d
@@ -17,7 +17,7 @@ use Rattle.script_claims.specs.declared.part.Part.{Part}
 use Rattle.script_claims.specs.declared.part.Part.TheVariants.{Nothing, Against, In, RelativeIn, AtMost, AtLeast, From, RelativeFrom, Made}
 
 -- the sign behind the first expression
-abbrev pub sign_behind : Sign → ExprId → Part → Part
+abbrev pub sign_behind : Symbol → ExprId → Part → Part
 sign_behind s.In x p = In x
 sign_behind s.Against x p = Against x
 sign_behind s.LessEqual x p = AtMost x

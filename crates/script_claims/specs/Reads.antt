@@ -1,7 +1,7 @@
 -- The claims of a formula, word by word from the left.
 use Rattle.std.specs.Prelude.{◌≡◌, ◌≤◌, List, [], ◌∷◌, ◌++◌, Option, Some, None}
 use Rattle.goals.specs.fx_model.declared.ExprId.{ExprId}
-use Rattle.script_nodes.specs.script_words.declared.class.Sign.TheVariants as s
+use Rattle.script_nodes.specs.script_words.declared.class.Symbol.TheVariants as s
 use Rattle.script_nodes.specs.script_words.Words.{Word, sign}
 use Rattle.script_nodes.specs.script_shape.declared.due.Due.{Due}
 use Rattle.script_nodes.specs.script_shape.declared.due.Due.TheVariants as d

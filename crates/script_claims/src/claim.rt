@@ -2,7 +2,7 @@ ghost use Rattle.std.specs.Prelude.{◌≡◌};
 ghost use Rattle.script_claims.specs.Claims.{denial};
 ghost use Rattle.script_claims.specs.Facts.{HasNormalBounds, hypothesis_fact, want_of, slot_of, relative_fact};
 
-use goals::{ExprId, Fact, Interval, Place, RelativeError, Slot, Want};
+use goals::{ExprId, Fact, FixPlace, Interval, RelativeError, Slot, Want};
 use script_bounds::{Written, inward, outward};
 
 /// What a proposition says of the nodes of its expressions.
@@ -41,7 +41,7 @@ impl Claim {
             }
             Claim::Above(x, bound) => Fact::bnd(x, outward(Some(bound), None)),
             Claim::Below(x, bound) => Fact::bnd(x, outward(None, Some(bound))),
-            Claim::Multiple(x, exponent) => Fact::fix(x, Place::new(exponent)),
+            Claim::Multiple(x, exponent) => Fact::fix(x, FixPlace::new(exponent)),
             Claim::Asked(_) => None,
             Claim::RelativeAsked(_, _) => None,
         }

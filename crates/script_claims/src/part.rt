@@ -7,7 +7,7 @@ ghost use Rattle.script_claims.specs.Parts as spec;
 use crate::claim::Claim;
 use goals::ExprId;
 use script_bounds::Written;
-use script_nodes::{Sign, Word};
+use script_nodes::{Symbol, Word};
 
 /// What of a proposition stands before the word in hand.
 #[derive(Clone, Copy, PartialEq, Eq, Debug)]
@@ -38,10 +38,10 @@ impl Part {
         ensures { result ≡ spec.relation_behind (word_of word.entry) x self }
     {
         match word {
-            Word::Sign(Sign::In) => Part::In(x),
-            Word::Sign(Sign::Against) => Part::Against(x),
-            Word::Sign(Sign::LessEqual) => Part::AtMost(x),
-            Word::Sign(Sign::GreaterEqual) => Part::AtLeast(x),
+            Word::Sign(Symbol::In) => Part::In(x),
+            Word::Sign(Symbol::Against) => Part::Against(x),
+            Word::Sign(Symbol::LessEqual) => Part::AtMost(x),
+            Word::Sign(Symbol::GreaterEqual) => Part::AtLeast(x),
             _ => self,
         }
     }
@@ -61,7 +61,7 @@ impl Part {
         ensures { result ≡ spec.range_opened (word_of word.entry) self }
     {
         match word {
-            Word::Sign(Sign::Ask) => self.asked(),
+            Word::Sign(Symbol::Ask) => self.asked(),
             _ => self,
         }
     }

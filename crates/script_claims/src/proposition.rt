@@ -10,7 +10,7 @@ use crate::numbers::exponent_size;
 use crate::part::Part;
 use script_bounds::Written;
 use script_nodes::digits::literal_of;
-use script_nodes::{Due, Sign, Word};
+use script_nodes::{Due, Symbol, Word};
 
 /// A proposition as far as it was read.
 #[derive(Clone, Copy, PartialEq, Eq, Debug)]
@@ -58,8 +58,8 @@ impl Proposition {
     {
         match word {
             Word::Literal(_, text) => self.add_bound(text, false),
-            Word::Sign(Sign::Plus) => self.negative = false,
-            Word::Sign(Sign::Minus) => self.negative = true,
+            Word::Sign(Symbol::Plus) => self.negative = false,
+            Word::Sign(Symbol::Minus) => self.negative = true,
             _ => {}
         }
     }

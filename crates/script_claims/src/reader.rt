@@ -11,15 +11,15 @@ use crate::claim::Claim;
 use crate::part::Part;
 use crate::proposition::{NOTHING_READ, Proposition};
 use crate::sides::Sides;
-use script_nodes::reader::Reader;
-use script_nodes::{DagFault, Due, ExprId, Sign, Word};
+use script_nodes::reader::NodeReader;
+use script_nodes::{DagFault, Due, ExprId, Symbol, Word};
 use std::alloc::Global;
 use std::marker::Model;
 
 /// The nodes that were read, the proposition in hand, and the claims so far.
 #[derive(Drop)]
 pub struct ClaimReader<'a> {
-    nodes: Reader<'a>,
+    nodes: NodeReader<'a>,
     proposition: Proposition,
     sides: Sides,
 }
@@ -38,7 +38,7 @@ impl<'a> Model for ClaimReader<'a> {
 
 impl<'a> ClaimReader<'a> {
     /// No claims, over what was read before. It takes no memory.
-    pub fn new(alloc: Global, nodes: Reader<'a>) -> ClaimReader<'a>
+    pub fn new(alloc: Global, nodes: NodeReader<'a>) -> ClaimReader<'a>
         ensures { result ≡ record {
           reading = nodes.entry;
           proposition = spec_parts.nothing_read;
@@ -69,7 +69,7 @@ impl<'a> ClaimReader<'a> {
     }
 
     /// What was read, for what follows the formula, and its claims.
-    pub fn into_parts(self) -> (Reader<'a>, Sides)
+    pub fn into_parts(self) -> (NodeReader<'a>, Sides)
         ensures nodes { result.0 ≡ self.entry.reading }
         ensures sides { result.1 ≡ self.entry.sides }
     {
@@ -149,8 +149,8 @@ impl<'a> ClaimReader<'a> {
     {
         self.end()?;
         match word {
-            Word::Sign(Sign::Or) => self.disjoin(),
-            Word::Sign(Sign::Arrow) => self.assume(),
+            Word::Sign(Symbol::Or) => self.disjoin(),
+            Word::Sign(Symbol::Arrow) => self.assume(),
             _ => Ok(()),
         }
     }
@@ -181,8 +181,8 @@ impl<'a> ClaimReader<'a> {
 
     /// Takes a word of a formula, or the brace behind it, by its role. `Full` only where the
     /// meaning has more than 1,024 nodes, and else an `Err` only where memory runs out; the reader
-    /// is then not to be used on: what it holds is sound (`Reader::laws`), and the bounds of its
-    /// claims are in normal form.
+    /// is then not to be used on: what it holds is sound (`NodeReader::laws`), and the bounds of
+    /// its claims are in normal form.
     #[tactic(auto, unfolding(script_nodes::specs::Waits::read, crate::specs::Reads::read_claim))]
     pub fn token(&mut self, role: Due, word: Word<'a>) -> Result<(), DagFault>
         ensures read { OnOk result (self.new ≡ spec.read_claim role (word_of word.entry) self.old) }

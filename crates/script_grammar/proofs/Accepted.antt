@@ -21,7 +21,7 @@ use Rattle.script_grammar.specs.declared.reading.ParseStop.{ParseStop}
 use Rattle.script_grammar.specs.declared.reading.ParseStop.TheVariants as stop
 use Rattle.script_grammar.specs.Meaning.{Meaning, meaning_of}
 use Rattle.script_grammar.specs.Steps as steps
-use Rattle.script_grammar.specs.Steps.{Step, defining, claiming, hinting, read_words, all_read, ReadsScripts}
+use Rattle.script_grammar.specs.Steps.{Step, defining, claiming, hinting, read_leaves, all_read, ReadsScripts}
 use Rattle.script_grammar.specs.Spells.{View, view_of, Spells, IsSpelled, SpellsOnce, SpellsAll}
 use Rattle.script_grammar.specs.Views.{step_of}
 use Rattle.script_grammar.proofs.Once.{meaning_at}
@@ -45,7 +45,7 @@ behind sides h = record { known = h.reading.known; hypotheses = sides.hypotheses
 
 pub record IsAccepted (text : List ℕ) (r : Reading) (m : Meaning) : Type 0 where
   pub spells : Spells text (view_of text r.tokens m (spans_read r.leaves))
-  pub read : read_words r.leaves steps.start ≡ all_read m
+  pub read : read_leaves r.leaves steps.start ≡ all_read m
 
 pub accepted_reading : LexesOnce → LeavesAreOfTrees → ReadsScripts → ReadsSpans → SpellsAll → (text : List ℕ) (r : Reading) → IsFirstRefusal text None → IsReadingOf text r → (m : Meaning) × IsAccepted text r m
 accepted_reading lexes are reads spans all text r a h =
@@ -64,12 +64,12 @@ accepted_reading lexes are reads spans all text r a h =
           words = e ∙ sym h.words;
           says = ap (view_of text r.tokens (meaning_of p.tree)) (ap spans_read leaves ∙ spans p.tree);
         };
-        read = ap (λ ls. read_words ls steps.start) leaves ∙ reads p.tree;
+        read = ap (λ ls. read_leaves ls steps.start) leaves ∙ reads p.tree;
       },
     )
 
 -- the reading ends behind the formula, with the script's parts
-pub spelled_behind : (text : List ℕ) (r : Reading) (m : Meaning) (sides : Sides) (h : HintReading) → IsAccepted text r m → hinting sides h ≡ read_words r.leaves steps.start
+pub spelled_behind : (text : List ℕ) (r : Reading) (m : Meaning) (sides : Sides) (h : HintReading) → IsAccepted text r m → hinting sides h ≡ read_leaves r.leaves steps.start
     → (spans : List Span) → spans ≡ spans_read r.leaves → IsSpelled text r.tokens h.reading.known sides spans h.draft.list
 spelled_behind text r m sides h a e spans f =
     let q : behind sides h ≡ m = ap meaning_at (e ∙ a.read) in

@@ -4,7 +4,7 @@ use Rattle.std.specs.List.{AllByRecursion}
 use Rattle.std.proofs.Common.{arith}
 use Rattle.node_counts.specs.fx_model.declared.ExprId.{ExprId}
 use Rattle.goal_spans.specs.script_shape.Tree.{Range, asked, between, Prop, lies_in, relative_in, at_most, at_least, multiple, Stated, affirmed, denied, Formula, single, and, or, implies}
-use Rattle.node_counts.specs.script_nodes.Known.{Known, Placed}
+use Rattle.node_counts.specs.script_nodes.Known.{Known, PlacedNode}
 use Rattle.node_counts.specs.script_nodes.Values.{expr_value}
 use Rattle.node_counts.specs.script_nodes.Growth.{node_count}
 use Rattle.node_counts.specs.script_claims.declared.claim.Claim.{Claim}
@@ -31,7 +31,7 @@ record IsClaimed (k : Known) (p : Known × Claim) : Type 0 where
   grows : Grows k p.0
   claim : ClaimIsOf (node_count p.0) p.1
 
-value_claimed : (f : ExprId → Claim) (k : Known) (p : Placed) → ((n : ℕ) (x : ExprId) → IsNode n x → ClaimIsOf n (f x)) → Sits k p → IsClaimed k (of_value f p)
+value_claimed : (f : ExprId → Claim) (k : Known) (p : PlacedNode) → ((n : ℕ) (x : ExprId) → IsNode n x → ClaimIsOf n (f x)) → Sits k p → IsClaimed k (of_value f p)
 value_claimed f k p h s = record { grows = s.grows; claim = h (node_count p.0) p.1 s.below }
 
 ranged_of : (r : Range) (n : ℕ) (x : ExprId) → IsNode n x → ClaimIsOf n (ranged r x)

@@ -3,18 +3,18 @@ use Rattle.std.specs.Prelude.{◌≡◌, ◌≤◌, ◌+◌, ◌*◌, ◌^◌, �
 use Rattle.std.proofs.Common.{arith, sym, ap, ◌∙◌, subst}
 use Rattle.std.proofs.lemmas.List.{length-append}
 use Rattle.node_counts.specs.fx_model.declared.ExprId.{ExprId}
-use Rattle.goal_spans.specs.script_words.declared.class.Sign.TheVariants as s
+use Rattle.goal_spans.specs.script_words.declared.class.Symbol.TheVariants as s
 use Rattle.goal_spans.specs.script_words.declared.class.Spelled.TheVariants as spelled
 use Rattle.goal_spans.specs.script_words.declared.lex.Token.{Token}
 use Rattle.goal_spans.specs.script_words.Lex.{TokensAreFew}
 use Rattle.goal_spans.specs.script_words.Named.{Naming, nothing, naming_after, defined_by, token_word, words_from, words_of}
 use Rattle.goal_spans.specs.script_words.declared.class.Number.TheVariants as digits_kind
 use Rattle.goal_spans.specs.script_words.Words.{Word, literal, sign}
-use Rattle.goal_spans.specs.script_shape.Tree.{AnyName, name_words, Special, Whole, natural, opposite, whole_words, digits_words, Bound, unsigned, positive, negative, bound_words, Operator, fixed, int, special_words, operator_words, Expr, term, sum, difference, expr_words, Term, factor, product, quotient, term_words, Factor, negation, atom, factor_words, Atom, number, variable, parenthesized, absolute, called, rounded, fused, atom_words, Need, nonzero, below, not_above, above, not_below, need_words, NeedList, last_need, more_needs, need_list_words, Needs, always, provided, needs_words, Cut, cut_words, Names, last_name, more_names, Halving, halved_by, with_goal, halving_words, Hint, rewrite, like, split, halving, hint_words, Hints, no_hint, hint, hints_words, formula_words, Script, formula, define, definition_words, script_words}
+use Rattle.goal_spans.specs.script_shape.Tree.{AnyName, name_words, Special, Whole, natural, opposite, whole_words, digits_words, Bound, unsigned, positive, negative, bound_words, Operator, fixed, int, special_words, operator_words, Expr, term, sum, difference, expr_words, Term, factor, product, quotient, term_words, Factor, negation, atom, factor_words, Atom, number, variable, parenthesized, absolute, called, rounded, fused, atom_words, Need, nonzero, below, not_above, above, not_below, need_words, NeedList, last_need, more_needs, need_list_words, Needs, always, provided, needs_words, CutForm, cut_words, Names, last_name, more_names, Halving, halved_by, with_goal, halving_words, Hint, rewrite, like, split, halving, hint_words, Hints, no_hint, hint, hints_words, formula_words, Script, formula, define, definition_words, script_words}
 use Rattle.node_counts.specs.script_judge.declared.refusal.Refusal.{Refusal}
 use Rattle.node_counts.specs.script_judge.Reading.{IsReadable}
 use Rattle.node_counts.specs.script_judge.First.{IsFirstRefusal, unread, read}
-use Rattle.node_counts.specs.script_nodes.Known.{Known, Placed, named, nothing_known}
+use Rattle.node_counts.specs.script_nodes.Known.{Known, PlacedNode, named, nothing_known}
 use Rattle.node_counts.specs.script_nodes.Values.{expr_value}
 use Rattle.node_counts.specs.script_nodes.Definitions.{name_text, definition_value}
 use Rattle.node_counts.specs.script_claims.Claims.{formula_claims}

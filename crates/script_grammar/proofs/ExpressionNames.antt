@@ -7,7 +7,7 @@ use Rattle.node_counts.specs.fx_model.declared.Node.{Node}
 use Rattle.node_counts.specs.fx_model.declared.Node.TheVariants.{Neg, Add, Sub, Mul, Div, Abs, Round}
 use Rattle.node_counts.specs.expr_dag.Nodes.{same_node, numbered, placed}
 use Rattle.goal_spans.specs.script_shape.Tree.{Expr, term, sum, difference, Term, factor, product, quotient, Factor, negation, atom, Atom, number, variable, parenthesized, absolute, called, rounded, fused, Definition, names_operator, names_value}
-use Rattle.node_counts.specs.script_nodes.Known.{Name, Known, Placed, put, entry_of, variable_put, name_put, named}
+use Rattle.node_counts.specs.script_nodes.Known.{Name, Known, PlacedNode, put, entry_of, variable_put, name_put, named}
 use Rattle.node_counts.specs.script_nodes.Values.{then_rounded, fused_sum, expr_value, term_value, factor_value, atom_value}
 use Rattle.node_counts.specs.script_nodes.Definitions.{name_text, rounding_by, definition_value}
 use Rattle.node_counts.specs.script_nodes.Growth.{node_count}
@@ -27,11 +27,11 @@ pub grows_both : {a b c : Known} → Grows a b → Grows b c → Grows a c
 grows_both g h = record { more = le_trans g.more h.more; fits = h.fits }
 
 -- nodes stay, and the expression is one of them
-pub record Sits (k : Known) (p : Placed) : Type 0 where
+pub record Sits (k : Known) (p : PlacedNode) : Type 0 where
   pub grows : Grows k p.0
   pub below : p.1.0 < node_count p.0
 
-sits_behind : {k j : Known} {p : Placed} → Grows k j → Sits j p → Sits k p
+sits_behind : {k j : Known} {p : PlacedNode} → Grows k j → Sits j p → Sits k p
 sits_behind g s = record { grows = grows_both g s.grows; below = s.below }
 
 -- ---- one node
@@ -51,7 +51,7 @@ put_fits k n f = values_fit_more _ _ k.values (put_grows k n) f
 put_sits : (k : Known) (n : Node) → Fits k → Sits k (put k n)
 put_sits k n f = record { grows = record { more = put_grows k n; fits = put_fits k n f }; below = put_below k n }
 
-then_put : (k : Known) (p : Placed) (n : Node) → Sits k p → Sits k (put p.0 n)
+then_put : (k : Known) (p : PlacedNode) (n : Node) → Sits k p → Sits k (put p.0 n)
 then_put k p n s = sits_behind s.grows (put_sits p.0 n s.grows.fits)
 
 -- ---- names
@@ -73,14 +73,14 @@ named_sits k text f = name_sits k text (entry_of k.values text) (value_among (no
 -- ---- expressions
 
 module _ (q : Option Rounding) where
-  rounded_sits : (o : Option Rounding) (k : Known) (p : Placed) → Sits k p → Sits k (then_rounded o p)
+  rounded_sits : (o : Option Rounding) (k : Known) (p : PlacedNode) → Sits k p → Sits k (then_rounded o p)
   rounded_sits None k p s = s
   rounded_sits (Some r) k p s = then_put k p (Round r p.1) s
 
-  then_operation : (k : Known) (p : Placed) (n : Node) → Sits k p → Sits k (then_rounded q (put p.0 n))
+  then_operation : (k : Known) (p : PlacedNode) (n : Node) → Sits k p → Sits k (then_rounded q (put p.0 n))
   then_operation k p n s = rounded_sits q k (put p.0 n) (then_put k p n s)
 
-  fused_sits : (a b : ExprId) (k : Known) (c : Placed) → Sits k c → Sits k (fused_sum q a b c)
+  fused_sits : (a b : ExprId) (k : Known) (c : PlacedNode) → Sits k c → Sits k (fused_sum q a b c)
   fused_sits a b k c s = then_operation k (put c.0 (Mul a b)) (Add (put c.0 (Mul a b)).1 c.1) (then_put k c (Mul a b) s)
 
   mutual

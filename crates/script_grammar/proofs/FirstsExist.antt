@@ -10,7 +10,7 @@ use Rattle.node_counts.specs.fx_model.Expression.{literal_value}
 use Rattle.node_counts.specs.literal.Spelling.{IsLiteral, IsWithin, written}
 use Rattle.node_counts.specs.literal.Normal.{IsReading, IsPastLimits}
 use Rattle.node_counts.specs.bound_order.Texts.{IsNumber}
-use Rattle.goal_spans.specs.script_words.declared.class.Sign.TheVariants as s
+use Rattle.goal_spans.specs.script_words.declared.class.Symbol.TheVariants as s
 use Rattle.goal_spans.specs.script_words.Lex.{LexesAll}
 use Rattle.goal_spans.specs.script_words.Words.{Word, name, rounding, literal, sign}
 use Rattle.goal_spans.specs.script_words.Named.{words_of}
@@ -24,7 +24,7 @@ use Rattle.node_counts.specs.script_judge.declared.fault.Fault.{Fault}
 use Rattle.node_counts.specs.script_judge.Reading.{Reading, IsReadingOf, not_text, too_long}
 use Rattle.node_counts.specs.script_judge.First.{unread, read}
 use Rattle.node_counts.specs.script_judge.Bounds.{IsWordNumber, IsMagnitude, IsBoundText, IsBoundOf}
-use Rattle.node_counts.specs.script_judge.Numbers.{Verdict, IsPastWord, IsPast, is_number, Tells}
+use Rattle.node_counts.specs.script_judge.Numbers.{Notes, IsPastWord, IsPast, is_number, Tells}
 use Rattle.node_counts.specs.script_judge.Sides.{has_arrow}
 use Rattle.node_counts.specs.script_judge.Judge.{Seen, nothing_seen, seen_after, refusal_at, Judged, none_refused, refused, passed}
 use Rattle.node_counts.specs.script_nodes.Literals.{literal_of, LiteralsAreTold, SpelledOnce}
@@ -142,8 +142,8 @@ module _ (told : LiteralsAreTold) (once : SpelledOnce) where
   bound d.Bound w behind = bound_text w behind
   bound r w behind = nothing_found (IsBoundOf r w behind) (λ x h. h)
 
-  verdict : (r : Due) (w : Word) (behind : List Leaf) → (v : Verdict) × Tells v r w behind
-  verdict r w behind =
+  notes : (r : Due) (w : Word) (behind : List Leaf) → (v : Notes) × Tells v r w behind
+  notes r w behind =
       let p = past (is_number r) w in
       let n = bound r w behind in
       (record { past = p.0; number = n.0; arrow_behind = has_arrow behind }, record { past = p.1; number = n.1; arrow = refl })
@@ -154,8 +154,8 @@ module _ (told : LiteralsAreTold) (once : SpelledOnce) where
   judged i seen [] = (None, none_refused)
   judged i seen (l ∷ ls) = by_test (refusal_at v.0 seen l.role l.word ls) refl (judged (i + 1) (seen_after v.0 seen l.role l.word) ls)
     where
-      v : (t : Verdict) × Tells t l.role l.word ls
-      v = verdict l.role l.word ls
+      v : (t : Notes) × Tells t l.role l.word ls
+      v = notes l.role l.word ls
 
       by_test : (o : Option RefusalKind) → refusal_at v.0 seen l.role l.word ls ≡ o → (found : Option Fault) × Judged (i + 1) (seen_after v.0 seen l.role l.word) ls found → (found : Option Fault) × Judged i seen (l ∷ ls) found
       by_test (Some k) e rest = (Some _, refused {v = v.0} v.1 e)

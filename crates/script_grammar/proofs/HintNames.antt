@@ -3,7 +3,7 @@ use Rattle.std.specs.Prelude.{ℕ, ◌≤◌, List, [], ◌∷◌, ◌++◌, Non
 use Rattle.std.specs.List.{AllByRecursion, list_any}
 use Rattle.std.proofs.Common.{arith}
 use Rattle.node_counts.specs.fx_model.declared.ExprId.{ExprId}
-use Rattle.goal_spans.specs.script_shape.Tree.{AnyName, Expr, Need, nonzero, below, not_above, above, not_below, NeedList, last_need, more_needs, Needs, always, provided, Cut, Names, last_name, more_names, Halving, halved_by, with_goal, Hint, rewrite, like, split, halving, Hints, no_hint, hint}
+use Rattle.goal_spans.specs.script_shape.Tree.{AnyName, Expr, Need, nonzero, below, not_above, above, not_below, NeedList, last_need, more_needs, Needs, always, provided, CutForm, Names, last_name, more_names, Halving, halved_by, with_goal, Hint, rewrite, like, split, halving, Hints, no_hint, hint}
 use Rattle.node_counts.specs.script_nodes.Known.{Known, named}
 use Rattle.node_counts.specs.script_nodes.Values.{expr_value}
 use Rattle.node_counts.specs.script_nodes.Growth.{node_count}
@@ -122,7 +122,7 @@ halving_read : (h : Halving) (k : Known) (s : HintsSoFar) → AreHinted k s → 
 halving_read (halved_by e n) k s a = names_halved n k ((expr_value None e s.0).0, s.1) (expression_read e k s a)
 halving_read (with_goal e h) k s a = halving_read h k ((expr_value None e s.0).0, s.1) (expression_read e k s a)
 
-cut_read : (n : AnyName) (c : Cut) (k : Known) (s : HintsSoFar) → AreHinted k s → AreHinted k (cuts_along (named s.0 (name_text n)) c s.1)
+cut_read : (n : AnyName) (c : CutForm) (k : Known) (s : HintsSoFar) → AreHinted k s → AreHinted k (cuts_along (named s.0 (name_text n)) c s.1)
 cut_read n c k s a =
     let p = named s.0 (name_text n) in
     let t = named_sits s.0 (name_text n) a.grows.fits in

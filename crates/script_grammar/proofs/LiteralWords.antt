@@ -13,7 +13,7 @@ use Rattle.node_counts.specs.literal.declared.scan.Form.{Form}
 use Rattle.node_counts.specs.literal.declared.scan.Form.TheVariants.{Decimal, Binary, Hexadecimal}
 use Rattle.node_counts.specs.literal.declared.scan.Mark.TheVariants.{Unmarked, Plus, Minus}
 use Rattle.node_counts.specs.literal.Spelling.{Exponent, exponent_bytes, letter, point_bytes, scale_bytes, IsLiteral}
-use Rattle.goal_spans.specs.script_words.declared.class.Sign.{Sign}
+use Rattle.goal_spans.specs.script_words.declared.class.Symbol.{Symbol}
 use Rattle.goal_spans.specs.script_words.declared.lex.Run.{Run}
 use Rattle.goal_spans.specs.script_words.declared.lex.Run.TheVariants as run
 use Rattle.goal_spans.specs.script_words.declared.lex.Token.{Token}
@@ -280,14 +280,14 @@ abbrev len_in : Option (TokenKind × ℕ) → ℕ
 len_in None = 0
 len_in (Some p) = p.1
 
-no_sign : (o : Option (Sign × ℕ)) (len : ℕ) → sign_token o ≡ Some (kind.Literal, len) → ⊥
+no_sign : (o : Option (Symbol × ℕ)) (len : ℕ) → sign_token o ≡ Some (kind.Literal, len) → ⊥
 no_sign None len e = cc e
 no_sign (Some g) len e = let k : kind.Sign g.0 ≡ kind.Literal = ap kind_in e in cc k
 
 abbrev found : TokenKind → ℕ → Option (TokenKind × ℕ)
 found k n = Some (k, n)
 
-no_word : (o : Option Sign) (n len : ℕ) → found (word_kind o) n ≡ found kind.Literal len → ⊥
+no_word : (o : Option Symbol) (n len : ℕ) → found (word_kind o) n ≡ found kind.Literal len → ⊥
 no_word (Some g) n len e = let k : kind.Sign g ≡ kind.Literal = ap kind_in e in cc k
 no_word None n len e = let k : kind.Name ≡ kind.Literal = ap kind_in e in cc k
 

@@ -14,7 +14,7 @@ use Rattle.goal_spans.specs.Spans.{goal_spans}
 use Rattle.goal_spans.specs.Reading.{spans_read, ReadsSpans}
 use Rattle.script_grammar.specs.Meaning.{Meaning, meaning_of}
 use Rattle.script_grammar.specs.Steps as steps
-use Rattle.script_grammar.specs.Steps.{Step, defining, claiming, hinting, read_words, all_read, ReadsScripts}
+use Rattle.script_grammar.specs.Steps.{Step, defining, claiming, hinting, read_leaves, all_read, ReadsScripts}
 use Rattle.script_grammar.specs.Spells.{view_of, SpellsOnce, NeverBoth, SpellsAll}
 
 -- what was read, behind all words
@@ -32,7 +32,7 @@ same_leaves are a b e =
     sym (are a ws leaves refl h) ∙ are b ws leaves (sym e) h
 
 same_meaning : LeavesAreOfTrees → ReadsScripts → (a b : Script) → script_words a ≡ script_words b → meaning_of a ≡ meaning_of b
-same_meaning are reads a b e = ap meaning_at (sym (reads a) ∙ ap (λ ls. read_words ls steps.start) (same_leaves are a b e) ∙ reads b)
+same_meaning are reads a b e = ap meaning_at (sym (reads a) ∙ ap (λ ls. read_leaves ls steps.start) (same_leaves are a b e) ∙ reads b)
 
 same_spans : LeavesAreOfTrees → ReadsSpans → (a b : Script) → script_words a ≡ script_words b → goal_spans a ≡ goal_spans b
 same_spans are spans a b e = sym (spans a) ∙ ap spans_read (same_leaves are a b e) ∙ spans b

@@ -17,7 +17,7 @@ use Rattle.node_counts.specs.Few.{HasFewHints, hints_behind, HintsAreFew, goals_
 use Rattle.node_counts.specs.Ranges.{HaveFewCases, parts_behind, SplitsHaveRanges}
 use Rattle.goal_spans.specs.Reading.{spans_read}
 use Rattle.script_grammar.specs.Meaning.{Meaning, meaning_from}
-use Rattle.script_grammar.specs.Steps.{start, nodes_at, read_words}
+use Rattle.script_grammar.specs.Steps.{start, nodes_at, read_leaves}
 use Rattle.script_grammar.specs.Spells.{View, view_of, Spells, SpelledAreShort}
 use Rattle.script_grammar.specs.Few.{SpelledHaveFewHints, SpelledHaveFewGoals}
 use Rattle.node_counts.specs.script_cases.Cases.{all_items}
@@ -103,7 +103,7 @@ spelled_cases flat ranged lexes are text s p = record {
 
 -- ---- so the list is never full
 
-pub never_full : SpelledAreShort → (text : List ℕ) (r : Reading) (m : Meaning) → IsAccepted text r m → (leaves : List Leaf) → leaves ≡ r.leaves → 1024 < length (nodes_at (read_words leaves start)) → ⊥
+pub never_full : SpelledAreShort → (text : List ℕ) (r : Reading) (m : Meaning) → IsAccepted text r m → (leaves : List Leaf) → leaves ≡ r.leaves → 1024 < length (nodes_at (read_leaves leaves start)) → ⊥
 never_full short text r m a leaves e h =
     let n = short text (view_of text r.tokens m (spans_read r.leaves)) a.spells in
-    omega (arith, ap (λ ls. length (nodes_at (read_words ls start))) e, ap (λ st. length (nodes_at st)) a.read)
+    omega (arith, ap (λ ls. length (nodes_at (read_leaves ls start))) e, ap (λ st. length (nodes_at st)) a.read)

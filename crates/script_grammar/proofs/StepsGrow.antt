@@ -10,7 +10,7 @@ use Rattle.node_counts.specs.script_nodes.Defining.{opens_formula}
 use Rattle.node_counts.specs.script_nodes.Growth.{DefiningGrows}
 use Rattle.node_counts.specs.script_claims.Reads.{State, read_claim, ClaimsGrow}
 use Rattle.node_counts.specs.script_hints.ReadingLaw.{HintsGrow}
-use Rattle.script_grammar.specs.Steps.{Step, defining, claiming, hinting, closes_formula, hints_begun, read_word, read_words, nodes_at}
+use Rattle.script_grammar.specs.Steps.{Step, defining, claiming, hinting, closes_formula, hints_begun, read_word, read_leaves, nodes_at}
 
 abbrev pub count : Step → ℕ
 count st = length (nodes_at st)
@@ -35,17 +35,17 @@ module _ (definitions : DefiningGrows) (formulas : ClaimsGrow) (hints : HintsGro
   word_grows r w (claiming st) = either _ (closes_formula r) _ _ (formulas r w st) (formulas r w st)
   word_grows r w (hinting sides h) = hints r w h
 
-  words_grow : (ls : List Leaf) (st : Step) → count st ≤ count (read_words ls st)
-  unfolding read_words
+  words_grow : (ls : List Leaf) (st : Step) → count st ≤ count (read_leaves ls st)
+  unfolding read_leaves
   words_grow [] st = le_refl (count st)
   words_grow (l ∷ ls) st = le_trans (word_grows l.role l.word st) (words_grow ls (read_word l.role l.word st))
 
   -- a list that is full at the first of some words
   pub word_past : (rs : List Due) (ws behind : List Word) (r : Due) (w : Word) (st whole : Step) → 1 ≤ length rs → ws ≡ w ∷ behind
-      → whole ≡ read_words (leaves_of rs ws) st → 1024 < count (read_word (get_or rs 0 r) w st) → 1024 < count whole
-  unfolding read_words
+      → whole ≡ read_leaves (leaves_of rs ws) st → 1024 < count (read_word (get_or rs 0 r) w st) → 1024 < count whole
+  unfolding read_leaves
   word_past [] ws behind r w st whole h k e f = absurd (omega arith)
   word_past (x ∷ rs) ws behind r w st whole h k e f =
       let g = words_grow (leaves_of rs behind) (read_word x w st) in
-      let same : whole ≡ read_words (leaves_of rs behind) (read_word x w st) = e ∙ ap (λ l. read_words (leaves_of (x ∷ rs) l) st) k in
+      let same : whole ≡ read_leaves (leaves_of rs behind) (read_word x w st) = e ∙ ap (λ l. read_leaves (leaves_of (x ∷ rs) l) st) k in
       omega (arith, ap count same)

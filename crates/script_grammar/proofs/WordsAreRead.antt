@@ -18,7 +18,7 @@ use Rattle.node_counts.specs.script_judge.Names.{is_used, defines, is_some_among
 use Rattle.node_counts.specs.script_judge.Bounds.{is_bad_bound}
 use Rattle.node_counts.specs.script_cases.Parts.{begun_cases}
 use Rattle.node_counts.specs.script_judge.Splits.{is_rangeless, is_bad_point}
-use Rattle.node_counts.specs.script_judge.Numbers.{Verdict, Tells, has_no_pieces, is_past_lsb, is_past_pieces}
+use Rattle.node_counts.specs.script_judge.Numbers.{Notes, Tells, has_no_pieces, is_past_lsb, is_past_pieces}
 use Rattle.node_counts.specs.script_judge.declared.counts.Counts.{Counts}
 use Rattle.node_counts.specs.script_judge.Judge.{Seen, is_on_wrong_side, is_past_cases, or_else, form_kind, form_refusal, limit_kind, limit_refusal, seen_after, refusal_at, Judged, refused, passed, has_arrow}
 use Rattle.node_counts.specs.script_nodes.Literals.{literal_of, LiteralsAreTold}
@@ -51,7 +51,7 @@ second_none : (a b : Option RefusalKind) → or_else a b ≡ None → b ≡ None
 second_none None b e = e
 second_none (Some k) b e = absurd (cc e)
 
-record IsPassed (v : Verdict) (r : Due) (w : Word) : Type 0 where
+record IsPassed (v : Notes) (r : Due) (w : Word) : Type 0 where
   past : v.past ≡ false
   lsb : is_past_lsb r w ≡ false
   pieces : is_past_pieces r w ≡ false
@@ -77,7 +77,7 @@ limit_past opened halved c lsb pieces cases e =
     let more = none_is (nat_lt 64 c.pieces || pieces) _ _ splits.more in
     (low.first, second_is (nat_lt 64 c.pieces) pieces more.first)
 
-is_passed : (v : Verdict) (seen : Seen) (r : Due) (w : Word) (behind : List Leaf) → refusal_at v seen r w behind ≡ None → IsPassed v r w
+is_passed : (v : Notes) (seen : Seen) (r : Due) (w : Word) (behind : List Leaf) → refusal_at v seen r w behind ≡ None → IsPassed v r w
 is_passed v seen r w behind e =
     let after = seen_after v seen r w in
     let form = first_none (form_refusal v seen r w (has_arrow behind) behind) (limit_refusal after r w) e in
@@ -90,7 +90,7 @@ is_passed v seen r w behind e =
 -- ---- so it is read
 
 module _ (told : LiteralsAreTold) where
-  read_literal : (v : Verdict) (text : List ℕ) → IsLiteral text → (IsPastLimits text → IsTrue v.past) → v.past ≡ false → IsReading text (literal_of text)
+  read_literal : (v : Notes) (text : List ℕ) → IsLiteral text → (IsPastLimits text → IsTrue v.past) → v.past ≡ false → IsReading text (literal_of text)
   read_literal v text spelled past held = by_cases (told text)
     where
       by_cases : IsReading text (literal_of text) ⊎ (IsPastLimits text ⊎ ¬ IsLiteral text) → IsReading text (literal_of text)
@@ -106,7 +106,7 @@ module _ (told : LiteralsAreTold) where
   unfolding number_of exponent_size
   read_digits text h = (unstopped 512 (digits_value 10 text) h, unstopped 1025 (digits_value 10 text) (omega arith))
 
-  read_word : (v : Verdict) (r : Due) (w : Word) (behind : List Leaf) → Tells v r w behind → IsPassed v r w → IsSpelled w → IsRead r w
+  read_word : (v : Notes) (r : Due) (w : Word) (behind : List Leaf) → Tells v r w behind → IsPassed v r w → IsSpelled w → IsRead r w
   read_word v d.Operand (literal k text) behind t p s = read_literal v text s t.past.1 p.past
   read_word v d.Bound (literal k text) behind t p s = read_literal v text s t.past.1 p.past
   read_word v d.Magnitude (literal k text) behind t p s = read_literal v text s t.past.1 p.past

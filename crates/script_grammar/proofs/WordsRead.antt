@@ -1,7 +1,7 @@
 -- The words of a script are read as its tree.
 use Rattle.std.specs.Prelude.{◌≡◌, List, [], ◌∷◌, ◌++◌, false, refl}
 use Rattle.std.proofs.Common.{ap, sym, ◌∙◌, append-nil}
-use Rattle.goal_spans.specs.script_words.declared.class.Sign.TheVariants as s
+use Rattle.goal_spans.specs.script_words.declared.class.Symbol.TheVariants as s
 use Rattle.goal_spans.specs.script_words.declared.class.Spelled.TheVariants as spelled
 use Rattle.goal_spans.specs.script_words.Words.{Word, sign}
 use Rattle.goal_spans.specs.script_shape.declared.due.Due.{Due}
@@ -18,7 +18,7 @@ use Rattle.node_counts.specs.script_hints.Hints.{no_hints}
 use Rattle.node_counts.specs.script_hints.Reading.{HintReading, hints_from, read_hint, read_hints}
 use Rattle.node_counts.specs.script_hints.ReadingLaw.{ReadsHints}
 use Rattle.script_grammar.specs.Meaning.{meaning_from, body_meaning}
-use Rattle.script_grammar.specs.Steps.{defining, claiming, hinting, hints_begun, read_word, read_words, all_read, ReadsScripts}
+use Rattle.script_grammar.specs.Steps.{defining, claiming, hinting, hints_begun, read_word, read_leaves, all_read, ReadsScripts}
 
 -- ---- words that neither begin a definition or the formula, nor close it
 
@@ -109,11 +109,11 @@ define_first : (l : Leaf) (ls : List Leaf) (p : Defining) → opens_formula l.ro
 unfolding define_all
 define_first l ls p e = rw e refl
 
-define_words : (ls rest : List Leaf) (p : Defining) → Shut ls → read_words (ls ++ rest) (defining p) ≡ read_words rest (defining (define_all ls p))
-unfolding read_words define_all
+define_words : (ls rest : List Leaf) (p : Defining) → Shut ls → read_leaves (ls ++ rest) (defining p) ≡ read_leaves rest (defining (define_all ls p))
+unfolding read_leaves define_all
 define_words [] rest p h = refl
-define_words (l ∷ ls) rest p h = ap (read_words (ls ++ rest)) (defining_word l.role l.word p h.0) ∙ define_words ls rest (define_word l.role l.word p) h.1
-    ∙ ap (λ q. read_words rest (defining q)) (sym (define_first l ls p h.0))
+define_words (l ∷ ls) rest p h = ap (read_leaves (ls ++ rest)) (defining_word l.role l.word p h.0) ∙ define_words ls rest (define_word l.role l.word p) h.1
+    ∙ ap (λ q. read_leaves rest (defining q)) (sym (define_first l ls p h.0))
 
 -- ---- the formula
 
@@ -123,10 +123,10 @@ claiming_word d.Script w st h = absurd h
 claiming_word d.CloseBrace w st h = absurd h
 claiming_word _ w st h = refl
 
-claim_words : (ls rest : List Leaf) (st : State) → AllStay ls → read_words (ls ++ rest) (claiming st) ≡ read_words rest (claiming (read_claims ls st))
-unfolding read_words read_claims
+claim_words : (ls rest : List Leaf) (st : State) → AllStay ls → read_leaves (ls ++ rest) (claiming st) ≡ read_leaves rest (claiming (read_claims ls st))
+unfolding read_leaves read_claims
 claim_words [] rest st h = refl
-claim_words (l ∷ ls) rest st h = ap (read_words (ls ++ rest)) (claiming_word l.role l.word st h.0) ∙ claim_words ls rest (read_claim l.role l.word st) h.1
+claim_words (l ∷ ls) rest st h = ap (read_leaves (ls ++ rest)) (claiming_word l.role l.word st h.0) ∙ claim_words ls rest (read_claim l.role l.word st) h.1
 
 claims_append : (a b : List Leaf) (st : State) → read_claims (a ++ b) st ≡ read_claims b (read_claims a st)
 unfolding read_claims
@@ -135,8 +135,8 @@ claims_append (l ∷ a) b st = claims_append a b (read_claim l.role l.word st)
 
 -- ---- the hints
 
-hint_words : (ls : List Leaf) (sides : Sides) (h : HintReading) → read_words ls (hinting sides h) ≡ hinting sides (read_hints ls h)
-unfolding read_words read_word read_hints
+hint_words : (ls : List Leaf) (sides : Sides) (h : HintReading) → read_leaves ls (hinting sides h) ≡ hinting sides (read_hints ls h)
+unfolding read_leaves read_word read_hints
 hint_words [] sides h = refl
 hint_words (l ∷ ls) sides h = hint_words ls sides (read_hint l.role l.word h)
 
@@ -158,12 +158,12 @@ module _ (one : ReadsDefinition) (formulas : ReadsFormulas) (hints : ReadsHints)
   unfolding read_word
   closing_word st = refl
 
-  body_read : (f : Formula) (h : Hints) (k : Known) → read_words (formula_leaves f ++ (at d.CloseBrace (sign s.CloseBrace) ∷ hints_leaves h)) (claiming (from_claims (no_claims k))) ≡ all_read (body_meaning (formula_claims f k) h)
-  unfolding read_words
+  body_read : (f : Formula) (h : Hints) (k : Known) → read_leaves (formula_leaves f ++ (at d.CloseBrace (sign s.CloseBrace) ∷ hints_leaves h)) (claiming (from_claims (no_claims k))) ≡ all_read (body_meaning (formula_claims f k) h)
+  unfolding read_leaves
   body_read f h k =
       let cs = formula_claims f k in
       claim_words (formula_leaves f) (at d.CloseBrace (sign s.CloseBrace) ∷ hints_leaves h) (from_claims (no_claims k)) (formula_stays f)
-      ∙ ap (read_words (hints_leaves h)) (closing_word (read_claims (formula_leaves f) (from_claims (no_claims k))) ∙ ap hints_begun (claims_end f k))
+      ∙ ap (read_leaves (hints_leaves h)) (closing_word (read_claims (formula_leaves f) (from_claims (no_claims k))) ∙ ap hints_begun (claims_end f k))
       ∙ hint_words (hints_leaves h) cs.sides (hints_from cs.known no_hints)
       ∙ ap (hinting cs.sides) (hints h cs.known no_hints)
 
@@ -171,11 +171,11 @@ module _ (one : ReadsDefinition) (formulas : ReadsFormulas) (hints : ReadsHints)
   unfolding read_word
   opening w k = refl
 
-  script_read : (tree : Script) (k : Known) → read_words (script_leaves tree) (defining (between k)) ≡ all_read (meaning_from tree k)
-  unfolding read_words
-  script_read (formula f h) k = ap (read_words (formula_leaves f ++ (at d.CloseBrace (sign s.CloseBrace) ∷ hints_leaves h))) (opening (sign s.OpenBrace) k) ∙ body_read f h k
+  script_read : (tree : Script) (k : Known) → read_leaves (script_leaves tree) (defining (between k)) ≡ all_read (meaning_from tree k)
+  unfolding read_leaves
+  script_read (formula f h) k = ap (read_leaves (formula_leaves f ++ (at d.CloseBrace (sign s.CloseBrace) ∷ hints_leaves h))) (opening (sign s.OpenBrace) k) ∙ body_read f h k
   script_read (define x rest) k = define_words (definition_leaves x) (script_leaves rest) (between k) (definition_shut x)
-      ∙ ap (λ p. read_words (script_leaves rest) (defining p)) (definition_ends x k) ∙ script_read rest (definition_value x k)
+      ∙ ap (λ p. read_leaves (script_leaves rest) (defining p)) (definition_ends x k) ∙ script_read rest (definition_value x k)
 
   pub scripts_are_read : ReadsScripts
   scripts_are_read tree = script_read tree nothing_known

@@ -41,9 +41,9 @@ read_word r w (claiming st) =
 read_word r w (hinting sides h) = hinting sides (read_hint r w h)
 
 -- What stands behind these words, read one after the other.
-unfoldable pub read_words : List Leaf → Step → Step
-read_words [] st = st
-read_words (l ∷ ls) st = read_words ls (read_word l.role l.word st)
+unfoldable pub read_leaves : List Leaf → Step → Step
+read_leaves [] st = st
+read_leaves (l ∷ ls) st = read_leaves ls (read_word l.role l.word st)
 
 -- Before the first word: in the definitions, and nothing is known.
 abbrev pub start : Step
@@ -65,4 +65,4 @@ all_read m = hinting (record {
 
 -- Reading the words of a script from the left gives what its tree says.
 abbrev pub ReadsScripts : Type 0
-ReadsScripts = (tree : Script) → read_words (script_leaves tree) start ≡ all_read (meaning_of tree)
+ReadsScripts = (tree : Script) → read_leaves (script_leaves tree) start ≡ all_read (meaning_of tree)

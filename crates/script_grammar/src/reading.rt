@@ -7,7 +7,7 @@ ghost use Rattle.script_grammar.specs.Spells.{View, Spells, IsRefused};
 
 use crate::laws::{script_or_refusal, scripts_are_read, spelled_are_short};
 use crate::script::Script;
-use crate::stage::{Stage, read_words};
+use crate::stage::{Stage, read_leaves};
 use goal_spans::{goal_spans, leaves_are_of_trees, lexed_once, spans_are_read};
 use node_counts::{DagFault, Judgement, ReadText, Refusal, judge_text};
 use std::alloc::Global;
@@ -26,7 +26,7 @@ pub fn parse<'a>(alloc: Global, text: &'a [u8]) -> Result<Script<'a>, ParseStop>
     // What is answered is spelled, and what is refused has this refusal.
     ensures spelled { IfOk result (Spells text.now) }
     ensures refused { (r : Refusal) → result ≡ Err (ParseStop.Refused r) → IsRefused text.now r }
-    // What is spelled is answered, want of memory aside.
+    // What is spelled is answered, lack of memory aside.
     ensures answered { (s : View) → Spells text.now s
         → IfOk result (λ t. t ≡ s) × ((r : Refusal) → ¬ (result ≡ Err (ParseStop.Refused r))) }
 {
@@ -60,7 +60,7 @@ fn accepted<'a>(alloc: Global, text: &'a [u8], read: ReadText<'a>) -> Result<Scr
     let Ok(spans) = goal_spans(alloc, words, roles) else {
         return Err(ParseStop::OutOfMemory);
     };
-    let stage = match read_words(alloc, words, roles) {
+    let stage = match read_leaves(alloc, words, roles) {
         Ok(stage) => stage,
         Err(DagFault::Full) => unreachable!(),
         Err(DagFault::OutOfMemory) => return Err(ParseStop::OutOfMemory),

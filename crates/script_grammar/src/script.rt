@@ -16,7 +16,7 @@ use crate::laws::{
     spelled_name_nodes,
 };
 use goal_spans::{Span, Token};
-use node_counts::{Claim, Dag, HintList, Reader, Sides};
+use node_counts::{Claim, Dag, HintList, NodeReader, Sides};
 use std::alloc::{AllocError, Global};
 use std::marker::Model;
 
@@ -26,7 +26,7 @@ pub struct Script<'a> {
     text: &'a [u8],
     tokens: Vec<Token>,
     // Its nodes, and the names of its variables.
-    nodes: Reader<'a>,
+    nodes: NodeReader<'a>,
     sides: Sides,
     // Which tokens are the expression of each goal.
     spans: Vec<Span>,
@@ -72,7 +72,7 @@ impl<'a> Script<'a> {
     pub(crate) fn new(
         text: &'a [u8],
         tokens: Vec<Token>,
-        nodes: Reader<'a>,
+        nodes: NodeReader<'a>,
         sides: Sides,
         spans: Vec<Span>,
         hints: HintList,

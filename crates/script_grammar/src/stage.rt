@@ -7,7 +7,7 @@ ghost use Rattle.node_counts.specs.script_nodes.Defining.{opens_formula};
 ghost use Rattle.script_grammar.specs.Steps as spec;
 ghost use Rattle.script_grammar.specs.Views.{step_of};
 
-use goal_spans::{Due, Sign, Word, WordList};
+use goal_spans::{Due, Symbol, Word, WordList};
 use node_counts::{
     ClaimReader, DagFault, Definitions, HintReader, Sides, claims_only_grow, hints_only_grow,
     nodes_only_grow,
@@ -27,7 +27,7 @@ pub enum Stage<'a> {
 fn opens_formula(role: Due, word: Word<'_>) -> bool
     ensures { result ≡ opens_formula role (word_of word.entry) }
 {
-    matches!((role, word), (Due::Script, Word::Sign(Sign::OpenBrace)))
+    matches!((role, word), (Due::Script, Word::Sign(Symbol::OpenBrace)))
 }
 
 // Whether the word is the `}` of the formula.
@@ -92,16 +92,16 @@ impl<'a> Stage<'a> {
 
 /// What words with their roles say, from the left. `Full` only where they have more than 1,024
 /// nodes, and else an `Err` only where memory runs out.
-#[tactic(auto, unfolding(crate::specs::Steps::read_words))]
-pub fn read_words<'a>(
+#[tactic(auto, unfolding(crate::specs::Steps::read_leaves))]
+pub fn read_leaves<'a>(
     alloc: Global,
     words: WordList<'_, 'a>,
     roles: &[Due],
 ) -> Result<Stage<'a>, DagFault>
     ensures read { IfOk result (λ stage. step_of stage
-        ≡ spec.read_words (leaves_of roles.now (words_in words.entry)) spec.start) }
+        ≡ spec.read_leaves (leaves_of roles.now (words_in words.entry)) spec.start) }
     ensures full { result ≡ Err DagFault.Full → 1024
-        < length (spec.nodes_at (spec.read_words
+        < length (spec.nodes_at (spec.read_leaves
         (leaves_of roles.now (words_in words.entry)) spec.start)) }
 {
     nodes_only_grow();

@@ -4,11 +4,11 @@ use Rattle.script_nodes.specs.fx_model.declared.ExprId.{ExprId}
 use Rattle.script_nodes.specs.dyadic.declared.number.Dyadic.{Dyadic}
 use Rattle.script_hints.specs.declared.hint.Constraint.{Constraint}
 use Rattle.script_nodes.specs.script_words.declared.class.Number.TheVariants as digits_kind
-use Rattle.script_nodes.specs.script_words.declared.class.Sign.{Sign}
-use Rattle.script_nodes.specs.script_words.declared.class.Sign.TheVariants as s
+use Rattle.script_nodes.specs.script_words.declared.class.Symbol.{Symbol}
+use Rattle.script_nodes.specs.script_words.declared.class.Symbol.TheVariants as s
 use Rattle.script_nodes.specs.script_words.Words.{sign, literal}
 use Rattle.script_nodes.specs.script_shape.declared.due.Due.TheVariants as d
-use Rattle.script_nodes.specs.script_shape.Tree.{plain, operator, zero_alone, digits, Bound, unsigned, positive, negative, Expr, Need, nonzero, below, not_above, above, not_below, NeedList, last_need, more_needs, Needs, always, provided, Points, last_point, more_points, Cut, in_four, pieces, at_points, Names, last_name, more_names, Halving, halved_by, with_goal, Hint, rewrite, like, split, halving, no_hint, hint}
+use Rattle.script_nodes.specs.script_shape.Tree.{plain, operator, zero_alone, digits, Bound, unsigned, positive, negative, Expr, Need, nonzero, below, not_above, above, not_below, NeedList, last_need, more_needs, Needs, always, provided, Points, last_point, more_points, CutForm, in_four, pieces, at_points, Names, last_name, more_names, Halving, halved_by, with_goal, Hint, rewrite, like, split, halving, no_hint, hint}
 use Rattle.script_nodes.specs.script_shape.Roles.{Leaf, at, bound_leaves, expr_leaves, need_leaves, need_list_leaves, needs_leaves, points_leaves, cut_leaves, names_leaves, halving_leaves, hint_leaves, hints_leaves}
 use Rattle.script_nodes.specs.Known.{Known, named}
 use Rattle.script_nodes.specs.Written.{bound_written}
@@ -48,11 +48,11 @@ module _ (reads : ReadsTrees) where
   bound_reads (negative c text) rest k t (bounded.Below x o) ns ps l = refl
   bound_reads (negative c text) rest k t (bounded.Above x o) ns ps l = refl
 
-  relation_ends : (g : Sign) → EndsBy d.NeedRelation (sign g) (by_sign related (sign g))
+  relation_ends : (g : Symbol) → EndsBy d.NeedRelation (sign g) (by_sign related (sign g))
   unfolding read_hint
   relation_ends g r h = refl
 
-  relation_reads : (g : Sign) (e : Expr) (more rest : List Leaf) (k : Known) (h : Draft) → read_hints ((expr_leaves e ++ (at d.NeedRelation (sign g) ∷ more)) ++ rest) (at_rest k h) ≡ read_hints (more ++ rest) (at_rest (expr_value None e k).0 (related g (expr_value None e k).1 h))
+  relation_reads : (g : Symbol) (e : Expr) (more rest : List Leaf) (k : Known) (h : Draft) → read_hints ((expr_leaves e ++ (at d.NeedRelation (sign g) ∷ more)) ++ rest) (at_rest k h) ≡ read_hints (more ++ rest) (at_rest (expr_value None e k).0 (related g (expr_value None e k).1 h))
   relation_reads g e more rest k h = regroup (expr_leaves e) _ rest _ ∙ side_ends reads d.NeedRelation (sign g) (by_sign related (sign g)) (relation_ends g) e (more ++ rest) k h
 
   need_reads : (n : Need) (rest : List Leaf) (k : Known) (t : Stage) (ns : List Constraint) (ps : List Dyadic) (l : HintList) → read_hints (need_leaves n ++ rest) (at_rest k (draft t bounded.Point ns ps l)) ≡ read_hints rest (at_rest (tree.with_need n (k, ns)).0 (draft t bounded.Point (tree.with_need n (k, ns)).1 ps l))
@@ -100,19 +100,19 @@ module _ (reads : ReadsTrees) where
   last_reads : (e : Expr) (rest : List Leaf) (k : Known) (h : Draft) → read_hints (expr_leaves e ++ ending rest) (at_rest k h) ≡ read_hints rest (at_rest (expr_value None e k).0 (hint_ended (expr_value None e k).1 h))
   last_reads e rest k h = side_ends reads d.Semicolon (sign s.Semicolon) hint_ended end_ends e rest k h
 
-  rest_ends : (g : Sign) → EndsBy d.HintRest (sign g) (by_sign side_ended (sign g))
+  rest_ends : (g : Symbol) → EndsBy d.HintRest (sign g) (by_sign side_ended (sign g))
   unfolding read_hint
   rest_ends g r h = refl
 
-  goal_ends : (g : Sign) → EndsBy d.GoalSplit (sign g) (by_sign side_ended (sign g))
+  goal_ends : (g : Symbol) → EndsBy d.GoalSplit (sign g) (by_sign side_ended (sign g))
   unfolding read_hint
   goal_ends g r h = refl
 
   -- the first expression of a hint
-  first_reads : (g : Sign) (e : Expr) (more rest : List Leaf) (k : Known) (h : Draft) → read_hints ((expr_leaves e ++ (at d.HintRest (sign g) ∷ more)) ++ rest) (at_rest k h) ≡ read_hints (more ++ rest) (at_rest (expr_value None e k).0 (side_ended g (expr_value None e k).1 h))
+  first_reads : (g : Symbol) (e : Expr) (more rest : List Leaf) (k : Known) (h : Draft) → read_hints ((expr_leaves e ++ (at d.HintRest (sign g) ∷ more)) ++ rest) (at_rest k h) ≡ read_hints (more ++ rest) (at_rest (expr_value None e k).0 (side_ended g (expr_value None e k).1 h))
   first_reads g e more rest k h = regroup (expr_leaves e) _ rest _ ∙ side_ends reads d.HintRest (sign g) (by_sign side_ended (sign g)) (rest_ends g) e (more ++ rest) k h
 
-  goal_reads : (g : Sign) (e : Expr) (more rest : List Leaf) (k : Known) (h : Draft) → read_hints ((expr_leaves e ++ (at d.GoalSplit (sign g) ∷ more)) ++ rest) (at_rest k h) ≡ read_hints (more ++ rest) (at_rest (expr_value None e k).0 (side_ended g (expr_value None e k).1 h))
+  goal_reads : (g : Symbol) (e : Expr) (more rest : List Leaf) (k : Known) (h : Draft) → read_hints ((expr_leaves e ++ (at d.GoalSplit (sign g) ∷ more)) ++ rest) (at_rest k h) ≡ read_hints (more ++ rest) (at_rest (expr_value None e k).0 (side_ended g (expr_value None e k).1 h))
   goal_reads g e more rest k h = regroup (expr_leaves e) _ rest _ ∙ side_ends reads d.GoalSplit (sign g) (by_sign side_ended (sign g)) (goal_ends g) e (more ++ rest) k h
 
   needs_ends : EndsBy d.Needs (sign s.OpenBrace) needs_opened
@@ -131,7 +131,7 @@ module _ (reads : ReadsTrees) where
       ∙ regroup (need_list_leaves n) _ (ending rest) _
       ∙ need_list_reads n closed y.0 (stage.Sides x y.1) [] [] l
 
-  cut_reads : (c : Cut) (rest : List Leaf) (k : Known) (x : ExprId) (l : HintList) → read_hints (cut_leaves c ++ ending rest) (at_rest k (draft (stage.Pieces x 4) bounded.Point [] [] l)) ≡ read_hints rest (hints_from k (tree.with_cut l x (tree.cutting_of c)))
+  cut_reads : (c : CutForm) (rest : List Leaf) (k : Known) (x : ExprId) (l : HintList) → read_hints (cut_leaves c ++ ending rest) (at_rest k (draft (stage.Pieces x 4) bounded.Point [] [] l)) ≡ read_hints rest (hints_from k (tree.with_cut l x (tree.cutting_of c)))
   unfolding read_hint read_hints read
   cut_reads in_four rest k x l = refl
   cut_reads (pieces (zero_alone t)) rest k x l = refl

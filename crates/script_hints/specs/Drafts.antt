@@ -2,8 +2,8 @@
 use Rattle.std.specs.Prelude.{ℕ, List, [], ◌∷◌, ◌++◌, Bool, true, false}
 use Rattle.script_nodes.specs.fx_model.declared.ExprId.{ExprId}
 use Rattle.script_nodes.specs.dyadic.declared.number.Dyadic.{Dyadic}
-use Rattle.script_nodes.specs.script_words.declared.class.Sign.{Sign}
-use Rattle.script_nodes.specs.script_words.declared.class.Sign.TheVariants as s
+use Rattle.script_nodes.specs.script_words.declared.class.Symbol.{Symbol}
+use Rattle.script_nodes.specs.script_words.declared.class.Symbol.TheVariants as s
 use Rattle.script_nodes.specs.literal_order.declared.written.Written.{Written}
 use Rattle.script_hints.specs.declared.hint.Constraint.{Constraint}
 use Rattle.script_hints.specs.declared.hint.Constraint.TheVariants as constraint
@@ -43,7 +43,7 @@ staged h t = record h { stage = t }
 -- ---- expressions that have ended
 
 -- a sign behind an expression at the front of a hint
-abbrev pub side_ended : Sign → ExprId → Draft → Draft
+abbrev pub side_ended : Symbol → ExprId → Draft → Draft
 side_ended s.Arrow x h = staged h (stage.Right x)
 side_ended s.Tilde x h = staged h (stage.Alike x)
 side_ended s.Dollar x h = staged h stage.Halves
@@ -63,7 +63,7 @@ abbrev pub with_constraint : Draft → Constraint → Draft
 with_constraint h c = record h { constraints = h.constraints ++ (c ∷ []) }
 
 -- the relation behind the expression of a constraint
-abbrev pub related : Sign → ExprId → Draft → Draft
+abbrev pub related : Symbol → ExprId → Draft → Draft
 related s.Unequal x h = with_constraint h (constraint.NotZero x)
 related s.Less x h = record h { bounded = bounded.Below x true }
 related s.LessEqual x h = record h { bounded = bounded.Below x false }
@@ -74,7 +74,7 @@ related g x h = h
 -- ---- bounds
 
 -- a minus makes the bound that follows negative
-abbrev pub bound_signed : Sign → Draft → Draft
+abbrev pub bound_signed : Symbol → Draft → Draft
 bound_signed s.Minus h = record h { negative = true }
 bound_signed g h = h
 

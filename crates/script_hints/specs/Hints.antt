@@ -9,11 +9,11 @@ use Rattle.script_nodes.specs.dyadic.declared.number.End.TheVariants as end
 use Rattle.script_nodes.specs.interval.Results.{point_of}
 use Rattle.script_hints.specs.declared.hint.Constraint.{Constraint}
 use Rattle.script_hints.specs.declared.hint.Constraint.TheVariants as constraint
-use Rattle.script_nodes.specs.script_shape.Tree.{AnyName, Need, nonzero, below, not_above, above, not_below, NeedList, last_need, more_needs, Needs, always, provided, Points, last_point, more_points, Cut, in_four, pieces, at_points, Names, last_name, more_names, Halving, halved_by, with_goal, Hint, rewrite, like, split, halving, Hints, no_hint, hint}
+use Rattle.script_nodes.specs.script_shape.Tree.{AnyName, Need, nonzero, below, not_above, above, not_below, NeedList, last_need, more_needs, Needs, always, provided, Points, last_point, more_points, CutForm, in_four, pieces, at_points, Names, last_name, more_names, Halving, halved_by, with_goal, Hint, rewrite, like, split, halving, Hints, no_hint, hint}
 use Rattle.script_nodes.specs.Written.{bound_written}
 use Rattle.script_nodes.specs.Definitions.{name_text}
 use Rattle.script_nodes.specs.Operators.{digits_text, number_of}
-use Rattle.script_nodes.specs.Known.{Known, Placed, named}
+use Rattle.script_nodes.specs.Known.{Known, PlacedNode, named}
 use Rattle.script_nodes.specs.Values.{expr_value}
 use Rattle.script_nodes.specs.literal_order.declared.written.Written.{Written}
 use Rattle.script_nodes.specs.literal_order.Values.{written_value}
@@ -28,7 +28,7 @@ abbrev pub NeedsSoFar : Type 0
 NeedsSoFar = Known × List Constraint
 
 -- one more need: the constraint f of the expression, the last
-abbrev pub one_more : (ExprId → Constraint) → Placed → List Constraint → NeedsSoFar
+abbrev pub one_more : (ExprId → Constraint) → PlacedNode → List Constraint → NeedsSoFar
 one_more f p ns = (p.0, ns ++ (f p.1 ∷ []))
 
 -- One more need as a constraint, the last, with the nodes of its expression; its bound stays as it
@@ -78,7 +78,7 @@ abbrev pub piece_count : ℕ → ℕ
 piece_count n = if nat_lt n 64 then n else 64
 
 -- four pieces where none is asked for, so many pieces, or the points
-abbrev pub cutting_of : Cut → Cutting
+abbrev pub cutting_of : CutForm → Cutting
 cutting_of in_four = cutting.Pieces 4
 cutting_of (pieces n) = cutting.Pieces (piece_count (number_of (digits_text n)))
 cutting_of (at_points l) = cutting.Points (with_points l [])
@@ -107,7 +107,7 @@ abbrev pub halved : HintList → ExprId → HintList
 halved l x = record l { halves = with_variable l.halves x; order = with_variable l.order x }
 
 -- one more variable is halved, with what is known behind it
-abbrev pub halved_at : Placed → HintList → HintsSoFar
+abbrev pub halved_at : PlacedNode → HintList → HintsSoFar
 halved_at p l = (p.0, halved l p.1)
 
 -- One more variable is halved, found by its name; a name that has a value stands for that.
@@ -130,11 +130,11 @@ rewrites_to x y ns l = (
 
 -- One more rewriting of `x` to the placed expression, the last; its needs are read behind both
 -- sides.
-abbrev pub rewrites_left : ExprId → Placed → Needs → HintList → HintsSoFar
+abbrev pub rewrites_left : ExprId → PlacedNode → Needs → HintList → HintsSoFar
 rewrites_left x b n l = rewrites_to x b.1 (needs_value n b.0) l
 
 -- one more likeness of x and b, the last
-abbrev pub likens : ExprId → Placed → HintList → HintsSoFar
+abbrev pub likens : ExprId → PlacedNode → HintList → HintsSoFar
 likens x b l = (b.0, record l { likes = l.likes ++ ((x, b.1) ∷ []) })
 
 -- one more cut of x, the last
@@ -142,7 +142,7 @@ abbrev pub with_cut : HintList → ExprId → Cutting → HintList
 with_cut l x c = record l { cuts = l.cuts ++ (record { var = x; cut = c } ∷ []) }
 
 -- One more cut along the placed variable, which is also noted in the order of split variables.
-abbrev pub cuts_along : Placed → Cut → HintList → HintsSoFar
+abbrev pub cuts_along : PlacedNode → CutForm → HintList → HintsSoFar
 cuts_along p c l = (p.0, with_cut (ordered l p.1) p.1 (cutting_of c))
 
 -- of an expression for which variables are halved, the nodes alone

@@ -2,15 +2,15 @@
 -- to the hint.
 use Rattle.std.specs.Prelude.{List, [], ◌∷◌, Option, Some, None}
 use Rattle.script_nodes.specs.fx_model.declared.ExprId.{ExprId}
-use Rattle.script_nodes.specs.script_words.declared.class.Sign.{Sign}
-use Rattle.script_nodes.specs.script_words.declared.class.Sign.TheVariants as s
+use Rattle.script_nodes.specs.script_words.declared.class.Symbol.{Symbol}
+use Rattle.script_nodes.specs.script_words.declared.class.Symbol.TheVariants as s
 use Rattle.script_nodes.specs.script_words.Words.{Word, name, rounding, literal, sign}
 use Rattle.script_nodes.specs.script_shape.declared.due.Due.{Due}
 use Rattle.script_nodes.specs.script_shape.declared.due.Due.TheVariants as d
 use Rattle.script_nodes.specs.script_shape.Roles.{Leaf}
 use Rattle.script_nodes.specs.Literals.{literal_of}
 use Rattle.script_nodes.specs.Operators.{number_of}
-use Rattle.script_nodes.specs.Known.{Known, Placed, named}
+use Rattle.script_nodes.specs.Known.{Known, PlacedNode, named}
 use Rattle.script_nodes.specs.Waits.{Reading, Complete, expr_done, read}
 use Rattle.script_hints.specs.declared.hint.HintList.{HintList}
 use Rattle.script_hints.specs.Drafts.{Draft, fresh, side_ended, needs_opened, related, bound_signed, with_bound, cut_begun, with_split_variable, cut_into, points_begun, hint_ended}
@@ -52,7 +52,7 @@ then_draft f h e = record { reading = e.0; draft = f e.1 h }
 -- ---- words, by their roles
 
 -- A word that is a sign changes the draft by `f`; any other leaves it.
-abbrev pub by_sign : (Sign → ExprId → Draft → Draft) → Word → ExprId → Draft → Draft
+abbrev pub by_sign : (Symbol → ExprId → Draft → Draft) → Word → ExprId → Draft → Draft
 by_sign f (sign g) x h = f g x h
 by_sign f w x h = h
 
@@ -72,7 +72,7 @@ cut_word (sign s.OpenParen) h = points_begun h
 cut_word w h = h
 
 -- A split's variable goes to the draft, and what is known behind it to the reading.
-abbrev pub variable_placed : Placed → HintReading → HintReading
+abbrev pub variable_placed : PlacedNode → HintReading → HintReading
 variable_placed p r = record {
   reading = record { known = p.0; waits = r.reading.waits };
   draft = with_split_variable p.1 r.draft;

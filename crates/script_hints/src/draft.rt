@@ -10,7 +10,7 @@ use crate::hint::{Constraint, Cutting, Hint, HintList, Split};
 use crate::lists::{add_end, add_variable};
 use crate::stage::{Bounded, Stage, piece_count};
 use script_bounds::{Items, Written, below};
-use script_nodes::{Dyadic, ExprId, Sign};
+use script_nodes::{Dyadic, ExprId, Symbol};
 use std::alloc::{AllocError, Global};
 use std::marker::Model;
 use std::mem::replace;
@@ -101,13 +101,13 @@ impl HintDraft {
     }
 
     /// A sign behind an expression at the front of a hint.
-    pub fn end_side(&mut self, sign: Sign, side: ExprId)
+    pub fn end_side(&mut self, sign: Symbol, side: ExprId)
         ensures { self.new ≡ spec.side_ended sign side self.old }
     {
         match sign {
-            Sign::Arrow => self.stage = Stage::Right(side),
-            Sign::Tilde => self.stage = Stage::Alike(side),
-            Sign::Dollar => self.stage = Stage::Halves,
+            Symbol::Arrow => self.stage = Stage::Right(side),
+            Symbol::Tilde => self.stage = Stage::Alike(side),
+            Symbol::Dollar => self.stage = Stage::Halves,
             _ => {}
         }
     }
@@ -123,26 +123,26 @@ impl HintDraft {
     }
 
     /// The relation behind the expression of a constraint.
-    pub fn relate(&mut self, sign: Sign, side: ExprId) -> Result<(), AllocError>
+    pub fn relate(&mut self, sign: Symbol, side: ExprId) -> Result<(), AllocError>
         ensures { OnOk result (self.new ≡ spec.related sign side self.old) }
     {
         match sign {
-            Sign::Unequal => self.constraints.push(Constraint::NotZero(side))?,
-            Sign::Less => self.bounded = Bounded::Below(side, true),
-            Sign::LessEqual => self.bounded = Bounded::Below(side, false),
-            Sign::Greater => self.bounded = Bounded::Above(side, true),
-            Sign::GreaterEqual => self.bounded = Bounded::Above(side, false),
+            Symbol::Unequal => self.constraints.push(Constraint::NotZero(side))?,
+            Symbol::Less => self.bounded = Bounded::Below(side, true),
+            Symbol::LessEqual => self.bounded = Bounded::Below(side, false),
+            Symbol::Greater => self.bounded = Bounded::Above(side, true),
+            Symbol::GreaterEqual => self.bounded = Bounded::Above(side, false),
             _ => {}
         }
         Ok(())
     }
 
     /// A sign before the literal of a bound.
-    pub fn sign_bound(&mut self, sign: Sign)
+    pub fn sign_bound(&mut self, sign: Symbol)
         ensures { self.new ≡ spec.bound_signed sign self.old }
     {
         match sign {
-            Sign::Minus => self.negative = true,
+            Symbol::Minus => self.negative = true,
             _ => {}
         }
     }

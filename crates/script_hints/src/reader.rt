@@ -12,8 +12,8 @@ use crate::draft::HintDraft;
 use crate::hint::HintList;
 use script_bounds::Written;
 use script_nodes::digits::{literal_of, number_of};
-use script_nodes::reader::Reader;
-use script_nodes::{DagFault, Due, ExprId, Sign, Word};
+use script_nodes::reader::NodeReader;
+use script_nodes::{DagFault, Due, ExprId, Symbol, Word};
 use std::alloc::Global;
 use std::marker::Model;
 
@@ -21,7 +21,7 @@ use std::marker::Model;
 /// says nothing.
 #[derive(Drop)]
 pub struct HintReader<'a> {
-    reader: Reader<'a>,
+    reader: NodeReader<'a>,
     draft: HintDraft,
 }
 
@@ -34,7 +34,7 @@ impl<'a> Model for HintReader<'a> {
 }
 
 /// The number of the expression that ends here.
-fn end(reader: &mut Reader<'_>) -> Result<ExprId, DagFault>
+fn end(reader: &mut NodeReader<'_>) -> Result<ExprId, DagFault>
     ensures ended { IfOk result (λ x. spec.ended reader.old ≡ (reader.new, x)) }
     ensures full { result ≡ Err DagFault.Full
         → 1024 < length (spec.ended reader.old).0.known.nodes }
@@ -47,7 +47,7 @@ fn end(reader: &mut Reader<'_>) -> Result<ExprId, DagFault>
 
 /// The number of a name's node: that of its value, or a variable's.
 #[tactic(auto, unfolding(script_nodes::specs::Known::named))]
-fn named<'a>(reader: &mut Reader<'a>, name: &'a [u8]) -> Result<ExprId, DagFault>
+fn named<'a>(reader: &mut NodeReader<'a>, name: &'a [u8]) -> Result<ExprId, DagFault>
     ensures put { IfOk result
         (λ x. (reader.new.known, x) ≡ spec_known.named reader.old.known name.now) }
     ensures waits { reader.new.waits ≡ reader.old.waits }
@@ -62,7 +62,7 @@ fn named<'a>(reader: &mut Reader<'a>, name: &'a [u8]) -> Result<ExprId, DagFault
 
 impl<'a> HintReader<'a> {
     /// Before the first hint, behind what the reader has read. It takes no memory.
-    pub fn new(alloc: Global, reader: Reader<'a>) -> HintReader<'a>
+    pub fn new(alloc: Global, reader: NodeReader<'a>) -> HintReader<'a>
         ensures { result
             ≡ record { reading = reader.entry; draft = spec_drafts.fresh spec_hints.no_hints } }
     {
@@ -73,7 +73,7 @@ impl<'a> HintReader<'a> {
     }
 
     /// What is known behind the hints, and what they say.
-    pub fn into_parts(self) -> (Reader<'a>, HintList)
+    pub fn into_parts(self) -> (NodeReader<'a>, HintList)
         ensures parts { result ≡ (self.entry.reading, self.entry.draft.list) }
         ensures normal { All HasNormalBounds result.1.rewrites }
     {
@@ -169,7 +169,7 @@ impl<'a> HintReader<'a> {
     {
         match word {
             Word::Literal(_, text) => self.draft.cut_into(number_of(text)),
-            Word::Sign(Sign::OpenParen) => self.draft.begin_points(),
+            Word::Sign(Symbol::OpenParen) => self.draft.begin_points(),
             _ => {}
         }
     }
@@ -193,7 +193,7 @@ impl<'a> HintReader<'a> {
 
     /// Takes a word. `Full` only where its meaning has more than 1,024 nodes, and else an `Err`
     /// only where memory runs out; the reader is then not to be used on: what it holds is sound
-    /// (`Reader::laws`), and the bounds of its rewritings are in normal form.
+    /// (`NodeReader::laws`), and the bounds of its rewritings are in normal form.
     #[tactic(auto, unfolding(crate::specs::Reading::read_hint))]
     pub fn token(&mut self, role: Due, word: Word<'a>) -> Result<(), DagFault>
         ensures reading { OnOk result

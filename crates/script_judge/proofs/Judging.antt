@@ -17,7 +17,7 @@ use Rattle.script_cases.specs.Parts.{begun_cases}
 use Rattle.script_judge.specs.Splits.{SplitsSeen, ends_between, is_rangeless, is_bad_point}
 use Rattle.script_judge.specs.SplitViews.{splits_seen}
 use Rattle.script_judge.specs.FewCases.{still_few}
-use Rattle.script_judge.specs.Numbers.{Verdict, Tells, has_no_pieces, is_past_lsb, is_past_pieces}
+use Rattle.script_judge.specs.Numbers.{Notes, Tells, has_no_pieces, is_past_lsb, is_past_pieces}
 use Rattle.script_judge.specs.Judge.{Seen, nothing_seen, seen_after, is_arrow, has_arrow, arrow_count, is_on_wrong_side, form_kind, form_refusal, limit_kind, is_past_cases, limit_refusal, or_else, refusal_at, Judged, refused, passed, fails}
 use Rattle.script_judge.specs.Views.{IsSeen}
 
@@ -100,12 +100,12 @@ pub begin_judging : (all : List Leaf) (code : CodeSeen) (arrows : ℕ) → IsSee
 begin_judging all code arrows h w f a = record { seen = nothing_seen; stands = h; within = w; few = f; arrows_left = a; rest = λ found k. k }
 
 -- what is told of one token
-pub record IsFormOf (code : CodeSeen) (v : Verdict) (arrow_behind : Bool) (r : Due) (w : Word) (behind : List Leaf) (form : Option RefusalKind) : Type 0 where
+pub record IsFormOf (code : CodeSeen) (v : Notes) (arrow_behind : Bool) (r : Due) (w : Word) (behind : List Leaf) (form : Option RefusalKind) : Type 0 where
   pub tells : Tells v r w behind
   pub arrow : arrow_behind ≡ has_arrow behind
   pub kind : (s : Seen) → IsSeen code s → form ≡ form_refusal v s r w arrow_behind behind
 
-pub told : (code : CodeSeen) (v : Verdict) (r : Due) (w : Word) (behind : List Leaf) (form : Option RefusalKind) (arrows later : ℕ) (arrow : Bool) → arrows ≡ arrow_count (at r w ∷ behind) → later ≡ arrows - one_if arrow → arrow ≡ is_arrow r w
+pub told : (code : CodeSeen) (v : Notes) (r : Due) (w : Word) (behind : List Leaf) (form : Option RefusalKind) (arrows later : ℕ) (arrow : Bool) → arrows ≡ arrow_count (at r w ∷ behind) → later ≡ arrows - one_if arrow → arrow ≡ is_arrow r w
     → Tells v r w behind → ((s : Seen) → IsSeen code s → form ≡ form_refusal v s r w (nat_lt 0 later) behind) → IsFormOf code v (nat_lt 0 later) r w behind form
 told code v r w behind form arrows later arrow h k e t f = record {
   tells = t;
@@ -113,12 +113,12 @@ told code v r w behind form arrows later arrow h k e t f = record {
   kind = f;
 }
 
-form_at : {code : CodeSeen} {v : Verdict} {arrow_behind : Bool} {r : Due} {w : Word} {behind : List Leaf} {form : Option RefusalKind} → IsFormOf code v arrow_behind r w behind form
+form_at : {code : CodeSeen} {v : Notes} {arrow_behind : Bool} {r : Due} {w : Word} {behind : List Leaf} {form : Option RefusalKind} → IsFormOf code v arrow_behind r w behind form
     → (seen : Seen) → IsSeen code seen → refusal_at v seen r w behind ≡ or_else form (limit_refusal (seen_after v seen r w) r w)
 form_at {code} {v} {arrow_behind} {r} {w} {behind} {form} f seen h =
     ap (λ o. or_else o (limit_refusal (seen_after v seen r w) r w)) (ap (λ b. form_refusal v seen r w b behind) (sym f.arrow) ∙ sym (f.kind seen h))
 
-module _ (all : List Leaf) (n : ℕ) (code : CodeSeen) (r : Due) (w : Word) (behind : List Leaf) (arrows : ℕ) (m : JudgedTo all n code (at r w ∷ behind) arrows) (v : Verdict) (arrow_behind : Bool) (form : Option RefusalKind) (f : IsFormOf code v arrow_behind r w behind form) where
+module _ (all : List Leaf) (n : ℕ) (code : CodeSeen) (r : Due) (w : Word) (behind : List Leaf) (arrows : ℕ) (m : JudgedTo all n code (at r w ∷ behind) arrows) (v : Notes) (arrow_behind : Bool) (form : Option RefusalKind) (f : IsFormOf code v arrow_behind r w behind form) where
   -- a token that is refused whatever is counted
   pub ends_by_form : (k : RefusalKind) → form ≡ Some k → Judged 0 nothing_seen all (Some (record { kind = k; word = n }))
   ends_by_form k e =
@@ -150,7 +150,7 @@ module _ (all : List Leaf) (n : ℕ) (code : CodeSeen) (r : Due) (w : Word) (beh
 
 -- ---- what one token's tests tell
 
-pub form_told : (v : Verdict) (arrow_behind : Bool) (seen : Seen) (r : Due) (w : Word) (rs : List Due) (ws : List Word) (wrong_side used bad rangeless split no_pieces point : Bool) (answer : Option RefusalKind)
+pub form_told : (v : Notes) (arrow_behind : Bool) (seen : Seen) (r : Due) (w : Word) (rs : List Due) (ws : List Word) (wrong_side used bad rangeless split no_pieces point : Bool) (answer : Option RefusalKind)
     → wrong_side ≡ is_on_wrong_side r w arrow_behind (leaves_of rs ws) → used ≡ is_used seen.names (defines r w) (leaves_of rs ws)
     → bad ≡ is_bad_bound seen.bounds v.number → rangeless ≡ is_rangeless seen.splits.ranges split (split_name r w) → split ≡ is_some_among seen.names.defined (split_name r w) → no_pieces ≡ has_no_pieces r w
     → point ≡ is_bad_point seen.splits (nat_lt 0 seen.counts.pieces) v.number → answer ≡ form_kind wrong_side used bad rangeless split no_pieces point v.past

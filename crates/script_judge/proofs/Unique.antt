@@ -18,7 +18,7 @@ use Rattle.script_judge.specs.Reading.{Reading, IsReadingOf, IsReadable, IsTextR
 use Rattle.script_judge.specs.Reading as reading
 use Rattle.script_judge.specs.First.{IsFirstRefusal, first_of, refusal_of}
 use Rattle.script_judge.specs.First as first
-use Rattle.script_judge.specs.Numbers.{Verdict, Tells}
+use Rattle.script_judge.specs.Numbers.{Notes, Tells}
 use Rattle.script_judge.specs.Judge.{Seen, nothing_seen, seen_after, refusal_at, Judged, none_refused, refused, passed}
 use Rattle.script_judge.specs.declared.refusal.RefusalKind.TheVariants as kind
 
@@ -85,16 +85,16 @@ same_number (Some x) b P h k = sym ((k x).1 ((h x).0 refl))
 same_number None (Some y) P h k = (h y).1 ((k y).0 refl)
 same_number None None P h k = refl
 
-same_verdict : (r : Due) (w : Word) (ls : List Leaf) (v u : Verdict) → Tells v r w ls → Tells u r w ls → v ≡ u
-same_verdict r w ls v u h k =
+same_notes : (r : Due) (w : Word) (ls : List Leaf) (v u : Notes) → Tells v r w ls → Tells u r w ls → v ≡ u
+same_notes r w ls v u h k =
     let past = same_truth v.past u.past _ h.past k.past in
     let number = same_number v.number u.number _ h.number k.number in
     let arrow : v.arrow_behind ≡ u.arrow_behind = h.arrow ∙ sym k.arrow in
     λ i. record { past = past i; number = number i; arrow_behind = arrow i }
 
-same_kind : (seen : Seen) (l : Leaf) (ls : List Leaf) (v w : Verdict) (a b : Option RefusalKind) → Tells v l.role l.word ls → Tells w l.role l.word ls
+same_kind : (seen : Seen) (l : Leaf) (ls : List Leaf) (v w : Notes) (a b : Option RefusalKind) → Tells v l.role l.word ls → Tells w l.role l.word ls
     → refusal_at v seen l.role l.word ls ≡ a → refusal_at w seen l.role l.word ls ≡ b → a ≡ b
-same_kind seen l ls v w a b h k e f = sym e ∙ ap (λ x. refusal_at x seen l.role l.word ls) (same_verdict l.role l.word ls v w h k) ∙ f
+same_kind seen l ls v w a b h k e f = sym e ∙ ap (λ x. refusal_at x seen l.role l.word ls) (same_notes l.role l.word ls v w h k) ∙ f
 
 abbrev kind_in : Option RefusalKind → RefusalKind → RefusalKind
 kind_in None k = k
@@ -107,7 +107,7 @@ judged_once {i} {seen} (refused {l = l} {ls = ls} {v = v} {k = j} t e) (refused 
 judged_once {i} {seen} (refused {l = l} {ls = ls} {v = v} {k = j} t e) (passed {v = w} u f r) = let h = same_kind seen l ls v w (Some j) None t u e f in absurd (cc h)
 judged_once {i} {seen} (passed {l = l} {ls = ls} {v = v} t e r) (refused {v = w} {k = k} u f) = let h = same_kind seen l ls v w None (Some k) t u e f in absurd (cc h)
 judged_once {i} {seen} (passed {l = l} {ls = ls} {v = v} {found = a} t e r) (passed {v = w} u f s) =
-    judged_once (subst (λ x. Judged (i + 1) (seen_after x seen l.role l.word) ls a) (same_verdict l.role l.word ls v w t u) r) s
+    judged_once (subst (λ x. Judged (i + 1) (seen_after x seen l.role l.word) ls a) (same_notes l.role l.word ls v w t u) r) s
 
 module _ (lexes : LexesOnce) (shapes : ShapeIsUnique) (roles : RolesAreUnique) where
   same_first : (text : List ℕ) (x y : Reading) (f g : Option Fault) → x ≡ y → Judged 0 nothing_seen x.leaves f → Judged 0 nothing_seen y.leaves g

@@ -2,9 +2,9 @@
 use Rattle.std.specs.Option.{option_map}
 use Rattle.bound_order.specs.literal_order.Values.{written_value}
 use Rattle.script_judge.specs.declared.bounds.Bounds.{Bounds}
-use Rattle.script_judge.specs.declared.numbers.Verdict.{Verdict as CodeVerdict}
+use Rattle.script_judge.specs.declared.numbers.Notes.{Notes as CodeNotes}
 use Rattle.script_judge.specs.Bounds.{BoundsSeen}
-use Rattle.script_judge.specs.Numbers.{Verdict}
+use Rattle.script_judge.specs.Numbers.{Notes}
 
 -- what stands before a bound
 abbrev pub bounds_of : Bounds → BoundsSeen
@@ -15,8 +15,8 @@ bounds_of b = record {
 }
 
 -- what is told of a token
-abbrev pub verdict_of : CodeVerdict → Verdict
-verdict_of v = record {
+abbrev pub notes_of : CodeNotes → Notes
+notes_of v = record {
   past = v.past;
   number = option_map written_value v.number;
   arrow_behind = v.arrow_behind;

@@ -1,12 +1,12 @@
 -- What is counted token by token, and what is open.
 use Rattle.std.specs.Prelude.{ℕ, ◌+◌, nat_lt, not, Bool, true, false}
-use Rattle.script_shape.specs.script_words.declared.class.Sign.{Sign}
-use Rattle.script_shape.specs.script_words.declared.class.Sign.TheVariants as s
+use Rattle.script_shape.specs.script_words.declared.class.Symbol.{Symbol}
+use Rattle.script_shape.specs.script_words.declared.class.Symbol.TheVariants as s
 use Rattle.script_shape.specs.script_words.Words.{Word, name, rounding, literal, sign}
 use Rattle.script_shape.specs.declared.due.Due.{Due}
 use Rattle.script_shape.specs.declared.due.Due.TheVariants as d
-use Rattle.script_judge.specs.declared.counts.Place.{Place}
-use Rattle.script_judge.specs.declared.counts.Place.TheVariants as place
+use Rattle.script_judge.specs.declared.counts.ScriptPart.{ScriptPart}
+use Rattle.script_judge.specs.declared.counts.ScriptPart.TheVariants as place
 use Rattle.script_judge.specs.declared.counts.Counts.{Counts}
 
 -- 1 where the test is true
@@ -22,28 +22,28 @@ is_open_brace (sign s.OpenBrace) = true
 is_open_brace w = false
 
 -- behind the first token of a proposition or a hint
-abbrev pub within : Place → Place
+abbrev pub within : ScriptPart → ScriptPart
 within place.PropositionNext = place.Formula
 within place.HintNext = place.Hints
 within p = p
 
 -- behind a `}`: that of the formula, or that of a hint's needs
-abbrev pub place_closed : Place → Place
+abbrev pub place_closed : ScriptPart → ScriptPart
 place_closed place.Formula = place.HintNext
 place_closed p = within p
 
 -- behind a `;`: that of a hint, or that of a definition
-abbrev pub place_ended : Place → Place
+abbrev pub place_ended : ScriptPart → ScriptPart
 place_ended place.Hints = place.HintNext
 place_ended p = within p
 
 -- behind what may be the `{` of the formula
-abbrev pub place_opened : Bool → Place → Place
+abbrev pub place_opened : Bool → ScriptPart → ScriptPart
 place_opened true p = place.PropositionNext
 place_opened false p = p
 
 -- the place behind a token; a proposition begins behind `not`
-abbrev pub place_after : Place → Due → Word → Place
+abbrev pub place_after : ScriptPart → Due → Word → ScriptPart
 place_after p d.Script w = place_opened (is_open_brace w) p
 place_after p d.Claim w = p
 place_after p d.Connective w = place.PropositionNext
@@ -64,18 +64,18 @@ is_first d.Claim = false
 is_first r = true
 
 -- whether it is a proposition's first token
-abbrev pub begins_proposition : Place → Due → Bool
+abbrev pub begins_proposition : ScriptPart → Due → Bool
 begins_proposition place.PropositionNext r = is_first r
 begins_proposition p r = false
 
 -- a hint's first token
-abbrev pub begins_hint : Place → Bool
+abbrev pub begins_hint : ScriptPart → Bool
 begins_hint place.HintNext = true
 begins_hint p = false
 
 -- Nodes of a sign that an operand begins with. An `fma` has its product and its sum, which is
 -- rounded with it.
-abbrev pub sign_nodes : Bool → Sign → ℕ
+abbrev pub sign_nodes : Bool → Symbol → ℕ
 sign_nodes rounds s.Minus = 1
 sign_nodes rounds s.Bar = 1
 sign_nodes rounds s.Fixed = 1

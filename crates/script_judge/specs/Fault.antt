@@ -2,8 +2,8 @@
 use Rattle.std.specs.Prelude.{ℕ, ◌-◌, ◌&&◌, ◌||◌, not, List, length, take, slice_get, Option, Some, Bool, true, false, if◌then◌else◌}
 use Rattle.std.specs.List.{list_any}
 use Rattle.std.specs.Str.{bytes_eq}
-use Rattle.script_shape.specs.script_words.declared.class.Sign.{Sign}
-use Rattle.script_shape.specs.script_words.declared.class.Sign.TheVariants as s
+use Rattle.script_shape.specs.script_words.declared.class.Symbol.{Symbol}
+use Rattle.script_shape.specs.script_words.declared.class.Symbol.TheVariants as s
 use Rattle.script_shape.specs.script_words.declared.class.Spelled.TheVariants as spelled
 use Rattle.script_shape.specs.script_words.declared.class.Class.TheVariants as class
 use Rattle.script_shape.specs.script_words.Words.{Word, name, rounding, literal, sign}
@@ -17,7 +17,7 @@ use Rattle.script_judge.specs.declared.fault.Fault.{Fault}
 -- ---- words
 
 -- a reserved word
-abbrev pub is_reserved : Sign → Bool
+abbrev pub is_reserved : Symbol → Bool
 is_reserved s.In = true
 is_reserved s.Not = true
 is_reserved s.Fixed = true

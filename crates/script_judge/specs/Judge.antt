@@ -1,6 +1,6 @@
 -- The refusals that are judged on the words before the reading ends, token by token.
 use Rattle.std.specs.Prelude.{◌≡◌, ℕ, ◌+◌, ◌&&◌, ◌||◌, not, nat_lt, List, [], ◌∷◌, length, Option, Some, None, Bool, true, false, if◌then◌else◌, refl}
-use Rattle.script_shape.specs.script_words.declared.class.Sign.TheVariants as s
+use Rattle.script_shape.specs.script_words.declared.class.Symbol.TheVariants as s
 use Rattle.script_shape.specs.script_words.Words.{Word, sign}
 use Rattle.script_shape.specs.declared.due.Due.{Due}
 use Rattle.script_shape.specs.declared.due.Due.TheVariants as d
@@ -9,7 +9,7 @@ use Rattle.script_judge.specs.declared.refusal.RefusalKind.{RefusalKind}
 use Rattle.script_judge.specs.declared.refusal.RefusalKind.TheVariants as kind
 use Rattle.script_judge.specs.declared.refusal.LimitKind.TheVariants as limit
 use Rattle.script_judge.specs.declared.counts.Counts.{Counts}
-use Rattle.script_judge.specs.declared.counts.Place.TheVariants as place
+use Rattle.script_judge.specs.declared.counts.ScriptPart.TheVariants as place
 use Rattle.script_judge.specs.declared.nesting.Open.{Open}
 use Rattle.script_judge.specs.declared.fault.Fault.{Fault}
 use Rattle.script_judge.specs.Counts.{one_if, counts_after}
@@ -18,7 +18,7 @@ use Rattle.script_judge.specs.Bounds.{BoundsSeen, no_bounds, bounds_after, is_ba
 use Rattle.script_cases.specs.Parts.{begun_cases}
 pub use Rattle.script_judge.specs.Sides.{is_arrow, is_or, has_arrow, begins_bound}
 use Rattle.script_judge.specs.Splits.{SplitsSeen, no_splits, splits_after, ends_between, is_rangeless, is_bad_point}
-use Rattle.script_judge.specs.Numbers.{Verdict, Tells, has_no_pieces, is_past_lsb, is_past_pieces}
+use Rattle.script_judge.specs.Numbers.{Notes, Tells, has_no_pieces, is_past_lsb, is_past_pieces}
 use Rattle.script_judge.specs.Names.{NamesSeen, no_names, names_after, is_new, is_used, is_some_among, defines, ended, operand_name, split_name}
 
 -- what stands before a token
@@ -50,7 +50,7 @@ nothing_seen = record {
 }
 
 -- what stands before the next token
-abbrev pub seen_after : Verdict → Seen → Due → Word → Seen
+abbrev pub seen_after : Notes → Seen → Due → Word → Seen
 seen_after v seen r w = record {
   names = names_after seen.names seen.counts.halves r w;
   opened = opened_after seen.opened r w;
@@ -106,7 +106,7 @@ form_kind wrong_side used bad_bound rangeless defined_split no_pieces bad_point 
     ) ∷ ((past, kind.LiteralLimit) ∷ []))))))
 
 -- the tests of one token, with whether a `->` of the formula stands behind it
-abbrev pub form_refusal : Verdict → Seen → Due → Word → Bool → List Leaf → Option RefusalKind
+abbrev pub form_refusal : Notes → Seen → Due → Word → Bool → List Leaf → Option RefusalKind
 form_refusal v seen r w arrow_behind behind =
     form_kind (is_on_wrong_side r w arrow_behind behind)
     (is_used seen.names (defines r w) behind) (is_bad_bound seen.bounds v.number)
@@ -145,7 +145,7 @@ or_else (Some k) other = Some k
 or_else None other = other
 
 -- why a token is refused: by its form, or by a limit
-abbrev pub refusal_at : Verdict → Seen → Due → Word → List Leaf → Option RefusalKind
+abbrev pub refusal_at : Notes → Seen → Due → Word → List Leaf → Option RefusalKind
 refusal_at v seen r w behind =
     or_else (form_refusal v seen r w (has_arrow behind) behind)
     (limit_refusal (seen_after v seen r w) r w)
@@ -155,10 +155,10 @@ refusal_at v seen r w behind =
 -- The first refused word, counted from i on, or none.
 pub data Judged : ℕ → Seen → List Leaf → Option Fault → Type 0 where
   none_refused : {i : ℕ} {seen : Seen} → Judged i seen [] None
-  refused : {i : ℕ} {seen : Seen} {l : Leaf} {ls : List Leaf} {v : Verdict} {k : RefusalKind}
+  refused : {i : ℕ} {seen : Seen} {l : Leaf} {ls : List Leaf} {v : Notes} {k : RefusalKind}
       → Tells v l.role l.word ls → refusal_at v seen l.role l.word ls ≡ Some k
       → Judged i seen (l ∷ ls) (Some (record { kind = k; word = i }))
-  passed : {i : ℕ} {seen : Seen} {l : Leaf} {ls : List Leaf} {v : Verdict} {found : Option Fault}
+  passed : {i : ℕ} {seen : Seen} {l : Leaf} {ls : List Leaf} {v : Notes} {found : Option Fault}
       → Tells v l.role l.word ls → refusal_at v seen l.role l.word ls ≡ None
       → Judged (i + 1) (seen_after v seen l.role l.word) ls found → Judged i seen (l ∷ ls) found
 

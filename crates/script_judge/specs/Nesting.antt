@@ -1,8 +1,8 @@
 -- What is open: parentheses of expressions and calls, bars, and minus signs whose factor isn't
 -- complete.
 use Rattle.std.specs.Prelude.{List, [], ◌∷◌}
-use Rattle.script_shape.specs.script_words.declared.class.Sign.{Sign}
-use Rattle.script_shape.specs.script_words.declared.class.Sign.TheVariants as s
+use Rattle.script_shape.specs.script_words.declared.class.Symbol.{Symbol}
+use Rattle.script_shape.specs.script_words.declared.class.Symbol.TheVariants as s
 use Rattle.script_shape.specs.script_words.Words.{Word, name, rounding, literal, sign}
 use Rattle.script_shape.specs.declared.due.Due.{Due}
 use Rattle.script_shape.specs.declared.due.Due.TheVariants as d
@@ -21,7 +21,7 @@ closed [] = []
 closed (o ∷ os) = without_minus os
 
 -- a sign that an operand begins with opens itself
-abbrev pub opened_by_sign : Sign → List Open → List Open
+abbrev pub opened_by_sign : Symbol → List Open → List Open
 opened_by_sign s.OpenParen os = Pair ∷ os
 opened_by_sign s.Bar os = Pair ∷ os
 opened_by_sign s.Minus os = Minus ∷ os

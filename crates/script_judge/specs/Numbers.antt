@@ -35,10 +35,10 @@ is_past_pieces r w = false
 
 -- ---- what only a literal's value tells
 
--- what is told of a token: whether it is a literal of an expression or a bound that is past its
+-- what is noted of a token: whether it is a literal of an expression or a bound that is past its
 -- limits, the value of the bound that begins there, and whether a `->` of the formula stands behind
 -- it
-pub record Verdict : Type 0 where
+pub record Notes : Type 0 where
   pub past : Bool
   pub number : Option Fraction
   pub arrow_behind : Bool
@@ -60,8 +60,8 @@ abbrev pub IsPast : Bool → Word → Type 0
 IsPast true w = IsPastWord w
 IsPast false w = ⊥
 
--- The verdict is right for the token, with these behind it.
-pub record Tells (v : Verdict) (r : Due) (w : Word) (behind : List Leaf) : Type 0 where
+-- The notes are right for the token, with these behind it.
+pub record Tells (v : Notes) (r : Due) (w : Word) (behind : List Leaf) : Type 0 where
   pub past : IsTrue v.past ↔ IsPast (is_number r) w
   pub number : (x : Fraction) → (v.number ≡ Some x) ↔ IsBoundOf r w behind x
   pub arrow : v.arrow_behind ≡ has_arrow behind

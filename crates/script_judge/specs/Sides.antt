@@ -1,7 +1,7 @@
 -- The sides of the formula, and what `not` may stand before.
 use Rattle.std.specs.Prelude.{List, [], ◌∷◌, Bool, true, false}
 use Rattle.std.specs.List.{list_any}
-use Rattle.script_shape.specs.script_words.declared.class.Sign.TheVariants as s
+use Rattle.script_shape.specs.script_words.declared.class.Symbol.TheVariants as s
 use Rattle.script_shape.specs.script_words.Words.{Word, sign}
 use Rattle.script_shape.specs.declared.due.Due.{Due}
 use Rattle.script_shape.specs.declared.due.Due.TheVariants as d

@@ -1,8 +1,8 @@
 -- What expressions are: the node of a variable, or another one.
 use Rattle.std.specs.Prelude.{List, [], ◌∷◌, ◌++◌, Option, Some, None, Bool, true, false, if◌then◌else◌}
 use Rattle.std.specs.Str.{bytes_eq}
-use Rattle.script_shape.specs.script_words.declared.class.Sign.{Sign}
-use Rattle.script_shape.specs.script_words.declared.class.Sign.TheVariants as s
+use Rattle.script_shape.specs.script_words.declared.class.Symbol.{Symbol}
+use Rattle.script_shape.specs.script_words.declared.class.Symbol.TheVariants as s
 use Rattle.script_shape.specs.script_words.Words.{Word, name, sign}
 use Rattle.script_shape.specs.declared.due.Due.{Due}
 use Rattle.script_shape.specs.declared.due.Due.TheVariants as d
@@ -36,7 +36,7 @@ first_name nothing aliases defined text = named (alias_of aliases text) defined 
 first_name old aliases defined text = other
 
 -- a parenthesis is no part of its own
-abbrev pub signed_subject : Subject → Sign → Subject
+abbrev pub signed_subject : Subject → Symbol → Subject
 signed_subject old s.OpenParen = old
 signed_subject old g = other
 

@@ -12,7 +12,7 @@ ghost use Rattle.script_judge.specs.BoundViews.{bounds_of};
 
 use bound_order::{Written, is_too_low, read_number};
 use script_shape::due::Due;
-use script_shape::{Sign, Word, WordList};
+use script_shape::{Symbol, Word, WordList};
 
 fn word_number(negative: bool, word: Word<'_>) -> Option<Written>
     ensures normal { IsWritten result }
@@ -47,8 +47,8 @@ fn bound_text(word: Word<'_>, words: WordList<'_, '_>, roles: &[Due]) -> Option<
 {
     match word {
         Word::Literal(_, text) => read_number(false, text),
-        Word::Sign(Sign::Plus) => magnitude(false, words, roles),
-        Word::Sign(Sign::Minus) => magnitude(true, words, roles),
+        Word::Sign(Symbol::Plus) => magnitude(false, words, roles),
+        Word::Sign(Symbol::Minus) => magnitude(true, words, roles),
         _ => None,
     }
 }
@@ -94,7 +94,7 @@ fn relative_after(relative: bool, role: Due) -> bool
 fn opens_range(role: Due, word: Word<'_>) -> bool
     ensures { result ≡ spec.opens_range role (word_of word.entry) }
 {
-    matches!((role, word), (Due::Range, Word::Sign(Sign::OpenBracket)))
+    matches!((role, word), (Due::Range, Word::Sign(Symbol::OpenBracket)))
 }
 
 // Keeps the lower bound of a range for the upper.

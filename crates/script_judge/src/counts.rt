@@ -6,11 +6,11 @@ ghost use Rattle.script_judge.specs.Counts as spec;
 ghost use Rattle.script_judge.specs.Limits.{IsWithinLimits};
 
 use script_shape::due::Due;
-use script_shape::{Sign, Word};
+use script_shape::{Symbol, Word};
 
 /// The part of a script that a token stands in.
 #[derive(Clone, Copy, Debug, PartialEq, Eq)]
-pub enum Place {
+pub enum ScriptPart {
     Definitions,
     /// The next token is the first of a proposition.
     PropositionNext,
@@ -24,7 +24,7 @@ pub enum Place {
 #[derive(Clone, Copy, Debug, PartialEq, Eq)]
 pub struct Counts {
     /// The part of the script.
-    pub place: Place,
+    pub place: ScriptPart,
     /// Whether the definition rounds each of its operations.
     pub rounds: bool,
     /// Whether the hint halves variables for its goals.
@@ -42,57 +42,57 @@ pub struct Counts {
 fn is_open_brace(word: Word<'_>) -> bool
     ensures { result ≡ spec.is_open_brace (word_of word.entry) }
 {
-    matches!(word, Word::Sign(Sign::OpenBrace))
+    matches!(word, Word::Sign(Symbol::OpenBrace))
 }
 
 /// The place behind the first token of a proposition or a hint.
-fn within(place: Place) -> Place
+fn within(place: ScriptPart) -> ScriptPart
     ensures { result ≡ spec.within place }
 {
     match place {
-        Place::PropositionNext => Place::Formula,
-        Place::HintNext => Place::Hints,
+        ScriptPart::PropositionNext => ScriptPart::Formula,
+        ScriptPart::HintNext => ScriptPart::Hints,
         _ => place,
     }
 }
 
 /// The place behind a `}`.
-fn place_closed(place: Place) -> Place
+fn place_closed(place: ScriptPart) -> ScriptPart
     ensures { result ≡ spec.place_closed place }
 {
     match place {
-        Place::Formula => Place::HintNext,
+        ScriptPart::Formula => ScriptPart::HintNext,
         _ => within(place),
     }
 }
 
 /// The place behind a `;`.
-fn place_ended(place: Place) -> Place
+fn place_ended(place: ScriptPart) -> ScriptPart
     ensures { result ≡ spec.place_ended place }
 {
     match place {
-        Place::Hints => Place::HintNext,
+        ScriptPart::Hints => ScriptPart::HintNext,
         _ => within(place),
     }
 }
 
-fn place_opened(is_open_brace: bool, place: Place) -> Place
+fn place_opened(is_open_brace: bool, place: ScriptPart) -> ScriptPart
     ensures { result ≡ spec.place_opened is_open_brace place }
 {
     if is_open_brace {
-        Place::PropositionNext
+        ScriptPart::PropositionNext
     } else {
         place
     }
 }
 
-fn place_after(place: Place, role: Due, word: Word<'_>) -> Place
+fn place_after(place: ScriptPart, role: Due, word: Word<'_>) -> ScriptPart
     ensures { result ≡ spec.place_after place role (word_of word.entry) }
 {
     match role {
         Due::Script => place_opened(is_open_brace(word), place),
         Due::Claim => place,
-        Due::Connective => Place::PropositionNext,
+        Due::Connective => ScriptPart::PropositionNext,
         Due::CloseBrace => place_closed(place),
         Due::Semicolon => place_ended(place),
         _ => within(place),
@@ -115,19 +115,19 @@ fn is_first(role: Due) -> bool
 }
 
 /// Whether it is the first token of a proposition.
-fn begins_proposition(place: Place, role: Due) -> bool
+fn begins_proposition(place: ScriptPart, role: Due) -> bool
     ensures { result ≡ spec.begins_proposition place role }
 {
     match place {
-        Place::PropositionNext => is_first(role),
+        ScriptPart::PropositionNext => is_first(role),
         _ => false,
     }
 }
 
-fn begins_hint(place: Place) -> bool
+fn begins_hint(place: ScriptPart) -> bool
     ensures { result ≡ spec.begins_hint place }
 {
-    matches!(place, Place::HintNext)
+    matches!(place, ScriptPart::HintNext)
 }
 
 fn one_if(test: bool) -> u32
@@ -138,13 +138,13 @@ fn one_if(test: bool) -> u32
 }
 
 /// The nodes of a sign that an operand begins with.
-fn sign_nodes(rounds: bool, sign: Sign) -> u32
+fn sign_nodes(rounds: bool, sign: Symbol) -> u32
     ensures value { result ≡ spec.sign_nodes rounds sign }
     ensures small { result ≤ 3 }
 {
     match sign {
-        Sign::Minus | Sign::Bar | Sign::Fixed | Sign::Int => 1,
-        Sign::Fma => 2 + one_if(rounds),
+        Symbol::Minus | Symbol::Bar | Symbol::Fixed | Symbol::Int => 1,
+        Symbol::Fma => 2 + one_if(rounds),
         _ => 0,
     }
 }
@@ -187,7 +187,7 @@ fn pieces_begun(word: Word<'_>) -> u32
     ensures small { result ≤ 1 }
 {
     match word {
-        Word::Sign(Sign::OpenParen) => 1,
+        Word::Sign(Symbol::OpenParen) => 1,
         _ => 0,
     }
 }
@@ -208,7 +208,7 @@ fn pieces_after(pieces: u32, role: Due, word: Word<'_>) -> u32
 fn is_equal_sign(word: Word<'_>) -> bool
     ensures { result ≡ spec.is_equal_sign (word_of word.entry) }
 {
-    matches!(word, Word::Sign(Sign::Equal))
+    matches!(word, Word::Sign(Symbol::Equal))
 }
 
 fn rounds_after(rounds: bool, role: Due, word: Word<'_>) -> bool

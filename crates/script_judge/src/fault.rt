@@ -10,7 +10,7 @@ ghost use Rattle.script_judge.specs.Fault as spec;
 use crate::refusal::RefusalKind;
 use script_shape::due::Due;
 use script_shape::shape::may_follow;
-use script_shape::{Class, Sign, Spelled, Word, WordList};
+use script_shape::{Class, Spelled, Symbol, Word, WordList};
 use std::alloc::{AllocError, Global};
 
 /// A refused word: its number, and why.
@@ -29,7 +29,13 @@ fn is_spelled(word: Word<'_>) -> bool
         Word::Literal(..) => false,
         Word::Sign(sign) => matches!(
             sign,
-            Sign::In | Sign::Not | Sign::Fixed | Sign::Int | Sign::Fma | Sign::Float | Sign::Sqrt
+            Symbol::In
+                | Symbol::Not
+                | Symbol::Fixed
+                | Symbol::Int
+                | Symbol::Fma
+                | Symbol::Float
+                | Symbol::Sqrt
         ),
     }
 }
@@ -38,7 +44,7 @@ fn is_spelled(word: Word<'_>) -> bool
 fn is_foreign(word: Word<'_>) -> bool
     ensures { result ≡ spec.is_foreign (word_of word.entry) }
 {
-    matches!(word, Word::Sign(Sign::Float | Sign::Sqrt))
+    matches!(word, Word::Sign(Symbol::Float | Symbol::Sqrt))
 }
 
 /// Whether a name that isn't an operator's stands before `(`.
@@ -48,14 +54,14 @@ fn is_unknown_call(word: Option<Word<'_>>, next: Option<Word<'_>>) -> bool
 {
     matches!(
         (word, next),
-        (Some(Word::Name(..)), Some(Word::Sign(Sign::OpenParen)))
+        (Some(Word::Name(..)), Some(Word::Sign(Symbol::OpenParen)))
     )
 }
 
 fn is_equal(word: Option<Word<'_>>) -> bool
     ensures { result ≡ spec.is_equal (option_map word_of word.entry) }
 {
-    matches!(word, Some(Word::Sign(Sign::Equal)))
+    matches!(word, Some(Word::Sign(Symbol::Equal)))
 }
 
 /// Whether a name is given a value by a definition that begins with this word.
@@ -100,8 +106,8 @@ fn is_direction_due(alloc: Global, before: WordList<'_, '_>) -> Result<bool, All
 fn is_definition_due(alloc: Global, before: WordList<'_, '_>) -> Result<bool, AllocError>
     ensures { IfOk result (λ due. due ≡ spec.is_definition_due (words_in before.entry)) }
 {
-    let equal = may_follow(alloc, before, Class::Sign(Sign::Equal))?;
-    let operator = may_follow(alloc, before, Class::Sign(Sign::Fixed))?;
+    let equal = may_follow(alloc, before, Class::Sign(Symbol::Equal))?;
+    let operator = may_follow(alloc, before, Class::Sign(Symbol::Fixed))?;
     Ok(equal && operator)
 }
 
@@ -109,8 +115,8 @@ fn is_definition_due(alloc: Global, before: WordList<'_, '_>) -> Result<bool, Al
 fn is_operator_due(alloc: Global, before: WordList<'_, '_>) -> Result<bool, AllocError>
     ensures { IfOk result (λ due. due ≡ spec.is_operator_due (words_in before.entry)) }
 {
-    let operator = may_follow(alloc, before, Class::Sign(Sign::Fixed))?;
-    let equal = may_follow(alloc, before, Class::Sign(Sign::Equal))?;
+    let operator = may_follow(alloc, before, Class::Sign(Symbol::Fixed))?;
+    let equal = may_follow(alloc, before, Class::Sign(Symbol::Equal))?;
     let any_name = may_follow(alloc, before, Class::Name(Spelled::Plain))?;
     Ok(operator && !equal && !any_name)
 }

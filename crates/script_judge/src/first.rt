@@ -11,7 +11,7 @@ ghost use Rattle.script_judge.specs.Judge.{Judged, nothing_seen};
 ghost use Rattle.script_judge.specs.Views.{reading_of};
 
 use crate::judge::judge;
-use crate::reading::{ReadText, at_word, fault, read_text, text_refusal};
+use crate::reading::{ReadText, at_word, fault, read_as_script, text_refusal};
 use crate::refusal::{Refusal, RefusalKind};
 use script_shape::lexed_once;
 use script_shape::shape::{roles_are_unique, shape_is_unique};
@@ -106,7 +106,7 @@ pub fn judge_text<'a>(alloc: Global, text: &'a [u8]) -> Result<Judgement<'a>, Al
     if let Some(refusal) = text_refusal(text) {
         return Ok(Judgement::Refused(refusal));
     }
-    let read = read_text(alloc, text)?;
+    let read = read_as_script(alloc, text)?;
     match refusal_of(alloc, text, &read)? {
         Some(refusal) => Ok(Judgement::Refused(refusal)),
         None => Ok(Judgement::Accepted(read)),

@@ -14,16 +14,16 @@ ghost use Rattle.script_judge.specs.Judge as spec;
 ghost use Rattle.script_judge.specs.Judge.{Judged};
 ghost use Rattle.bound_order.specs.literal_order.Values.{IsWritten};
 ghost use Rattle.script_judge.specs.Limits.{IsWithinLimits};
-ghost use Rattle.script_judge.specs.BoundViews.{verdict_of};
+ghost use Rattle.script_judge.specs.BoundViews.{notes_of};
 ghost use Rattle.script_judge.specs.Views.{IsSeen};
 
 use crate::bounds::Bounds;
-use crate::counts::{Counts, Place, counts_after};
+use crate::counts::{Counts, ScriptPart, counts_after};
 use crate::fault::Fault;
 use crate::kinds::{form_kind, limit_kind};
 use crate::names::Names;
 use crate::nesting::{Open, open_or_close};
-use crate::numbers::{Verdict, has_no_pieces, is_past_lsb, is_past_pieces, verdict_on};
+use crate::numbers::{Notes, has_no_pieces, is_past_lsb, is_past_pieces, notes_on};
 use crate::refusal::RefusalKind;
 use crate::sides::{arrow_count, is_arrow, is_on_wrong_side, without};
 use crate::splits::{Ends, Splits, Told, ends_between, is_rangeless};
@@ -45,7 +45,7 @@ struct Seen<'a> {
 fn form_refusal<'a>(
     seen: &Seen<'a>,
     leaf: (Due, Word<'a>),
-    verdict: Verdict,
+    notes: Notes,
     arrow_behind: bool,
     words: WordList<'_, 'a>,
     roles: &[Due],
@@ -53,23 +53,23 @@ fn form_refusal<'a>(
 ) -> Option<RefusalKind>
     requires words { length roles.now ≤ length (words_in words) }
     requires lower { IsWritten seen.now.bounds.lower }
-    requires number { IsWritten verdict.number }
+    requires number { IsWritten notes.number }
     requires found { map (option_map ends_seen) found.now
         ≡ ranges_at (splits_seen seen.now.splits).ranges (split_name leaf.0 (word_of leaf.1)) }
     ensures { (stands : spec.Seen) → IsSeen seen.now stands → result
-        ≡ spec.form_refusal (verdict_of verdict) stands leaf.entry.0
+        ≡ spec.form_refusal (notes_of notes) stands leaf.entry.0
         (word_of leaf.entry.1) arrow_behind
         (leaves_of roles.now (words_in words.entry)) }
 {
     let (role, word) = leaf;
     let wrong_side = is_on_wrong_side(role, word, arrow_behind, words, roles);
     let used = seen.names.is_used(role, word, words, roles);
-    let bad_bound = seen.bounds.is_bad(verdict.number);
+    let bad_bound = seen.bounds.is_bad(notes.number);
     let defined_split = seen.names.splits_defined(role, word);
     let rangeless = is_rangeless(defined_split, found);
     let bad_point = seen
         .splits
-        .is_bad_point(seen.counts.pieces > 0, verdict.number);
+        .is_bad_point(seen.counts.pieces > 0, notes.number);
     form_kind(
         wrong_side,
         used,
@@ -78,7 +78,7 @@ fn form_refusal<'a>(
         defined_split,
         has_no_pieces(role, word),
         bad_point,
-        verdict.past,
+        notes.past,
     )
 }
 
@@ -108,7 +108,7 @@ impl<'a> Seen<'a> {
             names: Names::new(alloc),
             opened: Vec::new(alloc),
             counts: Counts {
-                place: Place::Definitions,
+                place: ScriptPart::Definitions,
                 rounds: false,
                 halves: false,
                 definitions: 0,
@@ -129,17 +129,17 @@ impl<'a> Seen<'a> {
         &mut self,
         role: Due,
         word: Word<'a>,
-        verdict: Verdict,
+        notes: Notes,
         found: &mut Vec<Option<Ends>>,
     ) -> Result<(), AllocError>
         requires counts { IsWithinLimits self.old.counts }
         requires lower { IsWritten self.old.bounds.lower }
-        requires number { IsWritten verdict.number }
+        requires number { IsWritten notes.number }
         requires found { map (option_map ends_seen) found.old.items
             ≡ ranges_at (splits_seen self.old.splits).ranges (split_name role (word_of word)) }
         requires few { begun_cases (splits_seen self.old.splits).ranges ≤ 64 }
         ensures seen { OnOk result ((stands : spec.Seen) → IsSeen self.old stands
-            → IsSeen self.new (spec.seen_after (verdict_of verdict) stands role
+            → IsSeen self.new (spec.seen_after (notes_of notes) stands role
             (word_of word.entry))) }
         ensures few { OnOk result (case_count (splits_seen self.new.splits).ranges.before ≤ 64) }
     {
@@ -147,15 +147,15 @@ impl<'a> Seen<'a> {
         let told = Told {
             ended: self.names.ends_definition(role),
             defined: self.names.uses_defined(role, word),
-            arrow_behind: verdict.arrow_behind,
-            ends: ends_between(self.bounds.lower(), verdict.number),
-            number: verdict.number,
+            arrow_behind: notes.arrow_behind,
+            ends: ends_between(self.bounds.lower(), notes.number),
+            number: notes.number,
         };
         self.splits.take(told, found, role, word)?;
         self.names.take(self.counts.halves, role, word)?;
         open_or_close(&mut self.opened, role, word)?;
         self.counts = counts_after(self.counts, is_new, role, word);
-        self.bounds.take(verdict.number, role, word);
+        self.bounds.take(notes.number, role, word);
         Ok(())
     }
 }
@@ -194,12 +194,12 @@ pub fn judge<'a>(
         let later_words = words.from(number + 1);
         let later_roles = roles_from(roles, number + 1);
         let later_arrows = without(arrows, is_arrow(role, word));
-        let verdict = verdict_on(role, word, later_words, later_roles, later_arrows > 0);
+        let notes = notes_on(role, word, later_words, later_roles, later_arrows > 0);
         seen.splits.ranges_at(&mut found, role, word)?;
         let form = form_refusal(
             &seen,
             (role, word),
-            verdict,
+            notes,
             later_arrows > 0,
             later_words,
             later_roles,
@@ -208,7 +208,7 @@ pub fn judge<'a>(
         if let Some(kind) = form {
             return Ok(Some(Fault { kind, word: number }));
         }
-        seen.take(role, word, verdict, &mut found)?;
+        seen.take(role, word, notes, &mut found)?;
         if let Some(kind) = limit_refusal(&seen, role, word) {
             return Ok(Some(Fault { kind, word: number }));
         }

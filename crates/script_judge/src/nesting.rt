@@ -5,7 +5,7 @@ ghost use Rattle.script_shape.specs.script_words.Named.{word_of};
 ghost use Rattle.script_judge.specs.Nesting as spec;
 
 use script_shape::due::Due;
-use script_shape::{Sign, Word};
+use script_shape::{Symbol, Word};
 use std::alloc::AllocError;
 
 /// What is open.
@@ -41,13 +41,13 @@ fn close(opened: &mut Vec<Open>) -> Result<(), AllocError>
     drop_minus(opened)
 }
 
-fn open_by_sign(opened: &mut Vec<Open>, sign: Sign) -> Result<(), AllocError>
+fn open_by_sign(opened: &mut Vec<Open>, sign: Symbol) -> Result<(), AllocError>
     ensures { OnOk result (reverse opened.new.items
         ≡ spec.opened_by_sign sign (reverse opened.old.items)) }
 {
     match sign {
-        Sign::OpenParen | Sign::Bar => opened.push(Open::Pair)?,
-        Sign::Minus => opened.push(Open::Minus)?,
+        Symbol::OpenParen | Symbol::Bar => opened.push(Open::Pair)?,
+        Symbol::Minus => opened.push(Open::Minus)?,
         _ => {}
     }
     Ok(())

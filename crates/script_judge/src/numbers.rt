@@ -5,7 +5,7 @@ ghost use Rattle.std.specs.Str.Parse.{digits_value};
 ghost use Rattle.bound_order.specs.literal.Normal.{IsPastLimits};
 ghost use Rattle.script_shape.specs.script_words.Named.{word_of};
 ghost use Rattle.script_shape.specs.script_words.Kept.{words_in};
-ghost use Rattle.script_judge.specs.BoundViews.{verdict_of};
+ghost use Rattle.script_judge.specs.BoundViews.{notes_of};
 ghost use Rattle.script_shape.specs.Roles.{leaves_of};
 ghost use Rattle.bound_order.specs.literal_order.Values.{IsWritten};
 ghost use Rattle.script_judge.specs.Numbers as spec;
@@ -96,9 +96,9 @@ pub fn is_past(role: Due, word: Word<'_>) -> bool
     }
 }
 
-/// What is told of a token.
+/// What is noted of a token.
 #[derive(Clone, Copy)]
-pub struct Verdict {
+pub struct Notes {
     /// Whether it is a literal past its limits.
     pub past: bool,
     /// The number of the bound that begins with it.
@@ -107,21 +107,21 @@ pub struct Verdict {
     pub arrow_behind: bool,
 }
 
-/// What is told of a token, with these words behind it.
-pub fn verdict_on(
+/// What is noted of a token, with these words behind it.
+pub fn notes_on(
     role: Due,
     word: Word<'_>,
     words: WordList<'_, '_>,
     roles: &[Due],
     arrow_behind: bool,
-) -> Verdict
+) -> Notes
     requires { arrow_behind ≡ has_arrow (leaves_of roles.now (words_in words)) }
-    ensures tells { spec.Tells (verdict_of result) role (word_of word.entry)
+    ensures tells { spec.Tells (notes_of result) role (word_of word.entry)
         (leaves_of roles.now (words_in words.entry)) }
     ensures within { IsWritten result.number }
     ensures arrow { result.arrow_behind ≡ arrow_behind }
 {
-    Verdict {
+    Notes {
         past: is_past(role, word),
         number: bound_number(role, word, words, roles),
         arrow_behind,

@@ -42,7 +42,7 @@ pub fn text_refusal(text: &[u8]) -> Option<Refusal>
 }
 
 /// Reads a text as far as the grammar goes.
-pub fn read_text<'a>(alloc: Global, text: &'a [u8]) -> Result<ReadText<'a>, AllocError>
+pub fn read_as_script<'a>(alloc: Global, text: &'a [u8]) -> Result<ReadText<'a>, AllocError>
     requires { length text.now ≤ 2 ^ 20 }
     ensures reading { IfOk result (λ read. IsReadingOf text.now (reading_of read)) }
     ensures taken { IfOk result
@@ -112,7 +112,7 @@ pub fn reading_fault(alloc: Global, text: &[u8]) -> Result<Option<Refusal>, Allo
     if let Some(refusal) = text_refusal(text) {
         return Ok(Some(refusal));
     }
-    let read = read_text(alloc, text)?;
+    let read = read_as_script(alloc, text)?;
     fault(alloc, text.len() as u32, &read)
 }
 

@@ -10,13 +10,13 @@ ghost use Rattle.script_judge.specs.Sides.{is_bound_sign};
 ghost use Rattle.script_shape.specs.Roles.{leaves_of};
 
 use script_shape::due::Due;
-use script_shape::{Sign, Word, WordList};
+use script_shape::{Symbol, Word, WordList};
 
 /// Whether it is a `->` of the formula.
 pub fn is_arrow(role: Due, word: Word<'_>) -> bool
     ensures { result ≡ spec.is_arrow role (word_of word.entry) }
 {
-    matches!((role, word), (Due::Connective, Word::Sign(Sign::Arrow)))
+    matches!((role, word), (Due::Connective, Word::Sign(Symbol::Arrow)))
 }
 
 /// How many tokens are a `->` of the formula.
@@ -53,20 +53,20 @@ pub fn without(arrows: usize, is_arrow: bool) -> usize
 fn is_ask(word: Word<'_>) -> bool
     ensures { result ≡ spec.is_ask (word_of word.entry) }
 {
-    matches!(word, Word::Sign(Sign::Ask))
+    matches!(word, Word::Sign(Symbol::Ask))
 }
 
 /// Whether it is the sign of a `\/`.
 pub fn is_or(word: Word<'_>) -> bool
     ensures { result ≡ spec.is_or (word_of word.entry) }
 {
-    matches!(word, Word::Sign(Sign::Or))
+    matches!(word, Word::Sign(Symbol::Or))
 }
 
 fn is_bound_sign(word: Word<'_>) -> bool
     ensures { result ≡ is_bound_sign (word_of word.entry) }
 {
-    matches!(word, Word::Sign(Sign::LessEqual | Sign::GreaterEqual))
+    matches!(word, Word::Sign(Symbol::LessEqual | Symbol::GreaterEqual))
 }
 
 /// Whether the proposition that begins with these words is `e <= n` or `e >= n`.

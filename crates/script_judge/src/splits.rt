@@ -21,7 +21,7 @@ use crate::subject::{Alias, Subject, add_alias, subject_after};
 use bound_order::{Dyadic, Written, down, up};
 use script_cases::{Conjunctions, Parts};
 use script_shape::due::Due;
-use script_shape::{Sign, Word};
+use script_shape::{Symbol, Word};
 use std::alloc::{AllocError, Global};
 use std::mem::swap;
 
@@ -110,8 +110,8 @@ fn connect(ranges: &mut Parts<SplitRange<'_>>, role: Due, word: Word<'_>) -> Res
         ≡ spec.parts_after (map_parts range_seen ranges.old) role (word_of word.entry)) }
 {
     match (role, word) {
-        (Due::Connective, Word::Sign(Sign::Or)) => ranges.end_conjunction(),
-        (Due::Connective, Word::Sign(Sign::Arrow)) => ranges.end_part(),
+        (Due::Connective, Word::Sign(Symbol::Or)) => ranges.end_conjunction(),
+        (Due::Connective, Word::Sign(Symbol::Arrow)) => ranges.end_part(),
         _ => Ok(()),
     }
 }

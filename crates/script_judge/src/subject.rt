@@ -7,7 +7,7 @@ ghost use Rattle.script_judge.specs.SplitViews.{subject_seen, alias_seen};
 ghost use Rattle.script_judge.specs.Subject as spec;
 
 use script_shape::due::Due;
-use script_shape::{Sign, Word};
+use script_shape::{Symbol, Word};
 use std::alloc::AllocError;
 
 /// What an expression is so far.
@@ -71,11 +71,11 @@ fn first_name<'a>(
     }
 }
 
-fn signed_subject<'a>(subject: Subject<'a>, sign: Sign) -> Subject<'a>
+fn signed_subject<'a>(subject: Subject<'a>, sign: Symbol) -> Subject<'a>
     ensures { subject_seen result ≡ spec.signed_subject (subject_seen subject.entry) sign }
 {
     match sign {
-        Sign::OpenParen => subject,
+        Symbol::OpenParen => subject,
         _ => Subject::Other,
     }
 }

@@ -3,8 +3,8 @@ use Rattle.std.proofs.Common.{◌≡◌, ℕ, ◌<◌, ◌≤◌, List, [], ◌�
 use Rattle.expr_dag.specs.fx_model.declared.Rounding.{Rounding}
 use Rattle.expr_dag.specs.fx_model.declared.ExprId.{ExprId}
 use Rattle.expr_dag.specs.fx_model.declared.Node.TheVariants.{Lit, Add, Sub}
-use Rattle.script_shape.specs.script_words.declared.class.Sign.{Sign}
-use Rattle.script_shape.specs.script_words.declared.class.Sign.TheVariants as s
+use Rattle.script_shape.specs.script_words.declared.class.Symbol.{Symbol}
+use Rattle.script_shape.specs.script_words.declared.class.Symbol.TheVariants as s
 use Rattle.script_shape.specs.script_words.Words.{Word, name, rounding, literal, sign}
 use Rattle.script_shape.specs.declared.due.Due.{Due}
 use Rattle.script_shape.specs.declared.due.Due.TheVariants as d
@@ -56,7 +56,7 @@ module _ (q : Option Rounding) (r : Reading) where
   term_operation_grows w (wait.Term v ∷ ws) = le_refl (node_count r.known)
   term_operation_grows w (v ∷ ws) = le_refl (node_count r.known)
 
-  sign_grows : (g : Sign) → KnownGrows r (sign_operand g r)
+  sign_grows : (g : Symbol) → KnownGrows r (sign_operand g r)
   sign_grows s.Minus = le_refl (node_count r.known)
   sign_grows s.OpenParen = le_refl (node_count r.known)
   sign_grows s.Bar = le_refl (node_count r.known)

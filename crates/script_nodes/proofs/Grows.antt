@@ -7,13 +7,13 @@ use Rattle.expr_dag.specs.fx_model.declared.Node.{Node}
 use Rattle.expr_dag.specs.fx_model.declared.Node.TheVariants.{Neg, Add, Mul, Div, Abs, Round}
 use Rattle.script_nodes.specs.declared.waits.Waits.{Waits}
 use Rattle.script_nodes.specs.declared.waits.Waits.TheVariants as wait
-use Rattle.script_nodes.specs.Known.{Name, Known, Placed, put, variable_put, name_put, named, entry_of}
+use Rattle.script_nodes.specs.Known.{Name, Known, PlacedNode, put, variable_put, name_put, named, entry_of}
 use Rattle.script_nodes.specs.Values.{then_rounded, one_operand, fused_sum}
 use Rattle.script_nodes.specs.Growth.{node_count, NamesGrow}
 use Rattle.script_nodes.specs.Kept.{placed_grows, put_grows}
 use Rattle.script_nodes.specs.Waits.{Reading, is_minus_first, Complete, factor_done, closing, closed, parting, parted, then_operation}
 
-pub rounded_grows : (q : Option Rounding) (p : Placed) → node_count p.0 ≤ node_count (then_rounded q p).0
+pub rounded_grows : (q : Option Rounding) (p : PlacedNode) → node_count p.0 ≤ node_count (then_rounded q p).0
 rounded_grows None p = le_refl (node_count p.0)
 rounded_grows (Some r) p = put_grows p.0 (Round r p.1)
 
@@ -33,7 +33,7 @@ unfolding named
 named_grows k text = name_grows k text (entry_of k.values text)
 
 module _ (q : Option Rounding) where
-  pub factor_grows : (ws : List Waits) (p : Placed) → node_count p.0 ≤ node_count (factor_done q ws p).known
+  pub factor_grows : (ws : List Waits) (p : PlacedNode) → node_count p.0 ≤ node_count (factor_done q ws p).known
   factor_grows [] p = le_refl (node_count p.0)
   factor_grows (wait.Minus ∷ ws) p = le_trans (put_grows p.0 (Neg p.1)) (factor_grows ws (one_operand Neg p))
   factor_grows (wait.Product u ∷ ws) p = two_grow q p.0 (Mul u p.1)
@@ -49,13 +49,13 @@ module _ (q : Option Rounding) where
   pub minus_past : (ws : List Waits) (k j : Known) (x : ExprId) (whole : Reading) → whole ≡ factor_done q ws (k, x) → is_minus_first ws ≡ true → j ≡ k → 1024 < node_count (put j (Neg x)).0 → 1024 < node_count whole.known
   minus_past ws k j x whole e h i f = let g = minus_grows ws k x h in omega (arith, ap (λ (r : Reading). node_count r.known) e, ap (λ j. node_count (put j (Neg x)).0) i)
 
-  fused_grows : (a b : ExprId) (c : Placed) → node_count c.0 ≤ node_count (fused_sum q a b c).0
+  fused_grows : (a b : ExprId) (c : PlacedNode) → node_count c.0 ≤ node_count (fused_sum q a b c).0
   fused_grows a b c = le_trans (put_grows c.0 (Mul a b)) (two_grow q (put c.0 (Mul a b)).0 (Add (put c.0 (Mul a b)).1 c.1))
 
-  pub product_past : (a b : ExprId) (c : Placed) → 1024 < node_count (put c.0 (Mul a b)).0 → 1024 < node_count (fused_sum q a b c).0
+  pub product_past : (a b : ExprId) (c : PlacedNode) → 1024 < node_count (put c.0 (Mul a b)).0 → 1024 < node_count (fused_sum q a b c).0
   product_past a b c h = let g = two_grow q (put c.0 (Mul a b)).0 (Add (put c.0 (Mul a b)).1 c.1) in omega arith
 
-  pub closing_grows : (p : Placed) (ws : List Waits) → node_count p.0 ≤ node_count (closing q p ws).known
+  pub closing_grows : (p : PlacedNode) (ws : List Waits) → node_count p.0 ≤ node_count (closing q p ws).known
   closing_grows p [] = le_refl (node_count p.0)
   closing_grows p (wait.Paren ∷ ws) = factor_grows ws p
   closing_grows p (wait.Bar ∷ ws) = le_trans (put_grows p.0 (Abs p.1)) (factor_grows ws (one_operand Abs p))
@@ -64,10 +64,10 @@ module _ (q : Option Rounding) where
   closing_grows p (w ∷ ws) = le_refl (node_count p.0)
 
   -- a list that is full at an operation, behind what waits
-  enclosed_past : (p x : Placed) (ws later : List Waits) → closing q p ws ≡ factor_done q later x → 1024 < node_count x.0 → 1024 < node_count (closing q p ws).known
+  enclosed_past : (p x : PlacedNode) (ws later : List Waits) → closing q p ws ≡ factor_done q later x → 1024 < node_count x.0 → 1024 < node_count (closing q p ws).known
   enclosed_past p x ws later e h = let g = factor_grows later x in omega (arith, ap (λ (r : Reading). node_count r.known) e)
 
-  module _ (p : Placed) (ws later : List Waits) (w : Waits) (e : ws ≡ w ∷ later) where
+  module _ (p : PlacedNode) (ws later : List Waits) (w : Waits) (e : ws ≡ w ∷ later) where
     first_is : (v : Waits) → w ≡ v → closing q p ws ≡ closing q p (v ∷ later)
     first_is v h = ap (closing q p) (e ∙ ap (λ w. w ∷ later) h)
 
@@ -84,7 +84,7 @@ module _ (q : Option Rounding) where
   closed_past r None h = absurd h
   closed_past r (Some c) h = let g = closing_grows c.0 c.1 in omega arith
 
-pub parting_count : (p : Placed) (ws : List Waits) → node_count (parting p ws).known ≡ node_count p.0
+pub parting_count : (p : PlacedNode) (ws : List Waits) → node_count (parting p ws).known ≡ node_count p.0
 parting_count p [] = refl
 parting_count p (wait.Fma ∷ ws) = refl
 parting_count p (wait.FmaWithOne a ∷ ws) = refl

@@ -7,7 +7,7 @@ use Rattle.expr_dag.specs.declared.dag.DagFault.{DagFault}
 use Rattle.expr_dag.specs.Nodes.{IsAt, IsPlaced, with_node}
 use Rattle.script_nodes.specs.declared.waits.Waits.{Waits}
 use Rattle.script_nodes.specs.declared.waits.Waits.TheVariants as wait
-use Rattle.script_nodes.specs.Known.{Known, Placed, put}
+use Rattle.script_nodes.specs.Known.{Known, PlacedNode, put}
 use Rattle.script_nodes.specs.Waits.{Reading}
 use Rattle.script_nodes.specs.Sound.{Fits, AllFit, IsSound, IsMade}
 use Rattle.script_nodes.specs.Kept.{values_fit_more}
@@ -75,7 +75,7 @@ pub added_sound : (r : Reading) (n : Node) (new : List Node) (answer : Result Ex
 added_sound r n new answer m p e s = joins_sound r n new m (joins_by answer r.known.nodes new n p e) s
 
 -- and the node's number
-pub added_put : (k : Known) (n : Node) (new : List Node) (known : Known) (answer : Result ExprId DagFault) → k ≡ known → IfOk answer (λ x. (new, x) ≡ with_node k.nodes n) → IfOk answer (λ x. ◌≡◌ {A = Placed} (record { nodes = new; variables = k.variables; values = k.values; operators = k.operators }, x) (put known n))
+pub added_put : (k : Known) (n : Node) (new : List Node) (known : Known) (answer : Result ExprId DagFault) → k ≡ known → IfOk answer (λ x. (new, x) ≡ with_node k.nodes n) → IfOk answer (λ x. ◌≡◌ {A = PlacedNode} (record { nodes = new; variables = k.variables; values = k.values; operators = k.operators }, x) (put known n))
 unfolding put
 added_put k n new known (Ok x) e h = ap (λ (p : List Node × ExprId). (record { nodes = p.0; variables = k.variables; values = k.values; operators = k.operators }, p.1)) h ∙ ap (λ (j : Known). (record { nodes = (with_node j.nodes n).0; variables = j.variables; values = j.values; operators = j.operators }, (with_node j.nodes n).1)) e
 added_put k n new known (Err f) e h = h

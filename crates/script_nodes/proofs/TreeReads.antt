@@ -2,13 +2,13 @@
 use Rattle.std.proofs.Common.{◌≡◌, List, [], ◌∷◌, ◌++◌, Option, Some, refl, ap, ◌∙◌, append_assoc}
 use Rattle.expr_dag.specs.fx_model.declared.Rounding.{Rounding}
 use Rattle.expr_dag.specs.fx_model.declared.ExprId.{ExprId}
-use Rattle.script_shape.specs.script_words.declared.class.Sign.TheVariants as s
+use Rattle.script_shape.specs.script_words.declared.class.Symbol.TheVariants as s
 use Rattle.script_shape.specs.script_words.Words.{sign}
 use Rattle.script_shape.specs.declared.due.Due.TheVariants as d
 use Rattle.script_shape.specs.script_words.declared.class.Spelled.TheVariants as spelled
 use Rattle.script_shape.specs.Tree.{Special, free, defined, Whole, natural, opposite, zero_alone, digits, Operator, fixed, int, Expr, term, sum, difference, Term, factor, product, quotient, Factor, negation, atom, Atom, number, variable, parenthesized, absolute, called, rounded, fused}
 use Rattle.script_shape.specs.Roles.{Leaf, at, special_leaves, whole_leaves, operator_leaves, expr_leaves, term_leaves, factor_leaves, atom_leaves}
-use Rattle.script_nodes.specs.Known.{Known, Placed, no_rounding, operator_named}
+use Rattle.script_nodes.specs.Known.{Known, PlacedNode, no_rounding, operator_named}
 use Rattle.script_nodes.specs.Operators.{direction_of, special_text, whole_value, rounding_of}
 use Rattle.script_nodes.specs.Values.{expr_value, term_value, factor_value, atom_value}
 use Rattle.script_nodes.specs.declared.waits.Waits.{Waits}
@@ -48,7 +48,7 @@ abbrev pub from : Known → List Waits → Reading
 from k ws = record { known = k; waits = ws }
 
 module _ (q : Option Rounding) where
-  stands : (ws : List Waits) (p : Placed) → LetsTerm ws → factor_done q ws p ≡ waiting p ws
+  stands : (ws : List Waits) (p : PlacedNode) → LetsTerm ws → factor_done q ws p ≡ waiting p ws
   stands [] p h = refl
   stands (wait.Minus ∷ ws) p h = absurd h
   stands (wait.Product u ∷ ws) p h = absurd h

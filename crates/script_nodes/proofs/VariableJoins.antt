@@ -6,7 +6,7 @@ use Rattle.expr_dag.specs.fx_model.declared.ExprId.{ExprId}
 use Rattle.expr_dag.specs.fx_model.declared.Node.{Node}
 use Rattle.expr_dag.specs.fx_model.declared.Node.TheVariants.{Var}
 use Rattle.expr_dag.specs.Nodes.{IsAt, IsFull, IsPlaced, IsFound, IsLast, place_of, placed, with_node}
-use Rattle.script_nodes.specs.Known.{Name, Known, Placed, put, variable_put, variables_with}
+use Rattle.script_nodes.specs.Known.{Name, Known, PlacedNode, put, variable_put, variables_with}
 use Rattle.script_nodes.specs.Waits.{Reading}
 use Rattle.script_nodes.specs.Sound.{IsSound}
 use Rattle.script_nodes.proofs.Sounds.{all_fit_more, ends_with}
@@ -113,7 +113,7 @@ pub sound_at : (r : Reading) (text : Name) (nodes : List Node) (names : List Nam
 sound_at r text nodes names place x s e h p = subst (λ l. IsSound (with_both r nodes l)) (sym e) (variable_sound r text s nodes x (subst (λ n. IsPlaced r.known.nodes (Var n) nodes x) h p))
 
 pub put_at : (r k : Reading) (text : Name) (nodes : List Node) (names : List Name) (place : ℕ) (x : ExprId) → r ≡ k → names ≡ variables_with r.known.variables text → place ≡ place_among r text → (nodes, x) ≡ with_node r.known.nodes (Var place)
-    → ◌≡◌ {A = Placed} ((with_both r nodes names).known, x) (variable_put k.known text)
+    → ◌≡◌ {A = PlacedNode} ((with_both r nodes names).known, x) (variable_put k.known text)
 unfolding put variable_put
 put_at r k text nodes names place x e n h c =
     ap (λ (p : List Node × ExprId). ((with_both r p.0 names).known, p.1)) c

@@ -3,7 +3,7 @@ use Rattle.std.specs.Prelude.{Option, Some, None}
 use Rattle.expr_dag.specs.fx_model.declared.Rounding.{Rounding}
 use Rattle.script_shape.specs.Tree.{AnyName, plain, operator, How, exactly, rounded_by, rounded_apart, rounded_joined, Definition, names_operator, names_value, Script, formula, define}
 use Rattle.script_nodes.specs.Operators.{rounding_of}
-use Rattle.script_nodes.specs.Known.{Name, Known, Placed, with_entry, operator_named}
+use Rattle.script_nodes.specs.Known.{Name, Known, PlacedNode, with_entry, operator_named}
 use Rattle.script_nodes.specs.Values.{expr_value}
 
 -- the text of a name
@@ -19,7 +19,7 @@ rounding_by k (rounded_apart o) = Some (rounding_of o)
 rounding_by k (rounded_joined o) = Some (rounding_of o)
 
 -- with one more value, and with one more operator
-abbrev pub with_value : Name → Placed → Known
+abbrev pub with_value : Name → PlacedNode → Known
 with_value text p = record p.0 { values = with_entry p.0.values text p.1 }
 
 -- the name gets this rounding

@@ -36,11 +36,11 @@ with_entry [] text a = (text, a) ∷ []
 with_entry (e ∷ es) text a = if bytes_eq text e.0 then (e.0, a) ∷ es else e ∷ with_entry es text a
 
 -- what is known, and the number of an expression
-abbrev pub Placed : Type 0
-Placed = Known × ExprId
+abbrev pub PlacedNode : Type 0
+PlacedNode = Known × ExprId
 
 -- A node that is there keeps its number, and a new one goes last.
-unfoldable pub put : Known → Node → Placed
+unfoldable pub put : Known → Node → PlacedNode
 put k n = (record k { nodes = (with_node k.nodes n).0 }, (with_node k.nodes n).1)
 
 -- the variables with one more, unless it is among them
@@ -49,17 +49,17 @@ variables_with names text = if list_any (bytes_eq text) names then names else na
 
 -- A variable has the number of its place among the variables. At its first use it is new and goes
 -- last.
-unfoldable pub variable_put : Known → Name → Placed
+unfoldable pub variable_put : Known → Name → PlacedNode
 variable_put k text = put (record k { variables = variables_with k.variables text })
     (Var (position_or_len (bytes_eq text) k.variables))
 
 -- a name with a value stands for that, and any other for a variable
-abbrev pub name_put : Known → Name → Option ExprId → Placed
+abbrev pub name_put : Known → Name → Option ExprId → PlacedNode
 name_put k text (Some x) = (k, x)
 name_put k text None = variable_put k text
 
 -- what is known with this name, and the number of what it stands for
-unfoldable pub named : Known → Name → Placed
+unfoldable pub named : Known → Name → PlacedNode
 named k text = name_put k text (entry_of k.values text)
 
 -- Rounding to whole numbers toward 0. It stands where a name isn't an operator's, which no script

@@ -4,8 +4,8 @@ use Rattle.std.specs.Prelude.{List, [], ◌∷◌, Option, Some, None, Bool, tru
 use Rattle.expr_dag.specs.fx_model.declared.Rounding.{Rounding}
 use Rattle.expr_dag.specs.fx_model.declared.ExprId.{ExprId}
 use Rattle.expr_dag.specs.fx_model.declared.Node.TheVariants.{Lit, Neg, Add, Sub, Mul, Div, Abs, Round}
-use Rattle.script_shape.specs.script_words.declared.class.Sign.{Sign}
-use Rattle.script_shape.specs.script_words.declared.class.Sign.TheVariants as s
+use Rattle.script_shape.specs.script_words.declared.class.Symbol.{Symbol}
+use Rattle.script_shape.specs.script_words.declared.class.Symbol.TheVariants as s
 use Rattle.script_shape.specs.script_words.Words.{Word, name, rounding, literal, sign}
 use Rattle.script_shape.specs.declared.due.Due.{Due}
 use Rattle.script_shape.specs.declared.due.Due.TheVariants as d
@@ -14,7 +14,7 @@ use Rattle.script_nodes.specs.declared.waits.Waits.{Waits}
 use Rattle.script_nodes.specs.declared.waits.Waits.TheVariants as wait
 use Rattle.script_nodes.specs.OperatorWords.{operator_ended, whole_read, opposite_read, direction_read}
 use Rattle.script_nodes.specs.Literals.{literal_of}
-use Rattle.script_nodes.specs.Known.{Known, Placed, put, named, no_rounding, operator_named}
+use Rattle.script_nodes.specs.Known.{Known, PlacedNode, put, named, no_rounding, operator_named}
 use Rattle.script_nodes.specs.Values.{one_operand, two_operands, fused_sum}
 
 -- what is known so far, and what waits, the last first
@@ -41,12 +41,12 @@ is_minus_first (wait.Minus ∷ ws) = true
 is_minus_first ws = false
 
 -- an operand that is read waits as a term
-abbrev pub waiting : Placed → List Waits → Reading
+abbrev pub waiting : PlacedNode → List Waits → Reading
 waiting p ws = record { known = p.0; waits = wait.Term p.1 ∷ ws }
 
 -- a number is complete, and what waits for it is left
 abbrev pub Complete : Type 0
-Complete = Placed × List Waits
+Complete = PlacedNode × List Waits
 
 -- ---- what a sign makes of the expression before it; where no term waits, nothing
 
@@ -61,7 +61,7 @@ term_operation w r (wait.Term v ∷ ws) = record { known = r.known; waits = w v 
 term_operation w r ws = r
 
 -- the comma behind an operand of an `fma`
-abbrev pub parting : Placed → List Waits → Reading
+abbrev pub parting : PlacedNode → List Waits → Reading
 parting p (wait.Fma ∷ ws) = record { known = p.0; waits = wait.FmaWithOne p.1 ∷ ws }
 parting p (wait.FmaWithOne a ∷ ws) = record { known = p.0; waits = wait.FmaWithTwo a p.1 ∷ ws }
 parting p ws = waiting p ws
@@ -72,7 +72,7 @@ parted r (Some c) = parting c.0 c.1
 parted r None = r
 
 -- a sign that an operand begins with
-abbrev pub sign_operand : Sign → Reading → Reading
+abbrev pub sign_operand : Symbol → Reading → Reading
 sign_operand s.Minus r = then_waits wait.Minus r
 sign_operand s.OpenParen r = then_waits wait.Paren r
 sign_operand s.Bar r = then_waits wait.Bar r
@@ -86,7 +86,7 @@ module _ (q : Option Rounding) where
 
   -- What a factor makes: it is negated where signs wait for it, and then it ends the product or the
   -- quotient that waits for it.
-  abbrev pub factor_done : List Waits → Placed → Reading
+  abbrev pub factor_done : List Waits → PlacedNode → Reading
   factor_done [] p = waiting p []
   factor_done (wait.Minus ∷ ws) p = factor_done ws (one_operand Neg p)
   factor_done (wait.Product u ∷ ws) p = waiting (two_operands q Mul u p) ws
@@ -105,7 +105,7 @@ module _ (q : Option Rounding) where
   expr_done r ws = None
 
   -- the sign that closes what was open before it
-  abbrev pub closing : Placed → List Waits → Reading
+  abbrev pub closing : PlacedNode → List Waits → Reading
   closing p (wait.Paren ∷ ws) = factor_done ws p
   closing p (wait.Bar ∷ ws) = factor_done ws (one_operand Abs p)
   closing p (wait.Call r ∷ ws) = factor_done ws (one_operand (Round r) p)

@@ -12,19 +12,19 @@ ghost use Rattle.script_nodes.specs.Waits as spec_waits;
 ghost use Rattle.script_nodes.specs.Defining as spec;
 ghost use Rattle.script_nodes.specs.Sound.{IsInRangeIf};
 
-use crate::reader::{NO_ROUNDING, Reader};
+use crate::reader::{NO_ROUNDING, NodeReader};
 use crate::waits::Waits;
 use expr_dag::{DagFault, Rounding};
 use script_shape::due::Due;
 use script_shape::shape::leaves_are_of_trees;
-use script_shape::{Sign, Word, WordList};
+use script_shape::{Symbol, Word, WordList};
 use std::alloc::Global;
 use std::marker::Model;
 
 /// What is known, and the definition that is being read.
 #[derive(Drop)]
 pub struct Definitions<'a> {
-    reader: Reader<'a>,
+    reader: NodeReader<'a>,
     /// The name whose definition is being read.
     name: Option<&'a [u8]>,
     /// What rounds its operations.
@@ -53,7 +53,7 @@ fn named_by<'a>(word: Word<'a>) -> Option<&'a [u8]>
     }
 }
 
-impl<'a> Reader<'a> {
+impl<'a> NodeReader<'a> {
     /// An operator begins.
     fn begin_operator(&mut self, word: Word<'a>) -> Result<(), DagFault>
         ensures reading { OnOk result
@@ -61,7 +61,7 @@ impl<'a> Reader<'a> {
         ensures memory { IfErr result (λ fault. fault ≡ DagFault.OutOfMemory) }
     {
         match word {
-            Word::Sign(Sign::Fixed | Sign::Int) => self.push(Waits::Operator(NO_ROUNDING)),
+            Word::Sign(Symbol::Fixed | Symbol::Int) => self.push(Waits::Operator(NO_ROUNDING)),
             _ => Ok(()),
         }
     }
@@ -91,7 +91,7 @@ impl<'a> Definitions<'a> {
         ensures { result ≡ spec.between spec_known.nothing_known }
     {
         Definitions {
-            reader: Reader::new(alloc),
+            reader: NodeReader::new(alloc),
             name: None,
             rounds: None,
         }
@@ -139,7 +139,7 @@ impl<'a> Definitions<'a> {
 
     /// Takes a word by its role. `Full` only where the meaning has more than 1,024 nodes, and else
     /// an `Err` only where memory runs out; it is then not to be used on: what its reader holds is
-    /// sound (`Reader::laws`).
+    /// sound (`NodeReader::laws`).
     #[tactic(auto, unfolding(crate::specs::Defining::define_word))]
     pub fn token(&mut self, role: Due, word: Word<'a>) -> Result<(), DagFault>
         ensures reading { OnOk result
@@ -165,14 +165,14 @@ impl<'a> Definitions<'a> {
     }
 
     /// What is known, for what follows the definitions.
-    pub fn into_reader(self) -> Reader<'a>
+    pub fn into_reader(self) -> NodeReader<'a>
         ensures { result ≡ self.entry.reading }
     {
         self.reader
     }
 
     /// What is known.
-    pub fn reader(&self) -> &Reader<'a>
+    pub fn reader(&self) -> &NodeReader<'a>
         ensures { result.now ≡ self.now.reading }
     {
         &self.reader
@@ -183,11 +183,11 @@ impl<'a> Definitions<'a> {
 fn opens_formula(role: Due, word: Word<'_>) -> bool
     ensures { result ≡ spec.opens_formula role (word_of word.entry) }
 {
-    matches!((role, word), (Due::Script, Word::Sign(Sign::OpenBrace)))
+    matches!((role, word), (Due::Script, Word::Sign(Symbol::OpenBrace)))
 }
 
 #[tactic(auto, unfolding(crate::specs::Defining::define_all))]
-fn read_words<'a>(
+fn read_from_start<'a>(
     alloc: Global,
     words: WordList<'_, 'a>,
     roles: &[Due],
@@ -235,5 +235,5 @@ pub fn definitions_of<'a>(
 {
     // Words of a script with roles are the leaves of its tree.
     leaves_are_of_trees();
-    read_words(alloc, words, roles)
+    read_from_start(alloc, words, roles)
 }

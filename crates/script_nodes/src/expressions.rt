@@ -8,11 +8,11 @@ ghost use Rattle.script_nodes.specs.Values as spec_values;
 ghost use Rattle.script_nodes.specs.Waits as spec;
 ghost use Rattle.script_nodes.specs.Sound.{IsInRangeIf, IsMade};
 
-use crate::reader::Reader;
+use crate::reader::NodeReader;
 use crate::waits::Waits;
 use expr_dag::{DagFault, ExprId, Node, Rounding};
 
-impl<'a> Reader<'a> {
+impl<'a> NodeReader<'a> {
     /// The number of an operation, rounded where the definition's operations are.
     pub fn operation(&mut self, rounds: Option<Rounding>, node: Node) -> Result<ExprId, DagFault>
         requires range { IsInRangeIf rounds }

@@ -5,7 +5,7 @@
 pub use expr_dag::{Dag, DagFault, ExprId};
 pub use literal_order::{Dyadic, End, Interval, Points, halve_between, part_down};
 pub use script_shape::due::Due;
-pub use script_shape::{Sign, Word, number_below};
+pub use script_shape::{Symbol, Word, number_below};
 
 pub mod definitions;
 pub mod digits;

@@ -21,7 +21,7 @@ pub const NO_ROUNDING: Rounding = Rounding {
 
 /// The nodes, variables, values and operators of what was read, and what waits for an operand.
 #[derive(Drop)]
-pub struct Reader<'a> {
+pub struct NodeReader<'a> {
     dag: Dag,
     variables: Variables<'a>,
     values: Values<'a>,
@@ -30,7 +30,7 @@ pub struct Reader<'a> {
     waits: Vec<Waits>,
 }
 
-impl<'a> Model for Reader<'a> {
+impl<'a> Model for NodeReader<'a> {
     ghost use Rattle.std.specs.Prelude.{reverse};
     ghost use Rattle.script_nodes.specs.Waits.{Reading};
     ghost use Rattle.script_nodes.specs.Sound.{IsSound};
@@ -58,12 +58,12 @@ impl<'a> Model for Reader<'a> {
     }) };
 }
 
-impl<'a> Reader<'a> {
+impl<'a> NodeReader<'a> {
     /// Nothing is read yet. It takes no memory.
-    pub fn new(alloc: Global) -> Reader<'a>
+    pub fn new(alloc: Global) -> NodeReader<'a>
         ensures { result ≡ record { known = spec.nothing_known; waits = [] } }
     {
-        Reader {
+        NodeReader {
             dag: Dag::new(alloc),
             variables: Variables::new(alloc),
             values: Values::new(alloc),

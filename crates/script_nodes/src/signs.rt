@@ -7,11 +7,11 @@ ghost use Rattle.script_nodes.specs.OperatorWords as spec_operators;
 ghost use Rattle.script_nodes.specs.Waits as spec;
 ghost use Rattle.script_nodes.specs.Sound.{IsInRangeIf};
 
-use crate::reader::Reader;
+use crate::reader::NodeReader;
 use crate::waits::Waits;
 use expr_dag::{DagFault, Direction, ExprId, Node, Rounding};
 
-impl<'a> Reader<'a> {
+impl<'a> NodeReader<'a> {
     /// A sum waits for its right side.
     pub fn plus(&mut self, rounds: Option<Rounding>) -> Result<(), DagFault>
         requires { IsInRangeIf rounds }

@@ -8,24 +8,24 @@ ghost use Rattle.script_nodes.specs.Waits as spec;
 ghost use Rattle.script_nodes.specs.Sound.{IsInRangeIf};
 
 use crate::digits::{direction_of, literal_of, number_of};
-use crate::reader::{NO_ROUNDING, Reader};
+use crate::reader::{NO_ROUNDING, NodeReader};
 use crate::waits::Waits;
 use expr_dag::{DagFault, ExprId, Node, Rounding};
 use script_shape::due::Due;
-use script_shape::{Sign, Word};
+use script_shape::{Symbol, Word};
 
-impl<'a> Reader<'a> {
+impl<'a> NodeReader<'a> {
     /// A sign that an operand begins with.
-    fn sign_operand(&mut self, sign: Sign) -> Result<(), DagFault>
+    fn sign_operand(&mut self, sign: Symbol) -> Result<(), DagFault>
         ensures reading { OnOk result (self.new ≡ spec.sign_operand sign self.old) }
         ensures memory { IfErr result (λ fault. fault ≡ DagFault.OutOfMemory) }
     {
         match sign {
-            Sign::Minus => self.push(Waits::Minus),
-            Sign::OpenParen => self.push(Waits::Paren),
-            Sign::Bar => self.push(Waits::Bar),
-            Sign::Fixed | Sign::Int => self.push(Waits::Operator(NO_ROUNDING)),
-            Sign::Fma => self.push(Waits::Fma),
+            Symbol::Minus => self.push(Waits::Minus),
+            Symbol::OpenParen => self.push(Waits::Paren),
+            Symbol::Bar => self.push(Waits::Bar),
+            Symbol::Fixed | Symbol::Int => self.push(Waits::Operator(NO_ROUNDING)),
+            Symbol::Fma => self.push(Waits::Fma),
             _ => Ok(()),
         }
     }
@@ -79,10 +79,10 @@ impl<'a> Reader<'a> {
             → 1024 < length (spec.operation rounds (word_of word.entry) self.old).known.nodes }
     {
         match word {
-            Word::Sign(Sign::Plus) => self.plus(rounds),
-            Word::Sign(Sign::Minus) => self.minus(rounds),
-            Word::Sign(Sign::Star) => self.times(),
-            Word::Sign(Sign::Slash) => self.over(),
+            Word::Sign(Symbol::Plus) => self.plus(rounds),
+            Word::Sign(Symbol::Minus) => self.minus(rounds),
+            Word::Sign(Symbol::Star) => self.times(),
+            Word::Sign(Symbol::Slash) => self.over(),
             _ => Ok(()),
         }
     }

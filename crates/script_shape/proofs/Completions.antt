@@ -4,8 +4,8 @@ use Rattle.std.specs.List.{AllByRecursion}
 use Rattle.std.proofs.lemmas.List.Elements.{All-nil, All-append, All-from_recursion}
 use Rattle.script_words.specs.declared.class.Spelled.TheVariants as spelled
 use Rattle.script_words.specs.declared.class.Number.TheVariants as digits_kind
-use Rattle.script_words.specs.declared.class.Sign.{Sign}
-use Rattle.script_words.specs.declared.class.Sign.TheVariants as s
+use Rattle.script_words.specs.declared.class.Symbol.{Symbol}
+use Rattle.script_words.specs.declared.class.Symbol.TheVariants as s
 use Rattle.script_words.specs.declared.lex.TokenKind.TheVariants as kind
 use Rattle.script_words.specs.Words.{name, literal, sign}
 use Rattle.script_words.specs.Literals.{literal_len, scaled_len}
@@ -19,7 +19,7 @@ use Rattle.script_shape.proofs.Parts.{Part, part_words, Parts, parts_words, apar
 -- ---- words that tokens can be
 
 -- the bytes of a sign
-abbrev sign_text : Sign → List ℕ
+abbrev sign_text : Symbol → List ℕ
 sign_text s.OpenBrace = codes "{"
 sign_text s.CloseBrace = codes "}"
 sign_text s.OpenParen = codes "("
@@ -56,7 +56,7 @@ sign_text s.Float = codes "float"
 sign_text s.Sqrt = codes "sqrt"
 
 -- it is a token of its own
-sign_alone : (g : Sign) → front (sign_text g) ≡ Some (kind.Sign g, length (sign_text g))
+sign_alone : (g : Symbol) → front (sign_text g) ≡ Some (kind.Sign g, length (sign_text g))
 unfolding front
 sign_alone s.OpenBrace = refl
 sign_alone s.CloseBrace = refl
@@ -93,7 +93,7 @@ sign_alone s.Fma = refl
 sign_alone s.Float = refl
 sign_alone s.Sqrt = refl
 
-some_sign : (g : Sign) → IsToken (sign g)
+some_sign : (g : Symbol) → IsToken (sign g)
 some_sign g = record { text = sign_text g; kind = kind.Sign g; operators = []; alone = sign_alone g; word = refl }
 
 one : IsToken (literal digits_kind.Digits (codes "1"))

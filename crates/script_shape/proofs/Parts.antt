@@ -4,12 +4,12 @@ use Rattle.std.proofs.lemmas.Bool.{and_parts}
 use Rattle.script_words.specs.declared.class.Spelled.TheVariants as spelled
 use Rattle.script_words.specs.declared.class.Number.{Number}
 use Rattle.script_words.specs.declared.class.Number.TheVariants as digits_kind
-use Rattle.script_words.specs.declared.class.Sign.{Sign}
-use Rattle.script_words.specs.declared.class.Sign.TheVariants as s
+use Rattle.script_words.specs.declared.class.Symbol.{Symbol}
+use Rattle.script_words.specs.declared.class.Symbol.TheVariants as s
 use Rattle.script_shape.specs.declared.due.Due.{Due}
 use Rattle.script_shape.specs.declared.due.Due.TheVariants as due
 use Rattle.script_words.specs.Words.{Word, name, rounding, literal, sign, class_of}
-use Rattle.script_shape.specs.Tree.{AnyName, plain, operator, name_words, Special, free, defined, special_words, Digits, zero_alone, digits, digits_words, Whole, natural, opposite, whole_words, Bound, unsigned, positive, negative, bound_words, Operator, fixed, int, operator_words, Expr, term, factor, atom, Atom, number, variable, parenthesized, absolute, called, rounded, fused, expr_words, atom_words, Range, asked, between, range_words, Prop, lies_in, relative_in, at_most, at_least, multiple, prop_words, Stated, affirmed, denied, stated_words, Formula, single, and, or, implies, formula_words, Need, nonzero, below, not_above, above, not_below, need_words, NeedList, last_need, more_needs, need_list_words, Needs, always, provided, needs_words, Points, last_point, more_points, points_words, Cut, in_four, pieces, at_points, cut_words, Names, last_name, more_names, names_words, Halving, halved_by, with_goal, halving_words, Hint, rewrite, like, split, halving, hint_words, Hints, no_hint, hint, hints_words, How, exactly, rounded_by, rounded_apart, rounded_joined, how_words, names_operator, names_value, Script, formula, define, script_words}
+use Rattle.script_shape.specs.Tree.{AnyName, plain, operator, name_words, Special, free, defined, special_words, Digits, zero_alone, digits, digits_words, Whole, natural, opposite, whole_words, Bound, unsigned, positive, negative, bound_words, Operator, fixed, int, operator_words, Expr, term, factor, atom, Atom, number, variable, parenthesized, absolute, called, rounded, fused, expr_words, atom_words, Range, asked, between, range_words, Prop, lies_in, relative_in, at_most, at_least, multiple, prop_words, Stated, affirmed, denied, stated_words, Formula, single, and, or, implies, formula_words, Need, nonzero, below, not_above, above, not_below, need_words, NeedList, last_need, more_needs, need_list_words, Needs, always, provided, needs_words, Points, last_point, more_points, points_words, CutForm, in_four, pieces, at_points, cut_words, Names, last_name, more_names, names_words, Halving, halved_by, with_goal, halving_words, Hint, rewrite, like, split, halving, hint_words, Hints, no_hint, hint, hints_words, How, exactly, rounded_by, rounded_apart, rounded_joined, how_words, names_operator, names_value, Script, formula, define, script_words}
 use Rattle.script_shape.specs.Table.{operand, then_due, takes, may_skip}
 use Rattle.script_shape.specs.Shape.{after_top, step, run, may_end}
 use Rattle.script_shape.proofs.Regroup.{lead_sum, lead_sum_words, lead_difference, lead_difference_words, lead_product_in, lead_product_in_words, lead_quotient_in, lead_quotient_in_words, negated_in, negated_in_words, at_first, at_first_words}
@@ -20,7 +20,7 @@ pub record Adds (X Y : Type 0) (before : X → List Word) (after : Y → List Wo
   pub make : X → Y
   pub spells : (x : X) → after (make x) ≡ before x ++ words
 
-abbrev pub one : Sign → Unit {0} → List Word
+abbrev pub one : Symbol → Unit {0} → List Word
 one g u = sign g ∷ []
 
 -- a cut without its `in`
@@ -67,7 +67,7 @@ Part due.HintRest = Adds Expr Hint expr_words hint_words
 Part due.GoalSplit = Adds Expr Halving expr_words halving_words
 Part due.SplitName = AnyName
 Part due.SplitNames = Adds AnyName Names name_words names_words
-Part due.SplitCut = Cut
+Part due.SplitCut = CutForm
 Part due.Cut = CutAfterIn
 Part due.Points = Adds Bound Points bound_words points_words
 Part due.Needs = Needs

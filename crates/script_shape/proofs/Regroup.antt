@@ -1,7 +1,7 @@
 -- An operation written before an expression, grouped to the left.
 use Rattle.std.proofs.Common.{◌≡◌, List, ◌∷◌, ◌++◌, refl, ap, ◌∙◌, append_assoc}
 use Rattle.script_words.specs.Words.{Word, sign}
-use Rattle.script_words.specs.declared.class.Sign.TheVariants as s
+use Rattle.script_words.specs.declared.class.Symbol.TheVariants as s
 use Rattle.script_shape.specs.Tree.{Expr, term, sum, difference, Term, factor, product, quotient, Factor, negation, expr_words, term_words, factor_words}
 
 abbrev pub lead_sum : Term → Expr → Expr

@@ -5,9 +5,9 @@ use Rattle.std.proofs.Math.Seq.{take-length}
 use Rattle.std.proofs.lemmas.Bool.{eqb-true}
 use Rattle.script_shape.specs.declared.due.Due.{Due}
 use Rattle.script_shape.specs.declared.due.Due.TheVariants as due
-use Rattle.script_words.specs.declared.class.Sign.TheVariants as s
+use Rattle.script_words.specs.declared.class.Symbol.TheVariants as s
 use Rattle.script_words.specs.Words.{Word, class_of, sign}
-use Rattle.script_shape.specs.Tree.{AnyName, plain, operator, name_words, Special, free, defined, special_words, Digits, zero_alone, digits, digits_words, Whole, natural, opposite, whole_words, Bound, unsigned, positive, negative, bound_words, Operator, fixed, int, operator_words, Expr, term, sum, difference, Term, factor, product, quotient, Factor, negation, atom, Atom, number, variable, parenthesized, absolute, called, rounded, fused, expr_words, term_words, factor_words, atom_words, Range, asked, between, range_words, Prop, lies_in, relative_in, at_most, at_least, multiple, prop_words, Stated, affirmed, denied, stated_words, Formula, single, and, or, implies, formula_words, Need, nonzero, below, not_above, above, not_below, need_words, NeedList, last_need, more_needs, need_list_words, Needs, always, provided, needs_words, Points, last_point, more_points, points_words, Cut, in_four, pieces, at_points, cut_words, Names, last_name, more_names, names_words, Halving, halved_by, with_goal, halving_words, Hint, rewrite, like, split, halving, hint_words, Hints, no_hint, hint, hints_words, How, exactly, rounded_by, rounded_apart, rounded_joined, how_words, Definition, names_operator, names_value, definition_words, Script, formula, define, script_words}
+use Rattle.script_shape.specs.Tree.{AnyName, plain, operator, name_words, Special, free, defined, special_words, Digits, zero_alone, digits, digits_words, Whole, natural, opposite, whole_words, Bound, unsigned, positive, negative, bound_words, Operator, fixed, int, operator_words, Expr, term, sum, difference, Term, factor, product, quotient, Factor, negation, atom, Atom, number, variable, parenthesized, absolute, called, rounded, fused, expr_words, term_words, factor_words, atom_words, Range, asked, between, range_words, Prop, lies_in, relative_in, at_most, at_least, multiple, prop_words, Stated, affirmed, denied, stated_words, Formula, single, and, or, implies, formula_words, Need, nonzero, below, not_above, above, not_below, need_words, NeedList, last_need, more_needs, need_list_words, Needs, always, provided, needs_words, Points, last_point, more_points, points_words, CutForm, in_four, pieces, at_points, cut_words, Names, last_name, more_names, names_words, Halving, halved_by, with_goal, halving_words, Hint, rewrite, like, split, halving, hint_words, Hints, no_hint, hint, hints_words, How, exactly, rounded_by, rounded_apart, rounded_joined, how_words, Definition, names_operator, names_value, definition_words, Script, formula, define, script_words}
 use Rattle.script_shape.specs.Roles.{Leaf, at, name_leaves, special_leaves, digits_leaves, whole_leaves, bound_leaves, operator_leaves, expr_leaves, term_leaves, factor_leaves, atom_leaves, range_leaves, prop_leaves, stated_leaves, formula_leaves, need_leaves, need_list_leaves, needs_leaves, points_leaves, cut_leaves, names_leaves, halving_leaves, hint_leaves, hints_leaves, how_leaves, definition_leaves, script_leaves, HasRoles, LeavesAreOfTrees}
 use Rattle.script_shape.specs.Shape.{step, run, start}
 use Rattle.script_shape.specs.ShapeLaw.{grown, roles_from}
@@ -109,7 +109,7 @@ points_spell : (n : Points) → words_of (points_leaves n) ≡ points_words n
 points_spell (last_point b) = bound_spells b
 points_spell (more_points b l) = simp (map-append, bound_spells, points_spell l)
 
-cut_spells : (n : Cut) → words_of (cut_leaves n) ≡ cut_words n
+cut_spells : (n : CutForm) → words_of (cut_leaves n) ≡ cut_words n
 cut_spells in_four = refl
 cut_spells (pieces k) = simp digits_spell
 cut_spells (at_points l) = simp (map-append, points_spell)

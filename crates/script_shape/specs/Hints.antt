@@ -2,7 +2,7 @@
 use Rattle.std.specs.Prelude.{ℕ, List, [], ◌∷◌, ◌++◌}
 use Rattle.script_words.specs.Words.{Word, literal, sign}
 use Rattle.script_words.specs.declared.class.Number.TheVariants as digits_kind
-use Rattle.script_words.specs.declared.class.Sign.TheVariants as s
+use Rattle.script_words.specs.declared.class.Symbol.TheVariants as s
 use Rattle.script_shape.specs.Expressions.{AnyName, name_words, Digits, digits_words, Bound, bound_words, Expr, expr_words}
 
 -- what a rewriting needs: an expression that isn't 0, or its relation to a bound
@@ -53,13 +53,13 @@ points_words (last_point b) = bound_words b
 points_words (more_points b l) = bound_words b ++ (sign s.Comma ∷ points_words l)
 
 -- how a variable's range is split: in four, in so many pieces, or at points
-pub data Cut : Type 0 where
-  in_four : Cut
-  pieces : Digits → Cut
-  at_points : Points → Cut
+pub data CutForm : Type 0 where
+  in_four : CutForm
+  pieces : Digits → CutForm
+  at_points : Points → CutForm
 
 -- the words of a split, behind the variable
-abbrev pub cut_words : Cut → List Word
+abbrev pub cut_words : CutForm → List Word
 cut_words in_four = []
 cut_words (pieces d) = sign s.In ∷ digits_words d
 cut_words (at_points l) =
@@ -89,7 +89,7 @@ halving_words (with_goal e h) = expr_words e ++ (sign s.Comma ∷ halving_words 
 pub data Hint : Type 0 where
   rewrite : Expr → Expr → Needs → Hint
   like : Expr → Expr → Hint
-  split : AnyName → Cut → Hint
+  split : AnyName → CutForm → Hint
   halving : Halving → Hint
 
 -- the words of a hint, without the semicolon

@@ -7,8 +7,8 @@ use Rattle.script_shape.specs.declared.due.Due.TheVariants as d
 use Rattle.script_words.specs.declared.class.Spelled.{Spelled}
 use Rattle.script_words.specs.declared.class.Spelled.TheVariants as spelled
 use Rattle.script_words.specs.declared.class.Number.TheVariants as digits_kind
-use Rattle.script_words.specs.declared.class.Sign.TheVariants as s
-use Rattle.script_shape.specs.Tree.{AnyName, plain, operator, Special, free, defined, Digits, zero_alone, digits, Whole, natural, opposite, Bound, unsigned, positive, negative, Operator, fixed, int, Expr, term, sum, difference, Term, factor, product, quotient, Factor, negation, atom, Atom, number, variable, parenthesized, absolute, called, rounded, fused, Range, asked, between, Prop, lies_in, relative_in, at_most, at_least, multiple, Stated, affirmed, denied, Formula, single, and, or, implies, Need, nonzero, below, not_above, above, not_below, NeedList, last_need, more_needs, Needs, always, provided, Points, last_point, more_points, Cut, in_four, pieces, at_points, Names, last_name, more_names, Halving, halved_by, with_goal, Hint, rewrite, like, split, halving, Hints, no_hint, hint, How, exactly, rounded_by, rounded_apart, rounded_joined, Definition, names_operator, names_value, Script, formula, define, script_words}
+use Rattle.script_words.specs.declared.class.Symbol.TheVariants as s
+use Rattle.script_shape.specs.Tree.{AnyName, plain, operator, Special, free, defined, Digits, zero_alone, digits, Whole, natural, opposite, Bound, unsigned, positive, negative, Operator, fixed, int, Expr, term, sum, difference, Term, factor, product, quotient, Factor, negation, atom, Atom, number, variable, parenthesized, absolute, called, rounded, fused, Range, asked, between, Prop, lies_in, relative_in, at_most, at_least, multiple, Stated, affirmed, denied, Formula, single, and, or, implies, Need, nonzero, below, not_above, above, not_below, NeedList, last_need, more_needs, Needs, always, provided, Points, last_point, more_points, CutForm, in_four, pieces, at_points, Names, last_name, more_names, Halving, halved_by, with_goal, Hint, rewrite, like, split, halving, Hints, no_hint, hint, How, exactly, rounded_by, rounded_apart, rounded_joined, Definition, names_operator, names_value, Script, formula, define, script_words}
 
 -- a word, and the thing that was due where it stands
 pub record Leaf : Type 0 where
@@ -142,7 +142,7 @@ points_leaves (last_point b) = bound_leaves b
 points_leaves (more_points b l) = bound_leaves b ++ (at d.Points (sign s.Comma) ∷ points_leaves l)
 
 -- the leaves of a split, behind the variable
-abbrev pub cut_leaves : Cut → List Leaf
+abbrev pub cut_leaves : CutForm → List Leaf
 cut_leaves in_four = []
 cut_leaves (pieces k) = at d.SplitCut (sign s.In) ∷ digits_leaves d.Cut k
 cut_leaves (at_points l) = at d.SplitCut (sign s.In) ∷ (at d.Cut (sign s.OpenParen)

@@ -5,7 +5,7 @@ use Rattle.script_words.specs.declared.class.Class.{Class}
 use Rattle.script_words.specs.declared.class.Class.TheVariants.{Name, Rounding, Literal, Sign}
 use Rattle.script_words.specs.declared.class.Spelled.TheVariants as spelled
 use Rattle.script_words.specs.declared.class.Number.TheVariants as digits_kind
-use Rattle.script_words.specs.declared.class.Sign.TheVariants as s
+use Rattle.script_words.specs.declared.class.Symbol.TheVariants as s
 use Rattle.script_shape.specs.declared.due.Due.{Due}
 use Rattle.script_shape.specs.declared.due.Due.TheVariants as d
 

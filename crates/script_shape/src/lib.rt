@@ -2,7 +2,7 @@
 #![tactic(auto)]
 
 // What callers name of the crates below.
-pub use script_words::class::{Class, Sign, Spelled};
+pub use script_words::class::{Class, Spelled, Symbol};
 pub use script_words::digits::number_below;
 pub use script_words::lex::{Token, lexed_all, lexed_once, tokens_are_few};
 pub use script_words::list::{WordList, Words};

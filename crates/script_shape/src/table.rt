@@ -4,7 +4,7 @@ ghost use Rattle.std.specs.Prelude.{◌≡◌, reverse, MatchOption, Some, None}
 ghost use Rattle.script_shape.specs.Table as spec;
 
 use crate::due::Due;
-use script_words::class::{Class, Number, Sign, Spelled};
+use script_words::class::{Class, Number, Spelled, Symbol};
 
 /// What is due after a token of this class, in place of what was due, the last first.
 pub fn takes(due: Due, class: Class) -> Option<&'static [Due]>
@@ -12,7 +12,7 @@ pub fn takes(due: Due, class: Class) -> Option<&'static [Due]>
         (λ new. spec.takes due class ≡ Some (reverse new.now)) }
 {
     match (due, class) {
-        (Due::Script, Class::Sign(Sign::At)) => Some(&[
+        (Due::Script, Class::Sign(Symbol::At)) => Some(&[
             Due::Script,
             Due::Semicolon,
             Due::Greater,
@@ -32,7 +32,7 @@ pub fn takes(due: Due, class: Class) -> Option<&'static [Due]>
             Due::Operand,
             Due::DefinedBy,
         ]),
-        (Due::Script, Class::Sign(Sign::OpenBrace)) => Some(&[
+        (Due::Script, Class::Sign(Symbol::OpenBrace)) => Some(&[
             Due::Hints,
             Due::CloseBrace,
             Due::Connective,
@@ -40,42 +40,42 @@ pub fn takes(due: Due, class: Class) -> Option<&'static [Due]>
         ]),
         (Due::NewName, Class::Name(_)) => Some(&[]),
         (Due::NewName, Class::Rounding(_)) => Some(&[]),
-        (Due::DefinedBy, Class::Sign(Sign::Equal)) => Some(&[]),
+        (Due::DefinedBy, Class::Sign(Symbol::Equal)) => Some(&[]),
         (Due::DefinedBy, Class::Rounding(_)) => Some(&[Due::Equal]),
-        (Due::DefinedBy, Class::Sign(Sign::Fixed)) => Some(&[
+        (Due::DefinedBy, Class::Sign(Symbol::Fixed)) => Some(&[
             Due::CloseOperator,
             Due::Direction,
             Due::Comma,
             Due::Whole,
             Due::Less,
         ]),
-        (Due::DefinedBy, Class::Sign(Sign::Int)) => Some(&[
+        (Due::DefinedBy, Class::Sign(Symbol::Int)) => Some(&[
             Due::CloseOperator,
             Due::Direction,
             Due::Less,
         ]),
-        (Due::Equal, Class::Sign(Sign::Equal)) => Some(&[]),
-        (Due::Operator, Class::Sign(Sign::Fixed)) => Some(&[
+        (Due::Equal, Class::Sign(Symbol::Equal)) => Some(&[]),
+        (Due::Operator, Class::Sign(Symbol::Fixed)) => Some(&[
             Due::Direction,
             Due::Comma,
             Due::Whole,
             Due::Less,
         ]),
-        (Due::Operator, Class::Sign(Sign::Int)) => Some(&[Due::Direction, Due::Less]),
-        (Due::Less, Class::Sign(Sign::Less)) => Some(&[]),
-        (Due::Greater, Class::Sign(Sign::Greater)) => Some(&[]),
-        (Due::Whole, Class::Sign(Sign::Minus)) => Some(&[Due::WholeDigits]),
+        (Due::Operator, Class::Sign(Symbol::Int)) => Some(&[Due::Direction, Due::Less]),
+        (Due::Less, Class::Sign(Symbol::Less)) => Some(&[]),
+        (Due::Greater, Class::Sign(Symbol::Greater)) => Some(&[]),
+        (Due::Whole, Class::Sign(Symbol::Minus)) => Some(&[Due::WholeDigits]),
         (Due::Whole, Class::Literal(Number::Zero)) => Some(&[]),
         (Due::Whole, Class::Literal(Number::Digits)) => Some(&[]),
         (Due::WholeDigits, Class::Literal(Number::Zero)) => Some(&[]),
         (Due::WholeDigits, Class::Literal(Number::Digits)) => Some(&[]),
         (Due::Direction, Class::Name(Spelled::Direction)) => Some(&[]),
         (Due::Direction, Class::Rounding(Spelled::Direction)) => Some(&[]),
-        (Due::CloseOperator, Class::Sign(Sign::Greater)) => Some(&[Due::Equal]),
-        (Due::CloseOperator, Class::Sign(Sign::GreaterEqual)) => Some(&[]),
-        (Due::Semicolon, Class::Sign(Sign::Semicolon)) => Some(&[]),
-        (Due::Claim, Class::Sign(Sign::Not)) => Some(&[Due::Prop]),
-        (Due::Claim, Class::Sign(Sign::At)) => Some(&[
+        (Due::CloseOperator, Class::Sign(Symbol::Greater)) => Some(&[Due::Equal]),
+        (Due::CloseOperator, Class::Sign(Symbol::GreaterEqual)) => Some(&[]),
+        (Due::Semicolon, Class::Sign(Symbol::Semicolon)) => Some(&[]),
+        (Due::Claim, Class::Sign(Symbol::Not)) => Some(&[Due::Prop]),
+        (Due::Claim, Class::Sign(Symbol::At)) => Some(&[
             Due::CloseParen,
             Due::Whole,
             Due::Comma,
@@ -83,16 +83,16 @@ pub fn takes(due: Due, class: Class) -> Option<&'static [Due]>
             Due::OpenParen,
             Due::Fix,
         ]),
-        (Due::Claim, Class::Sign(Sign::Minus)) => Some(&[Due::Relation, Due::Operand]),
+        (Due::Claim, Class::Sign(Symbol::Minus)) => Some(&[Due::Relation, Due::Operand]),
         (Due::Claim, Class::Literal(_)) => Some(&[Due::Relation, Due::Tail]),
         (Due::Claim, Class::Name(_)) => Some(&[Due::Relation, Due::Tail]),
-        (Due::Claim, Class::Sign(Sign::OpenParen)) => Some(&[
+        (Due::Claim, Class::Sign(Symbol::OpenParen)) => Some(&[
             Due::Relation,
             Due::Tail,
             Due::CloseParen,
             Due::Operand,
         ]),
-        (Due::Claim, Class::Sign(Sign::Bar)) => Some(&[
+        (Due::Claim, Class::Sign(Symbol::Bar)) => Some(&[
             Due::Relation,
             Due::Tail,
             Due::CloseBar,
@@ -105,7 +105,7 @@ pub fn takes(due: Due, class: Class) -> Option<&'static [Due]>
             Due::Operand,
             Due::OpenParen,
         ]),
-        (Due::Claim, Class::Sign(Sign::Fixed)) => Some(&[
+        (Due::Claim, Class::Sign(Symbol::Fixed)) => Some(&[
             Due::Relation,
             Due::Tail,
             Due::CloseParen,
@@ -117,7 +117,7 @@ pub fn takes(due: Due, class: Class) -> Option<&'static [Due]>
             Due::Whole,
             Due::Less,
         ]),
-        (Due::Claim, Class::Sign(Sign::Int)) => Some(&[
+        (Due::Claim, Class::Sign(Symbol::Int)) => Some(&[
             Due::Relation,
             Due::Tail,
             Due::CloseParen,
@@ -127,7 +127,7 @@ pub fn takes(due: Due, class: Class) -> Option<&'static [Due]>
             Due::Direction,
             Due::Less,
         ]),
-        (Due::Claim, Class::Sign(Sign::Fma)) => Some(&[
+        (Due::Claim, Class::Sign(Symbol::Fma)) => Some(&[
             Due::Relation,
             Due::Tail,
             Due::CloseParen,
@@ -138,7 +138,7 @@ pub fn takes(due: Due, class: Class) -> Option<&'static [Due]>
             Due::Operand,
             Due::OpenParen,
         ]),
-        (Due::Prop, Class::Sign(Sign::At)) => Some(&[
+        (Due::Prop, Class::Sign(Symbol::At)) => Some(&[
             Due::CloseParen,
             Due::Whole,
             Due::Comma,
@@ -146,16 +146,16 @@ pub fn takes(due: Due, class: Class) -> Option<&'static [Due]>
             Due::OpenParen,
             Due::Fix,
         ]),
-        (Due::Prop, Class::Sign(Sign::Minus)) => Some(&[Due::Relation, Due::Operand]),
+        (Due::Prop, Class::Sign(Symbol::Minus)) => Some(&[Due::Relation, Due::Operand]),
         (Due::Prop, Class::Literal(_)) => Some(&[Due::Relation, Due::Tail]),
         (Due::Prop, Class::Name(_)) => Some(&[Due::Relation, Due::Tail]),
-        (Due::Prop, Class::Sign(Sign::OpenParen)) => Some(&[
+        (Due::Prop, Class::Sign(Symbol::OpenParen)) => Some(&[
             Due::Relation,
             Due::Tail,
             Due::CloseParen,
             Due::Operand,
         ]),
-        (Due::Prop, Class::Sign(Sign::Bar)) => Some(&[
+        (Due::Prop, Class::Sign(Symbol::Bar)) => Some(&[
             Due::Relation,
             Due::Tail,
             Due::CloseBar,
@@ -168,7 +168,7 @@ pub fn takes(due: Due, class: Class) -> Option<&'static [Due]>
             Due::Operand,
             Due::OpenParen,
         ]),
-        (Due::Prop, Class::Sign(Sign::Fixed)) => Some(&[
+        (Due::Prop, Class::Sign(Symbol::Fixed)) => Some(&[
             Due::Relation,
             Due::Tail,
             Due::CloseParen,
@@ -180,7 +180,7 @@ pub fn takes(due: Due, class: Class) -> Option<&'static [Due]>
             Due::Whole,
             Due::Less,
         ]),
-        (Due::Prop, Class::Sign(Sign::Int)) => Some(&[
+        (Due::Prop, Class::Sign(Symbol::Int)) => Some(&[
             Due::Relation,
             Due::Tail,
             Due::CloseParen,
@@ -190,7 +190,7 @@ pub fn takes(due: Due, class: Class) -> Option<&'static [Due]>
             Due::Direction,
             Due::Less,
         ]),
-        (Due::Prop, Class::Sign(Sign::Fma)) => Some(&[
+        (Due::Prop, Class::Sign(Symbol::Fma)) => Some(&[
             Due::Relation,
             Due::Tail,
             Due::CloseParen,
@@ -201,22 +201,22 @@ pub fn takes(due: Due, class: Class) -> Option<&'static [Due]>
             Due::Operand,
             Due::OpenParen,
         ]),
-        (Due::Operand, Class::Sign(Sign::Minus)) => Some(&[Due::Operand]),
+        (Due::Operand, Class::Sign(Symbol::Minus)) => Some(&[Due::Operand]),
         (Due::Operand, Class::Literal(_)) => Some(&[Due::Tail]),
         (Due::Operand, Class::Name(_)) => Some(&[Due::Tail]),
-        (Due::Operand, Class::Sign(Sign::OpenParen)) => Some(&[
+        (Due::Operand, Class::Sign(Symbol::OpenParen)) => Some(&[
             Due::Tail,
             Due::CloseParen,
             Due::Operand,
         ]),
-        (Due::Operand, Class::Sign(Sign::Bar)) => Some(&[Due::Tail, Due::CloseBar, Due::Operand]),
+        (Due::Operand, Class::Sign(Symbol::Bar)) => Some(&[Due::Tail, Due::CloseBar, Due::Operand]),
         (Due::Operand, Class::Rounding(_)) => Some(&[
             Due::Tail,
             Due::CloseParen,
             Due::Operand,
             Due::OpenParen,
         ]),
-        (Due::Operand, Class::Sign(Sign::Fixed)) => Some(&[
+        (Due::Operand, Class::Sign(Symbol::Fixed)) => Some(&[
             Due::Tail,
             Due::CloseParen,
             Due::Operand,
@@ -227,7 +227,7 @@ pub fn takes(due: Due, class: Class) -> Option<&'static [Due]>
             Due::Whole,
             Due::Less,
         ]),
-        (Due::Operand, Class::Sign(Sign::Int)) => Some(&[
+        (Due::Operand, Class::Sign(Symbol::Int)) => Some(&[
             Due::Tail,
             Due::CloseParen,
             Due::Operand,
@@ -236,7 +236,7 @@ pub fn takes(due: Due, class: Class) -> Option<&'static [Due]>
             Due::Direction,
             Due::Less,
         ]),
-        (Due::Operand, Class::Sign(Sign::Fma)) => Some(&[
+        (Due::Operand, Class::Sign(Symbol::Fma)) => Some(&[
             Due::Tail,
             Due::CloseParen,
             Due::Operand,
@@ -246,44 +246,44 @@ pub fn takes(due: Due, class: Class) -> Option<&'static [Due]>
             Due::Operand,
             Due::OpenParen,
         ]),
-        (Due::Tail, Class::Sign(Sign::Plus)) => Some(&[Due::Operand]),
-        (Due::Tail, Class::Sign(Sign::Minus)) => Some(&[Due::Operand]),
-        (Due::Tail, Class::Sign(Sign::Star)) => Some(&[Due::Operand]),
-        (Due::Tail, Class::Sign(Sign::Slash)) => Some(&[Due::Operand]),
-        (Due::OpenParen, Class::Sign(Sign::OpenParen)) => Some(&[]),
-        (Due::CloseParen, Class::Sign(Sign::CloseParen)) => Some(&[]),
-        (Due::CloseBar, Class::Sign(Sign::Bar)) => Some(&[]),
-        (Due::Comma, Class::Sign(Sign::Comma)) => Some(&[]),
+        (Due::Tail, Class::Sign(Symbol::Plus)) => Some(&[Due::Operand]),
+        (Due::Tail, Class::Sign(Symbol::Minus)) => Some(&[Due::Operand]),
+        (Due::Tail, Class::Sign(Symbol::Star)) => Some(&[Due::Operand]),
+        (Due::Tail, Class::Sign(Symbol::Slash)) => Some(&[Due::Operand]),
+        (Due::OpenParen, Class::Sign(Symbol::OpenParen)) => Some(&[]),
+        (Due::CloseParen, Class::Sign(Symbol::CloseParen)) => Some(&[]),
+        (Due::CloseBar, Class::Sign(Symbol::Bar)) => Some(&[]),
+        (Due::Comma, Class::Sign(Symbol::Comma)) => Some(&[]),
         (Due::Fix, Class::Name(Spelled::Fix)) => Some(&[]),
         (Due::Fix, Class::Rounding(Spelled::Fix)) => Some(&[]),
-        (Due::Relation, Class::Sign(Sign::In)) => Some(&[Due::Range]),
-        (Due::Relation, Class::Sign(Sign::Against)) => Some(&[Due::Range, Due::In, Due::Operand]),
-        (Due::Relation, Class::Sign(Sign::LessEqual)) => Some(&[Due::Bound]),
-        (Due::Relation, Class::Sign(Sign::GreaterEqual)) => Some(&[Due::Bound]),
-        (Due::In, Class::Sign(Sign::In)) => Some(&[]),
-        (Due::Range, Class::Sign(Sign::Ask)) => Some(&[]),
-        (Due::Range, Class::Sign(Sign::OpenBracket)) => Some(&[
+        (Due::Relation, Class::Sign(Symbol::In)) => Some(&[Due::Range]),
+        (Due::Relation, Class::Sign(Symbol::Against)) => Some(&[Due::Range, Due::In, Due::Operand]),
+        (Due::Relation, Class::Sign(Symbol::LessEqual)) => Some(&[Due::Bound]),
+        (Due::Relation, Class::Sign(Symbol::GreaterEqual)) => Some(&[Due::Bound]),
+        (Due::In, Class::Sign(Symbol::In)) => Some(&[]),
+        (Due::Range, Class::Sign(Symbol::Ask)) => Some(&[]),
+        (Due::Range, Class::Sign(Symbol::OpenBracket)) => Some(&[
             Due::CloseBracket,
             Due::Bound,
             Due::Comma,
             Due::Bound,
         ]),
         (Due::Bound, Class::Literal(_)) => Some(&[]),
-        (Due::Bound, Class::Sign(Sign::Plus)) => Some(&[Due::Magnitude]),
-        (Due::Bound, Class::Sign(Sign::Minus)) => Some(&[Due::Magnitude]),
+        (Due::Bound, Class::Sign(Symbol::Plus)) => Some(&[Due::Magnitude]),
+        (Due::Bound, Class::Sign(Symbol::Minus)) => Some(&[Due::Magnitude]),
         (Due::Magnitude, Class::Literal(_)) => Some(&[]),
-        (Due::CloseBracket, Class::Sign(Sign::CloseBracket)) => Some(&[]),
-        (Due::Connective, Class::Sign(Sign::And)) => Some(&[Due::Connective, Due::Claim]),
-        (Due::Connective, Class::Sign(Sign::Or)) => Some(&[Due::Connective, Due::Claim]),
-        (Due::Connective, Class::Sign(Sign::Arrow)) => Some(&[Due::Connective, Due::Claim]),
-        (Due::CloseBrace, Class::Sign(Sign::CloseBrace)) => Some(&[]),
-        (Due::Hints, Class::Sign(Sign::Dollar)) => Some(&[
+        (Due::CloseBracket, Class::Sign(Symbol::CloseBracket)) => Some(&[]),
+        (Due::Connective, Class::Sign(Symbol::And)) => Some(&[Due::Connective, Due::Claim]),
+        (Due::Connective, Class::Sign(Symbol::Or)) => Some(&[Due::Connective, Due::Claim]),
+        (Due::Connective, Class::Sign(Symbol::Arrow)) => Some(&[Due::Connective, Due::Claim]),
+        (Due::CloseBrace, Class::Sign(Symbol::CloseBrace)) => Some(&[]),
+        (Due::Hints, Class::Sign(Symbol::Dollar)) => Some(&[
             Due::Hints,
             Due::Semicolon,
             Due::SplitCut,
             Due::SplitName,
         ]),
-        (Due::Hints, Class::Sign(Sign::Minus)) => Some(&[
+        (Due::Hints, Class::Sign(Symbol::Minus)) => Some(&[
             Due::Hints,
             Due::Semicolon,
             Due::HintRest,
@@ -301,7 +301,7 @@ pub fn takes(due: Due, class: Class) -> Option<&'static [Due]>
             Due::HintRest,
             Due::Tail,
         ]),
-        (Due::Hints, Class::Sign(Sign::OpenParen)) => Some(&[
+        (Due::Hints, Class::Sign(Symbol::OpenParen)) => Some(&[
             Due::Hints,
             Due::Semicolon,
             Due::HintRest,
@@ -309,7 +309,7 @@ pub fn takes(due: Due, class: Class) -> Option<&'static [Due]>
             Due::CloseParen,
             Due::Operand,
         ]),
-        (Due::Hints, Class::Sign(Sign::Bar)) => Some(&[
+        (Due::Hints, Class::Sign(Symbol::Bar)) => Some(&[
             Due::Hints,
             Due::Semicolon,
             Due::HintRest,
@@ -326,7 +326,7 @@ pub fn takes(due: Due, class: Class) -> Option<&'static [Due]>
             Due::Operand,
             Due::OpenParen,
         ]),
-        (Due::Hints, Class::Sign(Sign::Fixed)) => Some(&[
+        (Due::Hints, Class::Sign(Symbol::Fixed)) => Some(&[
             Due::Hints,
             Due::Semicolon,
             Due::HintRest,
@@ -340,7 +340,7 @@ pub fn takes(due: Due, class: Class) -> Option<&'static [Due]>
             Due::Whole,
             Due::Less,
         ]),
-        (Due::Hints, Class::Sign(Sign::Int)) => Some(&[
+        (Due::Hints, Class::Sign(Symbol::Int)) => Some(&[
             Due::Hints,
             Due::Semicolon,
             Due::HintRest,
@@ -352,7 +352,7 @@ pub fn takes(due: Due, class: Class) -> Option<&'static [Due]>
             Due::Direction,
             Due::Less,
         ]),
-        (Due::Hints, Class::Sign(Sign::Fma)) => Some(&[
+        (Due::Hints, Class::Sign(Symbol::Fma)) => Some(&[
             Due::Hints,
             Due::Semicolon,
             Due::HintRest,
@@ -365,37 +365,37 @@ pub fn takes(due: Due, class: Class) -> Option<&'static [Due]>
             Due::Operand,
             Due::OpenParen,
         ]),
-        (Due::HintRest, Class::Sign(Sign::Arrow)) => Some(&[Due::Needs, Due::Operand]),
-        (Due::HintRest, Class::Sign(Sign::Tilde)) => Some(&[Due::Operand]),
-        (Due::HintRest, Class::Sign(Sign::Comma)) => Some(&[Due::GoalSplit, Due::Operand]),
-        (Due::HintRest, Class::Sign(Sign::Dollar)) => Some(&[Due::SplitNames, Due::SplitName]),
-        (Due::GoalSplit, Class::Sign(Sign::Comma)) => Some(&[Due::GoalSplit, Due::Operand]),
-        (Due::GoalSplit, Class::Sign(Sign::Dollar)) => Some(&[Due::SplitNames, Due::SplitName]),
+        (Due::HintRest, Class::Sign(Symbol::Arrow)) => Some(&[Due::Needs, Due::Operand]),
+        (Due::HintRest, Class::Sign(Symbol::Tilde)) => Some(&[Due::Operand]),
+        (Due::HintRest, Class::Sign(Symbol::Comma)) => Some(&[Due::GoalSplit, Due::Operand]),
+        (Due::HintRest, Class::Sign(Symbol::Dollar)) => Some(&[Due::SplitNames, Due::SplitName]),
+        (Due::GoalSplit, Class::Sign(Symbol::Comma)) => Some(&[Due::GoalSplit, Due::Operand]),
+        (Due::GoalSplit, Class::Sign(Symbol::Dollar)) => Some(&[Due::SplitNames, Due::SplitName]),
         (Due::SplitName, Class::Name(_)) => Some(&[]),
         (Due::SplitName, Class::Rounding(_)) => Some(&[]),
-        (Due::SplitNames, Class::Sign(Sign::Comma)) => Some(&[Due::SplitNames, Due::SplitName]),
-        (Due::SplitCut, Class::Sign(Sign::In)) => Some(&[Due::Cut]),
+        (Due::SplitNames, Class::Sign(Symbol::Comma)) => Some(&[Due::SplitNames, Due::SplitName]),
+        (Due::SplitCut, Class::Sign(Symbol::In)) => Some(&[Due::Cut]),
         (Due::Cut, Class::Literal(Number::Zero)) => Some(&[]),
         (Due::Cut, Class::Literal(Number::Digits)) => Some(&[]),
-        (Due::Cut, Class::Sign(Sign::OpenParen)) => Some(&[
+        (Due::Cut, Class::Sign(Symbol::OpenParen)) => Some(&[
             Due::CloseParen,
             Due::Points,
             Due::Bound,
         ]),
-        (Due::Points, Class::Sign(Sign::Comma)) => Some(&[Due::Points, Due::Bound]),
-        (Due::Needs, Class::Sign(Sign::OpenBrace)) => Some(&[
+        (Due::Points, Class::Sign(Symbol::Comma)) => Some(&[Due::Points, Due::Bound]),
+        (Due::Needs, Class::Sign(Symbol::OpenBrace)) => Some(&[
             Due::CloseBrace,
             Due::MoreNeeds,
             Due::NeedRelation,
             Due::Operand,
         ]),
-        (Due::NeedRelation, Class::Sign(Sign::Unequal)) => Some(&[Due::Zero]),
-        (Due::NeedRelation, Class::Sign(Sign::Less)) => Some(&[Due::Bound]),
-        (Due::NeedRelation, Class::Sign(Sign::LessEqual)) => Some(&[Due::Bound]),
-        (Due::NeedRelation, Class::Sign(Sign::Greater)) => Some(&[Due::Bound]),
-        (Due::NeedRelation, Class::Sign(Sign::GreaterEqual)) => Some(&[Due::Bound]),
+        (Due::NeedRelation, Class::Sign(Symbol::Unequal)) => Some(&[Due::Zero]),
+        (Due::NeedRelation, Class::Sign(Symbol::Less)) => Some(&[Due::Bound]),
+        (Due::NeedRelation, Class::Sign(Symbol::LessEqual)) => Some(&[Due::Bound]),
+        (Due::NeedRelation, Class::Sign(Symbol::Greater)) => Some(&[Due::Bound]),
+        (Due::NeedRelation, Class::Sign(Symbol::GreaterEqual)) => Some(&[Due::Bound]),
         (Due::Zero, Class::Literal(Number::Zero)) => Some(&[]),
-        (Due::MoreNeeds, Class::Sign(Sign::Comma)) => Some(&[
+        (Due::MoreNeeds, Class::Sign(Symbol::Comma)) => Some(&[
             Due::MoreNeeds,
             Due::NeedRelation,
             Due::Operand,
@@ -426,12 +426,12 @@ pub fn role_of(due: Due, class: Class) -> Due
     ensures { result ≡ spec.role_of due class }
 {
     match (due, class) {
-        (Due::Claim, Class::Sign(Sign::Not)) => Due::Claim,
-        (Due::Claim, Class::Sign(Sign::At)) => Due::Prop,
+        (Due::Claim, Class::Sign(Symbol::Not)) => Due::Claim,
+        (Due::Claim, Class::Sign(Symbol::At)) => Due::Prop,
         (Due::Claim, _) => Due::Operand,
-        (Due::Prop, Class::Sign(Sign::At)) => Due::Prop,
+        (Due::Prop, Class::Sign(Symbol::At)) => Due::Prop,
         (Due::Prop, _) => Due::Operand,
-        (Due::Hints, Class::Sign(Sign::Dollar)) => Due::Hints,
+        (Due::Hints, Class::Sign(Symbol::Dollar)) => Due::Hints,
         (Due::Hints, _) => Due::Operand,
         _ => due,
     }

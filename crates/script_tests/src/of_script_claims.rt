@@ -5,7 +5,7 @@ ghost use Rattle.literal_order.specs.Values.{IsWritten};
 ghost use Rattle.script_claims.specs.Facts.{HasNormalBounds};
 
 use dyadic::{Dyadic, End};
-use facts::{Fact, Place, RelativeError, Slot};
+use facts::{Fact, FixPlace, RelativeError, Slot};
 use fx_model::ExprId;
 use interval::Interval;
 use literal::read;
@@ -13,7 +13,7 @@ use literal_order::Written;
 use script_claims::{
     Claim, ClaimReader, Want, formulas_are_read, goals_are_enough, hypotheses_hold,
 };
-use script_nodes::reader::Reader;
+use script_nodes::reader::NodeReader;
 use script_shape::shape::shape_of;
 use script_words::words::read_words;
 use std::alloc::Global;
@@ -107,7 +107,7 @@ fn relative_errors_and_multiples(rt: HostRuntime) {
     let one_up = Want::Inside(range(&rt, (-1, 0), (2, 0)));
     assert!(rt; is_used_as(from_one, None, one_up, pair));
     assert!(rt; is_used_as(Claim::RelativeAsked(X, Y), None, Want::Ask, pair));
-    let least = Fact::fix(X, Place::new(-1024));
+    let least = Fact::fix(X, FixPlace::new(-1024));
     let nothing = Want::Inside(None);
     assert!(rt; is_used_as(Claim::Multiple(X, -1024), least, nothing, Slot::Fix(X)));
     assert!(rt; is_used_as(Claim::Multiple(X, 513), None, nothing, Slot::Fix(X)));
@@ -120,7 +120,7 @@ fn claimed<'a>(alloc: Global, text: &'a [u8]) -> Result<ClaimReader<'a>, Fail>
     let read = read_words(alloc, text)?;
     let words = read.list();
     let shape = shape_of(alloc, words)?;
-    let mut reader = ClaimReader::new(alloc, Reader::new(alloc));
+    let mut reader = ClaimReader::new(alloc, NodeReader::new(alloc));
     for (number, role) in shape.roles.iter().enumerate().skip(1) {
         if let Some(word) = words.get(number) {
             reader.token(*role, word)?;

@@ -9,7 +9,7 @@ use literal::read;
 use literal_order::Written;
 use script_hints::hint::{Constraint, Cutting, HintList};
 use script_hints::reader::HintReader;
-use script_nodes::reader::Reader;
+use script_nodes::reader::NodeReader;
 use script_shape::shape::shape_of;
 use script_words::words::read_words;
 use std::alloc::Global;
@@ -24,7 +24,7 @@ fn said(alloc: Global, text: &[u8]) -> Result<HintList, Fail>
     let read = read_words(alloc, text)?;
     let words = read.list();
     let shape = shape_of(alloc, words)?;
-    let mut reader = HintReader::new(alloc, Reader::new(alloc));
+    let mut reader = HintReader::new(alloc, NodeReader::new(alloc));
     for (number, role) in shape.roles.iter().enumerate().skip(5) {
         if let Some(word) = words.get(number) {
             reader.token(*role, word)?;

@@ -2,7 +2,7 @@
 
 ghost use Rattle.std.specs.Prelude.{◌<◌, ◌^◌, length};
 
-use script_words::class::{Number, Sign, Spelled};
+use script_words::class::{Number, Spelled, Symbol};
 use script_words::words::{Word, read_words};
 use std::alloc::{AllocError, Global};
 use std::test::Fail;
@@ -97,10 +97,10 @@ fn letter(word: Word<'_>) -> u8 {
         Word::Literal(Number::Zero, _) => b'0',
         Word::Literal(Number::Digits, _) => b'1',
         Word::Literal(Number::Other, _) => b'.',
-        Word::Sign(Sign::In) => b'i',
-        Word::Sign(Sign::Semicolon) => b';',
-        Word::Sign(Sign::At) => b'@',
-        Word::Sign(Sign::Equal) => b'=',
+        Word::Sign(Symbol::In) => b'i',
+        Word::Sign(Symbol::Semicolon) => b';',
+        Word::Sign(Symbol::At) => b'@',
+        Word::Sign(Symbol::Equal) => b'=',
         Word::Sign(_) => b's',
     }
 }

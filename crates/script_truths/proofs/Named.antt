@@ -6,7 +6,7 @@ use Rattle.fx_model.specs.declared.ExprId.{ExprId}
 use Rattle.theorem_list.specs.interval.declared.interval.Interval.{Interval}
 use Rattle.theorem_list.specs.facts.declared.fact.Fact.{Fact}
 use Rattle.theorem_list.specs.facts.declared.fact.Fact.TheVariants as fact
-use Rattle.theorem_list.specs.facts.declared.place.Place.{Place}
+use Rattle.theorem_list.specs.facts.declared.place.FixPlace.{FixPlace}
 use Rattle.theorem_list.specs.facts.declared.relative.RelativeError.{RelativeError}
 use Rattle.theorem_list.specs.facts.Order as order
 use Rattle.theorem_list.specs.facts.Parts.{error_of_part}
@@ -38,7 +38,7 @@ module _ (n : ℕ) where
   from_rel x y l None f e = cc
   from_rel x y l (Some d) f e = subst IsNamed (some-inj (fact.Rel x y (Some d)) f e) l
 
-  from_fix : (x : ExprId) → IsNode n x → (o : Option Place) (f : Fact) → fix_of x o ≡ Some f → IsNamed f
+  from_fix : (x : ExprId) → IsNode n x → (o : Option FixPlace) (f : Fact) → fix_of x o ≡ Some f → IsNamed f
   from_fix x l None f e = cc
   from_fix x l (Some k) f e = subst IsNamed (some-inj (fact.Fix x k) f e) l
 

@@ -1,7 +1,7 @@
 -- Each text has a list of tokens.
 use Rattle.std.proofs.Common.{◌≡◌, ℕ, zero, suc, ◌+◌, ◌<◌, ◌≤◌, nat_lt, ◌==◌, ◌||◌, not, false, true, Bool, List, [], ◌∷◌, length, drop, take, Option, Some, None, refl, ap, subst, arith, length-drop, if◌then◌else◌, ⊎_elim}
 use Rattle.std.proofs.lemmas.Bool.{ltb-true, cases_lt}
-use Rattle.script_words.specs.declared.class.Sign.{Sign}
+use Rattle.script_words.specs.declared.class.Symbol.{Symbol}
 use Rattle.script_words.specs.declared.lex.Run.{Run}
 use Rattle.script_words.specs.declared.lex.Run.TheVariants.{Word, Digit}
 use Rattle.script_words.specs.declared.lex.TokenKind.{TokenKind}
@@ -33,7 +33,7 @@ literal_some bs h = longest (is_hex bs) (nat_lt 0 binary) _ _ _ (scaled_some Dig
     longest false true p n m k = omega arith
     longest false false p n m k = omega arith
 
-sign_some : (one two : Option Sign) (k : TokenKind) (len : ℕ) → sign_token (longer_sign two one) ≡ Some (k, len) → 0 < len
+sign_some : (one two : Option Symbol) (k : TokenKind) (len : ℕ) → sign_token (longer_sign two one) ≡ Some (k, len) → 0 < len
 sign_some one (Some g) k len e = let n : 2 ≡ len = ap len_in e in omega arith
 sign_some (Some g) None k len e = let n : 1 ≡ len = ap len_in e in omega arith
 sign_some None None k len e = absurd (cc e)

@@ -11,7 +11,7 @@ use Rattle.script_words.specs.declared.class.Spelled.{Spelled}
 use Rattle.script_words.specs.declared.lex.Token.{Token}
 use Rattle.script_words.specs.declared.lex.TokenKind.{TokenKind}
 use Rattle.script_words.specs.declared.lex.TokenKind.TheVariants as kind
-use Rattle.script_words.specs.declared.list.Placed.{Placed}
+use Rattle.script_words.specs.declared.list.PlacedWord.{PlacedWord}
 use Rattle.script_words.specs.declared.words.Word.{Word as CodeWord}
 use Rattle.script_words.specs.declared.words.Naming.{Naming as CodeNaming}
 use Rattle.script_words.specs.declared.words.Naming.TheVariants as code_naming
@@ -63,22 +63,22 @@ kind_told names (kind.Sign g) t = refl
 -- ---- the loop
 
 -- The words so far are those of their tokens, whatever tokens come behind.
-pub record MarkedTo (text : List ℕ) (placed : List Placed) (naming : CodeNaming) (set : BTreeSet (Bor (List ℕ))) : Type 0 where
+pub record MarkedTo (text : List ℕ) (placed : List PlacedWord) (naming : CodeNaming) (set : BTreeSet (Bor (List ℕ))) : Type 0 where
   pub names : List (List ℕ)
   pub has : HasNames set names
   pub rest : (more : List Token) → words_of text (tokens_of placed ++ more) ≡ words_at text placed ++ words_from text (naming_of naming) names more
 
-pub marked_none : (text : List ℕ) (placed : List Placed) (set : BTreeSet (Bor (List ℕ))) → placed ≡ [] → HasNames set [] → MarkedTo text placed code_naming.Nothing set
+pub marked_none : (text : List ℕ) (placed : List PlacedWord) (set : BTreeSet (Bor (List ℕ))) → placed ≡ [] → HasNames set [] → MarkedTo text placed code_naming.Nothing set
 marked_none text placed set e h = record {
   names = [];
   has = h;
   rest = λ more. ap (λ ps. words_of text (tokens_of ps ++ more)) e ∙ ap (λ ps. words_at text ps ++ words_of text more) (sym e);
 }
 
-pub marked_all : {text : List ℕ} {placed : List Placed} {naming : CodeNaming} {set : BTreeSet (Bor (List ℕ))} → MarkedTo text placed naming set → words_at text placed ≡ words_of text (tokens_of placed)
+pub marked_all : {text : List ℕ} {placed : List PlacedWord} {naming : CodeNaming} {set : BTreeSet (Bor (List ℕ))} → MarkedTo text placed naming set → words_at text placed ≡ words_of text (tokens_of placed)
 marked_all {text} {placed} m = sym (append-nil (words_at text placed)) ∙ sym (m.rest []) ∙ ap (words_of text) (append-nil (tokens_of placed))
 
-module _ {text : List ℕ} {placed : List Placed} {naming : CodeNaming} {set : BTreeSet (Bor (List ℕ))} (m : MarkedTo text placed naming set) (p : Placed) (k : TokenKind) (w : CodeWord)
+module _ {text : List ℕ} {placed : List PlacedWord} {naming : CodeNaming} {set : BTreeSet (Bor (List ℕ))} (m : MarkedTo text placed naming set) (p : PlacedWord) (k : TokenKind) (w : CodeWord)
     (words : (names : List (List ℕ)) → HasNames set names → word_of w ≡ kind_word names k (word_text text p)) (c : p.class ≡ class_of (word_of w)) where
   same_class : p.class ≡ class_of (kind_word m.names k (word_text text p))
   same_class = c ∙ ap class_of (words m.names m.has)
@@ -96,7 +96,7 @@ module _ {text : List ℕ} {placed : List Placed} {naming : CodeNaming} {set : B
   -- One more word, and its operator where it ends a definition.
   pub marked_more : (naming' : CodeNaming) → naming_of naming' ≡ naming_after (naming_of naming) (word_of w) → (o : Option (Bor (List ℕ))) → option_copied o ≡ defined_by (naming_of naming) (word_of w)
       → (set' : BTreeSet (Bor (List ℕ))) → ((names : List (List ℕ)) → HasNames set names → HasNames set' (option_to_list (option_copied o) ++ names))
-      → (placed' : List Placed) → placed' ≡ placed ++ (p ∷ []) → MarkedTo text placed' naming' set'
+      → (placed' : List PlacedWord) → placed' ≡ placed ++ (p ∷ []) → MarkedTo text placed' naming' set'
   marked_more naming' n o joins set' grows placed' e = record {
     names = option_to_list (option_copied o) ++ m.names;
     has = grows m.names m.has;

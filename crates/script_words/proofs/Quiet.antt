@@ -2,7 +2,7 @@
 use Rattle.std.proofs.Common.{◌≡◌, ℕ, ◌+◌, ◌≤◌, ◌==◌, ◌&&◌, ◌||◌, Bool, true, false, cond, nat_lt, List, [], ◌∷◌, ◌++◌, length, drop, take, Option, Some, None, refl, sym, ap, ◌∙◌, arith, length-drop}
 use Rattle.std.proofs.lemmas.List.{drop-append-le, take-append-le}
 use Rattle.std.proofs.lemmas.List.Sums.{prefix_len-le-length}
-use Rattle.script_words.specs.declared.class.Sign.{Sign}
+use Rattle.script_words.specs.declared.class.Symbol.{Symbol}
 use Rattle.script_words.specs.declared.lex.Run.{Run}
 use Rattle.script_words.specs.declared.lex.Run.TheVariants.{Word, Digit, HexDigit}
 use Rattle.script_words.specs.declared.lex.TokenKind.{TokenKind}
@@ -136,12 +136,12 @@ literal-le (b ∷ (c ∷ t)) =
 -- ---- tokens
 
 -- the token at the front, from its parts
-abbrev front_from : ℕ → ℕ → ℕ → ℕ → Option Sign → Option (TokenKind × ℕ) → Option (TokenKind × ℕ)
+abbrev front_from : ℕ → ℕ → ℕ → ℕ → Option Symbol → Option (TokenKind × ℕ) → Option (TokenKind × ℕ)
 front_from digits literal behind word reserved sign =
     cond (nat_lt 0 digits) (cond (nat_lt 0 behind) None (Some (kind.Literal, literal))) (cond (nat_lt 0 word) (Some (word_kind reserved, word)) sign)
 
 -- with a word at the front the signs are of no account
-without_sign : (d l n w : ℕ) (r : Option Sign) (a b : Option (TokenKind × ℕ)) → nat_lt 0 w ≡ true → front_from d l n w r a ≡ front_from d l n w r b
+without_sign : (d l n w : ℕ) (r : Option Symbol) (a b : Option (TokenKind × ℕ)) → nat_lt 0 w ≡ true → front_from d l n w r a ≡ front_from d l n w r b
 without_sign d l n w r a b h =
     let number = cond (nat_lt 0 n) None (Some (kind.Literal, l)) in
     ap (λ c. cond (nat_lt 0 d) number (cond c (Some (word_kind r, w)) a)) h ∙ sym (ap (λ c. cond (nat_lt 0 d) number (cond c (Some (word_kind r, w)) b)) h)

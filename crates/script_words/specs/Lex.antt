@@ -1,6 +1,6 @@
 -- The tokens of a text, by cases on its bytes. At each place the longest token is taken.
 use Rattle.std.specs.Prelude.{◌≡◌, ℕ, ◌+◌, ◌==◌, ◌||◌, nat_lt, ◌<◌, ◌≤◌, List, [], ◌∷◌, length, drop, take, Option, Some, None, Bool, false, not, if◌then◌else◌}
-use Rattle.script_words.specs.declared.class.Sign.{Sign}
+use Rattle.script_words.specs.declared.class.Symbol.{Symbol}
 use Rattle.script_words.specs.declared.lex.Run.TheVariants.{Word, Digit}
 use Rattle.script_words.specs.declared.lex.TokenKind.{TokenKind}
 use Rattle.script_words.specs.declared.lex.TokenKind.TheVariants as kind
@@ -23,12 +23,12 @@ blank_len inside (b ∷ bs) =
 -- ---- tokens
 
 -- a name, unless it is a reserved word
-abbrev pub word_kind : Option Sign → TokenKind
+abbrev pub word_kind : Option Symbol → TokenKind
 word_kind (Some g) = kind.Sign g
 word_kind None = kind.Name
 
 -- the token of a sign
-abbrev pub sign_token : Option (Sign × ℕ) → Option (TokenKind × ℕ)
+abbrev pub sign_token : Option (Symbol × ℕ) → Option (TokenKind × ℕ)
 sign_token (Some found) = Some (kind.Sign found.0, found.1)
 sign_token None = None
 

@@ -1,11 +1,11 @@
 -- The signs and the reserved words, as their bytes.
 use Rattle.std.specs.Prelude.{ℕ, ◌==◌, ◌&&◌, codes, List, [], ◌∷◌, Option, Some, None, if◌then◌else◌}
 use Rattle.std.specs.Str.{bytes_eq}
-use Rattle.script_words.specs.declared.class.Sign.{Sign}
-use Rattle.script_words.specs.declared.class.Sign.TheVariants as s
+use Rattle.script_words.specs.declared.class.Symbol.{Symbol}
+use Rattle.script_words.specs.declared.class.Symbol.TheVariants as s
 
 -- the signs of one byte: `{ } ( ) [ ] , ; = + - * / | < > ? $ ~ @`
-abbrev pub single_sign : ℕ → Option Sign
+abbrev pub single_sign : ℕ → Option Symbol
 single_sign b =
     if b == 123 then Some s.OpenBrace
     else if b == 125 then Some s.CloseBrace
@@ -30,7 +30,7 @@ single_sign b =
     else None
 
 -- the signs of two bytes: `<=` `>=` `<>` `->` `-/` `/\` `\/`
-abbrev pub double_sign : ℕ → ℕ → Option Sign
+abbrev pub double_sign : ℕ → ℕ → Option Symbol
 double_sign a b =
     if a == 60 && b == 61 then Some s.LessEqual
     else if a == 62 && b == 61 then Some s.GreaterEqual
@@ -42,19 +42,19 @@ double_sign a b =
     else None
 
 -- the first of two signs, with its length, that there is
-abbrev pub longer_sign : Option Sign → Option Sign → Option (Sign × ℕ)
+abbrev pub longer_sign : Option Symbol → Option Symbol → Option (Symbol × ℕ)
 longer_sign (Some g) other = Some (g, 2)
 longer_sign None (Some g) = Some (g, 1)
 longer_sign None None = None
 
 -- the longest sign at the front, with its length
-abbrev pub sign_at : List ℕ → Option (Sign × ℕ)
+abbrev pub sign_at : List ℕ → Option (Symbol × ℕ)
 sign_at [] = None
 sign_at (a ∷ []) = longer_sign None (single_sign a)
 sign_at (a ∷ (b ∷ bs)) = longer_sign (double_sign a b) (single_sign a)
 
 -- the reserved words
-abbrev pub reserved_word : List ℕ → Option Sign
+abbrev pub reserved_word : List ℕ → Option Symbol
 reserved_word w =
     if bytes_eq w (codes "in") then Some s.In
     else if bytes_eq w (codes "not") then Some s.Not

@@ -1,6 +1,6 @@
 -- A text as a list of words: its tokens without blanks, comments and places.
 use Rattle.std.specs.Prelude.{ℕ, List}
-use Rattle.script_words.specs.declared.class.Sign.{Sign}
+use Rattle.script_words.specs.declared.class.Symbol.{Symbol}
 use Rattle.script_words.specs.declared.class.Spelled.{Spelled}
 use Rattle.script_words.specs.declared.class.Number.{Number}
 use Rattle.script_words.specs.declared.class.Class.{Class}
@@ -11,7 +11,7 @@ pub data Word : Type 0 where
   name : Spelled → (text : List ℕ) → Word
   rounding : Spelled → (text : List ℕ) → Word
   literal : Number → (text : List ℕ) → Word
-  sign : Sign → Word
+  sign : Symbol → Word
 
 -- What is kept of a word beside its text: whether it is a name, rounding, literal or sign, and of
 -- which kind.

@@ -2,7 +2,7 @@
 
 /// A sign or a reserved word.
 #[derive(Clone, Copy, Debug, PartialEq, Eq)]
-pub enum Sign {
+pub enum Symbol {
     OpenBrace,
     CloseBrace,
     OpenParen,
@@ -64,5 +64,5 @@ pub enum Class {
     /// The name of a rounding operator that was defined before.
     Rounding(Spelled),
     Literal(Number),
-    Sign(Sign),
+    Sign(Symbol),
 }

@@ -6,7 +6,7 @@ ghost use Rattle.script_words.specs.Signs as signs;
 ghost use Rattle.script_words.specs.Lex as spec;
 ghost use Rattle.script_words.specs.Lex.{LexesOnce, LexesAll, TokensAreFew};
 
-use crate::class::Sign;
+use crate::class::Symbol;
 
 /// What a token is, to the reader of a script.
 #[derive(Clone, Copy, Debug, PartialEq, Eq)]
@@ -14,7 +14,7 @@ pub enum TokenKind {
     Name,
     Literal,
     /// A sign or a reserved word.
-    Sign(Sign),
+    Sign(Symbol),
 }
 
 /// A token. Its text is that part of the source.
@@ -152,52 +152,52 @@ pub fn blank_len(text: &[u8]) -> usize
 }
 
 /// The sign of one byte.
-fn single_sign(b: u8) -> Option<Sign>
+fn single_sign(b: u8) -> Option<Symbol>
     ensures { result ≡ signs.single_sign b }
 {
     match b {
-        b'{' => Some(Sign::OpenBrace),
-        b'}' => Some(Sign::CloseBrace),
-        b'(' => Some(Sign::OpenParen),
-        b')' => Some(Sign::CloseParen),
-        b'[' => Some(Sign::OpenBracket),
-        b']' => Some(Sign::CloseBracket),
-        b',' => Some(Sign::Comma),
-        b';' => Some(Sign::Semicolon),
-        b'=' => Some(Sign::Equal),
-        b'+' => Some(Sign::Plus),
-        b'-' => Some(Sign::Minus),
-        b'*' => Some(Sign::Star),
-        b'/' => Some(Sign::Slash),
-        b'|' => Some(Sign::Bar),
-        b'<' => Some(Sign::Less),
-        b'>' => Some(Sign::Greater),
-        b'?' => Some(Sign::Ask),
-        b'$' => Some(Sign::Dollar),
-        b'~' => Some(Sign::Tilde),
-        b'@' => Some(Sign::At),
+        b'{' => Some(Symbol::OpenBrace),
+        b'}' => Some(Symbol::CloseBrace),
+        b'(' => Some(Symbol::OpenParen),
+        b')' => Some(Symbol::CloseParen),
+        b'[' => Some(Symbol::OpenBracket),
+        b']' => Some(Symbol::CloseBracket),
+        b',' => Some(Symbol::Comma),
+        b';' => Some(Symbol::Semicolon),
+        b'=' => Some(Symbol::Equal),
+        b'+' => Some(Symbol::Plus),
+        b'-' => Some(Symbol::Minus),
+        b'*' => Some(Symbol::Star),
+        b'/' => Some(Symbol::Slash),
+        b'|' => Some(Symbol::Bar),
+        b'<' => Some(Symbol::Less),
+        b'>' => Some(Symbol::Greater),
+        b'?' => Some(Symbol::Ask),
+        b'$' => Some(Symbol::Dollar),
+        b'~' => Some(Symbol::Tilde),
+        b'@' => Some(Symbol::At),
         _ => None,
     }
 }
 
 /// The sign of two bytes.
-fn double_sign(a: u8, b: u8) -> Option<Sign>
+fn double_sign(a: u8, b: u8) -> Option<Symbol>
     ensures { result ≡ signs.double_sign a b }
 {
     match (a, b) {
-        (b'<', b'=') => Some(Sign::LessEqual),
-        (b'>', b'=') => Some(Sign::GreaterEqual),
-        (b'<', b'>') => Some(Sign::Unequal),
-        (b'-', b'>') => Some(Sign::Arrow),
-        (b'-', b'/') => Some(Sign::Against),
-        (b'/', b'\\') => Some(Sign::And),
-        (b'\\', b'/') => Some(Sign::Or),
+        (b'<', b'=') => Some(Symbol::LessEqual),
+        (b'>', b'=') => Some(Symbol::GreaterEqual),
+        (b'<', b'>') => Some(Symbol::Unequal),
+        (b'-', b'>') => Some(Symbol::Arrow),
+        (b'-', b'/') => Some(Symbol::Against),
+        (b'/', b'\\') => Some(Symbol::And),
+        (b'\\', b'/') => Some(Symbol::Or),
         _ => None,
     }
 }
 
 /// The longest sign at the front, with its length.
-fn sign_at(text: &[u8]) -> Option<(Sign, usize)>
+fn sign_at(text: &[u8]) -> Option<(Symbol, usize)>
     ensures sign { result ≡ signs.sign_at text.now }
     ensures within { IfSome result (λ found. (0 < found.1) × (found.1 ≤ length text.now)) }
 {
@@ -215,23 +215,23 @@ fn sign_at(text: &[u8]) -> Option<(Sign, usize)>
     }
 }
 
-fn reserved_word(word: &[u8]) -> Option<Sign>
+fn reserved_word(word: &[u8]) -> Option<Symbol>
     ensures { result ≡ signs.reserved_word word.now }
 {
     if word == b"in".as_slice() {
-        Some(Sign::In)
+        Some(Symbol::In)
     } else if word == b"not".as_slice() {
-        Some(Sign::Not)
+        Some(Symbol::Not)
     } else if word == b"fixed".as_slice() {
-        Some(Sign::Fixed)
+        Some(Symbol::Fixed)
     } else if word == b"int".as_slice() {
-        Some(Sign::Int)
+        Some(Symbol::Int)
     } else if word == b"fma".as_slice() {
-        Some(Sign::Fma)
+        Some(Symbol::Fma)
     } else if word == b"float".as_slice() {
-        Some(Sign::Float)
+        Some(Symbol::Float)
     } else if word == b"sqrt".as_slice() {
-        Some(Sign::Sqrt)
+        Some(Symbol::Sqrt)
     } else {
         None
     }

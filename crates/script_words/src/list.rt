@@ -14,7 +14,7 @@ use std::alloc::{AllocError, Global};
 
 /// The class of a word, and its place in the text.
 #[derive(Clone, Copy)]
-pub struct Placed {
+pub struct PlacedWord {
     pub class: Class,
     pub start: u32,
     pub end: u32,
@@ -24,7 +24,7 @@ pub struct Placed {
 #[derive(Clone, Copy)]
 pub struct WordList<'w, 'a> {
     text: &'a [u8],
-    placed: &'w [Placed],
+    placed: &'w [PlacedWord],
     ghost within: { All (IsPlacedIn text.now) placed.now },
 }
 
@@ -32,7 +32,7 @@ pub struct WordList<'w, 'a> {
 #[derive(Drop)]
 pub struct Words<'a> {
     pub(crate) text: &'a [u8],
-    pub(crate) placed: Vec<Placed>,
+    pub(crate) placed: Vec<PlacedWord>,
     pub bad: Option<u32>,
     ghost within: { All (IsPlacedIn text.now) placed.items },
 }
@@ -50,7 +50,7 @@ fn word_with<'a>(class: Class, text: &'a [u8]) -> Word<'a>
 }
 
 #[inline]
-fn word_at<'a>(text: &'a [u8], placed: Placed) -> Word<'a>
+fn word_at<'a>(text: &'a [u8], placed: PlacedWord) -> Word<'a>
     requires { IsPlacedIn text.now placed }
     ensures { word_of result ≡ spec.word_at text.now placed }
 {
@@ -70,7 +70,7 @@ fn kind_of(class: Class) -> TokenKind
     }
 }
 
-fn token_of(placed: Placed) -> Token
+fn token_of(placed: PlacedWord) -> Token
     ensures { result ≡ spec.token_of placed }
 {
     Token {

@@ -11,9 +11,9 @@ ghost use Rattle.script_words.specs.Words.{class_of};
 ghost use Rattle.script_words.specs.Lex.{IsWithin, Lexes};
 ghost use Rattle.script_words.specs.Kept.{all_words, all_tokens};
 
-use crate::class::{Class, Number, Sign, Spelled};
+use crate::class::{Class, Number, Spelled, Symbol};
 use crate::lex::{TokenKind, blank_len, front, rest_at};
-use crate::list::{Placed, Words};
+use crate::list::{PlacedWord, Words};
 use std::alloc::{AllocError, Global};
 use std::collections::BTreeSet;
 
@@ -24,7 +24,7 @@ pub enum Word<'a> {
     /// The name of a rounding operator that was defined before.
     Rounding(Spelled, &'a [u8]),
     Literal(Number, &'a [u8]),
-    Sign(Sign),
+    Sign(Symbol),
 }
 
 impl Word<'_> {
@@ -140,11 +140,11 @@ fn naming_after<'a>(naming: Naming<'a>, word: Word<'a>) -> Naming<'a>
         ≡ spec.naming_after (spec.naming_of naming.entry) (spec.word_of word.entry) }
 {
     match (naming, word) {
-        (Naming::Pending(_), Word::Sign(Sign::Semicolon)) => Naming::Nothing,
+        (Naming::Pending(_), Word::Sign(Symbol::Semicolon)) => Naming::Nothing,
         (Naming::Pending(name), _) => Naming::Pending(name),
-        (_, Word::Sign(Sign::At)) => Naming::AfterAt,
+        (_, Word::Sign(Symbol::At)) => Naming::AfterAt,
         (Naming::AfterAt, Word::Name(_, name) | Word::Rounding(_, name)) => Naming::AfterName(name),
-        (Naming::AfterName(name), Word::Sign(Sign::Equal)) => Naming::Pending(name),
+        (Naming::AfterName(name), Word::Sign(Symbol::Equal)) => Naming::Pending(name),
         _ => Naming::Nothing,
     }
 }
@@ -155,7 +155,7 @@ fn defined_by<'a>(naming: Naming<'a>, word: Word<'a>) -> Option<&'a [u8]>
         ≡ spec.defined_by (spec.naming_of naming.entry) (spec.word_of word.entry) }
 {
     match (naming, word) {
-        (Naming::Pending(name), Word::Sign(Sign::Semicolon)) => Some(name),
+        (Naming::Pending(name), Word::Sign(Symbol::Semicolon)) => Some(name),
         _ => None,
     }
 }
@@ -193,7 +193,7 @@ pub fn read_words<'a>(alloc: Global, text: &'a [u8]) -> Result<Words<'a>, AllocE
         let word = kind_word(&operators, kind, &text[start..end]);
         add_operator(&mut operators, defined_by(naming, word))?;
         naming = naming_after(naming, word);
-        placed.push(Placed {
+        placed.push(PlacedWord {
             class: word.class(),
             start: start as u32,
             end: end as u32,

@@ -207,7 +207,7 @@ fn answer_by<A: Fn(&Universe, &Plan, u32) -> Result<Outcome, AllocError>>(
 /// case's claims assumed; all cases may have so many boxes (1 to 8,192) together. Each box is
 /// settled by one of so many workers (1 to 16), each of which calls the gate before and after it
 /// settles a box. Neither their number nor their schedule changes the answer. What is assumed in
-/// the universe before and behind the call is no part of it: it stays the script's, also after want
+/// the universe before and behind the call is no part of it: it stays the script's, also after lack
 /// of memory, which is the only error. It may wait.
 pub fn answer<G: Gate, R: Threads + Wait + Sync>(
     rt: &R,
@@ -249,7 +249,7 @@ pub fn answer<G: Gate, R: Threads + Wait + Sync>(
     )
 }
 
-/// The same outcome, by this thread alone: it calls no gate and waits for nobody. Want of memory is
+/// The same outcome, by this thread alone: it calls no gate and waits for nobody. Lack of memory is
 /// the only error.
 pub fn answer_alone(
     alloc: Global,

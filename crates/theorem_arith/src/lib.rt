@@ -3,7 +3,7 @@
 
 // What callers name of the crates below.
 pub use expr_dag::{Dag, Direction, ExprId, Literal, Node, Rounding};
-pub use facts::{Fact, Place, RelativeError, Slot};
+pub use facts::{Fact, FixPlace, RelativeError, Slot};
 
 mod bounds;
 mod laws;

@@ -7,7 +7,7 @@ use Rattle.rounding.specs.fx_model.Powers.{IsMultiple}
 use Rattle.rounding.specs.fx_model.Rounded.{rounded}
 use Rattle.rounding.specs.fx_model.declared.Direction.TheVariants.{Dn}
 use Rattle.rounding.specs.Rounded.{rounded_multiple, rounded-multiple}
-use Rattle.theorem_arith.specs.facts.declared.place.Place.{Place}
+use Rattle.theorem_arith.specs.facts.declared.place.FixPlace.{FixPlace}
 use Rattle.theorem_arith.specs.facts.Places.{place_from, place_from_out, place_from_self}
 use Rattle.theorem_fix.specs.Beside.{rounded_below}
 
@@ -16,13 +16,13 @@ abbrev pub is_multiple : ℤ → Fraction → Bool
 is_multiple k x = le_ℚ x (rounded Dn k x)
 
 -- of the n places from -1024 up, the greatest of which x is a multiple; none where there is none
-pub greatest_of : ℕ → Fraction → Option Place
+pub greatest_of : ℕ → Fraction → Option FixPlace
 greatest_of zero x = None
 greatest_of (suc n) x = if is_multiple (pos n +ℤ negsuc 1023) x
     then place_from (pos n +ℤ negsuc 1023) else greatest_of n x
 
 -- the greatest place of which x is a multiple; none where it is of no place
-abbrev pub greatest_place : Fraction → Option Place
+abbrev pub greatest_place : Fraction → Option FixPlace
 greatest_place x = greatest_of 1537 x
 
 -- ---- the test
@@ -35,30 +35,32 @@ is_multiple_out k x m = let l : x ≤ℚ rounded Dn k x =
     subst (λ y. x ≤ℚ y) (sym (rounded-multiple Dn k x m)) (le_refl x) in l.le
 
 -- ---- it is a multiple
-step_out : (b : Bool) (k : ℤ) (x : Fraction) (o : Option Place) (p : Place) → is_multiple k x ≡ b
+step_out : (b : Bool) (k : ℤ) (x : Fraction) (o : Option FixPlace) (p : FixPlace)
+    → is_multiple k x ≡ b
     → (o ≡ Some p → IsMultiple p.exponent x) → (if b then place_from k else o) ≡ Some p
     → IsMultiple p.exponent x
 step_out true k x o p t h e =
     subst (λ n. IsMultiple n x) (sym (place_from_out k p e)) (is_multiple_in k x t)
 step_out false k x o p t h e = h e
 
-greatest_of_out : (n : ℕ) (x : Fraction) (p : Place) → greatest_of n x ≡ Some p
+greatest_of_out : (n : ℕ) (x : Fraction) (p : FixPlace) → greatest_of n x ≡ Some p
     → IsMultiple p.exponent x
 unfolding greatest_of
 greatest_of_out zero x p e = cc
 greatest_of_out (suc n) x p e = step_out (is_multiple (pos n +ℤ negsuc 1023) x)
     (pos n +ℤ negsuc 1023) x (greatest_of n x) p refl (greatest_of_out n x p) e
 
-pub greatest_place_out : (x : Fraction) (p : Place) → greatest_place x ≡ Some p
+pub greatest_place_out : (x : Fraction) (p : FixPlace) → greatest_place x ≡ Some p
     → IsMultiple p.exponent x
 greatest_place_out x p e = greatest_of_out 1537 x p e
 
 -- ---- it is the greatest
 -- no greater place is one
-abbrev IsMost : Fraction → Place → Type 0
+abbrev IsMost : Fraction → FixPlace → Type 0
 IsMost x p = (j : ℤ) → j ≤ℤ pos 512 → IsMultiple j x → j ≤ℤ p.exponent
 
-step_is : (b : Bool) (k : ℤ) (x : Fraction) (o : Option Place) (p : Place) → is_multiple k x ≡ b
+step_is : (b : Bool) (k : ℤ) (x : Fraction) (o : Option FixPlace) (p : FixPlace)
+    → is_multiple k x ≡ b
     → k ≤ℤ pos 512 → p.exponent <ℤ (k +ℤ pos 1) → IsMultiple p.exponent x → IsMost x p
     → (p.exponent <ℤ k → o ≡ Some p) → (if b then place_from k else o) ≡ Some p
 step_is true k x o p t h l m g rest = let a : k ≤ℤ p.exponent = g k h (is_multiple_in k x t) in
@@ -67,7 +69,7 @@ step_is false k x o p t h l m g rest = by_lt_z p.exponent k rest
     (λ a. let e : p.exponent ≡ k = omega (arith, ints) in
     let f : true ≡ false = sym (is_multiple_out k x (subst (λ n. IsMultiple n x) e m)) ∙ t in cc)
 
-greatest_of-is : (n : ℕ) (x : Fraction) (p : Place)
+greatest_of-is : (n : ℕ) (x : Fraction) (p : FixPlace)
     → n ≤ 1537 → p.exponent <ℤ (pos n +ℤ negsuc 1023) → IsMultiple p.exponent x → IsMost x p
     → greatest_of n x ≡ Some p
 unfolding greatest_of
@@ -77,13 +79,13 @@ greatest_of-is (suc n) x p h l m g =
     (omega (arith, ints)) (omega (arith, ints)) m g
     (λ a. greatest_of-is n x p (omega arith) a m g)
 
-pub greatest_place-is : (x : Fraction) (p : Place) → IsMultiple p.exponent x → IsMost x p
+pub greatest_place-is : (x : Fraction) (p : FixPlace) → IsMultiple p.exponent x → IsMost x p
     → greatest_place x ≡ Some p
 greatest_place-is x p m g = let h = p.highest in
     greatest_of-is 1537 x p (omega arith) (omega (arith, ints)) m g
 
 -- ---- there is none
-step_none : (b : Bool) (k : ℤ) (x : Fraction) (o : Option Place) → is_multiple k x ≡ b
+step_none : (b : Bool) (k : ℤ) (x : Fraction) (o : Option FixPlace) → is_multiple k x ≡ b
     → ¬ IsMultiple k x → o ≡ None → (if b then place_from k else o) ≡ None
 step_none true k x o t n e = absurd (n (is_multiple_in k x t))
 step_none false k x o t n e = e

@@ -19,7 +19,7 @@ use Rattle.rounding.specs.dyadic.Compared.{BoundLe_in}
 use Rattle.rounding.specs.dyadic.Extremes.{BoundLe-trans}
 use Rattle.rounding.specs.interval.declared.interval.Interval.{Interval}
 use Rattle.theorem_arith.specs.expr_dag.Shapes.{is_at}
-use Rattle.theorem_arith.specs.facts.declared.place.Place.{Place}
+use Rattle.theorem_arith.specs.facts.declared.place.FixPlace.{FixPlace}
 use Rattle.theorem_arith.specs.facts.declared.fact.Fact.TheVariants as fact
 use Rattle.theorem_arith.specs.facts.declared.fact.Slot.TheVariants as slot
 use Rattle.theorem_arith.specs.facts.Laws.{IsStronger-refl}
@@ -32,7 +32,7 @@ use Rattle.theorem_arith.specs.facts.Places.{place_from-some, place_from_out, ke
 use Rattle.theorem_fix.specs.Shapes.{rounding_at}
 use Rattle.theorem_fix.specs.Multiples.{literal_multiple_rule, multiple_of_negation_rule, multiple_of_sum_rule, multiple_of_product_rule, rounded_multiple_rule, untouched, untouched_multiple_rule, number_place, point_place, number_multiple_rule}
 
-lesser-rises : (k n l m : Place) → k.exponent ≤ℤ l.exponent → n.exponent ≤ℤ m.exponent
+lesser-rises : (k n l m : FixPlace) → k.exponent ≤ℤ l.exponent → n.exponent ≤ℤ m.exponent
     → (lesser_place k n).exponent ≤ℤ (lesser_place l m).exponent
 lesser-rises k n l m p q =
     by_test (int_lt k.exponent n.exponent) (int_lt l.exponent m.exponent) refl refl
@@ -65,8 +65,8 @@ cap_most s = by_test (int_lt (pos 512) s) refl
     by_test true e = omega (arith, ints)
     by_test false e = not_less (pos 512) s e
 
-kept-rises : (s t : ℤ) (p : Place) → s ≤ℤ t → kept s ≡ Some p
-    → (q : Place) × (kept t ≡ Some q) × (p.exponent ≤ℤ q.exponent)
+kept-rises : (s t : ℤ) (p : FixPlace) → s ≤ℤ t → kept s ≡ Some p
+    → (q : FixPlace) × (kept t ≡ Some q) × (p.exponent ≤ℤ q.exponent)
 kept-rises s t p l e =
     let same : p.exponent ≡ cap s = place_from_out (cap s) p e in
     let up : p.exponent ≤ℤ cap t = subst (λ k. k ≤ℤ cap t) (sym same) (cap-rises s t l) in
@@ -119,19 +119,20 @@ rounded_multiple_rule-isotone nodes (fact.Bnd x i ∷ []) (slot.Fix e) ps c s q 
     (c, q, IsStronger-refl c)
 rounded_multiple_rule-isotone nodes _ _ ps c s q = cc
 
-untouched-rises : (k n : Place) (r : Option Rounding) (p : Place) → k.exponent ≤ℤ n.exponent
-    → untouched k r ≡ Some p → (m : Place) × (untouched n r ≡ Some m) × (p.exponent ≤ℤ m.exponent)
+untouched-rises : (k n : FixPlace) (r : Option Rounding) (p : FixPlace) → k.exponent ≤ℤ n.exponent
+    → untouched k r ≡ Some p
+    → (m : FixPlace) × (untouched n r ≡ Some m) × (p.exponent ≤ℤ m.exponent)
 untouched-rises k n None p l e = cc
 untouched-rises k n (Some r) p l e =
     by_test (int_lt k.exponent r.lsb) (int_lt n.exponent r.lsb) refl refl e
   where
     by_test : (b d : Bool) → int_lt k.exponent r.lsb ≡ b
         → int_lt n.exponent r.lsb ≡ d → (if b then None else Some k) ≡ Some p
-        → (m : Place) × ((if d then None else Some n) ≡ Some m) × (p.exponent ≤ℤ m.exponent)
+        → (m : FixPlace) × ((if d then None else Some n) ≡ Some m) × (p.exponent ≤ℤ m.exponent)
     by_test true d t u e = cc
     by_test false true t u e = absurd (let a = not_less k.exponent r.lsb t in grind (arith, ints))
     by_test false false t u e =
-        (n, refl, subst (λ (z : Place). z.exponent ≤ℤ n.exponent) (let g : k ≡ p = cc in g) l)
+        (n, refl, subst (λ (z : FixPlace). z.exponent ≤ℤ n.exponent) (let g : k ≡ p = cc in g) l)
 
 pub untouched_multiple_rule-isotone : IsIsotone untouched_multiple_rule
 untouched_multiple_rule-isotone nodes (fact.Fix x k ∷ []) (slot.Fix e) ps c s q =
@@ -179,7 +180,7 @@ module _ (c d : Dyadic) (j : Interval) (l : BoundLe (bound_of (end.At c)) (bound
   point_both : point_place j.lo j.hi ≡ point_place (end.At c) (end.At d)
   point_both = ap (λ z. point_place z j.hi) point_low ∙ ap (point_place (end.At c)) point_high
 
-point_same : (lo hi : End) (j : Interval) (p : Place) → point_place lo hi ≡ Some p
+point_same : (lo hi : End) (j : Interval) (p : FixPlace) → point_place lo hi ≡ Some p
     → BoundLe (bound_of lo) (bound_of j.lo) → BoundLe (bound_of j.hi) (bound_of hi)
     → point_place j.lo j.hi ≡ Some p
 point_same (end.At c) (end.At d) j p e l h =

@@ -13,7 +13,7 @@ use Rattle.rounding.specs.dyadic.declared.number.End.TheVariants as end
 use Rattle.rounding.specs.dyadic.Order.{le_bound}
 use Rattle.rounding.specs.dyadic.Ends.{bound_of}
 use Rattle.theorem_arith.specs.expr_dag.Shapes.{is_at}
-use Rattle.theorem_arith.specs.facts.declared.place.Place.{Place}
+use Rattle.theorem_arith.specs.facts.declared.place.FixPlace.{FixPlace}
 use Rattle.theorem_arith.specs.facts.declared.fact.Fact.{Fact}
 use Rattle.theorem_arith.specs.facts.declared.fact.Slot.{Slot}
 use Rattle.theorem_arith.specs.facts.declared.fact.Fact.TheVariants as fact
@@ -25,7 +25,7 @@ use Rattle.theorem_fix.specs.Greatest.{greatest_place}
 use Rattle.theorem_fix.specs.Shapes.{rounding_at}
 
 -- the greatest place of the literal that the node is
-abbrev pub literal_place : Option Node → Option Place
+abbrev pub literal_place : Option Node → Option FixPlace
 literal_place (Some (node.Lit l)) = greatest_place (literal_value l)
 literal_place _ = None
 
@@ -54,7 +54,7 @@ multiple_of_product_rule nodes (fact.Fix a k ∷ fact.Fix b n ∷ []) (slot.Fix 
 multiple_of_product_rule nodes _ _ = None
 
 -- the place of a rounding's last digit
-abbrev pub last_place : Option Rounding → Option Place
+abbrev pub last_place : Option Rounding → Option FixPlace
 last_place None = None
 last_place (Some r) = place_from r.lsb
 
@@ -65,7 +65,7 @@ rounded_multiple_rule nodes (fact.Bnd x i ∷ []) (slot.Fix e) =
 rounded_multiple_rule nodes _ _ = None
 
 -- the place, where the rounding is to it or a lower one
-abbrev pub untouched : Place → Option Rounding → Option Place
+abbrev pub untouched : FixPlace → Option Rounding → Option FixPlace
 untouched k None = None
 untouched k (Some r) = if int_lt k.exponent r.lsb then None else Some k
 
@@ -80,11 +80,11 @@ abbrev pub is_zero : Dyadic → Bool
 is_zero d = unsigned_abs d.mantissa == 0
 
 -- the power of m * 2^e with odd m: 2^e, and 2^512 for 0
-abbrev pub number_place : Dyadic → Option Place
+abbrev pub number_place : Dyadic → Option FixPlace
 number_place d = kept (if is_zero d then pos 512 else d.exponent)
 
 -- of an interval of one number
-abbrev pub point_place : End → End → Option Place
+abbrev pub point_place : End → End → Option FixPlace
 point_place (end.At c) (end.At d) =
     if le_bound (bound_of (end.At d)) (bound_of (end.At c)) then number_place c else None
 point_place _ _ = None

@@ -11,7 +11,7 @@ use Rattle.rounding.specs.fx_model.declared.ExprId.{ExprId}
 use Rattle.rounding.specs.fx_model.declared.Node.{Node}
 use Rattle.rounding.specs.interval.declared.interval.Interval.{Interval}
 use Rattle.rounding.specs.interval.Intervals.{range_of}
-use Rattle.theorem_arith.specs.facts.declared.place.Place.{Place}
+use Rattle.theorem_arith.specs.facts.declared.place.FixPlace.{FixPlace}
 use Rattle.theorem_arith.specs.facts.declared.fact.Fact.{Fact}
 use Rattle.theorem_arith.specs.facts.declared.fact.Fact.TheVariants as fact
 use Rattle.theorem_arith.specs.facts.declared.fact.Slot.TheVariants as slot
@@ -48,7 +48,7 @@ shrinking_rule-sound nodes (fact.Bnd x i ∷ fact.Fix y k ∷ []) (slot.Bnd e) f
 shrinking_rule-sound nodes _ _ f o q = cc
 
 -- a multiple in the interval shows that there is a shrunk one
-has_shrunk : (i : Interval) (k : Place) (x : Fraction) → Lies (range_of i) x
+has_shrunk : (i : Interval) (k : FixPlace) (x : Fraction) → Lies (range_of i) x
     → IsMultiple k.exponent x → (j : Interval) × (shrunk_of i k ≡ Some j)
 has_shrunk i k x l m = let t = multiple_lies k.exponent (range_of i) x m l in
     shrunk_some i k (ordered_by (shrunk_range k.exponent (range_of i)).low
@@ -73,9 +73,9 @@ no_multiple_rule-sound nodes (fact.Bnd x i ∷ fact.Fix y k ∷ []) slot.Void f 
 no_multiple_rule-sound nodes _ _ f o q = cc
 
 -- ---- from stronger premises
-bnd_then_fix : (ps : List Fact) (x : ExprId) (i : Interval) (y : ExprId) (k : Place)
+bnd_then_fix : (ps : List Fact) (x : ExprId) (i : Interval) (y : ExprId) (k : FixPlace)
     → EachStronger ps (fact.Bnd x i ∷ fact.Fix y k ∷ [])
-    → (j : Interval) × (n : Place) × (ps ≡ fact.Bnd x j ∷ fact.Fix y n ∷ []) × IsWithin j i
+    → (j : Interval) × (n : FixPlace) × (ps ≡ fact.Bnd x j ∷ fact.Fix y n ∷ []) × IsWithin j i
     × (k.exponent ≤ℤ n.exponent)
 bnd_then_fix ps x i y k s =
     let a = first_premise ps (fact.Bnd x i) (fact.Fix y k ∷ []) s in
@@ -84,7 +84,8 @@ bnd_then_fix ps x i y k s =
     (b.0, c.0, a.2.is ∙ ap (λ p. p ∷ a.1) b.1 ∙ ap (λ l. fact.Bnd x b.0 ∷ l) c.1, b.2, c.2)
 
 -- where the smaller interval has a multiple of the greater power, the greater has one
-still_some : (i j : Interval) (k n : Place) (p : Interval) → IsWithin j i → k.exponent ≤ℤ n.exponent
+still_some : (i j : Interval) (k n : FixPlace) (p : Interval) → IsWithin j i
+    → k.exponent ≤ℤ n.exponent
     → shrunk_of j n ≡ Some p → (q : Interval) × (shrunk_of i k ≡ Some q)
 still_some i j k n p w h e =
     let s = shrunk_range n.exponent (range_of j) in
@@ -93,7 +94,7 @@ still_some i j k n p w h e =
     let l = within_in s t m.0 (shrunk_within i j k n w h) (m.1, m.2) in
     shrunk_some i k (ordered_by t.low t.high m.0 l.0 l.1)
 
-void_stays : (nodes : List Node) (x y : ExprId) (i j : Interval) (k n : Place) (c : Fact)
+void_stays : (nodes : List Node) (x y : ExprId) (i j : Interval) (k n : FixPlace) (c : Fact)
     → IsWithin j i → k.exponent ≤ℤ n.exponent
     → given_if (is_one nodes x y) (void_without (shrunk_of i k)) ≡ Some c
     → Gives (given_if (is_one nodes x y) (void_without (shrunk_of j n))) c
@@ -115,13 +116,13 @@ no_multiple_rule-isotone nodes (fact.Bnd x i ∷ fact.Fix y k ∷ []) slot.Void 
     (void_stays nodes x y i a.0 k a.1 c a.3 a.4 q)
 no_multiple_rule-isotone nodes _ _ ps c s q = cc
 
-further_in : (i j : Interval) (k n : Place) (p q : Interval) → IsWithin j i
+further_in : (i j : Interval) (k n : FixPlace) (p q : Interval) → IsWithin j i
     → k.exponent ≤ℤ n.exponent → shrunk_of i k ≡ Some p → shrunk_of j n ≡ Some q → IsWithin q p
 further_in i j k n p q w h e f = subst (λ r. Within (range_of q) r) (sym (shrunk_ends i k p e))
     (subst (λ r. Within r (shrunk_range k.exponent (range_of i))) (sym (shrunk_ends j n q f))
     (shrunk_within i j k n w h))
 
-shrunk_or_void : (nodes : List Node) (x y e : ExprId) (i j : Interval) (k n : Place) (c : Fact)
+shrunk_or_void : (nodes : List Node) (x y e : ExprId) (i j : Interval) (k n : FixPlace) (c : Fact)
     → IsWithin j i → k.exponent ≤ℤ n.exponent
     → given_if (is_one nodes x y && is_same x e) (bnd_of e (shrunk_of i k)) ≡ Some c
     → Gives (given_if (is_one nodes x y && is_same x e) (bnd_of e (shrunk_of j n))) c

@@ -10,7 +10,7 @@ use Rattle.theorem_arith.specs.facts.declared.fact.Fact.{Fact}
 use Rattle.theorem_arith.specs.facts.declared.fact.Slot.{Slot}
 use Rattle.theorem_arith.specs.facts.declared.fact.Fact.TheVariants as fact
 use Rattle.theorem_arith.specs.facts.declared.fact.Slot.TheVariants as slot
-use Rattle.theorem_arith.specs.facts.declared.place.Place.{Place}
+use Rattle.theorem_arith.specs.facts.declared.place.FixPlace.{FixPlace}
 use Rattle.theorem_arith.specs.facts.Order.{is_same}
 use Rattle.theorem_arith.specs.facts.Conclusions.{bnd_of, given_if}
 use Rattle.theorem_arith.specs.Shapes.{is_one}
@@ -25,7 +25,7 @@ shrunk_range k r = record {
 }
 
 -- the least interval that holds the multiples of 2^k in an interval; none where it has none
-abbrev pub shrunk_of : Interval → Place → Option Interval
+abbrev pub shrunk_of : Interval → FixPlace → Option Interval
 shrunk_of i k = outward_of (shrunk_range k.exponent (range_of i))
 
 -- 28: from BND(x, I), FIX(x, k): BND(x, I shrunk to its multiples of 2^k), where it has one

@@ -18,7 +18,7 @@ use Rattle.rounding.specs.interval.Intervals.{range_of}
 use Rattle.rounding.specs.interval.Meets.{interval_from-none, interval_from_out}
 use Rattle.rounding.specs.Rounded.{rounded_multiple, rounded-finer, multiple_of_less}
 use Rattle.rounding.specs.OnGrid.{rounded_on_grid}
-use Rattle.theorem_arith.specs.facts.declared.place.Place.{Place}
+use Rattle.theorem_arith.specs.facts.declared.place.FixPlace.{FixPlace}
 use Rattle.theorem_arith.specs.facts.Order.{IsWithin}
 use Rattle.theorem_fix.specs.Beside.{rounded_below, rounded_above, multiple_below, multiple_above}
 use Rattle.rounding.specs.interval.Outward.{outward_of-some, low_end, high_end, low_bound_self, high_bound_self}
@@ -40,7 +40,7 @@ end_grid r Below h g = tt
 end_grid r (At x) h g = rounded_grid r.dir r.lsb x h g
 end_grid r Above h g = tt
 
-module _ (i : Interval) (k : Place) where
+module _ (i : Interval) (k : FixPlace) where
   t : Range
   t = shrunk_range k.exponent (range_of i)
 
@@ -126,7 +126,7 @@ high_further k n Below Above h l = l
 high_further k n (At x) Above h l = l
 high_further k n Above Above h l = tt
 
-pub shrunk_within : (i j : Interval) (k n : Place) → IsWithin j i → k.exponent ≤ℤ n.exponent
+pub shrunk_within : (i j : Interval) (k n : FixPlace) → IsWithin j i → k.exponent ≤ℤ n.exponent
     → Within (shrunk_range n.exponent (range_of j)) (shrunk_range k.exponent (range_of i))
 shrunk_within i j k n w h = (
   low_further k.exponent n.exponent (bound_of i.lo) (bound_of j.lo) h w.0,

@@ -25,7 +25,7 @@ use Rattle.rounding.specs.dyadic.Order.{le_bound}
 use Rattle.rounding.specs.dyadic.Compared.{BoundLe_in}
 use Rattle.rounding.specs.interval.Intervals.{range_of}
 use Rattle.theorem_arith.specs.expr_dag.Shapes.{is_at, node_at-value}
-use Rattle.theorem_arith.specs.facts.declared.place.Place.{Place}
+use Rattle.theorem_arith.specs.facts.declared.place.FixPlace.{FixPlace}
 use Rattle.theorem_arith.specs.facts.declared.fact.Fact.{Fact}
 use Rattle.theorem_arith.specs.facts.declared.fact.Fact.TheVariants as fact
 use Rattle.theorem_arith.specs.facts.declared.fact.Slot.TheVariants as slot
@@ -61,7 +61,7 @@ multiple-mul k n x y p q =
     (p.0 *ℤ q.0, ap (λ z. z *ℚ y) p.1 ∙ ap (λ z. scaled p.0 k *ℚ z) q.1 ∙ scaled-mul p.0 k q.0 n)
 
 -- the lesser place is at most both, and a kept one at most what was to be kept
-lesser_first : (k n : Place) → (lesser_place k n).exponent ≤ℤ k.exponent
+lesser_first : (k n : FixPlace) → (lesser_place k n).exponent ≤ℤ k.exponent
 lesser_first k n = by_test (int_lt k.exponent n.exponent) refl
   where
     by_test : (b : Bool) → int_lt k.exponent n.exponent ≡ b
@@ -69,7 +69,7 @@ lesser_first k n = by_test (int_lt k.exponent n.exponent) refl
     by_test true e = omega (arith, ints)
     by_test false e = not_less k.exponent n.exponent e
 
-lesser_second : (k n : Place) → (lesser_place k n).exponent ≤ℤ n.exponent
+lesser_second : (k n : FixPlace) → (lesser_place k n).exponent ≤ℤ n.exponent
 lesser_second k n = by_test (int_lt k.exponent n.exponent) refl
   where
     by_test : (b : Bool) → int_lt k.exponent n.exponent ≡ b
@@ -84,20 +84,20 @@ capped s = by_test (int_lt (pos 512) s) refl
     by_test true e = less (pos 512) s e
     by_test false e = omega (arith, ints)
 
-pub kept_at_most : (s : ℤ) (p : Place) → kept s ≡ Some p → p.exponent ≤ℤ s
+pub kept_at_most : (s : ℤ) (p : FixPlace) → kept s ≡ Some p → p.exponent ≤ℤ s
 kept_at_most s p e = subst (λ k. k ≤ℤ s)
     (sym (place_from_out (if int_lt (pos 512) s then pos 512 else s) p e)) (capped s)
 
 -- ---- a FIX fact of a place that may be missing
-pub fix_given : (nodes : List Node) (a : Assignment) (e : ExprId) (k : Option Place) (f : Fact)
-    → fix_of e k ≡ Some f → ((p : Place) → k ≡ Some p
+pub fix_given : (nodes : List Node) (a : Assignment) (e : ExprId) (k : Option FixPlace) (f : Fact)
+    → fix_of e k ≡ Some f → ((p : FixPlace) → k ≡ Some p
     → IsSomeAnd (value nodes a e) (IsMultiple p.exponent)) → Holds nodes a f
 fix_given nodes a e None f q h = cc
 fix_given nodes a e (Some p) f q h = let t : fact.Fix e p ≡ f = cc in
     subst (Holds nodes a) t (h p refl)
 
 -- ---- literals
-at_literal : (nodes : List Node) (a : Assignment) (e : ExprId) (n : Option Node) (p : Place)
+at_literal : (nodes : List Node) (a : Assignment) (e : ExprId) (n : Option Node) (p : FixPlace)
     → IsOrdered nodes → slice_get nodes e.0 ≡ n → literal_place n ≡ Some p
     → IsSomeAnd (value nodes a e) (IsMultiple p.exponent)
 at_literal nodes a e (Some (node.Lit l)) p o s q = subst (λ v. IsSomeAnd v (IsMultiple p.exponent))
@@ -165,7 +165,7 @@ pub at_rounding : (nodes : List Node) (a : Assignment) (e x : ExprId)
 at_rounding nodes a e x r P o s h = subst (λ v. IsSomeAnd v P) (sym
     (node_at-value nodes a e (node.Round r x) o (rounding_of_out (slice_get nodes e.0) x r s))) h
 
-last_known : (r : Option Rounding) (p : Place) → last_place r ≡ Some p
+last_known : (r : Option Rounding) (p : FixPlace) → last_place r ≡ Some p
     → (s : Rounding) × (r ≡ Some s) × (p.exponent ≡ s.lsb)
 last_known None p e = cc
 last_known (Some r) p e = (r, refl, place_from_out r.lsb p e)
@@ -180,7 +180,7 @@ rounded_multiple_rule-sound nodes (fact.Bnd x i ∷ []) (slot.Fix e) f o q = λ 
     (rounded_multiple r.0.dir r.0.lsb v)) h.0))
 rounded_multiple_rule-sound nodes _ _ f o q = cc
 
-untouched_known : (k : Place) (r : Option Rounding) (p : Place) → untouched k r ≡ Some p
+untouched_known : (k : FixPlace) (r : Option Rounding) (p : FixPlace) → untouched k r ≡ Some p
     → (s : Rounding) × (r ≡ Some s) × (s.lsb ≤ℤ k.exponent) × (k ≡ p)
 untouched_known k None p e = cc
 untouched_known k (Some r) p e = by_test (int_lt k.exponent r.lsb) refl e
@@ -197,7 +197,7 @@ untouched_multiple_rule-sound nodes (fact.Fix x k ∷ []) (slot.Fix e) f o q = �
     at_rounding nodes a e x r.0 (IsMultiple p.exponent) o r.1
     (lifted₁ (rounded r.0.dir r.0.lsb) (value nodes a x)
     (IsMultiple k.exponent) (IsMultiple p.exponent)
-    (λ v m. subst (λ (n : Place). IsMultiple n.exponent (rounded r.0.dir r.0.lsb v)) r.3 (subst
+    (λ v m. subst (λ (n : FixPlace). IsMultiple n.exponent (rounded r.0.dir r.0.lsb v)) r.3 (subst
     (IsMultiple k.exponent) (sym (rounded-finer r.0.dir k.exponent r.0.lsb v r.2 m)) m)) h.0))
 untouched_multiple_rule-sound nodes _ _ f o q = cc
 
@@ -205,7 +205,7 @@ untouched_multiple_rule-sound nodes _ _ f o q = cc
 no_size : (z : ℤ) → unsigned_abs z ≡ 0 → z ≡ pos 0
 no_size z e = omega (arith, ints)
 
-number_multiple : (d : Dyadic) (p : Place) → number_place d ≡ Some p
+number_multiple : (d : Dyadic) (p : FixPlace) → number_place d ≡ Some p
     → IsMultiple p.exponent (value_of d)
 number_multiple d p e = by_test (is_zero d) refl e
   where
@@ -219,7 +219,7 @@ number_multiple d p e = by_test (is_zero d) refl e
     by_test false t e = multiple-lower d.exponent p.exponent (value_of d)
         (kept_at_most d.exponent p e) (d.mantissa, refl)
 
-point_multiple : (lo hi : End) (x : Fraction) (p : Place) → point_place lo hi ≡ Some p
+point_multiple : (lo hi : End) (x : Fraction) (p : FixPlace) → point_place lo hi ≡ Some p
     → Lies (record { low = bound_of lo; high = bound_of hi }) x → IsMultiple p.exponent x
 point_multiple (end.At c) (end.At d) x p e l =
     by_test (le_bound (bound_of (end.At d)) (bound_of (end.At c))) refl e

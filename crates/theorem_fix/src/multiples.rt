@@ -8,7 +8,7 @@ ghost use Rattle.theorem_fix.specs.Multiples.{literal_place, literal_multiple_ru
 use crate::places::{keep, lesser, product_place};
 use crate::shape::rounding;
 use rounding::{Dyadic, End, fix_of};
-use theorem_arith::{Dag, ExprId, Fact, Literal, Node, Place, Rounding, Slot};
+use theorem_arith::{Dag, ExprId, Fact, FixPlace, Literal, Node, Rounding, Slot};
 
 /// For a literal c: FIX(c, k), where k is the greatest of which it is a multiple.
 #[inline(always)]
@@ -21,7 +21,7 @@ pub fn rule_21(dag: &Dag, premises: &[Fact], target: Slot) -> Option<Fact>
     Fact::fix(e, of_expression(dag, e))
 }
 
-fn of_expression(dag: &Dag, e: ExprId) -> Option<Place>
+fn of_expression(dag: &Dag, e: ExprId) -> Option<FixPlace>
     ensures { result ≡ literal_place (slice_get dag.now e.0) }
 {
     dag.laws();
@@ -31,12 +31,12 @@ fn of_expression(dag: &Dag, e: ExprId) -> Option<Place>
     }
 }
 
-fn of_literal(literal: &Literal) -> Option<Place>
+fn of_literal(literal: &Literal) -> Option<FixPlace>
     requires { IsNormal literal.now }
     ensures { result ≡ greatest_place (literal_value literal.now) }
 {
     match fix_of(literal) {
-        Some(k) => Place::new(k as i16),
+        Some(k) => FixPlace::new(k as i16),
         None => None,
     }
 }
@@ -116,11 +116,11 @@ pub fn rule_25(dag: &Dag, premises: &[Fact], target: Slot) -> Option<Fact>
     }
 }
 
-fn lsb(rounding: Option<Rounding>) -> Option<Place>
+fn lsb(rounding: Option<Rounding>) -> Option<FixPlace>
     ensures { result ≡ last_place rounding }
 {
     match rounding {
-        Some(r) => Place::new(r.lsb),
+        Some(r) => FixPlace::new(r.lsb),
         None => None,
     }
 }
@@ -139,7 +139,7 @@ pub fn rule_26(dag: &Dag, premises: &[Fact], target: Slot) -> Option<Fact>
     }
 }
 
-fn left_as_it_is(k: Place, rounding: Option<Rounding>) -> Option<Place>
+fn left_as_it_is(k: FixPlace, rounding: Option<Rounding>) -> Option<FixPlace>
     ensures { result ≡ untouched k rounding }
 {
     match rounding {
@@ -168,7 +168,7 @@ pub fn rule_27(dag: &Dag, premises: &[Fact], target: Slot) -> Option<Fact>
     }
 }
 
-fn of_number(number: Dyadic) -> Option<Place>
+fn of_number(number: Dyadic) -> Option<FixPlace>
     ensures { result ≡ number_place number }
 {
     if number.mantissa().unsigned_abs() == 0 {
@@ -178,7 +178,7 @@ fn of_number(number: Dyadic) -> Option<Place>
     }
 }
 
-fn of_point(low: End, high: End) -> Option<Place>
+fn of_point(low: End, high: End) -> Option<FixPlace>
     ensures { result ≡ point_place low high }
 {
     match (low, high) {

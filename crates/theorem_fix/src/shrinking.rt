@@ -3,7 +3,7 @@ ghost use Rattle.std.specs.Prelude.{◌≡◌};
 ghost use Rattle.theorem_fix.specs.Shrunk.{shrunk_of, shrinking_rule, void_without, no_multiple_rule};
 
 use rounding::Interval;
-use theorem_arith::{Dag, Fact, Place, Slot};
+use theorem_arith::{Dag, Fact, FixPlace, Slot};
 
 /// From BND(x, I), FIX(x, k): BND(x, I shrunk to its multiples of 2^k), where it has one.
 #[inline(always)]
@@ -54,7 +54,7 @@ fn void_without(interval: Option<Interval>) -> Option<Fact>
     }
 }
 
-fn shrunk(i: Interval, k: Place) -> Option<Interval>
+fn shrunk(i: Interval, k: FixPlace) -> Option<Interval>
     ensures { result ≡ shrunk_of i k }
 {
     i.shrink(k.exponent() as i32)

@@ -4,8 +4,8 @@ use Rattle.std.proofs.Common.{◌∙◌, ap, sym, subst, refl, inl, inr, arith}
 use Rattle.cert_trim.specs.cert_checker.goals.declared.line.Line.{Line}
 use Rattle.check_command.specs.script_grammar.Spells.{View, Spells, SpellsOnce, NeverBoth}
 use Rattle.cert_trim.specs.cert_bytes.declared.item.Item.{Item}
-use Rattle.cert_trim.specs.cert_bytes.declared.order.Due.{Due}
-use Rattle.cert_trim.specs.cert_bytes.declared.order.Due.TheVariants.{Head}
+use Rattle.cert_trim.specs.cert_bytes.declared.order.DueItem.{DueItem}
+use Rattle.cert_trim.specs.cert_bytes.declared.order.DueItem.TheVariants.{Head}
 use Rattle.cert_trim.specs.cert_bytes.declared.style.Style.TheVariants.{First}
 use Rattle.cert_trim.specs.cert_bytes.Certificates.{SpellsCertificate, SpellsOnce as SpelledOnce}
 use Rattle.cert_trim.specs.cert_bytes.Due.{due_behind}
@@ -31,7 +31,7 @@ use Rattle.trim_command.proofs.Trimmable.{accepted_new}
 
 -- ---- items that are read
 -- those that are read to the end are one list
-pub one_reading : (d : Due) (c : Cursor) (items others : List Item)
+pub one_reading : (d : DueItem) (c : Cursor) (items others : List Item)
     → AreRead d c items → AreRead d c others → items ≡ others
 one_reading d c [] [] p q = refl
 one_reading d c [] (j ∷ others) p (next, is, going, q) = absurd (going p)

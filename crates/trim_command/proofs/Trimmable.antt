@@ -4,7 +4,7 @@ use Rattle.std.proofs.Common.{◌∙◌, ap, subst, refl}
 use Rattle.cert_trim.specs.cert_checker.goals.declared.line.Line.{Line}
 use Rattle.check_command.specs.script_grammar.Spells.{View}
 use Rattle.cert_trim.specs.cert_bytes.declared.item.Item.{Item}
-use Rattle.cert_trim.specs.cert_bytes.declared.order.Due.TheVariants.{Head}
+use Rattle.cert_trim.specs.cert_bytes.declared.order.DueItem.TheVariants.{Head}
 use Rattle.cert_trim.specs.cert_bytes.declared.style.Style.TheVariants.{First, Second}
 use Rattle.cert_trim.specs.cert_bytes.Certificates.{SpellsCertificate}
 use Rattle.cert_trim.specs.cert_bytes.Pieces.{cursor_of}

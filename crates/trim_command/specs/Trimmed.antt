@@ -3,7 +3,7 @@ use Rattle.std.specs.Prelude.{◌≡◌, ◌≤◌, ◌<◌, ◌^◌, ◌⊎◌,
 use Rattle.cert_trim.specs.cert_checker.goals.declared.line.Line.{Line}
 use Rattle.check_command.specs.script_grammar.Spells.{View, Spells}
 use Rattle.cert_trim.specs.cert_bytes.declared.item.Item.{Item}
-use Rattle.cert_trim.specs.cert_bytes.declared.order.Due.TheVariants.{Head}
+use Rattle.cert_trim.specs.cert_bytes.declared.order.DueItem.TheVariants.{Head}
 use Rattle.cert_trim.specs.cert_bytes.declared.style.Style.TheVariants.{First}
 use Rattle.cert_trim.specs.cert_bytes.Certificates.{SpellsCertificate}
 use Rattle.cert_trim.specs.cert_bytes.Reading.{cursor}

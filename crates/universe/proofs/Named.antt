@@ -11,7 +11,7 @@ use Rattle.rule_universe.specs.interval.declared.interval.Interval.{Interval}
 use Rattle.rule_universe.specs.expr_dag.Nodes.{IsAt}
 use Rattle.rule_universe.specs.facts.declared.fact.Fact.{Fact}
 use Rattle.rule_universe.specs.facts.declared.fact.Slot.TheVariants as slot
-use Rattle.rule_universe.specs.facts.declared.place.Place.{Place}
+use Rattle.rule_universe.specs.facts.declared.place.FixPlace.{FixPlace}
 use Rattle.rule_universe.specs.facts.declared.relative.RelativeError.{RelativeError}
 use Rattle.rule_universe.specs.facts.declared.hint.HintRow.{HintRow}
 use Rattle.rule_universe.specs.facts.Order.{slot_of}
@@ -50,7 +50,7 @@ rel_slot : (x y : ExprId) (o : Option RelativeError) (f : Fact) → rel_of x y o
 rel_slot x y None f e = absurd (none_at f e)
 rel_slot x y (Some i) f e = ap slot_of (sym (some-inj _ f e))
 
-fix_slot : (x : ExprId) (o : Option Place) (f : Fact) → fix_of x o ≡ Some f → slot_of f ≡ slot.Fix x
+fix_slot : (x : ExprId) (o : Option FixPlace) (f : Fact) → fix_of x o ≡ Some f → slot_of f ≡ slot.Fix x
 fix_slot x None f e = absurd (none_at f e)
 fix_slot x (Some i) f e = ap slot_of (sym (some-inj _ f e))
 

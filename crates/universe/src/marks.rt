@@ -8,7 +8,7 @@ use rule_universe::HintMark;
 use script_grammar::Script;
 use std::alloc::{AllocError, Global};
 
-/// The mark of each rewriting hint of the script, in order. Want of memory is the only error.
+/// The mark of each rewriting hint of the script, in order. Lack of memory is the only error.
 pub fn classify(alloc: Global, script: &Script<'_>) -> Result<Vec<HintMark>, AllocError>
     ensures { IfOk result (λ marks.
         AreMarks script.now.nodes script.now.hints.rewrites marks.items) }

@@ -50,7 +50,7 @@ impl From<ClosureFault> for UniverseFault {
 /// than 1,024 expressions.
 pub fn build(alloc: Global, script: &Script<'_>) -> Result<Universe, UniverseFault>
     ensures universe { IfOk result (IsUniverse script.now []) }
-    // There is none exactly where it is too large, want of memory aside.
+    // There is none exactly where it is too large, lack of memory aside.
     ensures few { IfOk result (λ _. ¬ IsTooLarge script.now) }
     ensures many { result ≡ Err UniverseFault.ExprLimit → IsTooLarge script.now }
 {
@@ -68,7 +68,7 @@ pub fn build(alloc: Global, script: &Script<'_>) -> Result<Universe, UniverseFau
 }
 
 /// Assumes these claims of the script in its universe, in place of what was assumed: those of a
-/// case. Want of memory is the only error, and leaves the universe as it was.
+/// case. Lack of memory is the only error, and leaves the universe as it was.
 pub fn assume(
     alloc: Global,
     universe: &mut Universe,

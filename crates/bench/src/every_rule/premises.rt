@@ -2,7 +2,7 @@
 
 use super::rows::Row;
 use crate::numbers::Draw;
-use facts::{Dyadic, End, Fact, Interval, Place, RelativeError, Size, Slot};
+use facts::{Dyadic, End, Fact, FixPlace, Interval, RelativeError, Size, Slot};
 use std::alloc::{AllocError, Global};
 
 // On which side of 0 an interval lies.
@@ -71,7 +71,7 @@ impl Draw {
                 Some(Fact::Rel(x, y, if number == 92 { None } else { error }))
             }
             Slot::Fix(x) => {
-                Some(Fact::Fix(x, Place::new(if number == 44 { -45 } else { -30 })?))
+                Some(Fact::Fix(x, FixPlace::new(if number == 44 { -45 } else { -30 })?))
             }
             Slot::Nzr(x) => Some(Fact::Nzr(x)),
             Slot::Void => Some(Fact::Void),

@@ -5,7 +5,7 @@ use Rattle.saturate.specs.derivation.Exists.{joined}
 use Rattle.box_trace.specs.declared.known.Cited.{Cited}
 use Rattle.box_trace.specs.Tables.{fact_of, number_of, number_or}
 use Rattle.box_trace.proofs.log.kept.Goals as goal
-use Rattle.box_traces.specs.Coming.{with_by}
+use Rattle.tree_certificates.specs.Coming.{with_by}
 
 none_map : {P Q : Type 0} (r : Option Fact) → IfNone r P → (P → Q) → IfNone r Q
 none_map None p f = f p

@@ -5,7 +5,7 @@ use Rattle.saturate.specs.derivation.Changes.{IsListed}
 use Rattle.saturate.specs.rule_universe.declared.placed.Placed.{Placed}
 use Rattle.saturate.specs.rule_universe.Placed.{slots_of, IsPlaced}
 use Rattle.saturate.specs.Universes.{setting_of}
-use Rattle.box_traces.specs.Writing.{IsWritable}
+use Rattle.tree_certificates.specs.Writing.{IsWritable}
 use Rattle.box_trace.specs.Tables.{known_at, HasRows}
 use Rattle.box_trace.specs.Scans.{most_for}
 use Rattle.box_trace.specs.Rounds.{AddsSteps}

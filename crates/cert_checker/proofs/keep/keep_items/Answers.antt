@@ -1,7 +1,7 @@
 use Rattle.std.proofs.Common.{rules, arith, ◌≡◌, ◌∙◌, ◌++◌, [], List, None, sym, ap, subst, true, false, append-nil}
 use Rattle.std.proofs.lemmas.Result.{err_from_is_err_and}
 use Rattle.cert_bytes.specs.declared.item.Item.{Item}
-use Rattle.cert_bytes.specs.declared.order.Due.TheVariants.{Head}
+use Rattle.cert_bytes.specs.declared.order.DueItem.TheVariants.{Head}
 use Rattle.cert_bytes.specs.Certificates.{AreCertificate}
 use Rattle.cert_bytes.specs.Pieces.{cursor_of}
 use Rattle.cert_bytes.specs.ReadOut.{AreRead}

@@ -1,6 +1,6 @@
 use Rattle.std.proofs.Common.{◌≡◌, ◌≤◌, ◌^◌, ◌++◌, ℕ, List, Some}
 use Rattle.cert_bytes.specs.declared.item.Item.{Item}
-use Rattle.cert_bytes.specs.declared.order.Due.TheVariants.{Head}
+use Rattle.cert_bytes.specs.declared.order.DueItem.TheVariants.{Head}
 use Rattle.cert_bytes.specs.Certificates.{AreDue, AreCertificate}
 use Rattle.cert_bytes.specs.Pieces.{AgreesTold, cursor_of}
 use Rattle.cert_bytes.specs.ReadOut.{AreRead}

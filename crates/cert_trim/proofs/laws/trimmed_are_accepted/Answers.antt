@@ -1,5 +1,5 @@
 use Rattle.std.proofs.Common.{Some, ◌∙◌}
-use Rattle.cert_bytes.specs.declared.order.Due.TheVariants.{Head}
+use Rattle.cert_bytes.specs.declared.order.DueItem.TheVariants.{Head}
 use Rattle.cert_trim.specs.Used.{is_among, used_from}
 use Rattle.cert_trim.proofs.Enough.{used_are_enough, led_cite_earlier}
 use Rattle.cert_trim.proofs.AllUsed.{all_left_are_used}

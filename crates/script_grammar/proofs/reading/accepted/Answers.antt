@@ -6,7 +6,7 @@ use Rattle.node_counts.specs.script_judge.Views.{reading_of}
 use Rattle.node_counts.specs.script_nodes.Waits as waits
 use Rattle.node_counts.specs.script_hints.declared.hint.HintList.{HintList}
 use Rattle.goal_spans.specs.Reading.{spans_read}
-use Rattle.script_grammar.specs.Steps.{hinting, read_words, start}
+use Rattle.script_grammar.specs.Steps.{hinting, read_leaves, start}
 use Rattle.script_grammar.specs.Spells.{IsSpelled}
 use Rattle.script_grammar.specs.Views.{step_of}
 use Rattle.script_grammar.proofs.Accepted.{accepted_reading, spelled_behind, ends_in_hints}
@@ -19,7 +19,7 @@ new-requires c =
     let a = accepted_reading c.lexed_once.ensures c.leaves_are_of_trees.ensures.are c.scripts_are_read.ensures c.spans_are_read.ensures c.script_or_refusal.ensures.all c.args.text.now r c.requires.accepted c.requires.reading in
     let leaves : leaves_of c.as_slice-roles.result.now (words_in c.list-words.result) ≡ r.leaves =
     ap (λ rs. leaves_of rs (words_in c.list-words.result)) c.as_slice-roles.ensures.value ∙ ap (leaves_of c.args.read.shape.roles.items) c.list-words.ensures.words in
-    let e : hinting c.in-Hints.sides c.in-Hints.hints ≡ read_words r.leaves start = sym (ap step_of c.in-Hints.is) ∙ c.in-Ok-read_words.ensures.read ∙ ap (λ ls. read_words ls start) leaves in
+    let e : hinting c.in-Hints.sides c.in-Hints.hints ≡ read_leaves r.leaves start = sym (ap step_of c.in-Hints.is) ∙ c.in-Ok-read_leaves.ensures.read ∙ ap (λ ls. read_leaves ls start) leaves in
     let spans : c.in-Ok-goal_spans.spans.items ≡ spans_read r.leaves = c.in-Ok-goal_spans.ensures ∙ ap spans_read leaves in
     let tokens : c.in-Ok.tokens.items ≡ r.tokens = c.in-Ok.ensures ∙ c.list-words.ensures.tokens in
     record {
@@ -35,7 +35,7 @@ unreachable-requires-in_default-stage c =
     let a = accepted_reading c.lexed_once.ensures c.leaves_are_of_trees.ensures.are c.scripts_are_read.ensures c.spans_are_read.ensures c.script_or_refusal.ensures.all c.args.text.now r c.requires.accepted c.requires.reading in
     let leaves : leaves_of c.as_slice-roles.result.now (words_in c.list-words.result) ≡ r.leaves =
     ap (λ rs. leaves_of rs (words_in c.list-words.result)) c.as_slice-roles.ensures.value ∙ ap (leaves_of c.args.read.shape.roles.items) c.list-words.ensures.words in
-    ends_in_hints c.in-Ok-read_words.stage a.0 (c.in-Ok-read_words.ensures.read ∙ ap (λ ls. read_words ls start) leaves ∙ a.1.read) c.in_default-stage.not-Hints
+    ends_in_hints c.in-Ok-read_leaves.stage a.0 (c.in-Ok-read_leaves.ensures.read ∙ ap (λ ls. read_leaves ls start) leaves ∙ a.1.read) c.in_default-stage.not-Hints
 
 pub unreachable-requires : goal.unreachable-requires
 unreachable-requires c =

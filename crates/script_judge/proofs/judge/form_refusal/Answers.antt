@@ -5,14 +5,14 @@ use Rattle.script_shape.specs.script_words.Kept.{words_in}
 use Rattle.script_judge.specs.Names.{split_name}
 use Rattle.script_judge.specs.Bounds.{is_bad_bound}
 use Rattle.script_judge.specs.Splits.{is_rangeless, is_none, is_bad_point}
-use Rattle.script_judge.specs.BoundViews.{verdict_of}
+use Rattle.script_judge.specs.BoundViews.{notes_of}
 use Rattle.script_judge.proofs.Judging.{form_told}
 use Rattle.script_judge.proofs.judge.form_refusal.Goals as goal
 
 pub returns : goal.returns
 returns c = λ seen h.
     let words = words_in c.args.words in
-    let v = verdict_of c.args.verdict in
+    let v = notes_of c.args.notes in
     let point : c.is_bad_point-bad_point.result ≡ is_bad_point seen.splits (nat_lt 0 seen.counts.pieces) v.number =
     c.is_bad_point-bad_point.ensures ∙ (λ i. is_bad_point (h.splits i) (nat_lt 0 (h.counts i).pieces) v.number) in
     form_told v c.args.arrow_behind seen _ _ c.args.roles.now words c.is_on_wrong_side-wrong_side.result c.is_used-used.result c.is_bad-bad_bound.result c.is_rangeless-rangeless.result c.splits_defined-defined_split.result

@@ -4,15 +4,15 @@ use Rattle.script_shape.specs.script_words.Kept.{words_in}
 use Rattle.script_shape.specs.Roles.{at, leaves_of}
 use Rattle.script_judge.specs.Counts.{one_if}
 use Rattle.script_judge.specs.Judge.{Judged, none_refused, is_arrow}
-use Rattle.script_judge.specs.BoundViews.{verdict_of}
+use Rattle.script_judge.specs.BoundViews.{notes_of}
 use Rattle.script_judge.proofs.Judging.{JudgedTo, begin_judging, split_at, same_rest, none_left, told, told_arrow, behind_arrow, ends_by_form, ends_by_limit, goes_on}
 use Rattle.script_judge.proofs.judge.judge.Goals as goal
 
 pub loop-number-init : goal.loop-number-init
 loop-number-init c = begin_judging _ c.new-seen.result c.arrow_count-arrows.result c.new-seen.ensures.seen c.new-seen.ensures.within c.new-seen.ensures.few c.arrow_count-arrows.ensures
 
-pub verdict_on-verdict-requires : goal.verdict_on-verdict-requires
-verdict_on-verdict-requires c =
+pub notes_on-notes-requires : goal.notes_on-notes-requires
+notes_on-notes-requires c =
     let n = c.loop-number.number in
     let seen = c.loop-number.seen in
     let arrows = c.loop-number.arrows in
@@ -34,7 +34,7 @@ returns-in-Some-clause-judged c =
     let seen = c.loop-number.seen in
     let arrows = c.loop-number.arrows in
     let r = c.role_at-role.result in
-    let v = verdict_of c.verdict_on-verdict.result in
+    let v = notes_of c.notes_on-notes.result in
     let w = word_of c.at-word.result in
     let all = leaves_of c.args.roles.now (words_in c.args.words) in
     let behind = leaves_of c.roles_from-later_roles.result.now (words_in c.from-later_words.result) in
@@ -43,7 +43,7 @@ returns-in-Some-clause-judged c =
     let left : leaves_of (drop n c.args.roles.now) (drop n (words_in c.args.words)) ≡ at r w ∷ behind =
     split_at c.args.roles.now (words_in c.args.words) n r w c.role_at-role.ensures c.at-word.ensures ∙ ap (λ l. at r w ∷ l) (sym same) in
     let m : JudgedTo all n seen (at r w ∷ behind) arrows = subst (λ ls. JudgedTo all n seen ls arrows) left c.loop-number.invariant in
-    let f = told seen v r w behind c.form_refusal-form.result arrows c.without-later_arrows.result c.is_arrow.result m.arrows_left c.without-later_arrows.ensures c.is_arrow.ensures c.verdict_on-verdict.ensures.tells c.form_refusal-form.ensures in
+    let f = told seen v r w behind c.form_refusal-form.result arrows c.without-later_arrows.result c.is_arrow.result m.arrows_left c.without-later_arrows.ensures c.is_arrow.ensures c.notes_on-notes.ensures.tells c.form_refusal-form.ensures in
     ends_by_form all n seen r w behind arrows m v _ c.form_refusal-form.result f c.in-Some.kind c.in-Some.is
 
 pub returns-in-Some-limit_refusal-clause-judged : goal.returns-in-Some-limit_refusal-clause-judged
@@ -52,7 +52,7 @@ returns-in-Some-limit_refusal-clause-judged c =
     let seen = c.loop-number.seen in
     let arrows = c.loop-number.arrows in
     let r = c.role_at-role.result in
-    let v = verdict_of c.verdict_on-verdict.result in
+    let v = notes_of c.notes_on-notes.result in
     let w = word_of c.at-word.result in
     let all = leaves_of c.args.roles.now (words_in c.args.words) in
     let behind = leaves_of c.roles_from-later_roles.result.now (words_in c.from-later_words.result) in
@@ -61,7 +61,7 @@ returns-in-Some-limit_refusal-clause-judged c =
     let left : leaves_of (drop n c.args.roles.now) (drop n (words_in c.args.words)) ≡ at r w ∷ behind =
     split_at c.args.roles.now (words_in c.args.words) n r w c.role_at-role.ensures c.at-word.ensures ∙ ap (λ l. at r w ∷ l) (sym same) in
     let m : JudgedTo all n seen (at r w ∷ behind) arrows = subst (λ ls. JudgedTo all n seen ls arrows) left c.loop-number.invariant in
-    let f = told seen v r w behind c.form_refusal-form.result arrows c.without-later_arrows.result c.is_arrow.result m.arrows_left c.without-later_arrows.ensures c.is_arrow.ensures c.verdict_on-verdict.ensures.tells c.form_refusal-form.ensures in
+    let f = told seen v r w behind c.form_refusal-form.result arrows c.without-later_arrows.result c.is_arrow.result m.arrows_left c.without-later_arrows.ensures c.is_arrow.ensures c.notes_on-notes.ensures.tells c.form_refusal-form.ensures in
     ends_by_limit all n seen r w behind arrows m v _ c.form_refusal-form.result f c.in_default.is c.take.new.self c.in_ok-take.ensures.seen c.limit_refusal.result c.limit_refusal.ensures
     c.in-Some-limit_refusal.kind c.in-Some-limit_refusal.is
 
@@ -71,7 +71,7 @@ loop-number-preserved c =
     let seen = c.loop-number.seen in
     let arrows = c.loop-number.arrows in
     let r = c.role_at-role.result in
-    let v = verdict_of c.verdict_on-verdict.result in
+    let v = notes_of c.notes_on-notes.result in
     let w = word_of c.at-word.result in
     let all = leaves_of c.args.roles.now (words_in c.args.words) in
     let behind = leaves_of c.roles_from-later_roles.result.now (words_in c.from-later_words.result) in
@@ -80,7 +80,7 @@ loop-number-preserved c =
     let left : leaves_of (drop n c.args.roles.now) (drop n (words_in c.args.words)) ≡ at r w ∷ behind =
     split_at c.args.roles.now (words_in c.args.words) n r w c.role_at-role.ensures c.at-word.ensures ∙ ap (λ l. at r w ∷ l) (sym same) in
     let m : JudgedTo all n seen (at r w ∷ behind) arrows = subst (λ ls. JudgedTo all n seen ls arrows) left c.loop-number.invariant in
-    let f = told seen v r w behind c.form_refusal-form.result arrows c.without-later_arrows.result c.is_arrow.result m.arrows_left c.without-later_arrows.ensures c.is_arrow.ensures c.verdict_on-verdict.ensures.tells c.form_refusal-form.ensures in
+    let f = told seen v r w behind c.form_refusal-form.result arrows c.without-later_arrows.result c.is_arrow.result m.arrows_left c.without-later_arrows.ensures c.is_arrow.ensures c.notes_on-notes.ensures.tells c.form_refusal-form.ensures in
     let later : c.without-later_arrows.result ≡ arrows - one_if (is_arrow r w) = c.without-later_arrows.ensures ∙ ap (λ b. arrows - one_if b) c.is_arrow.ensures in
     subst (λ ls. JudgedTo all (n + 1) c.take.new.self ls c.without-later_arrows.result) same
     (goes_on all n seen r w behind arrows m v _ c.form_refusal-form.result f c.in_default.is c.take.new.self c.in_ok-take.ensures.seen c.limit_refusal.result c.limit_refusal.ensures

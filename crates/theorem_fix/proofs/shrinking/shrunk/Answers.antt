@@ -11,7 +11,7 @@ use Rattle.rounding.specs.interval.Meets.{are_ordered, are_ordered_in, are_order
 use Rattle.rounding.specs.interval.Multiples.{IsEndUp, IsEndDown}
 use Rattle.rounding.specs.interval.Shrunk.{some_multiple, shrunk_is}
 use Rattle.rounding.specs.Rounded.{rounded_multiple}
-use Rattle.theorem_arith.specs.facts.declared.place.Place.{Place}
+use Rattle.theorem_arith.specs.facts.declared.place.FixPlace.{FixPlace}
 use Rattle.theorem_fix.specs.Beside.{rounded_below, rounded_above, multiple_below, multiple_above}
 use Rattle.theorem_fix.specs.Roundings.{rounded_end}
 use Rattle.theorem_fix.specs.Shrunk.{shrunk_range, shrunk_of}
@@ -29,7 +29,7 @@ end_down k (At x) = record { multiple = rounded_multiple Dn k x; below = rounded
 end_down k Above = refl
 
 -- what the call ensures of its result says that it is the shrunk interval
-module _ (i : Interval) (k : Place) where
+module _ (i : Interval) (k : FixPlace) where
   abbrev r : Range
   r = range_of i
 

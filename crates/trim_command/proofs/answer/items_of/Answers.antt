@@ -1,5 +1,5 @@
 use Rattle.std.proofs.Common.{IfOk}
-use Rattle.cert_trim.specs.cert_bytes.declared.order.Due.TheVariants.{Head}
+use Rattle.cert_trim.specs.cert_bytes.declared.order.DueItem.TheVariants.{Head}
 use Rattle.cert_trim.specs.cert_bytes.Certificates.{SpellsCertificate}
 use Rattle.cert_trim.specs.cert_bytes.ReadOut.{AreBytes, AreRead}
 use Rattle.cert_trim.specs.cert_checker.Keeping.{lines_of}

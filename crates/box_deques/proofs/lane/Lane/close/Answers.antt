@@ -9,7 +9,7 @@ use Rattle.box_deques.proofs.Steps.{tells}
 use Rattle.box_deques.proofs.Emptied.{takes_on_length}
 use Rattle.box_deques.proofs.Ended.{own_below, all_below, counted, gave_takes, history_length, back_whole, whole_of, hand_of, owner_of, all_workers}
 use Rattle.std.proofs.lemmas.List.{length-map}
-use Rattle.box_deques.specs.declared.rule.Placed.{Placed}
+use Rattle.box_deques.specs.declared.rule.PlacedTask.{PlacedTask}
 use Rattle.box_deques.specs.Close.{workers, writes, writes_all}
 use Rattle.box_deques.proofs.Fill.{ledger_of}
 use Rattle.box_deques.proofs.lane.Lane.close.Goals as goal
@@ -28,8 +28,8 @@ drain-requires-clause-count g c =
     let is = c.collect.ensures.view in
     let t = c.len_as-n.ensures.rule.2 in
     let items = c.len_as-n.ensures.rule.0 in
-    let waiting : List (List ℕ) = map (λ (x : Placed g.row.T.Denot). g.T.Task.path_of x.task) items in
-    let n : length waiting ≡ c.len_as-n.result = length-map items (λ (x : Placed g.row.T.Denot). g.T.Task.path_of x.task) ∙ c.len_as-n.ensures.rule.1 in
+    let waiting : List (List ℕ) = map (λ (x : PlacedTask g.row.T.Denot). g.T.Task.path_of x.task) items in
+    let n : length waiting ≡ c.len_as-n.result = length-map items (λ (x : PlacedTask g.row.T.Denot). g.T.Task.path_of x.task) ∙ c.len_as-n.ensures.rule.1 in
     let e = counted v waiting t in
     rw c.len_as-n.ensures.same.2 (omega arith)
 
@@ -39,8 +39,8 @@ write_all-requires-clause-own g c =
     let is = c.collect.ensures.view in
     let t = c.len_as-n.ensures.rule.2 in
     let items = c.len_as-n.ensures.rule.0 in
-    let waiting : List (List ℕ) = map (λ (x : Placed g.row.T.Denot). g.T.Task.path_of x.task) items in
-    let n : length waiting ≡ c.len_as-n.result = length-map items (λ (x : Placed g.row.T.Denot). g.T.Task.path_of x.task) ∙ c.len_as-n.ensures.rule.1 in
+    let waiting : List (List ℕ) = map (λ (x : PlacedTask g.row.T.Denot). g.T.Task.path_of x.task) items in
+    let n : length waiting ≡ c.len_as-n.result = length-map items (λ (x : PlacedTask g.row.T.Denot). g.T.Task.path_of x.task) ∙ c.len_as-n.ensures.rule.1 in
     let pushed : length v.pushed ≡ length c.self.inside.pushed.items = ap (λ (x : View). length x.pushed) is ∙ ap length c.self.invariant.4 in
     let all : length c.self.inside.pushed.items ≡ c.len.result = search rules in
     let long = history_length v waiting t in
@@ -55,8 +55,8 @@ write_all-requires-clause-places g c =
     let is = c.collect.ensures.view in
     let t = c.len_as-n.ensures.rule.2 in
     let items = c.len_as-n.ensures.rule.0 in
-    let waiting : List (List ℕ) = map (λ (x : Placed g.row.T.Denot). g.T.Task.path_of x.task) items in
-    let n : length waiting ≡ c.len_as-n.result = length-map items (λ (x : Placed g.row.T.Denot). g.T.Task.path_of x.task) ∙ c.len_as-n.ensures.rule.1 in
+    let waiting : List (List ℕ) = map (λ (x : PlacedTask g.row.T.Denot). g.T.Task.path_of x.task) items in
+    let n : length waiting ≡ c.len_as-n.result = length-map items (λ (x : PlacedTask g.row.T.Denot). g.T.Task.path_of x.task) ∙ c.len_as-n.ensures.rule.1 in
     let pushed : length v.pushed ≡ length c.self.inside.pushed.items = ap (λ (x : View). length x.pushed) is ∙ ap length c.self.invariant.4 in
     let all : length c.self.inside.pushed.items ≡ c.len.result = search rules in
     let long = history_length v waiting t in
@@ -75,8 +75,8 @@ returns-clause-whole g c =
     let is = c.collect.ensures.view in
     let t = c.len_as-n.ensures.rule.2 in
     let items = c.len_as-n.ensures.rule.0 in
-    let waiting : List (List ℕ) = map (λ (x : Placed g.row.T.Denot). g.T.Task.path_of x.task) items in
-    let n : length waiting ≡ c.len_as-n.result = length-map items (λ (x : Placed g.row.T.Denot). g.T.Task.path_of x.task) ∙ c.len_as-n.ensures.rule.1 in
+    let waiting : List (List ℕ) = map (λ (x : PlacedTask g.row.T.Denot). g.T.Task.path_of x.task) items in
+    let n : length waiting ≡ c.len_as-n.result = length-map items (λ (x : PlacedTask g.row.T.Denot). g.T.Task.path_of x.task) ∙ c.len_as-n.ensures.rule.1 in
     let pushed : length v.pushed ≡ length c.self.inside.pushed.items = ap (λ (x : View). length x.pushed) is ∙ ap length c.self.invariant.4 in
     let all : length c.self.inside.pushed.items ≡ c.len.result = search rules in
     let long = history_length v waiting t in
@@ -105,8 +105,8 @@ returns-clause-owner g c =
     let is = c.collect.ensures.view in
     let t = c.len_as-n.ensures.rule.2 in
     let items = c.len_as-n.ensures.rule.0 in
-    let waiting : List (List ℕ) = map (λ (x : Placed g.row.T.Denot). g.T.Task.path_of x.task) items in
-    let n : length waiting ≡ c.len_as-n.result = length-map items (λ (x : Placed g.row.T.Denot). g.T.Task.path_of x.task) ∙ c.len_as-n.ensures.rule.1 in
+    let waiting : List (List ℕ) = map (λ (x : PlacedTask g.row.T.Denot). g.T.Task.path_of x.task) items in
+    let n : length waiting ≡ c.len_as-n.result = length-map items (λ (x : PlacedTask g.row.T.Denot). g.T.Task.path_of x.task) ∙ c.len_as-n.ensures.rule.1 in
     let pushed : length v.pushed ≡ length c.self.inside.pushed.items = ap (λ (x : View). length x.pushed) is ∙ ap length c.self.invariant.4 in
     let all : length c.self.inside.pushed.items ≡ c.len.result = search rules in
     let long = history_length v waiting t in
@@ -136,8 +136,8 @@ returns-clause-takes g c = λ k d below other.
     let is = c.collect.ensures.view in
     let t = c.len_as-n.ensures.rule.2 in
     let items = c.len_as-n.ensures.rule.0 in
-    let waiting : List (List ℕ) = map (λ (x : Placed g.row.T.Denot). g.T.Task.path_of x.task) items in
-    let n : length waiting ≡ c.len_as-n.result = length-map items (λ (x : Placed g.row.T.Denot). g.T.Task.path_of x.task) ∙ c.len_as-n.ensures.rule.1 in
+    let waiting : List (List ℕ) = map (λ (x : PlacedTask g.row.T.Denot). g.T.Task.path_of x.task) items in
+    let n : length waiting ≡ c.len_as-n.result = length-map items (λ (x : PlacedTask g.row.T.Denot). g.T.Task.path_of x.task) ∙ c.len_as-n.ensures.rule.1 in
     let pushed : length v.pushed ≡ length c.self.inside.pushed.items = ap (λ (x : View). length x.pushed) is ∙ ap length c.self.invariant.4 in
     let all : length c.self.inside.pushed.items ≡ c.len.result = search rules in
     let long = history_length v waiting t in
@@ -164,8 +164,8 @@ returns-clause-workers g c =
     let is = c.collect.ensures.view in
     let t = c.len_as-n.ensures.rule.2 in
     let items = c.len_as-n.ensures.rule.0 in
-    let waiting : List (List ℕ) = map (λ (x : Placed g.row.T.Denot). g.T.Task.path_of x.task) items in
-    let n : length waiting ≡ c.len_as-n.result = length-map items (λ (x : Placed g.row.T.Denot). g.T.Task.path_of x.task) ∙ c.len_as-n.ensures.rule.1 in
+    let waiting : List (List ℕ) = map (λ (x : PlacedTask g.row.T.Denot). g.T.Task.path_of x.task) items in
+    let n : length waiting ≡ c.len_as-n.result = length-map items (λ (x : PlacedTask g.row.T.Denot). g.T.Task.path_of x.task) ∙ c.len_as-n.ensures.rule.1 in
     let pushed : length v.pushed ≡ length c.self.inside.pushed.items = ap (λ (x : View). length x.pushed) is ∙ ap length c.self.invariant.4 in
     let all : length c.self.inside.pushed.items ≡ c.len.result = search rules in
     let long = history_length v waiting t in

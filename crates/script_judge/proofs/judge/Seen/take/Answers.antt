@@ -10,7 +10,7 @@ use Rattle.script_judge.specs.Splits.{SplitsSeen, splits_after, ends_between}
 use Rattle.script_judge.specs.SplitViews.{splits_seen, ends_seen}
 use Rattle.script_cases.specs.Cases.{case_count}
 use Rattle.script_judge.specs.FewCases.{few_ended}
-use Rattle.script_judge.specs.BoundViews.{verdict_of}
+use Rattle.script_judge.specs.BoundViews.{notes_of}
 use Rattle.script_judge.specs.Views.{AreNames}
 use Rattle.script_judge.proofs.judge.Seen.take.Goals as goal
 
@@ -18,7 +18,7 @@ pub returns-clause-seen : goal.returns-clause-seen
 returns-clause-seen c = λ stands h.
     let r = c.args.role in
     let w = word_of c.args.word in
-    let v = verdict_of c.args.verdict in
+    let v = notes_of c.args.notes in
     let new = c.is_new-is_new.ensures stands.names h.names in
     let ended = c.ends_definition.ensures stands.names h.names in
     let defined = c.uses_defined.ensures stands.names h.names in
@@ -35,4 +35,4 @@ returns-clause-seen c = λ stands h.
 
 pub returns-clause-few : goal.returns-clause-few
 returns-clause-few c =
-    subst (λ (x : SplitsSeen). case_count x.ranges.before ≤ 64) (sym c.in_ok-take.ensures) (few_ended (splits_seen c.args.self.now.splits) (option_copied c.ends_definition.result) c.uses_defined.result c.args.verdict.arrow_behind (option_map ends_seen c.ends_between.result) (option_map written_value c.args.verdict.number) c.args.role (word_of c.args.word) c.requires.few)
+    subst (λ (x : SplitsSeen). case_count x.ranges.before ≤ 64) (sym c.in_ok-take.ensures) (few_ended (splits_seen c.args.self.now.splits) (option_copied c.ends_definition.result) c.uses_defined.result c.args.notes.arrow_behind (option_map ends_seen c.ends_between.result) (option_map written_value c.args.notes.number) c.args.role (word_of c.args.word) c.requires.few)

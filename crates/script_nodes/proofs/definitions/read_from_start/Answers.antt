@@ -1,0 +1,11 @@
+use Rattle.std.proofs.Common.{sym, ◌∙◌, arith}
+use Rattle.script_shape.specs.script_words.Named.{word_of}
+use Rattle.script_shape.specs.script_words.Kept.{words_in}
+use Rattle.script_nodes.proofs.DefinitionGrows.{word_past}
+use Rattle.script_nodes.proofs.definitions.read_from_start.Goals as goal
+use Rattle.expr_dag.specs.Faults.{passed}
+
+pub returns-in_err-token-clause-full : goal.returns-in_err-token-clause-full
+returns-in_err-token-clause-full c = λ e.
+    word_past c.loop-roles.roles.now _ (words_in c.in-Some.later_words) _ (word_of c.in-Some.word) c.loop-roles.read _ (omega (arith, c.in-len1-up.len_at_least)) c.in-Some.ensures.words (sym c.opens_formula.ensures ∙ c.if-opens_formula.false) c.loop-roles.invariant
+    (c.in_err-token.ensures.full (passed c.from_residual.result _ c.from_residual.ensures.1 e))

@@ -1,0 +1,144 @@
+-- What the list of rules gives can be written as steps.
+use Rattle.std.specs.Prelude.{◌≡◌, ◌<◌, ◌≤◌, ◌==◌, ℕ, length, Bool, true, false, List, [], ◌∷◌, Option, Some, None, if◌then◌else◌, slice_get, refl}
+use Rattle.std.specs.List.{AllByRecursion}
+use Rattle.std.proofs.Common.{arith}
+use Rattle.fx_model.specs.Expression.{IsOrdered}
+use Rattle.fx_model.specs.declared.Node.{Node}
+use Rattle.derivation.specs.facts.declared.fact.Fact.{Fact}
+use Rattle.derivation.specs.facts.declared.fact.Slot.{Slot}
+use Rattle.derivation.specs.facts.declared.fact.Fact.TheVariants as fact
+use Rattle.derivation.specs.facts.declared.fact.Slot.TheVariants as slot
+use Rattle.derivation.specs.facts.declared.hint.HintRow.{HintRow}
+use Rattle.derivation.specs.facts.Promises.{Rule}
+use Rattle.cert_checker.specs.theorem_arith.EachRule as arithmetic
+use Rattle.cert_checker.specs.theorem_fix.EachRule as multiples
+use Rattle.cert_checker.specs.theorem_rel.EachRule as relatives
+use Rattle.cert_checker.specs.rewrite_rules.EachRule as rewritings
+use Rattle.cert_checker.specs.theorem_list.Concludes.{listed, by_number, by_row, concludes}
+use Rattle.cert_checker.specs.theorem_list.Rows.{numbered, by_rows, each_row}
+use Rattle.tree_certificates.specs.Writing.{IsVoidFitting, IsFromFew, IsNumberedLow}
+use Rattle.tree_certificates.proofs.Fitting.{FitsSteps}
+use Rattle.tree_certificates.proofs.FitArith.{literal_rule-fits, negation_rule-fits, sum_rule-fits, difference_rule-fits, difference_with_itself_rule-fits, product_rule-fits, square_rule-fits, quotient_rule-fits, quotient_by_nonzero_rule-fits, quotient_by_itself_rule-fits, size_rule-fits, value_rule-fits, sign_rule-fits, absolute_value_rule-fits, size_of_value_rule-fits, size_of_negation_rule-fits, size_of_product_rule-fits, size_of_quotient_rule-fits, size_of_sum_rule-fits}
+use Rattle.tree_certificates.proofs.FitFix.{literal_multiple_rule-fits, multiple_of_negation_rule-fits, multiple_of_sum_rule-fits, multiple_of_product_rule-fits, rounded_multiple_rule-fits, untouched_multiple_rule-fits, number_multiple_rule-fits, nonzero_bound_rule-fits, nonzero_size_rule-fits, nonzero_product_rule-fits, nonzero_quotient_rule-fits, nonzero_negation_rule-fits, nonzero_side_rule-fits, rounded_bound_rule-fits, error_rule-fits, signed_error_rule-fits, multiple_error_rule-fits, shrinking_rule-fits, no_multiple_rule-fits}
+use Rattle.tree_certificates.proofs.FitRel.{relative_to_itself_rule-fits, relative_difference_rule-fits, difference_by_error_rule-fits, value_by_error_rule-fits, quotient_by_error_rule-fits, relative_product_rule-fits, relative_quotient_rule-fits, relative_chain_rule-fits, relative_turned_rule-fits, relative_negation_rule-fits, relative_sum_rule-fits}
+use Rattle.tree_certificates.proofs.FitRewrites.{difference_of_sums_rule-fits, difference_of_differences_rule-fits, difference_of_products_rule-fits, difference_of_negations_rule-fits, difference_through_rule-fits, difference_against_rule-fits, first_by_difference_rule-fits, second_by_difference_rule-fits, zero_and_not_rule-fits, both_zero_and_not_rule-fits, rewriting_rule-fits}
+
+arithmetic_fit : arithmetic.EachRule FitsSteps
+arithmetic_fit = record {
+  literal = literal_rule-fits;
+  negation = negation_rule-fits;
+  sum = sum_rule-fits;
+  difference = difference_rule-fits;
+  difference_with_itself = difference_with_itself_rule-fits;
+  product = product_rule-fits;
+  square = square_rule-fits;
+  quotient = quotient_rule-fits;
+  quotient_by_nonzero = quotient_by_nonzero_rule-fits;
+  quotient_by_itself = quotient_by_itself_rule-fits;
+  size = size_rule-fits;
+  value = value_rule-fits;
+  sign = sign_rule-fits;
+  absolute_value = absolute_value_rule-fits;
+  size_of_value = size_of_value_rule-fits;
+  size_of_negation = size_of_negation_rule-fits;
+  size_of_product = size_of_product_rule-fits;
+  size_within_part = size_of_quotient_rule-fits;
+  size_of_sum = size_of_sum_rule-fits;
+}
+
+multiples_fit : multiples.EachRule FitsSteps
+multiples_fit = record {
+  literal_multiple = literal_multiple_rule-fits;
+  multiple_of_negation = multiple_of_negation_rule-fits;
+  multiple_of_sum = multiple_of_sum_rule-fits;
+  multiple_of_product = multiple_of_product_rule-fits;
+  rounded_multiple = rounded_multiple_rule-fits;
+  untouched_multiple = untouched_multiple_rule-fits;
+  number_multiple = number_multiple_rule-fits;
+  nonzero_bound = nonzero_bound_rule-fits;
+  nonzero_size = nonzero_size_rule-fits;
+  nonzero_product = nonzero_product_rule-fits;
+  nonzero_quotient = nonzero_quotient_rule-fits;
+  nonzero_negation = nonzero_negation_rule-fits;
+  nonzero_side = nonzero_side_rule-fits;
+  rounded_bound = rounded_bound_rule-fits;
+  error = error_rule-fits;
+  signed_error = signed_error_rule-fits;
+  multiple_error = multiple_error_rule-fits;
+  no_multiple = no_multiple_rule-fits;
+}
+
+relatives_fit : relatives.EachRule FitsSteps
+relatives_fit = record {
+  relative_to_itself = relative_to_itself_rule-fits;
+  relative_difference = relative_difference_rule-fits;
+  difference_by_error = difference_by_error_rule-fits;
+  value_by_error = value_by_error_rule-fits;
+  quotient_by_error = quotient_by_error_rule-fits;
+  relative_product = relative_product_rule-fits;
+  relative_quotient = relative_quotient_rule-fits;
+  relative_chain = relative_chain_rule-fits;
+  relative_turned = relative_turned_rule-fits;
+  relative_negation = relative_negation_rule-fits;
+  relative_sum = relative_sum_rule-fits;
+}
+
+rewritings_fit : rewritings.EachRule FitsSteps
+rewritings_fit = record {
+  difference_of_sums = difference_of_sums_rule-fits;
+  difference_of_differences = difference_of_differences_rule-fits;
+  difference_of_products = difference_of_products_rule-fits;
+  difference_of_negations = difference_of_negations_rule-fits;
+  difference_through = difference_through_rule-fits;
+  difference_against = difference_against_rule-fits;
+  first_by_difference = first_by_difference_rule-fits;
+  second_by_difference = second_by_difference_rule-fits;
+  zero_and_not = zero_and_not_rule-fits;
+  both_zero_and_not = both_zero_and_not_rule-fits;
+}
+
+-- what holds of each rule's number and the rule
+numbers_fit : (n : ℕ) → FitsSteps (numbered listed n)
+numbers_fit n = by_rows (λ _ r. FitsSteps r) listed n (λ nodes premises target f o e. cc)
+    (each_row FitsSteps (λ _ r. FitsSteps r) (λ _ r h. h) shrinking_rule-fits arithmetic_fit multiples_fit relatives_fit rewritings_fit)
+
+row_fits : (nodes : List Node) (o : Option HintRow) (premises : List Fact) (target : Slot) (f : Fact) → IsOrdered nodes → by_row nodes o premises target ≡ Some f →
+    (length premises ≤ 65535) × (f ≡ fact.Void → by_row nodes o premises slot.Void ≡ Some fact.Void)
+row_fits nodes None premises target f d e = cc
+row_fits nodes (Some row) premises target f d e = rewriting_rule-fits row nodes premises target f d e
+
+list_fits : (nodes : List Node) (hints : List HintRow) → IsOrdered nodes → (number arg : ℕ) (premises : List Fact) (target : Slot) (f : Fact) → concludes nodes hints number arg premises target ≡ Some f →
+    (length premises ≤ 65535) × (f ≡ fact.Void → concludes nodes hints number arg premises slot.Void ≡ Some fact.Void)
+list_fits nodes hints o number arg premises target f e = by_test (number == 80) (arg == 0) e
+  where
+    by_test : (b c : Bool) → (if b then by_row nodes (slice_get hints arg) premises target else (if c then by_number listed number nodes premises target else None)) ≡ Some f →
+        (length premises ≤ 65535) × (f ≡ fact.Void → (if b then by_row nodes (slice_get hints arg) premises slot.Void else (if c then by_number listed number nodes premises slot.Void else None)) ≡ Some fact.Void)
+    by_test true c e = row_fits nodes (slice_get hints arg) premises target f o e
+    by_test false true e = numbers_fit number nodes premises target f o e
+    by_test false false e = cc
+
+pub list_void_fitting : (nodes : List Node) (hints : List HintRow) → IsOrdered nodes → IsVoidFitting (concludes nodes hints)
+list_void_fitting nodes hints o number arg premises target e = (list_fits nodes hints o number arg premises target fact.Void e).1 refl
+
+pub list_from_few : (nodes : List Node) (hints : List HintRow) → IsOrdered nodes → IsFromFew (concludes nodes hints)
+list_from_few nodes hints o number arg premises target f e = (list_fits nodes hints o number arg premises target f e).0
+
+-- ---- numbers
+number_low : (rules : List (ℕ × Rule)) (n : ℕ) → AllByRecursion (λ e. e.0 < 100) rules → (nodes : List Node) (premises : List Fact) (target : Slot) (f : Fact) → by_number rules n nodes premises target ≡ Some f → n < 100
+number_low [] n h nodes premises target f e = cc
+number_low (r ∷ rules) n h nodes premises target f e = by_test (n == r.0) refl e (λ w. number_low rules n h.1 nodes premises target f w)
+  where
+    by_test : (b : Bool) → (n == r.0) ≡ b → (if b then r.1 nodes premises target else by_number rules n nodes premises target) ≡ Some f → (by_number rules n nodes premises target ≡ Some f → n < 100) → n < 100
+    by_test true q e later = let l : r.0 < 100 = h.0 in let d : n ≡ r.0 = grind (arith, q) in omega (arith, l, d)
+    by_test false q e later = later e
+
+listed_low : AllByRecursion (λ e. e.0 < 100) listed
+listed_low = (omega arith, (omega arith, (omega arith, (omega arith, (omega arith, (omega arith, (omega arith, (omega arith, (omega arith, (omega arith, (omega arith, (omega arith, (omega arith, (omega arith, (omega arith, (omega arith, (omega arith, (omega arith, (omega arith, (omega arith, (omega arith, (omega arith, (omega arith, (omega arith, (omega arith, (omega arith, (omega arith, (omega arith, (omega arith, (omega arith, (omega arith, (omega arith, (omega arith, (omega arith, (omega arith, (omega arith, (omega arith, (omega arith, (omega arith, (omega arith, (omega arith, (omega arith, (omega arith, (omega arith, (omega arith, (omega arith, (omega arith, (omega arith, (omega arith, (omega arith, (omega arith, (omega arith, (omega arith, (omega arith, (omega arith, (omega arith, (omega arith, (omega arith, (omega arith, tt)))))))))))))))))))))))))))))))))))))))))))))))))))))))))))
+
+pub list_numbered_low : (nodes : List Node) (hints : List HintRow) → IsNumberedLow (concludes nodes hints)
+list_numbered_low nodes hints number arg premises target f e = by_test (number == 80) refl (arg == 0) e
+  where
+    by_test : (b : Bool) → (number == 80) ≡ b → (c : Bool) → (if b then by_row nodes (slice_get hints arg) premises target else (if c then by_number listed number nodes premises target else None)) ≡ Some f → number < 100
+    by_test true q c e = let d : number ≡ 80 = grind (arith, q) in omega (arith, d)
+    by_test false q true e = number_low listed number listed_low nodes premises target f e
+    by_test false q false e = cc
