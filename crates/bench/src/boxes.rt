@@ -117,13 +117,21 @@ fn measure_boxes(rt: &(impl Clock + Print + AllocGlobal), uni: &Universe, x: Exp
     Ok(println!(rt; "  {open} are open")?)
 }
 
+fn print_lack(rt: &impl Print, what: &str) -> Result<()> {
+    Ok(println!(rt; "settle: there is no {what}")?)
+}
+
+fn measure_universe(rt: &(impl Clock + Print + AllocGlobal), uni: &Universe) -> Result<()> {
+    match first_variable(uni.dag()) {
+        Some(x) => measure_boxes(rt, uni, x),
+        None => print_lack(rt, "variable"),
+    }
+}
+
 /// Prints the time of the root, and of it and the 64 boxes below it.
 pub fn measure(rt: &(impl Clock + Print + AllocGlobal)) -> Result<()> {
-    let Some(uni) = made_universe(rt.alloc(), DEGREE) else {
-        return Ok(println!(rt; "settle: there is no universe")?);
-    };
-    match first_variable(uni.dag()) {
-        Some(x) => measure_boxes(rt, &uni, x),
-        None => Ok(println!(rt; "settle: there is no variable")?),
+    match made_universe(rt.alloc(), DEGREE) {
+        Some(uni) => measure_universe(rt, &uni),
+        None => print_lack(rt, "universe"),
     }
 }

@@ -60,17 +60,42 @@ fn measure_checking(
     Ok(())
 }
 
-// Prints the time of checking it as it is, and in version 2.
-fn measure_both(
+fn no_certificate() -> Result<()> {
+    bail!("the certificate isn't read")
+}
+
+fn no_script() -> Result<()> {
+    bail!("the script isn't read")
+}
+
+// Prints the time of checking it in version 2.
+fn measure_second(
     rt: &(impl Clock + Print + AllocGlobal),
     script: &Script<'_>,
     bytes: Vec<u8>,
 ) -> Result<()> {
-    let mut folder = folder_of(rt.alloc(), "c", bytes.clone()?, 0)?;
-    measure_checking(rt, script, bytes)?;
+    let mut folder = folder_of(rt.alloc(), "c", bytes, 0)?;
     match in_second_version(rt.alloc(), &mut folder) {
         Ok(second) => measure_checking(rt, script, second),
-        Err(_) => bail!("the certificate isn't read"),
+        Err(_) => no_certificate(),
+    }
+}
+
+// Prints the time of checking it as it is, and in version 2.
+fn measure_both(
+    rt: &(impl Clock + Print + AllocGlobal),
+    script: &Script<'_>,
+    bytes: &[u8],
+) -> Result<()> {
+    measure_checking(rt, script, bytes.to_vec(rt.alloc())?)?;
+    measure_second(rt, script, bytes.to_vec(rt.alloc())?)
+}
+
+// Prints the times of checking the certificate for the script that the text spells.
+fn measure_text(rt: &(impl Clock + Print + AllocGlobal), text: &[u8], bytes: &[u8]) -> Result<()> {
+    match parse(rt.alloc(), text) {
+        Ok(script) => measure_both(rt, &script, bytes),
+        Err(_) => no_script(),
     }
 }
 
@@ -78,8 +103,5 @@ fn measure_both(
 pub fn measure(rt: &(impl Clock + Files + Print + AllocGlobal), name: &str) -> Result<()> {
     let bytes = fs::read(rt, name)?;
     let text = made_script(rt.alloc(), 12)?;
-    match parse(rt.alloc(), text.as_slice()) {
-        Ok(script) => measure_both(rt, &script, bytes),
-        Err(_) => bail!("the script isn't read"),
-    }
+    measure_text(rt, text.as_slice(), bytes.as_slice())
 }

@@ -39,6 +39,22 @@ fn words_of(alloc: Global, words: &[&str]) -> Result<Vec<String>, AllocError> {
     Ok(all)
 }
 
+// One run, whose time is counted: how it ended.
+fn timed_run<R: Clock + AllocGlobal + Threads + Wait + Sync>(
+    rt: &R,
+    words: &[String],
+    text: &str,
+    least: &mut Least,
+) -> Result<Status> {
+    let bytes = text.as_bytes().to_vec(rt.alloc())?;
+    let mut folder = folder_of(rt.alloc(), "a", bytes, 4096)?;
+    let mut out = SureSink::new(rt.alloc(), 4096)?;
+    let start = Instant::now(rt)?;
+    let status = fx_run(rt, rt.alloc(), words, &mut folder, &mut out, &OpenGate);
+    least.count(rt, start)?;
+    Ok(status)
+}
+
 // The least time of a run, and how it ended.
 fn least_time<R: Clock + AllocGlobal + Threads + Wait + Sync>(
     rt: &R,
@@ -48,12 +64,7 @@ fn least_time<R: Clock + AllocGlobal + Threads + Wait + Sync>(
     let mut least = Least::new();
     let mut last = Status::OutOfMemory;
     for _ in 0..TURNS {
-        let bytes = text.as_bytes().to_vec(rt.alloc())?;
-        let mut folder = folder_of(rt.alloc(), "a", bytes, 4096)?;
-        let mut out = SureSink::new(rt.alloc(), 4096)?;
-        let start = Instant::now(rt)?;
-        last = fx_run(rt, rt.alloc(), &words, &mut folder, &mut out, &OpenGate);
-        least.count(rt, start)?;
+        last = timed_run(rt, words.as_slice(), text, &mut least)?;
     }
     Ok((least, last))
 }

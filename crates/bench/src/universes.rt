@@ -27,12 +27,19 @@ fn assumed_universe(alloc: Global, script: &Script<'_>) -> Option<Universe> {
     }
 }
 
+// The universe of the script that the text spells. None where it spells none, too.
+fn universe_of(alloc: Global, text: &[u8]) -> Option<Universe> {
+    match parse(alloc, text) {
+        Ok(script) => assumed_universe(alloc, &script),
+        Err(_) => None,
+    }
+}
+
 /// The universe of the made script of this degree. None where memory runs out, or where it is too
 /// large.
 pub fn made_universe(alloc: Global, degree: u8) -> Option<Universe> {
     let text = made_script(alloc, degree).ok()?;
-    let script = parse(alloc, text.as_slice()).ok()?;
-    assumed_universe(alloc, &script)
+    universe_of(alloc, text.as_slice())
 }
 
 // Builds the universe of a script, and frees it. How many expressions and instances it has.
@@ -62,11 +69,15 @@ fn measure_script(rt: &(impl Clock + Print + AllocGlobal), script: &Script) -> R
     Ok(())
 }
 
+fn print_refusal(rt: &impl Print) -> Result<()> {
+    Ok(println!(rt; "build: the script is refused")?)
+}
+
 // The reading of the text isn't counted.
 fn measure_text(rt: &(impl Clock + Print + AllocGlobal), text: &[u8]) -> Result<()> {
     match parse(rt.alloc(), text) {
         Ok(script) => measure_script(rt, &script),
-        Err(_) => Ok(println!(rt; "build: the script is refused")?),
+        Err(_) => print_refusal(rt),
     }
 }
 
