@@ -1,5 +1,5 @@
 -- What is accepted holds, over a whole certificate.
-use Rattle.std.proofs.Common.{◌≡◌, ◌≤◌, ◌+◌, ℕ, zero, suc, List, [], ◌∷◌, ◌⊎◌, ⊎_elim, length, Option, Some, None, refl, sym, ap, subst, ◌∙◌, arith, inl, inr}
+use Rattle.std.proofs.Common.{◌≡◌, ◌≤◌, ◌+◌, ℕ, zero, suc, List, [], ◌∷◌, ◌⊎◌, ⊎_elim, length, Some, refl, sym, ap, subst, ◌∙◌, arith, inl, inr}
 use Rattle.std.specs.Prelude.{⊤, map}
 use Rattle.std.specs.List.{AllByRecursion}
 use Rattle.fx_model.specs.Expression.{Assignment, IsOrdered}
@@ -9,8 +9,6 @@ use Rattle.cert_bytes.specs.declared.item.Item.{Item}
 use Rattle.cert_bytes.specs.declared.item.Item.TheVariants as item
 use Rattle.cert_bytes.specs.declared.order.DueItem.{DueItem}
 use Rattle.cert_bytes.specs.declared.order.DueItem.TheVariants.{Head, Nodes, Marks, Sections, Done}
-use Rattle.cert_bytes.specs.Due.{due_after}
-use Rattle.cert_bytes.specs.Certificates.{AreDue}
 use Rattle.goals.specs.declared.goal.Goal.{Goal}
 use Rattle.goals.specs.declared.line.Line.TheVariants as line
 use Rattle.cert_checker.specs.Contexts.{Context, first, open_piece}
@@ -20,6 +18,7 @@ use Rattle.theorem_list.specs.Promises.{AreSound}
 use Rattle.cert_checker.specs.Steps.{case_facts}
 use Rattle.cert_checker.specs.Accepted.{LeadsTo, AreInOrder}
 use Rattle.cert_checker.specs.Met.{MeetsOver, LinesHold, HoldsOverCertificates}
+use Rattle.cert_checker.proofs.Order.{in_order}
 use Rattle.cert_checker.proofs.Ordered.{leads_ordered}
 use Rattle.cert_checker.proofs.Shown.{LineLaws, HaveLines, AllHold}
 use Rattle.cert_checker.proofs.StepHolds.{RulesHold, HoldsIf}
@@ -161,12 +160,6 @@ all_lines (g ∷ goals) = all_lines goals
 -- the nodes of accepted items are made of earlier ones
 pub nodes_ordered : (s : Subject) → IsOrdered s.nodes → (items : List Item) (end : Context) → LeadsTo s (first s) items end → IsOrdered end.nodes
 nodes_ordered s ordered items end l = leads_ordered s ordered items (first s) end (λ i n b. absurd (omega arith)) l
-
--- a certificate's items are in order
-pub in_order : (o : Option DueItem) (items : List Item) → AreDue o items → AreInOrder o items
-in_order None items g = absurd g
-in_order (Some d) [] g = g
-in_order (Some d) (i ∷ items) g = in_order (due_after d i) items g.1
 
 -- What items in order show, each line holds of every assignment that meets the subject over their nodes.
 pub shown_hold : LineLaws → AreSound → (s : Subject) (items : List Item) (end : Context) → AreInOrder (Some Head) items → LeadsTo s (first s) items end → end.case ≡ length s.cases → (a : Assignment) → IsOrdered s.nodes → MeetsOver end.nodes s a

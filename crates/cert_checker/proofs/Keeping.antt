@@ -20,11 +20,11 @@ use Rattle.cert_checker.specs.Contexts.{Context, first}
 use Rattle.cert_checker.specs.Faults.{JudgesItem}
 use Rattle.cert_checker.specs.After.{after}
 use Rattle.cert_checker.specs.Standing.{Standing}
-use Rattle.cert_checker.specs.Accepted.{LeadsTo, Accepts, AreInOrder, HaveEachRoot}
+use Rattle.cert_checker.specs.Accepted.{LeadsTo, Accepts, HaveEachRoot}
 use Rattle.cert_checker.specs.Checking.{IsFresh, TakesNext}
 use Rattle.cert_checker.specs.declared.keep.Accepted.{Accepted}
 use Rattle.cert_checker.specs.Keeping.{TookItem, AreAcceptedItems}
-use Rattle.cert_checker.proofs.Order.{due_has_next}
+use Rattle.cert_checker.proofs.Order.{due_has_next, in_order}
 
 pub taken : (told : Option (List ℕ)) (c d : Standing) (r q : Progress) (i : Item) → TookItem told c d r q i → TakesNext told c d r q
 taken told c d r q i t = record { item = i; order = t.order; read = t.read; judged = t.judged; taken = t.taken; due = t.due; reads = t.reads; grows = t.grows; moves = t.moves }
@@ -52,11 +52,6 @@ read_more start c d e next items later i so_far read going is rest =
     (so_far (i ∷ later) (next, read, going, subst (λ x. AreRead x next later) is rest))
 
 -- ---- items to the end
-
-in_order : (o : Option DueItem) (items : List Item) → AreDue o items → AreInOrder o items
-in_order None items h = h
-in_order (Some d) [] h = h
-in_order (Some d) (i ∷ items) h = in_order (due_after d i) items h.1
 
 pub all_accepted : HaveEachRoot → (s : Subject) (items : List Item) (d : DueItem) (end : Context)
     (rows : List Line)

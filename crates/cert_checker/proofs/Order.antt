@@ -1,11 +1,13 @@
 -- Items that are due, and what is due behind them.
-use Rattle.std.proofs.Common.{◌≡◌, ◌⊎◌, ◌-◌, ◌+◌, ◌==◌, ℕ, zero, suc, Bool, true, false, length, refl, sym, subst, ◌∙◌, arith, inl, inr, ⊎_elim}
+use Rattle.std.proofs.Common.{◌≡◌, ◌⊎◌, ◌-◌, ◌+◌, ◌==◌, ℕ, zero, suc, Bool, true, false, List, [], ◌∷◌, length, Option, Some, None, refl, sym, subst, ◌∙◌, arith, inl, inr, ⊎_elim}
 use Rattle.std.specs.Prelude.{⊤, if◌then◌else◌}
 use Rattle.cert_bytes.specs.declared.item.Item.{Item}
 use Rattle.cert_bytes.specs.declared.item.Item.TheVariants as item
 use Rattle.cert_bytes.specs.declared.order.DueItem.{DueItem}
 use Rattle.cert_bytes.specs.declared.order.DueItem.TheVariants.{Head, Nodes, Marks, Sections, Done}
-use Rattle.cert_bytes.specs.Due.{due_behind, split_into, is_nodes, is_node, is_marks, is_mark, is_of_section, is_of_root, is_end, is_due, IsOfSection, IsOfRoot}
+use Rattle.cert_bytes.specs.Certificates.{AreDue}
+use Rattle.cert_bytes.specs.Due.{due_after, due_behind, split_into, is_nodes, is_node, is_marks, is_mark, is_of_section, is_of_root, is_end, is_due, IsOfSection, IsOfRoot}
+use Rattle.cert_checker.specs.Accepted.{AreInOrder}
 use Rattle.cert_checker.proofs.ReadItems.{IsNext, first_of_root, of_section, a_node, a_mark}
 
 -- ---- an item that is due has its next
@@ -177,3 +179,9 @@ end_is_last (Nodes k) e = absurd (never (k == 0) e)
 end_is_last (Marks k) e = absurd (never (k == 0) e)
 end_is_last (Sections w) e = done_where (w == 0) (Sections w) e
 end_is_last Done e = refl
+
+-- ---- a certificate's items are in order
+pub in_order : (o : Option DueItem) (items : List Item) → AreDue o items → AreInOrder o items
+in_order None items g = absurd g
+in_order (Some d) [] g = g
+in_order (Some d) (i ∷ items) g = in_order (due_after d i) items g.1

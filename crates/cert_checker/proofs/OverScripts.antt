@@ -20,7 +20,8 @@ use Rattle.cert_checker.specs.Accepted.{LeadsTo, AreInOrder}
 use Rattle.cert_checker.specs.After.{after}
 use Rattle.cert_checker.specs.Outcomes.{accepted, Comes, CheckedHolds}
 use Rattle.cert_checker.proofs.Shown.{LineLaws}
-use Rattle.cert_checker.proofs.AcceptedHolds.{nodes_ordered, in_order, shown_hold}
+use Rattle.cert_checker.proofs.AcceptedHolds.{nodes_ordered, shown_hold}
+use Rattle.cert_checker.proofs.Order.{in_order}
 use Rattle.cert_checker.proofs.ReadItems.{read_is_due}
 use Rattle.cert_checker.proofs.Roots.{have_each_root}
 use Rattle.cert_checker.proofs.Moved.{AreSame, turned, facts_moved, rows_moved, lines_moved}

@@ -1,4 +1,4 @@
-use Rattle.std.proofs.Common.{ℕ, ◌+◌, sym, ◌∙◌}
+use Rattle.std.proofs.Common.{◌+◌, sym, ◌∙◌}
 use Rattle.box_tree.proofs.Turns.{none_forced, forced_here, forced_later}
 use Rattle.box_tree.proofs.region.+from_forced.Goals as goal
 

@@ -20,7 +20,7 @@ returns-in-Stopped-clause-made g c =
 pub certify-requires-clause-marks : goal.certify-requires-clause-marks
 certify-requires-clause-marks g c =
     let s = c.args.script.now in
-    subst (AreMarks s.nodes s.hints.rewrites) (sym c.deref-2.ensures.value)
+    subst (AreMarks s.nodes s.hints.rewrites) (sym c.deref-in-Proved.ensures.value)
     c.in_ok-marks-in-Proved.ensures
 
 pub certify-requires-clause-answered : goal.certify-requires-clause-answered

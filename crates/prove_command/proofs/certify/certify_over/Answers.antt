@@ -5,7 +5,7 @@ use Rattle.script_answers.specs.settler.Cases.{AreCases}
 use Rattle.prove_command.proofs.certify.certify_over.Goals as goal
 
 pub prove_over-requires-clause-cases : goal.prove_over-requires-clause-cases
-prove_over-requires-clause-cases g c =
+prove_over-requires-clause-cases g c κs within =
     let s = c.args.script.now in
     subst (λ (cases : List Case). AreCases s c.args.options.depth (cases_of s) cases)
     (sym c.deref.ensures.value) c.in_ok-cases.ensures

@@ -1,4 +1,4 @@
-use Rattle.std.proofs.Common.{[], Some, None, sym, subst, arith}
+use Rattle.std.proofs.Common.{Some, None, sym, subst, arith}
 use Rattle.std.proofs.lemmas.List.{nil_from_length}
 use Rattle.box_tree.specs.Nexts.{IsWithinNext}
 use Rattle.box_tree.proofs.Cover.{next_within}

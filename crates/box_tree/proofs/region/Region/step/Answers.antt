@@ -25,7 +25,7 @@ returns-in-Some c =
     c.forced.result.now c.in-Some.x c.in-Some.m c.forced.ensures.is
     (nil_from_length c.forced.result.now (omega arith)) c.in-Some.ensures.is
     (ap (λ (cs : List Split). length cs) c.cuts.ensures.value)
-    (c.self-in-Some.view_is ∙ c.halve.ensures)
+    (c.self.view_is ∙ c.halve.ensures)
 
 pub returns-in-None : goal.returns-in-None
 returns-in-None c =
