@@ -64,11 +64,11 @@ module _ (one_mark : MarksAreOne) (one_point : SpelledOnce) (no_point : NeverBot
       → PointTells s text a lines → PointTells s text b others → Twice a b lines others
   point_tells_once s text status.Answered status.Answered lines others (rows, spelled, e)
       (more, again, f) = (
-    refl,
-    evaluated_rows s rows lines others e
-        (subst (λ r. IsEvaluated s r others) (one_point s.variables text more rows again spelled)
-        f),
-  )
+        refl,
+        evaluated_rows s rows lines others e
+            (subst (λ r. IsEvaluated s r others) (one_point s.variables text more rows again spelled)
+            f),
+      )
   point_tells_once s text status.Answered status.TooWide lines others p q =
       absurd (evaluated_or_wide s text lines others p q)
   point_tells_once s text status.Answered status.Point lines others (rows, spelled, e) (f, h, l) =
@@ -77,10 +77,10 @@ module _ (one_mark : MarksAreOne) (one_point : SpelledOnce) (no_point : NeverBot
       absurd (evaluated_or_wide s text others lines q p)
   point_tells_once s text status.TooWide status.TooWide lines others (rows, spelled, e)
       (more, again, f) = (
-    refl,
-    wide_rows s rows lines others e
-        (subst (λ r. IsWide s r others) (one_point s.variables text more rows again spelled) f),
-  )
+        refl,
+        wide_rows s rows lines others e
+            (subst (λ r. IsWide s r others) (one_point s.variables text more rows again spelled) f),
+      )
   point_tells_once s text status.TooWide status.Point lines others (rows, spelled, e) (f, h, l) =
       absurd (no_point s.variables text rows f spelled h)
   point_tells_once s text status.Point status.Answered lines others (f, h, l) (rows, spelled, e) =
