@@ -1,10 +1,9 @@
 #!/usr/bin/env python3
-"""Counts the lines of code and of definitions past 100 columns, whose numbers only fall.
+"""Counts the lines of code, definitions and proofs past 100 columns, whose numbers only fall.
 
 Use, in the repository:   python3 tools/widths.py [--all | --write]
 
-Lines of `src/` and of `specs/` count, but for imports, which the toolchain lays out. Ends with 1, and prints a line for each
-fault, where a count is above its number in tools/widths.txt. Else it prints nothing.
+Ends with 1, and prints a line for each fault, where a count is above its number in tools/widths.txt. Else it prints nothing.
   --all     prints a line for each crate that has such lines, too, and the counts
   --write   lowers the numbers of tools/widths.txt to the counts; it raises none
 """
@@ -15,7 +14,7 @@ import sys
 TOP = os.path.dirname(os.path.dirname(os.path.abspath(__file__)))
 NUMBERS = f"{TOP}/tools/widths.txt"
 MOST = 100
-IMPORT = re.compile(r"\s*(pub |unfoldable |ghost )*use ")
+PARTS = ("src", "specs", "proofs")
 
 
 def wide(name, part):
@@ -24,7 +23,7 @@ def wide(name, part):
     for at, _, files in os.walk(f"{TOP}/crates/{name}/{part}"):
         for file in files:
             with open(f"{at}/{file}", encoding="utf-8") as it:
-                found += sum(len(line.rstrip("\n")) > MOST and not IMPORT.match(line) for line in it)
+                found += sum(len(line.rstrip("\n")) > MOST for line in it)
     return found
 
 
@@ -33,12 +32,12 @@ def main(words):
         print(__doc__, end="", file=sys.stderr)
         return 2
     names = sorted(os.listdir(f"{TOP}/crates"))
-    each = {name: {part: wide(name, part) for part in ("src", "specs")} for name in names}
-    found = {part: sum(it[part] for it in each.values()) for part in ("src", "specs")}
+    each = {name: {part: wide(name, part) for part in PARTS} for name in names}
+    found = {part: sum(it[part] for it in each.values()) for part in PARTS}
     if words == ["--all"]:
         for name in sorted(names, key=lambda it: sum(each[it].values())):
             if any(each[name].values()):
-                print(f"{name}: src {each[name]['src']}, specs {each[name]['specs']}")
+                print(f"{name}: " + ", ".join(f"{part} {each[name][part]}" for part in PARTS))
         print(", ".join(f"{part} {number}" for part, number in found.items()))
     with open(NUMBERS, encoding="utf-8") as it:
         text = it.read()

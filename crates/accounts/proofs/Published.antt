@@ -7,7 +7,8 @@ use Rattle.accounts.specs.Account.{Account, if_shown, over_open}
 use Rattle.accounts.specs.Balance.{IsOpen, IsBalanced}
 use Rattle.accounts.specs.Published.{PublishedAreOpen, BoxesTell}
 use Rattle.accounts.specs.Sums.{one_same}
-use Rattle.accounts.proofs.Sums.{IsAmong, each_weighs, each_weaker, each_fits, open_le, open_plus, whole_total}
+use Rattle.accounts.proofs.Sums.{IsAmong, each_weighs, each_weaker, each_fits, open_le, open_plus}
+use Rattle.accounts.proofs.Sums.{whole_total}
 use Rattle.accounts.proofs.Once.{pushed_once_of_cuts}
 use Rattle.box_tree.specs.InRanges.{at_bool}
 

@@ -7,15 +7,32 @@ use Rattle.fx_model.specs.declared.Node.{Node}
 use Rattle.facts.specs.declared.hint.HintRow.{HintRow}
 use Rattle.facts.specs.declared.instance.Instance.{Instance}
 use Rattle.pair_closure.specs.Closure.{Pair}
-use Rattle.settler.specs.rule_instances.Instances.{OfAny, OfOperation, OfError, OfTerms, OfChain, OfPair, OfHint, IsInstance}
-use Rattle.settler.specs.rule_instances.Instances.IsInstance.{of_any, of_operation, of_error, of_terms, of_chain, of_pair, of_hint}
-use Rattle.settler.specs.rule_instances.Instances.OfAny.{rule_11, rule_12, rule_13, rule_27, rule_28, rule_31, rule_32, rule_90, rule_91}
-use Rattle.settler.specs.rule_instances.Instances.OfOperation.{rule_1, rule_21, rule_2, rule_16, rule_22, rule_35, rule_3, rule_19_sum, rule_23_sum, rule_4, rule_19_difference, rule_23_difference, rule_5, rule_6, rule_17, rule_24, rule_33, rule_7, rule_8, rule_9, rule_18, rule_34, rule_10, rule_14, rule_15, rule_25, rule_26, rule_41}
+use Rattle.settler.specs.rule_instances.Instances.{OfAny, OfOperation, OfError, OfTerms, OfChain}
+use Rattle.settler.specs.rule_instances.Instances.{OfPair, OfHint, IsInstance}
+use Rattle.settler.specs.rule_instances.Instances.IsInstance.{of_any, of_operation, of_error}
+use Rattle.settler.specs.rule_instances.Instances.IsInstance.{of_terms, of_chain, of_pair, of_hint}
+use Rattle.settler.specs.rule_instances.Instances.OfAny.{rule_11, rule_12, rule_13, rule_27}
+use Rattle.settler.specs.rule_instances.Instances.OfAny.{rule_28, rule_31, rule_32, rule_90}
+use Rattle.settler.specs.rule_instances.Instances.OfAny.{rule_91}
+use Rattle.settler.specs.rule_instances.Instances.OfOperation.{rule_1, rule_21, rule_2, rule_16}
+use Rattle.settler.specs.rule_instances.Instances.OfOperation.{rule_22, rule_35, rule_3}
+use Rattle.settler.specs.rule_instances.Instances.OfOperation.{rule_19_sum, rule_23_sum, rule_4}
+use Rattle.settler.specs.rule_instances.Instances.OfOperation.{rule_19_difference}
+use Rattle.settler.specs.rule_instances.Instances.OfOperation.{rule_23_difference, rule_5, rule_6}
+use Rattle.settler.specs.rule_instances.Instances.OfOperation.{rule_17, rule_24, rule_33, rule_7}
+use Rattle.settler.specs.rule_instances.Instances.OfOperation.{rule_8, rule_9, rule_18, rule_34}
+use Rattle.settler.specs.rule_instances.Instances.OfOperation.{rule_10, rule_14, rule_15, rule_25}
+use Rattle.settler.specs.rule_instances.Instances.OfOperation.{rule_26, rule_41}
 use Rattle.settler.specs.rule_instances.Instances.OfError.{rule_42, rule_43, rule_44}
 use Rattle.settler.specs.rule_instances.Instances.OfTerms.{rule_71, rule_72, rule_73, rule_74}
 use Rattle.settler.specs.rule_instances.Instances.OfChain.{rule_75, rule_76}
-use Rattle.settler.specs.rule_instances.Instances.OfPair.{rule_36_second, rule_36_first, rule_51, rule_52, rule_53, rule_54, rule_55, rule_56, rule_57, rule_58, rule_59, rule_60, rule_61, rule_77, rule_78, rule_92}
-use Rattle.settler.specs.rule_instances.Instances.OfHint.{rule_80_bound, rule_80_size, rule_80_multiple, rule_80_nonzero}
+use Rattle.settler.specs.rule_instances.Instances.OfPair.{rule_36_second, rule_36_first, rule_51}
+use Rattle.settler.specs.rule_instances.Instances.OfPair.{rule_52, rule_53, rule_54, rule_55}
+use Rattle.settler.specs.rule_instances.Instances.OfPair.{rule_56, rule_57, rule_58, rule_59}
+use Rattle.settler.specs.rule_instances.Instances.OfPair.{rule_60, rule_61, rule_77, rule_78}
+use Rattle.settler.specs.rule_instances.Instances.OfPair.{rule_92}
+use Rattle.settler.specs.rule_instances.Instances.OfHint.{rule_80_bound, rule_80_size}
+use Rattle.settler.specs.rule_instances.Instances.OfHint.{rule_80_multiple, rule_80_nonzero}
 
 module _ (nodes : List Node) (P : Pair → Type 0) where
   any_arg : (x : ExprId) (i : Instance) → OfAny x i → i.arg ≡ 0
@@ -99,11 +116,13 @@ module _ (nodes : List Node) (P : Pair → Type 0) where
   hint_arg k h _ rule_80_nonzero = refl
 
   -- 0, or the number of a hint
-  pub arg_below : (hints : List HintRow) (n : ℕ) → 0 < n → length hints < n → (i : Instance) → IsInstance nodes P hints i → i.arg < n
+  pub arg_below : (hints : List HintRow) (n : ℕ) → 0 < n → length hints < n → (i : Instance)
+      → IsInstance nodes P hints i → i.arg < n
   arg_below hints n z l i (of_any x m _ at o) = let e = any_arg x i o in omega (arith, e, z)
   arg_below hints n z l i (of_operation x _ o) = let e = operation_arg x i o in omega (arith, e, z)
   arg_below hints n z l i (of_error x _ o) = let e = error_arg x i o in omega (arith, e, z)
   arg_below hints n z l i (of_terms x _ o) = let e = terms_arg x i o in omega (arith, e, z)
   arg_below hints n z l i (of_chain x _ o) = let e = chain_arg x i o in omega (arith, e, z)
   arg_below hints n z l i (of_pair x y _ p o) = let e = pair_arg x y i o in omega (arith, e, z)
-  arg_below hints n z l i (of_hint k h _ s o) = let e = hint_arg k h i o in let w = slice_get_within hints k h s in omega (arith, e, w, l)
+  arg_below hints n z l i (of_hint k h _ s o) = let e = hint_arg k h i o in
+      let w = slice_get_within hints k h s in omega (arith, e, w, l)

@@ -6,10 +6,12 @@ use Rattle.script_words.specs.Words.{Word, sign}
 use Rattle.script_shape.specs.declared.due.Due.{Due}
 use Rattle.script_shape.specs.declared.due.Due.TheVariants as d
 use Rattle.script_shape.specs.Tree.{Formula, single, and, or, implies, Script, formula, define}
-use Rattle.script_shape.specs.Roles.{Leaf, at, stated_leaves, formula_leaves, hints_leaves, definition_leaves, script_leaves}
+use Rattle.script_shape.specs.Roles.{Leaf, at, stated_leaves, formula_leaves, hints_leaves}
+use Rattle.script_shape.specs.Roles.{definition_leaves, script_leaves}
 use Rattle.script_checker.specs.script_judge.declared.counts.ScriptPart.{ScriptPart}
 use Rattle.script_checker.specs.script_judge.declared.counts.ScriptPart.TheVariants as place
-use Rattle.script_checker.specs.script_judge.Counts.{one_if, is_first, begins_proposition, place_after}
+use Rattle.script_checker.specs.script_judge.Counts.{one_if, is_first, begins_proposition}
+use Rattle.script_checker.specs.script_judge.Counts.{place_after}
 use Rattle.script_checker.specs.script_judge.Judge.{Seen, seen_after, Judged, nothing_seen}
 use Rattle.script_checker.specs.script_nodes.Known.{Known}
 use Rattle.script_checker.specs.script_nodes.Definitions.{definition_value}
@@ -59,12 +61,14 @@ connectives_counted [] i seen j h = omega (arith, h, pending_most seen.counts.pl
 connectives_counted (l ∷ ls) i seen j h =
     let o = one_passed i seen l ls j in
     let after = seen_after o.notes seen l.role l.word in
-    let more = connectives_counted ls (i + 1) after o.rest (within_limits o.notes seen l ls o.passes) in
+    let more = connectives_counted ls (i + 1) after o.rest
+    (within_limits o.notes seen l ls o.passes) in
     omega (arith, more, begins_next seen.counts.place l.role l.word)
 
 -- ---- a formula has one claim more than these
 
-formula_counted : (f : Formula) (k : Known) → length (formula_claims f k).sides.hypotheses + length (formula_claims f k).sides.goals ≤ 1 + connectives (formula_leaves f)
+formula_counted : (f : Formula) (k : Known) → length (formula_claims f k).sides.hypotheses
+    + length (formula_claims f k).sides.goals ≤ 1 + connectives (formula_leaves f)
 formula_counted (single p) k = omega arith
 formula_counted (and f p) k =
     let before = formula_claims f k in
@@ -93,10 +97,24 @@ formula_counted (implies f p) k =
       both_counted (formula_leaves f) (at d.Connective (sign s.Arrow) ∷ stated_leaves p),
     )
 
-script_counted : (tree : Script) (k : Known) → length (meaning_from tree k).hypotheses + length (meaning_from tree k).goals ≤ 1 + connectives (script_leaves tree)
-script_counted (formula f h) k = omega (arith, formula_counted f k, both_counted (formula_leaves f) (at d.CloseBrace (sign s.CloseBrace) ∷ hints_leaves h))
-script_counted (define x rest) k = omega (arith, script_counted rest (definition_value x k), both_counted (definition_leaves x) (script_leaves rest))
+script_counted : (tree : Script) (k : Known) → length (meaning_from tree k).hypotheses
+    + length (meaning_from tree k).goals ≤ 1 + connectives (script_leaves tree)
+script_counted (formula f h) k = omega (
+  arith,
+  formula_counted f k,
+  both_counted (formula_leaves f) (at d.CloseBrace (sign s.CloseBrace) ∷ hints_leaves h),
+)
+script_counted (define x rest) k = omega (
+  arith,
+  script_counted rest (definition_value x k),
+  both_counted (definition_leaves x) (script_leaves rest),
+)
 
 -- A script whose words pass the judge has few hypotheses and goals.
-pub claims_few : (tree : Script) (k : Known) → Judged 0 nothing_seen (script_leaves tree) None → length (meaning_from tree k).hypotheses + length (meaning_from tree k).goals ≤ 130
-claims_few tree k j = omega (arith, script_counted tree k, connectives_counted (script_leaves tree) 0 nothing_seen j (omega arith))
+pub claims_few : (tree : Script) (k : Known) → Judged 0 nothing_seen (script_leaves tree) None
+    → length (meaning_from tree k).hypotheses + length (meaning_from tree k).goals ≤ 130
+claims_few tree k j = omega (
+  arith,
+  script_counted tree k,
+  connectives_counted (script_leaves tree) 0 nothing_seen j (omega arith),
+)

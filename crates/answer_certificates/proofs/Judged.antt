@@ -1,5 +1,6 @@
 -- A script's subject is what derivations over its universe use.
-use Rattle.std.specs.Prelude.{◌≡◌, ◌<◌, ◌≤◌, ◌^◌, ℕ, zero, suc, List, [], ◌∷◌, ◌++◌, length, map, Option, Some, None, slice_get, refl}
+use Rattle.std.specs.Prelude.{◌≡◌, ◌<◌, ◌≤◌, ◌^◌, ℕ, zero, suc, List, [], ◌∷◌, ◌++◌, length, map}
+use Rattle.std.specs.Prelude.{Option, Some, None, slice_get, refl}
 use Rattle.std.proofs.Common.{sym, ◌∙◌, ap, subst, inl, inr, arith}
 use Rattle.std.proofs.lemmas.List.{append_assoc, length-append}
 use Rattle.std.proofs.lemmas.Bool.{cases_lt}
@@ -34,14 +35,19 @@ use Rattle.answer_certificates.specs.Laws.{SubjectsAreOfUniverses}
 use Rattle.answer_certificates.proofs.Fronts.{front_get, seam_get, difference_behind}
 
 -- ---- nodes
-children_short : (k : ℕ) (n : Node) → k < 2 ^ 16 → ChildrenBelow k n → ((v : ℕ) → n ≡ Var v → v < 2 ^ 16) → HasShortParts n
+children_short : (k : ℕ) (n : Node) → k < 2 ^ 16 → ChildrenBelow k n
+    → ((v : ℕ) → n ≡ Var v → v < 2 ^ 16) → HasShortParts n
 children_short k (Var v) l c h = h v refl
 children_short k (Lit v) l c h = tt
 children_short k (Neg a) l c h = omega (arith, l, c)
-children_short k (Add a b) l c h = (let p : a.0 < k = c.0 in omega (arith, l, p), let p : b.0 < k = c.1 in omega (arith, l, p))
-children_short k (Sub a b) l c h = (let p : a.0 < k = c.0 in omega (arith, l, p), let p : b.0 < k = c.1 in omega (arith, l, p))
-children_short k (Mul a b) l c h = (let p : a.0 < k = c.0 in omega (arith, l, p), let p : b.0 < k = c.1 in omega (arith, l, p))
-children_short k (Div a b) l c h = (let p : a.0 < k = c.0 in omega (arith, l, p), let p : b.0 < k = c.1 in omega (arith, l, p))
+children_short k (Add a b) l c h =
+    (let p : a.0 < k = c.0 in omega (arith, l, p), let p : b.0 < k = c.1 in omega (arith, l, p))
+children_short k (Sub a b) l c h =
+    (let p : a.0 < k = c.0 in omega (arith, l, p), let p : b.0 < k = c.1 in omega (arith, l, p))
+children_short k (Mul a b) l c h =
+    (let p : a.0 < k = c.0 in omega (arith, l, p), let p : b.0 < k = c.1 in omega (arith, l, p))
+children_short k (Div a b) l c h =
+    (let p : a.0 < k = c.0 in omega (arith, l, p), let p : b.0 < k = c.1 in omega (arith, l, p))
 children_short k (Abs a) l c h = omega (arith, l, c)
 children_short k (Round r a) l c h = omega (arith, l, c)
 
@@ -60,7 +66,8 @@ module _ (s : View) (claims : List Claim) (u : World) (has : HasUniverse s claim
   nodes_are = followed.list
 
   -- the node behind these
-  module _ (before : List Node) (n : Node) (rest : List Node) (e : before ++ n ∷ rest ≡ u.nodes) where
+  module _ (before : List Node) (n : Node) (rest : List Node)
+      (e : before ++ n ∷ rest ≡ u.nodes) where
     here : slice_get u.nodes (length before) ≡ Some n
     here = subst (λ l. slice_get l (length before) ≡ Some n) e (seam_get before n rest)
 
@@ -82,8 +89,10 @@ module _ (s : View) (claims : List Claim) (u : World) (has : HasUniverse s claim
     absent : IsAbsent before n
     absent x h =
         let w = slice_get_within before x.0 n h in
-        let a : slice_get u.nodes x.0 ≡ Some n = subst (λ l. slice_get l x.0 ≡ Some n) e (front_get before (n ∷ rest) x.0 w ∙ h) in
-        let same : x.0 ≡ length before = has.universe.closure.expressions.once x.0 (length before) n a here in
+        let a : slice_get u.nodes x.0 ≡ Some n =
+        subst (λ l. slice_get l x.0 ≡ Some n) e (front_get before (n ∷ rest) x.0 w ∙ h) in
+        let same : x.0 ≡ length before =
+        has.universe.closure.expressions.once x.0 (length before) n a here in
         omega (arith, w, same)
 
     further : (variables : ℕ) → length s.nodes ≤ length before → IsFurther variables before n
@@ -103,38 +112,49 @@ module _ (s : View) (claims : List Claim) (u : World) (has : HasUniverse s claim
     ]
 
     short_parts : HasShortParts n
-    short_parts = children_short (length before) n (let w = within in let m = room.short in omega (arith, w, m)) children short_variable
+    short_parts = children_short (length before) n (let w = within in let m = room.short in
+        omega (arith, w, m)) children short_variable
 
-  nodes_taken : (t : Subject) → t.nodes ≡ s.nodes → (before rest : List Node) → before ++ rest ≡ u.nodes → AreTaken t before rest
+  nodes_taken : (t : Subject) → t.nodes ≡ s.nodes → (before rest : List Node)
+      → before ++ rest ≡ u.nodes → AreTaken t before rest
   nodes_taken t same before [] e = tt
   nodes_taken t same before (n ∷ rest) e = (
-    subst (λ o. JudgesNode o t.variables before n None) (sym same) (own before n rest e, further before n rest e t.variables),
+    subst (λ o. JudgesNode o t.variables before n None) (sym same)
+        (own before n rest e, further before n rest e t.variables),
     (room.lawful (record { 0 = length before }) n (here before n rest e)).limits,
     short_parts before n rest e,
     nodes_taken t same (before ++ n ∷ []) rest (append_assoc before (n ∷ []) rest ∙ e),
   )
 
 -- ---- hypotheses and rows
-with_same : (o : Option Fact) (xs ys : List Fact) → xs ≡ ys → checker.with_fact o xs ≡ universe.with_fact o ys
+with_same : (o : Option Fact) (xs ys : List Fact) → xs ≡ ys
+    → checker.with_fact o xs ≡ universe.with_fact o ys
 with_same None xs ys e = e
 with_same (Some f) xs ys e = ap (λ l. f ∷ l) e
 
 facts_same : (cs : List Claim) → checker.facts_of cs ≡ universe.facts_of cs
 facts_same [] = refl
-facts_same (c ∷ cs) = with_same (hypothesis_fact c) (checker.facts_of cs) (universe.facts_of cs) (facts_same cs)
+facts_same (c ∷ cs) =
+    with_same (hypothesis_fact c) (checker.facts_of cs) (universe.facts_of cs) (facts_same cs)
 
-one_row : (nodes : List Node) (h : Hint) (row other : HintRow) → IsRowOf nodes h row → IsRowOf nodes h other → row ≡ other
+one_row : (nodes : List Node) (h : Hint) (row other : HintRow) → IsRowOf nodes h row
+    → IsRowOf nodes h other → row ≡ other
 one_row nodes h row other a b =
     let left : row.left ≡ other.left = a.left ∙ sym b.left in
     let right : row.right ≡ other.right = a.right ∙ sym b.right in
-    let divisors : row.divisors ≡ other.divisors = one_list (λ (d : ExprId). d.0) row.divisors other.divisors a.divisors.rising b.divisors.rising (λ d m. (b.divisors.exactly d).1 ((a.divisors.exactly d).0 m)) (λ d m. (a.divisors.exactly d).1 ((b.divisors.exactly d).0 m)) in
+    let divisors : row.divisors ≡ other.divisors = one_list (λ (d : ExprId). d.0)
+    row.divisors other.divisors a.divisors.rising b.divisors.rising (λ d m. (b.divisors.exactly d).1
+    ((a.divisors.exactly d).0 m)) (λ d m. (a.divisors.exactly d).1 ((b.divisors.exactly d).0 m)) in
     let needs : row.needs ≡ other.needs = a.needs ∙ sym b.needs in
     (λ i. record { left = left i; right = right i; divisors = divisors i; needs = needs i })
 
 -- one row for each hint
-same_rows : (nodes : List Node) (hints : List Hint) (rows others : List HintRow) → length rows ≡ length hints → length others ≡ length hints →
-    ((k : ℕ) (h : Hint) (row : HintRow) → slice_get hints k ≡ Some h → slice_get rows k ≡ Some row → IsRowOf nodes h row) →
-    ((k : ℕ) (h : Hint) (row : HintRow) → slice_get hints k ≡ Some h → slice_get others k ≡ Some row → IsRowOf nodes h row) → rows ≡ others
+same_rows : (nodes : List Node) (hints : List Hint) (rows others : List HintRow)
+    → length rows ≡ length hints → length others ≡ length hints
+    → ((k : ℕ) (h : Hint) (row : HintRow) → slice_get hints k ≡ Some h
+    → slice_get rows k ≡ Some row → IsRowOf nodes h row)
+    → ((k : ℕ) (h : Hint) (row : HintRow) → slice_get hints k ≡ Some h
+    → slice_get others k ≡ Some row → IsRowOf nodes h row) → rows ≡ others
 same_rows nodes [] [] [] p q a b = refl
 same_rows nodes [] (r ∷ rows) others p q a b = absurd (omega (arith, p))
 same_rows nodes [] [] (o ∷ others) p q a b = absurd (omega (arith, q))
@@ -142,11 +162,14 @@ same_rows nodes (h ∷ hints) [] others p q a b = absurd (omega (arith, p))
 same_rows nodes (h ∷ hints) (r ∷ rows) [] p q a b = absurd (omega (arith, q))
 same_rows nodes (h ∷ hints) (r ∷ rows) (o ∷ others) p q a b =
     let head : r ≡ o = one_row nodes h r o (a 0 h r refl refl) (b 0 h o refl refl) in
-    let tail : rows ≡ others = same_rows nodes hints rows others (omega (arith, p)) (omega (arith, q)) (λ k g row e f. a (suc k) g row e f) (λ k g row e f. b (suc k) g row e f) in
+    let tail : rows ≡ others = same_rows nodes hints rows others (omega (arith, p))
+    (omega (arith, q)) (λ k g row e f. a (suc k) g row e f) (λ k g row e f. b (suc k) g row e f) in
     (λ i. head i ∷ tail i)
 
-rows_same : (nodes : List Node) (hints : List Hint) (rows others : List HintRow) → AreRows nodes hints rows → AreRows nodes hints others → rows ≡ others
-rows_same nodes hints rows others a b = same_rows nodes hints rows others a.count b.count a.each b.each
+rows_same : (nodes : List Node) (hints : List Hint) (rows others : List HintRow)
+    → AreRows nodes hints rows → AreRows nodes hints others → rows ≡ others
+rows_same nodes hints rows others a b =
+    same_rows nodes hints rows others a.count b.count a.each b.each
 
 -- the facts of the case in a place
 case_at : (cs : List (List Claim)) (k : ℕ) (claims : List Claim) → slice_get cs k ≡ Some claims
@@ -163,7 +186,8 @@ subjects_are_of_universes s claims u has room case there t is = record {
   rows = rows_same s.nodes s.hints.rewrites t.hints u.hints is.hints has.universe.hints;
   wanted = is.goals ∙ sym has.universe.goals;
   few_goals = room.goals;
-  few_marks = let few = room.hints.rewrites in let count = is.marks.count in omega (arith, few, count);
+  few_marks = let few = room.hints.rewrites in let count = is.marks.count in
+      omega (arith, few, count);
   own =
       let same = ap length is.nodes in
       let list = ap length (nodes_are s claims u has room) in

@@ -1,20 +1,34 @@
--- What is so of all that is known while a script is read: it is where each node that is put, and each name that is read, keeps it so.
+-- What is so of all that is known while a script is read: it is where each node that is put, and
+-- each name that is read, keeps it so.
 use Rattle.std.specs.Prelude.{[], Option, Some, None}
 use Rattle.fx_model.specs.declared.Rounding.{Rounding}
 use Rattle.fx_model.specs.declared.ExprId.{ExprId}
 use Rattle.fx_model.specs.declared.Node.{Node}
 use Rattle.fx_model.specs.declared.Node.TheVariants.{Lit, Neg, Add, Sub, Mul, Div, Abs, Round}
-use Rattle.script_shape.specs.Tree.{Expr, term, sum, difference, Term, factor, product, quotient, Factor, negation, atom, Atom, number, variable, parenthesized, absolute, called, rounded, fused, Prop, lies_in, relative_in, at_most, at_least, multiple, Stated, affirmed, denied, Formula, single, and, or, implies, Need, nonzero, below, not_above, above, not_below, NeedList, last_need, more_needs, Needs, always, provided, Names, last_name, more_names, Halving, halved_by, with_goal, Hint, rewrite, like, split, halving, Hints, no_hint, hint}
+use Rattle.script_shape.specs.Tree.{Expr, term, sum, difference, Term, factor, product, quotient}
+use Rattle.script_shape.specs.Tree.{Factor, negation, atom, Atom, number, variable, parenthesized}
+use Rattle.script_shape.specs.Tree.{absolute, called, rounded, fused, Prop, lies_in, relative_in}
+use Rattle.script_shape.specs.Tree.{at_most, at_least, multiple, Stated, affirmed, denied, Formula}
+use Rattle.script_shape.specs.Tree.{single, and, or, implies, Need, nonzero, below, not_above}
+use Rattle.script_shape.specs.Tree.{above, not_below, NeedList, last_need, more_needs, Needs}
+use Rattle.script_shape.specs.Tree.{always, provided, Names, last_name, more_names, Halving}
+use Rattle.script_shape.specs.Tree.{halved_by, with_goal, Hint, rewrite, like, split, halving}
+use Rattle.script_shape.specs.Tree.{Hints, no_hint, hint}
 use Rattle.script_checker.specs.script_nodes.Literals.{literal_of}
 use Rattle.script_checker.specs.script_nodes.Operators.{rounding_of}
-use Rattle.script_checker.specs.script_nodes.Known.{Name, Known, PlacedNode, put, named, operator_named}
-use Rattle.script_checker.specs.script_nodes.Values.{then_rounded, fused_sum, expr_value, term_value, factor_value, atom_value}
+use Rattle.script_checker.specs.script_nodes.Known.{Name, Known, PlacedNode, put, named}
+use Rattle.script_checker.specs.script_nodes.Known.{operator_named}
+use Rattle.script_checker.specs.script_nodes.Values.{then_rounded, fused_sum, expr_value}
+use Rattle.script_checker.specs.script_nodes.Values.{term_value, factor_value, atom_value}
 use Rattle.script_checker.specs.script_nodes.Definitions.{name_text}
 use Rattle.script_checker.specs.script_nodes.Sound.{IsMade}
 use Rattle.script_checker.specs.script_claims.Claims.{prop_claim, stated_claim, formula_claims}
-use Rattle.script_checker.specs.script_hints.Hints.{NeedsSoFar, with_need, with_need_list, needs_value, HintsSoFar, with_halved, with_names, with_halving, with_hint, with_hints}
+use Rattle.script_checker.specs.script_hints.Hints.{NeedsSoFar, with_need, with_need_list}
+use Rattle.script_checker.specs.script_hints.Hints.{needs_value, HintsSoFar, with_halved}
+use Rattle.script_checker.specs.script_hints.Hints.{with_names, with_halving, with_hint, with_hints}
 
-module _ (P : Known → Type 0) (puts : (k : Known) (n : Node) → IsMade n → P k → P (put k n).0) (names : (k : Known) (text : Name) → P k → P (named k text).0) where
+module _ (P : Known → Type 0) (puts : (k : Known) (n : Node) → IsMade n → P k
+    → P (put k n).0) (names : (k : Known) (text : Name) → P k → P (named k text).0) where
   -- ---- expressions
   module _ (q : Option Rounding) where
     rounded_so : (o : Option Rounding) (p : PlacedNode) → P p.0 → P (then_rounded o p).0
@@ -25,7 +39,8 @@ module _ (P : Known → Type 0) (puts : (k : Known) (n : Node) → IsMade n → 
     operation_so p n m h = rounded_so q (put p.0 n) (puts p.0 n m h)
 
     fused_so : (a b : ExprId) (c : PlacedNode) → P c.0 → P (fused_sum q a b c).0
-    fused_so a b c h = operation_so (put c.0 (Mul a b)) (Add (put c.0 (Mul a b)).1 c.1) tt (puts c.0 (Mul a b) tt h)
+    fused_so a b c h = operation_so (put c.0 (Mul a b))
+        (Add (put c.0 (Mul a b)).1 c.1) tt (puts c.0 (Mul a b) tt h)
 
     mutual
       pub expr_so : (e : Expr) (k : Known) → P k → P (expr_value q e k).0
@@ -51,16 +66,20 @@ module _ (P : Known → Type 0) (puts : (k : Known) (n : Node) → IsMade n → 
           operation_so y (Div x.1 y.1) tt (factor_so f x.0 (term_so t k h))
 
       factor_so : (f : Factor) (k : Known) → P k → P (factor_value q f k).0
-      factor_so (negation f) k h = puts (factor_value q f k).0 (Neg (factor_value q f k).1) tt (factor_so f k h)
+      factor_so (negation f) k h =
+          puts (factor_value q f k).0 (Neg (factor_value q f k).1) tt (factor_so f k h)
       factor_so (atom a) k h = atom_so a k h
 
       atom_so : (a : Atom) (k : Known) → P k → P (atom_value q a k).0
       atom_so (number c text) k h = puts k (Lit (literal_of text)) tt h
       atom_so (variable c text) k h = names k text h
       atom_so (parenthesized e) k h = expr_so e k h
-      atom_so (absolute e) k h = puts (expr_value q e k).0 (Abs (expr_value q e k).1) tt (expr_so e k h)
-      atom_so (called c text e) k h = puts (expr_value q e k).0 (Round (operator_named k text) (expr_value q e k).1) tt (expr_so e k h)
-      atom_so (rounded o e) k h = puts (expr_value q e k).0 (Round (rounding_of o) (expr_value q e k).1) tt (expr_so e k h)
+      atom_so (absolute e) k h =
+          puts (expr_value q e k).0 (Abs (expr_value q e k).1) tt (expr_so e k h)
+      atom_so (called c text e) k h = puts (expr_value q e k).0
+          (Round (operator_named k text) (expr_value q e k).1) tt (expr_so e k h)
+      atom_so (rounded o e) k h =
+          puts (expr_value q e k).0 (Round (rounding_of o) (expr_value q e k).1) tt (expr_so e k h)
       atom_so (fused a b c) k h =
           let x = expr_value q a k in
           let y = expr_value q b x.0 in
@@ -105,15 +124,18 @@ module _ (P : Known → Type 0) (puts : (k : Known) (n : Node) → IsMade n → 
   names_so (more_names n l) s h = names_so l (with_halved n s) (names s.0 (name_text n) h)
 
   halving_so : (x : Halving) (s : HintsSoFar) → P s.0 → P (with_halving x s).0
-  halving_so (halved_by e n) s h = names_so n ((expr_value None e s.0).0, s.1) (expr_so None e s.0 h)
-  halving_so (with_goal e x) s h = halving_so x ((expr_value None e s.0).0, s.1) (expr_so None e s.0 h)
+  halving_so (halved_by e n) s h =
+      names_so n ((expr_value None e s.0).0, s.1) (expr_so None e s.0 h)
+  halving_so (with_goal e x) s h =
+      halving_so x ((expr_value None e s.0).0, s.1) (expr_so None e s.0 h)
 
   -- both sides of a hint, and what it needs
   pub sides_so : (a b : Expr) (k : Known) → P k → P (expr_value None b (expr_value None a k).0).0
   sides_so a b k h = expr_so None b (expr_value None a k).0 (expr_so None a k h)
 
   hint_so : (x : Hint) (s : HintsSoFar) → P s.0 → P (with_hint x s).0
-  hint_so (rewrite a b n) s h = needs_so n (expr_value None b (expr_value None a s.0).0).0 (sides_so a b s.0 h)
+  hint_so (rewrite a b n) s h =
+      needs_so n (expr_value None b (expr_value None a s.0).0).0 (sides_so a b s.0 h)
   hint_so (like a b) s h = sides_so a b s.0 h
   hint_so (split n c) s h = names s.0 (name_text n) h
   hint_so (halving x) s h = halving_so x s h

@@ -15,7 +15,8 @@ use Rattle.answer_certificates.proofs.Known.{piece_there}
 abbrev IsPieceOf : ExprId → Option Piece → Type 0
 IsPieceOf x o = o ≡ Some (x, range_of_piece o)
 
-of_next : (plan : PlanParts) (g : Region) (n : Next) (x : ExprId) (k : ℕ) → variable_of (cut_by n) ≡ Some x → IsPieceOf x (last_piece (piece_by plan n g k))
+of_next : (plan : PlanParts) (g : Region) (n : Next) (x : ExprId) (k : ℕ)
+    → variable_of (cut_by n) ≡ Some x → IsPieceOf x (last_piece (piece_by plan n g k))
 of_next plan g (next.Force y points done) x k e =
     let same : y ≡ x = cc in
     let o : Option Piece = last_piece (piece_by plan (next.Force y points done) g k) in
@@ -29,4 +30,5 @@ of_next plan g next.Rest x k e = cc
 pub pieces_are_of_cuts : (plan : PlanParts) → PiecesAreOfCuts plan
 unfolding cut_at
 pieces_are_of_cuts plan path x e k =
-    subst (IsPieceOf x) (sym (piece_there plan path k)) (of_next plan (region_at plan path) (next_of plan (region_at plan path)) x k e)
+    subst (IsPieceOf x) (sym (piece_there plan path k))
+    (of_next plan (region_at plan path) (next_of plan (region_at plan path)) x k e)

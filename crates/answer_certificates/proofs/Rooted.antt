@@ -1,6 +1,7 @@
 -- Each script that is proved has a root for each case, and so a certificate that is accepted with
 -- its lines.
-use Rattle.std.specs.Prelude.{◌≡◌, ◌<◌, ◌≤◌, ◌+◌, ◌*◌, ◌^◌, ℕ, List, [], ◌∷◌, ◌++◌, length, map, Option, Some, None, slice_get, refl}
+use Rattle.std.specs.Prelude.{◌≡◌, ◌<◌, ◌≤◌, ◌+◌, ◌*◌, ◌^◌, ℕ, List, [], ◌∷◌, ◌++◌, length, map}
+use Rattle.std.specs.Prelude.{Option, Some, None, slice_get, refl}
 use Rattle.std.specs.List.{AllByRecursion}
 use Rattle.std.proofs.Common.{sym, ◌∙◌, ap, ap₂, subst, arith}
 use Rattle.std.proofs.Math.Nat.{mul-add}
@@ -21,7 +22,8 @@ use Rattle.settler.specs.bisect.declared.outcome.Leaf.{Leaf}
 use Rattle.settler.specs.bisect.Trees as bisect
 use Rattle.settler.specs.bisect.Boxes.{AreBoxes, first_open, leaves_of}
 use Rattle.settler.specs.case_trees.declared.outcome.OpenLeaf.{OpenLeaf}
-use Rattle.settler.specs.case_trees.Listed.{Listed, AreListed, box_count, or_later, first_open_from, all_leaves}
+use Rattle.settler.specs.case_trees.Listed.{Listed, AreListed, box_count, or_later, first_open_from}
+use Rattle.settler.specs.case_trees.Listed.{all_leaves}
 use Rattle.settler.specs.Standing.{AreStates}
 use Rattle.settler.specs.Answers.{Options, plan_of, tree_by, IsTreeOf, AreTrees}
 use Rattle.tree_certificates.specs.cert_bytes.declared.item.Item.{Item}
@@ -36,7 +38,10 @@ use Rattle.tree_certificates.specs.Laws.{CertificatesExist}
 use Rattle.answer_certificates.specs.Scripts.{in_case, IsCaseOf, HasCases}
 use Rattle.answer_certificates.specs.Boxes.{boxes_of, rows_from}
 use Rattle.answer_certificates.specs.Roots.{IsRootOf, AreRootsOf, most_in}
-use Rattle.answer_certificates.specs.Laws.{UniversesAreWritten, InstancesAreFew, SubjectsAreOfUniverses, TreesAreProved, AreInRange, ScriptsHaveRoots, AnswersHaveCertificates, AnswersAreSpelled}
+use Rattle.answer_certificates.specs.Laws.{UniversesAreWritten, InstancesAreFew}
+use Rattle.answer_certificates.specs.Laws.{SubjectsAreOfUniverses, TreesAreProved, AreInRange}
+use Rattle.answer_certificates.specs.Laws.{ScriptsHaveRoots, AnswersHaveCertificates}
+use Rattle.answer_certificates.specs.Laws.{AnswersAreSpelled}
 use Rattle.answer_certificates.proofs.Fronts.{seam_get}
 use Rattle.answer_certificates.proofs.Shown.{rows_both, rows_none, rows_length, lines_are_rows}
 

@@ -1,5 +1,6 @@
 -- How many premises the instances of hints have.
-use Rattle.std.specs.Prelude.{◌≡◌, ◌<◌, ◌≤◌, ◌+◌, ◌-◌, ◌*◌, ℕ, zero, suc, List, [], ◌∷◌, ◌++◌, length, map, Some, slice_get, refl}
+use Rattle.std.specs.Prelude.{◌≡◌, ◌<◌, ◌≤◌, ◌+◌, ◌-◌, ◌*◌, ℕ, zero, suc, List, [], ◌∷◌, ◌++◌}
+use Rattle.std.specs.Prelude.{length, map, Some, slice_get, refl}
 use Rattle.std.proofs.Common.{arith, sym, ap, subst, ◌∙◌, inl, inr}
 use Rattle.std.proofs.lemmas.List.{length-append, length-map}
 use Rattle.std.proofs.lemmas.Option.{slice_get_within, slice_get_cases}
@@ -12,7 +13,8 @@ use Rattle.facts.specs.declared.hint.HintRow.{HintRow}
 use Rattle.facts.specs.declared.instance.Instance.{Instance}
 use Rattle.pair_closure.specs.Closure.{Pair}
 use Rattle.settler.specs.rule_instances.Slots.{need_slot, conditions}
-use Rattle.settler.specs.rule_instances.InOrder.{each_at, of_node, of_difference, of_pair, of_hint, instance_list}
+use Rattle.settler.specs.rule_instances.InOrder.{each_at, of_node, of_difference, of_pair, of_hint}
+use Rattle.settler.specs.rule_instances.InOrder.{instance_list}
 use Rattle.script_checker.specs.script_hints.declared.hint.Hint.{Hint}
 use Rattle.script_checker.specs.script_hints.Needs.{need_of}
 use Rattle.script_checker.specs.rewrite_hints.Divisors.{IsDivisor, AreDivisors}
@@ -21,12 +23,14 @@ use Rattle.script_checker.specs.rewrite_hints.Marks.{AreRows}
 use Rattle.settler.specs.rule_universe.Sizes.{beyond_four}
 use Rattle.script_checker.specs.script_grammar.Few.{constraints_in}
 use Rattle.answer_certificates.specs.Premises.{PremisesAreFew}
-use Rattle.answer_certificates.proofs.Plain.{beyond_both, plain_node, plain_difference, plain_pair, plain_each}
+use Rattle.answer_certificates.proofs.Plain.{beyond_both, plain_node, plain_difference, plain_pair}
+use Rattle.answer_certificates.proofs.Plain.{plain_each}
 
 -- ---- lists that rise
 -- a list whose numbers rise has the one at a place at least as large as the place
 module _ (ds : List ExprId)
-    (rising : (i j : ℕ) (d e : ExprId) → slice_get ds i ≡ Some d → slice_get ds j ≡ Some e → i < j → d.0 < e.0) where
+    (rising : (i j : ℕ) (d e : ExprId) → slice_get ds i ≡ Some d → slice_get ds j ≡ Some e
+    → i < j → d.0 < e.0) where
   there : (k : ℕ) → k < length ds → (d : ExprId) × (slice_get ds k ≡ Some d)
   there k l =
       elim (slice_get_cases ds k).1 [

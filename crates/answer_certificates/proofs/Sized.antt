@@ -32,5 +32,6 @@ universes_small few extend s claims u has room =
       hypotheses = room.hypotheses;
       nodes = room.short;
       premises = subst (λ (is : List Instance). beyond_four is ≤ 1310976) (sym has.universe.order)
-          (subst (λ nodes. beyond_four (instance_list nodes u.pairs u.hints) ≤ 1310976) (sym all) listed);
+          (subst (λ nodes. beyond_four (instance_list nodes u.pairs u.hints)
+          ≤ 1310976) (sym all) listed);
     }

@@ -1,5 +1,7 @@
--- A script that a text spells has room for its certificates, and its goals are about slots of its universe.
-use Rattle.std.specs.Prelude.{ℕ, ◌+◌, ◌<◌, ◌≤◌, ◌^◌, List, [], ◌∷◌, ◌++◌, length, map, Option, Some, None, refl}
+-- A script that a text spells has room for its certificates, and its goals are about slots of its
+-- universe.
+use Rattle.std.specs.Prelude.{ℕ, ◌+◌, ◌<◌, ◌≤◌, ◌^◌, List, [], ◌∷◌, ◌++◌, length, map, Option, Some}
+use Rattle.std.specs.Prelude.{None, refl}
 use Rattle.std.specs.List.{AllByRecursion}
 use Rattle.std.proofs.Common.{sym, ap, subst, inr, arith, length-append}
 use Rattle.std.proofs.lemmas.List.{length-map}
@@ -11,13 +13,18 @@ use Rattle.script_words.specs.Lex.{LexesOnce}
 use Rattle.script_shape.specs.Roles.{LeavesAreOfTrees}
 use Rattle.script_checker.specs.script_nodes.Known.{nothing_known}
 use Rattle.script_checker.specs.script_claims.declared.claim.Claim.{Claim}
-use Rattle.script_checker.specs.script_claims.declared.claim.Claim.TheVariants.{Bounded, Asked, Relative, RelativeAsked, Multiple, Above, Below}
+use Rattle.script_checker.specs.script_claims.declared.claim.Claim.TheVariants.{Bounded, Asked}
+use Rattle.script_checker.specs.script_claims.declared.claim.Claim.TheVariants.{Relative}
+use Rattle.script_checker.specs.script_claims.declared.claim.Claim.TheVariants.{RelativeAsked}
+use Rattle.script_checker.specs.script_claims.declared.claim.Claim.TheVariants.{Multiple, Above}
+use Rattle.script_checker.specs.script_claims.declared.claim.Claim.TheVariants.{Below}
 use Rattle.script_checker.specs.script_claims.Facts.{hypothesis_fact, slot_of}
 use Rattle.script_checker.specs.script_grammar.Spells.{View, SpelledAreShort}
 use Rattle.script_checker.specs.script_grammar.Names.{ClaimIsOf}
 use Rattle.script_checker.specs.script_grammar.Cases.{cases_of}
 use Rattle.script_checker.specs.script_grammar.Ranges.{SpelledHaveFewCases}
-use Rattle.script_checker.specs.script_grammar.Few.{SpelledHaveFewHints, SpelledHaveFewConstraints, constraints_in}
+use Rattle.script_checker.specs.script_grammar.Few.{SpelledHaveFewHints, SpelledHaveFewConstraints}
+use Rattle.script_checker.specs.script_grammar.Few.{constraints_in}
 use Rattle.pair_closure.specs.Reached.{Has}
 use Rattle.pair_closure.specs.Reached.IsReached.{begin}
 use Rattle.pair_closure.specs.Closure.{Pair, difference_of}
@@ -26,9 +33,11 @@ use Rattle.settler.specs.script_truths.Truths.{HasUniverse}
 use Rattle.settler.specs.rule_universe.Worlds.{World, IsSlot, HasSlot, IsWhole}
 use Rattle.settler.specs.universe.Starts.{claim_pairs, claims_pairs, hints_pairs}
 use Rattle.settler.specs.universe.Cases.{AreHypotheses, cases_have_hypotheses}
-use Rattle.settler.specs.universe.Universes.{HypothesesHaveSlots, assumed, goal_of, with_fact, facts_of}
+use Rattle.settler.specs.universe.Universes.{HypothesesHaveSlots, assumed, goal_of, with_fact}
+use Rattle.settler.specs.universe.Universes.{facts_of}
 use Rattle.tree_certificates.specs.cert_checker.Faults.{IsVariable}
-use Rattle.answer_certificates.specs.Scripts.{in_case, IsCaseOf, IsBuilt, ScriptsHaveRoom, GoalsHaveSlots}
+use Rattle.answer_certificates.specs.Scripts.{in_case, IsCaseOf, IsBuilt, ScriptsHaveRoom}
+use Rattle.answer_certificates.specs.Scripts.{GoalsHaveSlots}
 use Rattle.answer_certificates.proofs.Numbered.{AreNumbered, script_numbered}
 use Rattle.answer_certificates.proofs.Passed.{spelled_passes}
 use Rattle.answer_certificates.proofs.FewClaims.{claims_few}
@@ -42,11 +51,13 @@ fact_counted (Some f) fs = omega arith
 
 facts_counted : (cs : List Claim) → length (facts_of cs) ≤ length cs
 facts_counted [] = omega arith
-facts_counted (c ∷ cs) = omega (arith, fact_counted (hypothesis_fact c) (facts_of cs), facts_counted cs)
+facts_counted (c ∷ cs) =
+    omega (arith, fact_counted (hypothesis_fact c) (facts_of cs), facts_counted cs)
 
 -- ---- slots of goals
 module _ (nodes : List Node) (n m : ℕ) (pairs : List Pair) (longer : n ≤ m) where
-  claim_slot : (c : Claim) → ClaimIsOf n c → ((p : Pair) → Has (claim_pairs nodes c) p → Has pairs p) → IsSlot m pairs (slot_of c)
+  claim_slot : (c : Claim) → ClaimIsOf n c
+      → ((p : Pair) → Has (claim_pairs nodes c) p → Has pairs p) → IsSlot m pairs (slot_of c)
   claim_slot (Bounded x lower upper) k e = omega (arith, k, longer)
   claim_slot (Asked x) k e = omega (arith, k, longer)
   claim_slot (Relative x y lower upper) k e = e (x, y) (0, refl)
@@ -55,7 +66,9 @@ module _ (nodes : List Node) (n m : ℕ) (pairs : List Pair) (longer : n ≤ m) 
   claim_slot (Above x w) k e = omega (arith, k, longer)
   claim_slot (Below x w) k e = omega (arith, k, longer)
 
-  goal_slots : (cs : List Claim) → AllByRecursion (ClaimIsOf n) cs → ((p : Pair) → Has (claims_pairs nodes cs) p → Has pairs p) → AllByRecursion (λ (g : Goal). IsSlot m pairs g.of) (map goal_of cs)
+  goal_slots : (cs : List Claim)
+      → AllByRecursion (ClaimIsOf n) cs → ((p : Pair) → Has (claims_pairs nodes cs) p → Has pairs p)
+      → AllByRecursion (λ (g : Goal). IsSlot m pairs g.of) (map goal_of cs)
   goal_slots [] k e = tt
   goal_slots (c ∷ cs) k e = (
     claim_slot c k.0 (λ p h. e p (has_left (claim_pairs nodes c) (claims_pairs nodes cs) p h)),
@@ -66,13 +79,20 @@ pub goals_have_slots : GoalsHaveSlots
 goals_have_slots s before u names universe =
     let closure = universe.closure in
     let followed = closure.order in
-    let longer : length s.nodes ≤ length u.nodes = omega (arith, ap length followed.list, length-append s.nodes (map difference_of followed.differences)) in
+    let longer : length s.nodes ≤ length u.nodes = omega (
+      arith,
+      ap length followed.list,
+      length-append s.nodes (map difference_of followed.differences),
+    ) in
     let hypotheses = claims_pairs s.nodes s.hypotheses in
     let goals = claims_pairs s.nodes s.goals in
     let rewrites = hints_pairs s.nodes s.hints.rewrites in
     let there : (p : Pair) → Has goals p → Has u.pairs p =
-    λ p h. closure.pairs.each p (begin p (inr (has_right s.hints.likes (hypotheses ++ (goals ++ rewrites)) p (has_right hypotheses (goals ++ rewrites) p (has_left goals rewrites p h))))) in
-    subst (AllByRecursion (λ (g : Goal). HasSlot u g.of)) (sym universe.goals) (goal_slots s.nodes (length s.nodes) (length u.nodes) u.pairs longer s.goals names.goals there)
+    λ p h. closure.pairs.each p
+    (begin p (inr (has_right s.hints.likes (hypotheses ++ (goals ++ rewrites)) p
+    (has_right hypotheses (goals ++ rewrites) p (has_left goals rewrites p h))))) in
+    subst (AllByRecursion (λ (g : Goal). HasSlot u g.of)) (sym universe.goals)
+    (goal_slots s.nodes (length s.nodes) (length u.nodes) u.pairs longer s.goals names.goals there)
 
 -- ---- room
 module _ (s : View) (before : List Claim) (u : World) (has : HasUniverse s before u)
@@ -145,6 +165,7 @@ scripts_have_room short hints constraints cases lexes are slots text s before u 
     (sym few.hypotheses) (cases_short s.parts) in
     let some : 0 < length (cases_of s) =
     subst (λ (v : View). 0 < length (cases_of v)) (sym p.says) (some_case p.tree nothing_known) in
-    let each = each_room s before u has built (hints text s p) (constraints text s p) slots numbered (short text s p)
+    let each = each_room s before u has built (hints text s p)
+    (constraints text s p) slots numbered (short text s p)
     splits claimed (cases_of s) (cases_have_hypotheses s few) fewer in
     record { some = some; few = few.few; each = each }

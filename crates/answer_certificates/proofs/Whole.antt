@@ -1,5 +1,6 @@
 -- Where no leaf of a case's tree is open, the tree has a certificate.
-use Rattle.std.specs.Prelude.{◌≡◌, ◌≤◌, ◌*◌, ◌^◌, ℕ, List, [], ◌∷◌, length, Some, None, slice_get, refl}
+use Rattle.std.specs.Prelude.{◌≡◌, ◌≤◌, ◌*◌, ◌^◌, ℕ, List, [], ◌∷◌, length, Some, None, slice_get}
+use Rattle.std.specs.Prelude.{refl}
 use Rattle.std.specs.List.{AllByRecursion}
 use Rattle.std.proofs.Common.{sym, ◌∙◌, ap, subst, inl, inr, arith}
 use Rattle.std.proofs.lemmas.Bool.{cases_lt}
@@ -43,44 +44,62 @@ use Rattle.facts.specs.CommonParts.{at_option}
 use Rattle.settler.specs.box_tree.InRanges.{root_pieces}
 
 -- ---- the root
-root_ranges : (u : Setting) (height : ℕ) (plan : PlanParts) → AreRangesAt u height [] plan.ranges → AreRangesAt u height (pieces_at plan []) (region_at plan []).ranges
+root_ranges : (u : Setting) (height : ℕ) (plan : PlanParts) → AreRangesAt u height [] plan.ranges
+    → AreRangesAt u height (pieces_at plan []) (region_at plan []).ranges
 unfolding pieces_at region_below
 root_ranges u height plan a = a
 
-variables_kept : (nodes all : List Node) → ((x : ExprId) (v : ℕ) → slice_get nodes x.0 ≡ Some (Var v) → slice_get all x.0 ≡ Some (Var v)) → (xs : List ExprId) →
-    AllByRecursion (IsVariable nodes) xs → AllByRecursion (IsVariable all) xs
+variables_kept : (nodes all : List Node) → ((x : ExprId) (v : ℕ)
+    → slice_get nodes x.0 ≡ Some (Var v) → slice_get all x.0 ≡ Some (Var v)) → (xs : List ExprId)
+    → AllByRecursion (IsVariable nodes) xs → AllByRecursion (IsVariable all) xs
 variables_kept nodes all f [] a = tt
-variables_kept nodes all f (x ∷ xs) a = (((a.0).0, f x (a.0).0 (a.0).1), variables_kept nodes all f xs a.1)
+variables_kept nodes all f (x ∷ xs) a =
+    (((a.0).0, f x (a.0).0 (a.0).1), variables_kept nodes all f xs a.1)
 
 -- ---- the list of boxes
 abbrev pub IsOneAnswer : Type 0
-IsOneAnswer = (t : bisect.Tree) (limit : ℕ) (found other : Outcome) → IsAnswer t limit found → IsAnswer t limit other → found ≡ other
+IsOneAnswer = (t : bisect.Tree) (limit : ℕ) (found other : Outcome) → IsAnswer t limit found
+    → IsAnswer t limit other → found ≡ other
 
 abbrev pub BoxesAreListed : Type 0
-BoxesAreListed = (cuts : List ℕ → Cut) (states : List ℕ → State) → ((path : List ℕ) → 36 ≤ length path → piece_count (cuts path) ≡ 0) → IsListed (tree_of cuts states)
+BoxesAreListed = (cuts : List ℕ → Cut) (states : List ℕ → State) → ((path : List ℕ)
+    → 36 ≤ length path → piece_count (cuts path) ≡ 0) → IsListed (tree_of cuts states)
 
-same_leaves : (n m : ℕ) (xs ys : List Leaf) → outcome.Leaves n xs ≡ outcome.Leaves m ys → (n ≡ m) × (xs ≡ ys)
+same_leaves : (n m : ℕ) (xs ys : List Leaf)
+    → outcome.Leaves n xs ≡ outcome.Leaves m ys → (n ≡ m) × (xs ≡ ys)
 same_leaves n m xs ys e = (cc, cc)
 
 not_limit : (n : ℕ) (xs : List Leaf) → outcome.Leaves n xs ≡ outcome.BoxLimit → ⊥
 not_limit n xs e = cc
 
-not_unproved : (n m : ℕ) (xs : List Leaf) (path : List ℕ) (goal : ℕ) → outcome.Leaves n xs ≡ outcome.Unproved m path goal → ⊥
+not_unproved : (n m : ℕ) (xs : List Leaf) (path : List ℕ) (goal : ℕ)
+    → outcome.Leaves n xs ≡ outcome.Unproved m path goal → ⊥
 not_unproved n m xs path goal e = cc
 
 -- what the answer says is said of the list that is computed
-listed_answer : IsOneAnswer → (t : bisect.Tree) → IsListed t → (limit count : ℕ) (leaves : List Leaf) → IsAnswer t limit (outcome.Leaves count leaves) →
-    (first_open t (boxes_from t 36 []) ≡ None) × (count ≡ length (boxes_from t 36 [])) × (leaves ≡ leaves_of t (boxes_from t 36 []))
+listed_answer : IsOneAnswer → (t : bisect.Tree) → IsListed t
+    → (limit count : ℕ) (leaves : List Leaf) → IsAnswer t limit (outcome.Leaves count leaves)
+    → (first_open t (boxes_from t 36 []) ≡ None) × (count ≡ length (boxes_from t 36 []))
+    × (leaves ≡ leaves_of t (boxes_from t 36 []))
 listed_answer one t listed limit count leaves a =
     let boxes : List (List ℕ) = boxes_from t 36 [] in
     elim (cases_lt limit (length boxes)) [
-      | inl l ↦ absurd (not_limit count leaves (one t limit (outcome.Leaves count leaves) outcome.BoxLimit a (boxes, listed.boxes, l)))
+      | inl l ↦ absurd (not_limit count leaves
+          (one t limit (outcome.Leaves count leaves) outcome.BoxLimit a (boxes, listed.boxes, l)))
       | inr l ↦ at_option (first_open t boxes)
-          (λ o. first_open t boxes ≡ o → (first_open t boxes ≡ None) × (count ≡ length boxes) × (leaves ≡ leaves_of t boxes))
+          (λ o. first_open t boxes ≡ o
+          → (first_open t boxes ≡ None) × (count ≡ length boxes) × (leaves ≡ leaves_of t boxes))
           (λ n e.
-          let q = same_leaves count (length boxes) leaves (leaves_of t boxes) (one t limit (outcome.Leaves count leaves) (outcome.Leaves (length boxes) (leaves_of t boxes)) a (boxes, listed.boxes, (l, e, refl, refl))) in
+          let q = same_leaves count (length boxes) leaves (leaves_of t boxes) (one t limit
+          (outcome.Leaves count leaves) (outcome.Leaves (length boxes) (leaves_of t boxes)) a (
+            boxes,
+            listed.boxes,
+            (l, e, refl, refl),
+          )) in
           (e, q.0, q.1))
-          (λ x n e. absurd (not_unproved count (length boxes) leaves x.0 x.1 (one t limit (outcome.Leaves count leaves) (outcome.Unproved (length boxes) x.0 x.1) a (boxes, listed.boxes, (l, e, refl)))))
+          (λ x n e. absurd (not_unproved count
+          (length boxes) leaves x.0 x.1 (one t limit (outcome.Leaves count leaves)
+          (outcome.Unproved (length boxes) x.0 x.1) a (boxes, listed.boxes, (l, e, refl)))))
           refl
     ]
 

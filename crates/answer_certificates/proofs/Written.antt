@@ -30,7 +30,8 @@ pair_known : (s : View) (claims : List Claim) (u : World) → HasUniverse s clai
     → (x y : ExprId) → Has u.pairs (x, y) → (x.0 < length u.nodes) × (y.0 < length u.nodes)
 pair_known s claims u has room x y p =
     let c : IsClosure s.nodes (starting_pairs s) u.nodes u.pairs = has.universe.closure in
-    let d : Has u.nodes (Sub x y) = c.expressions.each (Sub x y) (begin (Sub x y) (difference x y (c.pairs.only (x, y) p))) in
+    let d : Has u.nodes (Sub x y) =
+    c.expressions.each (Sub x y) (begin (Sub x y) (difference x y (c.pairs.only (x, y) p))) in
     let l = (room.lawful (record { 0 = d.0 }) (Sub x y) d.1).children in
     let a : x.0 < d.0 = l.0 in
     let b : y.0 < d.0 = l.1 in
@@ -46,7 +47,8 @@ slot_known s claims u has room (slot.Nzr x) h = h
 slot_known s claims u has room (slot.Rel x y) h = pair_known s claims u has room x y h
 slot_known s claims u has room slot.Void h = tt
 
-pub universes_are_written : ((nodes : List Node) (hints : List HintRow) → IsLawfulList (concludes nodes hints)) → RulesFitSteps → UniversesAreWritten
+pub universes_are_written : ((nodes : List Node) (hints : List HintRow)
+    → IsLawfulList (concludes nodes hints)) → RulesFitSteps → UniversesAreWritten
 universes_are_written lawful fits s claims u has room = record {
   listed = λ number arg premises target. refl;
   on_target = (lawful u.nodes u.hints).on_target;
@@ -56,7 +58,8 @@ universes_are_written lawful fits s claims u has room = record {
   args = λ k i e.
       let few = room.hints.rewrites in
       let same = has.universe.hints.count in
-      arg_below u.nodes (Has u.pairs) u.hints (2 ^ 16) (omega arith) (omega (arith, few, same)) i (has.universe.instances.only i (k, e));
+      arg_below u.nodes (Has u.pairs) u.hints (2 ^ 16) (omega arith)
+      (omega (arith, few, same)) i (has.universe.instances.only i (k, e));
   targets = λ k i e. slot_known s claims u has room i.target (room.whole.targets k i e);
   hypotheses = λ k f e. slot_known s claims u has room _ (room.whole.hypotheses k f e);
   few_hypotheses = room.hypotheses;

@@ -1,5 +1,6 @@
 -- The tree of a script's boxes, as a certificate goes over it.
-use Rattle.std.specs.Prelude.{◌≡◌, ◌+◌, ◌*◌, ◌++◌, ℕ, zero, suc, List, [], ◌∷◌, length, Option, Some, None}
+use Rattle.std.specs.Prelude.{◌≡◌, ◌+◌, ◌*◌, ◌++◌, ℕ, zero, suc, List, [], ◌∷◌, length, Option}
+use Rattle.std.specs.Prelude.{Some, None}
 use Rattle.fx_model.specs.declared.ExprId.{ExprId}
 use Rattle.interval.specs.declared.interval.Interval.{Interval}
 use Rattle.interval.specs.Results.{whole_interval}
@@ -15,7 +16,8 @@ use Rattle.settler.specs.bisect.declared.settler.State.{State}
 use Rattle.settler.specs.bisect.declared.outcome.Leaf.{Leaf}
 use Rattle.settler.specs.bisect.Gathered.{line_with}
 use Rattle.settler.specs.bisect.Trees.{children}
-use Rattle.tree_certificates.specs.Trees.{Tree, Trees, leaf, cut, last, next, IsProved, lines_of_tree, steps_in}
+use Rattle.tree_certificates.specs.Trees.{Tree, Trees, leaf, cut, last, next, IsProved}
+use Rattle.tree_certificates.specs.Trees.{lines_of_tree, steps_in}
 
 -- what the last cut left of its variable's range
 abbrev pub range_of_piece : Option Piece → Interval

@@ -1,7 +1,10 @@
 //! What holds of the certificates of scripts, for callers to cite. Nothing here is done at run
 //! time.
 ghost use Rattle.settler.specs.box_tree.Regions.{PlanParts};
-ghost use Rattle.answer_certificates.specs.Laws.{UniversesAreWritten, InstancesAreFew, SubjectsAreOfUniverses, TreesAreProved, PiecesAreOfCuts, ScriptsHaveRoots, AnswersHaveCertificates, AnswersAreSpelled};
+ghost use Rattle.answer_certificates.specs.Laws.{UniversesAreWritten, InstancesAreFew};
+ghost use Rattle.answer_certificates.specs.Laws.{SubjectsAreOfUniverses, TreesAreProved};
+ghost use Rattle.answer_certificates.specs.Laws.{PiecesAreOfCuts, ScriptsHaveRoots};
+ghost use Rattle.answer_certificates.specs.Laws.{AnswersHaveCertificates, AnswersAreSpelled};
 ghost use Rattle.answer_certificates.specs.Premises.{PremisesAreFew};
 ghost use Rattle.answer_certificates.specs.Universes.{UniversesAreSmall};
 

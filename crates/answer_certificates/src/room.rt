@@ -3,7 +3,8 @@
 ghost use Rattle.std.specs.Prelude.{List};
 ghost use Rattle.script_checker.specs.script_claims.declared.claim.Claim.{Claim};
 ghost use Rattle.settler.specs.universe.Universes.{IsUniverse};
-ghost use Rattle.answer_certificates.specs.Scripts.{HasCases, ScriptsHaveRoom, HasSlots, GoalsHaveSlots};
+ghost use Rattle.answer_certificates.specs.Scripts.{HasCases, ScriptsHaveRoom, HasSlots};
+ghost use Rattle.answer_certificates.specs.Scripts.{GoalsHaveSlots};
 
 use script_checker::{
     Script, spelled_are_short, spelled_have_few_cases, spelled_have_few_constraints,

@@ -1,6 +1,7 @@
 -- What is so of a point's first bytes is so of the point, where they are more than it may have.
 use Rattle.std.specs.Prelude.{◌⊎◌}
-use Rattle.std.proofs.Common.{◌≡◌, ◌<◌, ◌≤◌, ◌^◌, List, length, take, Option, Some, None, refl, subst, arith, inl, inr}
+use Rattle.std.proofs.Common.{◌≡◌, ◌<◌, ◌≤◌, ◌^◌, List, length, take, Option, Some, None, refl}
+use Rattle.std.proofs.Common.{subst, arith, inl, inr}
 use Rattle.std.proofs.lemmas.Bool.{cases_lt}
 use Rattle.std.proofs.lemmas.List.{length-take-le, take_all}
 use Rattle.script_nodes.specs.Known.{Name}
@@ -19,7 +20,8 @@ long_fault : (variables : List Name) (text all : Bytes) (f : PointFault) → 2 ^
     → 2 ^ 16 < length all → IsPointFault variables text f → IsPointFault variables all f
 long_fault variables text all f l m (too_long h) = too_long m
 long_fault variables text all f l m (not_text h v) = absurd (omega (arith, l, h))
-long_fault variables text all f l m (first short r h b) = let s = short.0 in absurd (omega (arith, l, s))
+long_fault variables text all f l m (first short r h b) = let s = short.0 in
+    absurd (omega (arith, l, s))
 
 long_tells : (s : View) (text all : Bytes) → 2 ^ 16 < length text → 2 ^ 16 < length all
     → (t : Status) (lines : Bytes) → PointTells s text t lines → PointTells s all t lines

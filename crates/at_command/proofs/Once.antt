@@ -66,7 +66,8 @@ module _ (one_mark : MarksAreOne) (one_point : SpelledOnce) (no_point : NeverBot
       (more, again, f) = (
         refl,
         evaluated_rows s rows lines others e
-            (subst (λ r. IsEvaluated s r others) (one_point s.variables text more rows again spelled)
+            (subst (λ r. IsEvaluated s r others)
+            (one_point s.variables text more rows again spelled)
             f),
       )
   point_tells_once s text status.Answered status.TooWide lines others p q =

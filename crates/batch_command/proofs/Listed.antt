@@ -1,5 +1,6 @@
 -- What is printed of a list, from what is printed of its scripts.
-use Rattle.std.specs.Prelude.{◌≡◌, ◌≢◌, ◌≤◌, List, [], ◌∷◌, Option, Some, None, Result, Ok, Err, IfOk, length, take, refl}
+use Rattle.std.specs.Prelude.{◌≡◌, ◌≢◌, ◌≤◌, List, [], ◌∷◌, Option, Some, None, Result, Ok, Err}
+use Rattle.std.specs.Prelude.{IfOk, length, take, refl}
 use Rattle.std.specs.declared.vec.Vec.{Vec}
 use Rattle.std.specs.declared.alloc.Global.{Global}
 use Rattle.std.proofs.Common.{◌∙◌, ap, arith, sym, subst, inr, ℕ, suc}
@@ -20,7 +21,8 @@ use Rattle.script_answers.specs.Answers.{ProvePrints}
 use Rattle.script_answers.specs.Texts.{told_prints}
 use Rattle.batch_command.specs.Command.{IsBatch, first_other, options_of}
 use Rattle.batch_command.specs.Lines.{list_fault_line}
-use Rattle.batch_command.specs.Told.{AreAnswers, AreRead, Prints, ScriptsPrint, lines_under, status_of}
+use Rattle.batch_command.specs.Told.{AreAnswers, AreRead, Prints, ScriptsPrint, lines_under}
+use Rattle.batch_command.specs.Told.{status_of}
 
 -- ---- statuses
 -- it is one of those that scripts have

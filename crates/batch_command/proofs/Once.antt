@@ -12,7 +12,8 @@ use Rattle.command_runs.specs.declared.status.Status.{Status}
 use Rattle.command_runs.specs.declared.status.Status.TheVariants as status
 use Rattle.script_answers.specs.Answers.{ProvePrints}
 use Rattle.script_answers.specs.Laws.{TextAnswersAreOne}
-use Rattle.batch_command.specs.Command.{BatchTold, IsBatch, IsIn, ListPrints, ReadsListed, first_other, options_of}
+use Rattle.batch_command.specs.Command.{BatchTold, IsBatch, IsIn, ListPrints, ReadsListed}
+use Rattle.batch_command.specs.Command.{first_other, options_of}
 
 -- each name is told
 abbrev NamesTold : Told → List Bytes → Type 0

@@ -1,5 +1,6 @@
 -- Answers of jobs, in the order of their texts.
-use Rattle.std.specs.Prelude.{◌≡◌, ◌+◌, ℕ, List, [], ◌∷◌, Result, Ok, Err, IfOk, IfSome, length, slice_get, vec_len}
+use Rattle.std.specs.Prelude.{◌≡◌, ◌+◌, ℕ, List, [], ◌∷◌, Result, Ok, Err, IfOk, IfSome, length}
+use Rattle.std.specs.Prelude.{slice_get, vec_len}
 use Rattle.std.specs.declared.vec.Vec.{Vec}
 use Rattle.std.specs.declared.alloc.Global.{Global}
 use Rattle.std.proofs.Common.{arith, subst, add-one}

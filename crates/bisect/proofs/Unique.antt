@@ -15,7 +15,9 @@ use Rattle.bisect.proofs.Listings.{Has, from_contains, to_contains}
 
 -- ---- order
 not_both : (p q : List ℕ) → IsBefore p q → IsBefore q p → ⊥
-not_both p q a b = let e = nat_list_cmp_total.antisymm p q in let f : slice_cmp nat_cmp p q ≡ ordering_reverse Less = e ∙ ap ordering_reverse b in let g : Less ≡ Greater = sym a ∙ f in cc
+not_both p q a b = let e = nat_list_cmp_total.antisymm p q in
+    let f : slice_cmp nat_cmp p q ≡ ordering_reverse Less = e ∙ ap ordering_reverse b in
+    let g : Less ≡ Greater = sym a ∙ f in cc
 
 abbrev pub Later : List ℕ → List (List ℕ) → Type 0
 Later p ps = (q : List ℕ) → Has ps q → IsBefore p q
@@ -26,23 +28,30 @@ Rising [] = ⊤
 Rising (p ∷ ps) = Later p ps × Rising ps
 
 later_of : (p : List ℕ) (ps : List (List ℕ)) → AllPairs IsBefore (p ∷ ps) → Later p ps
-later_of p ps a q h = let c = to_contains ps q h in subst (λ r. IsBefore p r) c.2 (a 0 (suc c.0) q (omega arith) (let l = c.1 in omega (arith, l)))
+later_of p ps a q h = let c = to_contains ps q h in
+    subst (λ r. IsBefore p r) c.2 (a 0 (suc c.0) q (omega arith) (let l = c.1 in omega (arith, l)))
 
 pub rising_of : (ps : List (List ℕ)) → AllPairs IsBefore ps → Rising ps
 rising_of [] a = tt
-rising_of (p ∷ ps) a = (later_of p ps a, rising_of ps (λ i j d l m. a (suc i) (suc j) d (omega (arith, l)) (omega (arith, m))))
+rising_of (p ∷ ps) a = (
+  later_of p ps a,
+  rising_of ps (λ i j d l m. a (suc i) (suc j) d (omega (arith, l)) (omega (arith, m))),
+)
 
 abbrev SameIn : List (List ℕ) → List (List ℕ) → Type 0
 SameIn xs ys = (p : List ℕ) → Has xs p → Has ys p
 
 -- the first is the first of the other
-heads : (x y : List ℕ) (xs ys : List (List ℕ)) → Later x xs → Later y ys → Has (y ∷ ys) x → Has (x ∷ xs) y → x ≡ y
+heads : (x y : List ℕ) (xs ys : List (List ℕ)) → Later x xs → Later y ys → Has (y ∷ ys) x
+    → Has (x ∷ xs) y → x ≡ y
 heads x y xs ys a b (inl e) k = sym e
 heads x y xs ys a b (inr h) (inl e) = e
 heads x y xs ys a b (inr h) (inr k) = absurd (not_both x y (a y k) (b x h))
 
-drop_head : (x : List ℕ) (xs ys : List (List ℕ)) → Later x xs → (p : List ℕ) → Has xs p → Has (x ∷ ys) p → Has ys p
-drop_head x xs ys a p h (inl e) = let b = a p h in absurd (not_both x p b (subst (λ r. IsBefore r x) e (subst (λ r. IsBefore x r) (sym e) b)))
+drop_head : (x : List ℕ) (xs ys : List (List ℕ)) → Later x xs → (p : List ℕ) → Has xs p
+    → Has (x ∷ ys) p → Has ys p
+drop_head x xs ys a p h (inl e) = let b = a p h in
+    absurd (not_both x p b (subst (λ r. IsBefore r x) e (subst (λ r. IsBefore x r) (sym e) b)))
 drop_head x xs ys a p h (inr k) = k
 
 same_lists : (xs ys : List (List ℕ)) → Rising xs → Rising ys → SameIn xs ys → SameIn ys xs → xs ≡ ys
@@ -59,7 +68,8 @@ same_lists (x ∷ xs) (y ∷ ys) a b f g =
 
 one_list : (t : Tree) (xs ys : List (List ℕ)) → AreBoxes t xs → AreBoxes t ys → xs ≡ ys
 one_list t xs ys a b = same_lists xs ys (rising_of xs a.rising) (rising_of ys b.rising)
-    (λ p h. from_contains ys p (b.all p (a.only p (to_contains xs p h)))) (λ p h. from_contains xs p (a.all p (b.only p (to_contains ys p h))))
+    (λ p h. from_contains ys p (b.all p (a.only p (to_contains xs p h))))
+    (λ p h. from_contains xs p (a.all p (b.only p (to_contains ys p h))))
 
 -- ---- the answer
 -- two of what was first
@@ -67,20 +77,33 @@ both_first : (o : Option (List ℕ × ℕ)) (x y : List ℕ × ℕ) → o ≡ So
 both_first None x y e f = cc
 both_first (Some z) x y e f = cc
 
-same_unproved : (n m : ℕ) (x y : List ℕ × ℕ) → n ≡ m → x ≡ y → outcome.Unproved n x.0 x.1 ≡ outcome.Unproved m y.0 y.1
-same_unproved n m x y d e = ap (λ (k : ℕ). outcome.Unproved k x.0 x.1) d ∙ ap (λ (z : List ℕ × ℕ). outcome.Unproved m z.0 z.1) e
+same_unproved : (n m : ℕ) (x y : List ℕ × ℕ) → n ≡ m → x ≡ y
+    → outcome.Unproved n x.0 x.1 ≡ outcome.Unproved m y.0 y.1
+same_unproved n m x y d e = ap (λ (k : ℕ). outcome.Unproved k x.0 x.1) d
+    ∙ ap (λ (z : List ℕ × ℕ). outcome.Unproved m z.0 z.1) e
 
-by_list : (t : Tree) (limit : ℕ) (ps : List (List ℕ)) (f g : Outcome) → IsAnswerOf t limit ps f → IsAnswerOf t limit ps g → f ≡ g
+by_list : (t : Tree) (limit : ℕ) (ps : List (List ℕ)) (f g : Outcome) → IsAnswerOf t limit ps f
+    → IsAnswerOf t limit ps g → f ≡ g
 by_list t limit ps outcome.BoxLimit outcome.BoxLimit a b = refl
-by_list t limit ps outcome.BoxLimit (outcome.Unproved n p g) a b = let l = b.0 in absurd (omega (arith, a, l))
-by_list t limit ps outcome.BoxLimit (outcome.Leaves n ls) a b = let l = b.0 in absurd (omega (arith, a, l))
-by_list t limit ps (outcome.Unproved n p g) outcome.BoxLimit a b = let l = a.0 in absurd (omega (arith, b, l))
-by_list t limit ps (outcome.Unproved n p g) (outcome.Unproved m q h) a b = same_unproved n m (p, g) (q, h) (a.2 ∙ sym b.2) (both_first (first_open t ps) (p, g) (q, h) a.1 b.1)
-by_list t limit ps (outcome.Unproved m p g) (outcome.Leaves n ls) a b = absurd (not_some (p, g) (sym a.1 ∙ b.1))
-by_list t limit ps (outcome.Leaves n ls) outcome.BoxLimit a b = let l = a.0 in absurd (omega (arith, b, l))
-by_list t limit ps (outcome.Leaves n ls) (outcome.Unproved m p g) a b = absurd (not_some (p, g) (sym b.1 ∙ a.1))
-by_list t limit ps (outcome.Leaves n ls) (outcome.Leaves m ks) a b = let e : n ≡ m = a.2 ∙ sym b.2 in let f : ls ≡ ks = a.3 ∙ sym b.3 in cc
+by_list t limit ps outcome.BoxLimit (outcome.Unproved n p g) a b = let l = b.0 in
+    absurd (omega (arith, a, l))
+by_list t limit ps outcome.BoxLimit (outcome.Leaves n ls) a b = let l = b.0 in
+    absurd (omega (arith, a, l))
+by_list t limit ps (outcome.Unproved n p g) outcome.BoxLimit a b = let l = a.0 in
+    absurd (omega (arith, b, l))
+by_list t limit ps (outcome.Unproved n p g) (outcome.Unproved m q h) a b = same_unproved n m (p, g)
+    (q, h) (a.2 ∙ sym b.2) (both_first (first_open t ps) (p, g) (q, h) a.1 b.1)
+by_list t limit ps (outcome.Unproved m p g) (outcome.Leaves n ls) a b =
+    absurd (not_some (p, g) (sym a.1 ∙ b.1))
+by_list t limit ps (outcome.Leaves n ls) outcome.BoxLimit a b = let l = a.0 in
+    absurd (omega (arith, b, l))
+by_list t limit ps (outcome.Leaves n ls) (outcome.Unproved m p g) a b =
+    absurd (not_some (p, g) (sym b.1 ∙ a.1))
+by_list t limit ps (outcome.Leaves n ls) (outcome.Leaves m ks) a b =
+    let e : n ≡ m = a.2 ∙ sym b.2 in let f : ls ≡ ks = a.3 ∙ sym b.3 in cc
 
-pub one_answer : (t : Tree) (limit : ℕ) (found other : Outcome) → IsAnswer t limit found → IsAnswer t limit other → found ≡ other
+pub one_answer : (t : Tree) (limit : ℕ) (found other : Outcome) → IsAnswer t limit found
+    → IsAnswer t limit other → found ≡ other
 one_answer t limit found other a b =
-    by_list t limit b.0 found other (subst (λ ps. IsAnswerOf t limit ps found) (one_list t a.0 b.0 a.1 b.1) a.2) b.2
+    by_list t limit b.0 found other
+    (subst (λ ps. IsAnswerOf t limit ps found) (one_list t a.0 b.0 a.1 b.1) a.2) b.2

@@ -1,5 +1,6 @@
 //! The answer of a tree by one thread.
-ghost use Rattle.std.specs.Prelude.{◌≡◌, ◌<◌, ◌≤◌, ◌+◌, ◌-◌, ℕ, List, [], IsTrue, false, IfOk, OnOk, MatchOption, length};
+ghost use Rattle.std.specs.Prelude.{◌≡◌, ◌<◌, ◌≤◌, ◌+◌, ◌-◌, ℕ, List, [], IsTrue, false, IfOk};
+ghost use Rattle.std.specs.Prelude.{OnOk, MatchOption, length};
 ghost use Rattle.box_tree.specs.Paths.{IsChild, IsPathOf};
 ghost use Rattle.bisect.specs.Trees.{tree_of, children};
 ghost use Rattle.bisect.specs.Answers.{IsAnswer};

@@ -1,5 +1,6 @@
 //! What answers promise, for callers to cite. Nothing here is done at run time.
-ghost use Rattle.std.specs.Prelude.{◌≡◌, ◌≤◌, ◌+◌, ◌++◌, ◌⊎◌, ◌↔◌, ℕ, List, [], length, Some, None, slice_get};
+ghost use Rattle.std.specs.Prelude.{◌≡◌, ◌≤◌, ◌+◌, ◌++◌, ◌⊎◌, ◌↔◌, ℕ, List, [], length, Some, None};
+ghost use Rattle.std.specs.Prelude.{slice_get};
 ghost use Rattle.std.specs.List.{Contains};
 ghost use Rattle.fx_model.specs.Expression.{Assignment, value};
 ghost use Rattle.fx_model.specs.declared.Node.{Node};

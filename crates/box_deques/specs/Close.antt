@@ -1,5 +1,6 @@
 -- What the ledger of a closed lane says.
-use Rattle.std.specs.Prelude.{◌≡◌, ◌≢◌, ℕ, zero, suc, ◌+◌, ◌<◌, List, [], ◌∷◌, map, length, slice_set, slice_index_or}
+use Rattle.std.specs.Prelude.{◌≡◌, ◌≢◌, ℕ, zero, suc, ◌+◌, ◌<◌, List, [], ◌∷◌, map, length}
+use Rattle.std.specs.Prelude.{slice_set, slice_index_or}
 use Rattle.box_deques.specs.Views.{Take}
 use Rattle.box_deques.specs.Rule.{Gone, taken_by}
 use Rattle.box_deques.specs.Seen.{Hand, seat_at}

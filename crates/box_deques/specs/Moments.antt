@@ -1,6 +1,7 @@
 -- What a worker can say of a lane at the moment of a pop or a steal. Others may take from it at any
 -- time, so it is this: a lawful state of the lane that the worker can't tell from the real one.
-use Rattle.std.specs.Prelude.{◌≡◌, ℕ, ◌+◌, ◌<◌, ◌≤◌, List, [], ◌∷◌, ◌++◌, length, All, Some, slice_get}
+use Rattle.std.specs.Prelude.{◌≡◌, ℕ, ◌+◌, ◌<◌, ◌≤◌, List, [], ◌∷◌, ◌++◌, length, All, Some}
+use Rattle.std.specs.Prelude.{slice_get}
 use Rattle.box_deques.specs.Views.{Take}
 use Rattle.box_deques.specs.Rule.{Gone, taken_by, paths_of}
 use Rattle.box_deques.specs.Seen.{Lane, Seat, Hand, seat_at, hand_with, with_pop, with_take}

@@ -1,5 +1,6 @@
 -- What contracts see of a lane, a thief and a hand.
-use Rattle.std.specs.Prelude.{◌≡◌, ℕ, ◌+◌, ◌-◌, ◌^◌, min, Bool, true, false, List, [], ◌++◌, ◌∷◌, Option, Some, None, slice_set, slice_index_or, length, map, ◌<◌}
+use Rattle.std.specs.Prelude.{◌≡◌, ℕ, ◌+◌, ◌-◌, ◌^◌, min, Bool, true, false, List, [], ◌++◌, ◌∷◌}
+use Rattle.std.specs.Prelude.{Option, Some, None, slice_set, slice_index_or, length, map, ◌<◌}
 use Rattle.crossbeam_deque.specs.Handles.{Pass}
 use Rattle.box_deques.specs.Views.{Take}
 

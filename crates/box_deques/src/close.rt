@@ -1,6 +1,8 @@
 //! What became of the tasks of a lane.
-ghost use Rattle.std.specs.Prelude.{◌≡◌, ◌⊎◌, ℕ, List, ◌+◌, ◌<◌, ◌≤◌, true, [], ◌++◌, length, map, drop, All, vec_capacity, IfOk, IfErr, OnOk, sum_by};
-ghost use Rattle.crossbeam_deque.specs.Handles.{worker_deque, worker_flavor, worker_view, SameWorker};
+ghost use Rattle.std.specs.Prelude.{◌≡◌, ◌⊎◌, ℕ, List, ◌+◌, ◌<◌, ◌≤◌, true, [], ◌++◌, length, map};
+ghost use Rattle.std.specs.Prelude.{drop, All, vec_capacity, IfOk, IfErr, OnOk, sum_by};
+ghost use Rattle.crossbeam_deque.specs.Handles.{worker_deque, worker_flavor, worker_view};
+ghost use Rattle.crossbeam_deque.specs.Handles.{SameWorker};
 ghost use Rattle.box_deques.specs.Close.{writes, writes_all, AllBelow, AreHands};
 ghost use Rattle.box_deques.specs.Views.{with_back};
 ghost use Rattle.box_deques.specs.Rule.{paths_of, taken_by, Belongs};

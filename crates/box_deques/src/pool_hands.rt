@@ -1,7 +1,9 @@
 //! The hands of a whole pool.
-ghost use Rattle.std.specs.Prelude.{◌≡◌, ℕ, ◌<◌, ◌≤◌, [], length, vec_len, IfOk, OnErr, OnOk, slice_index_or};
+ghost use Rattle.std.specs.Prelude.{◌≡◌, ℕ, ◌<◌, ◌≤◌, [], length, vec_len, IfOk, OnErr, OnOk};
+ghost use Rattle.std.specs.Prelude.{slice_index_or};
 ghost use Rattle.box_deques.specs.Seen as seen;
-ghost use Rattle.box_deques.specs.Seen.{with_hand, with_pass, seat_at, Each, IsBare, IsBareHand, IsSeated, Lent};
+ghost use Rattle.box_deques.specs.Seen.{with_hand, with_pass, seat_at, Each, IsBare, IsBareHand};
+ghost use Rattle.box_deques.specs.Seen.{IsSeated, Lent};
 
 use crate::hand::{Hand, Seat};
 use crate::lane::Lane;

@@ -1,5 +1,6 @@
 -- Steps that come by instances, and those of rounds after one another.
-use Rattle.std.specs.Prelude.{◌≡◌, ◌≢◌, ◌⊎◌, ◌<◌, ◌≤◌, ◌+◌, ◌*◌, ◌-◌, ℕ, zero, suc, List, [], ◌∷◌, ◌++◌, length, map, Option, Some, None, slice_get, refl}
+use Rattle.std.specs.Prelude.{◌≡◌, ◌≢◌, ◌⊎◌, ◌<◌, ◌≤◌, ◌+◌, ◌*◌, ◌-◌, ℕ, zero, suc, List, [], ◌∷◌}
+use Rattle.std.specs.Prelude.{◌++◌, length, map, Option, Some, None, slice_get, refl}
 use Rattle.std.specs.List.{AllByRecursion}
 use Rattle.std.proofs.Common.{arith, sym, ap, subst, ◌∙◌, inl, inr, ⊎_elim, append_assoc}
 use Rattle.std.proofs.lemmas.Bool.{cases_lt}
@@ -20,10 +21,13 @@ use Rattle.box_trace.specs.declared.known.Cited.{Cited}
 use Rattle.box_trace.specs.declared.known.Known.{Known}
 use Rattle.box_trace.specs.declared.log.Log.{Log}
 use Rattle.box_trace.specs.declared.ends.Found.{Found}
-use Rattle.box_trace.specs.Tables.{fact_of, number_of, number_or, row_of, row_in, cited_at, known_at, step_at, place_in}
+use Rattle.box_trace.specs.Tables.{fact_of, number_of, number_or, row_of, row_in, cited_at}
+use Rattle.box_trace.specs.Tables.{known_at, step_at, place_in}
 use Rattle.box_trace.specs.Logs.{kept_in, IsStep, Comes, IsRound, more_by}
 use Rattle.saturate.specs.rule_universe.Sizes.{beyond_four}
-use Rattle.box_trace.specs.Rounds.{premises_in, beyond_in, premises_a_round, IsStepIn, IsEarlier, IsByInstance, IsRoundOf, AreRounds, IsGivenStep, AreGiven, AreByRounds, AddsSteps, BeginsBy, HasRounds}
+use Rattle.box_trace.specs.Rounds.{premises_in, beyond_in, premises_a_round, IsStepIn, IsEarlier}
+use Rattle.box_trace.specs.Rounds.{IsByInstance, IsRoundOf, AreRounds, IsGivenStep, AreGiven}
+use Rattle.box_trace.specs.Rounds.{AreByRounds, AddsSteps, BeginsBy, HasRounds}
 use Rattle.tree_certificates.specs.Cited.{mapped}
 use Rattle.tree_certificates.specs.Coming.{coming}
 
@@ -72,11 +76,13 @@ same_steps u k new e n w =
 -- ---- one fact comes
 module _ (u : World) (old new : Log) (rule arg : ℕ) (premises : List ℕ) (c : Fact) where
   abbrev Row : StepRow
-  Row = coming rule arg premises (known_at u old.known (slot_of c)) (place_in u old.known (slot_of c)) c
+  Row = coming rule arg premises (known_at u old.known (slot_of c))
+      (place_in u old.known (slot_of c)) c
 
   longer : IsStep u old rule arg premises c new
       → length new.steps.items ≡ length old.steps.items + 1
-  longer w = let e = ap length w.steps in let l = length-append old.steps.items (Row ∷ []) in omega (arith, e, l)
+  longer w = let e = ap length w.steps in
+      let l = length-append old.steps.items (Row ∷ []) in omega (arith, e, l)
 
   -- what is known has its old step, or the new one
   step_known : IsStep u old rule arg premises c new → (n : ℕ) → IsStepIn u new.known n
@@ -153,7 +159,8 @@ module _ (u : World) (now : Known) where
       elim come [
         | inl y ↦
             (let P : Log → Type 0 = λ l. AddsSteps u now (more_by u found) old l in
-            subst P (sym y.3) (adds_slack 0 (more_by u found) old old (omega arith) (adds_none old)))
+            subst P (sym y.3)
+            (adds_slack 0 (more_by u found) old old (omega arith) (adds_none old)))
         | inr y ↦
             (let row = Row u old new i.rule i.arg premises found.fact in
             let q = conclusion_reads (concludes u.nodes u.hints) (known_at u now) i found.fact e in
@@ -184,7 +191,8 @@ module _ (u : World) (Given : ℕ → Type 0) where
   pub gives_none : (first : ℕ) (log : Log) → log.steps.items ≡ []
       → ((n : ℕ) → IsStepIn u log.known n → Given n) → BeginsBy u Given 0 first log
   gives_none first log e k = record {
-    given = ((let l = ap length e in omega (arith, l)), subst (AllByRecursion IsGivenStep) (sym e) tt);
+    given =
+        ((let l = ap length e in omega (arith, l)), subst (AllByRecursion IsGivenStep) (sym e) tt);
     known = λ n w. inl (k n w);
   }
 

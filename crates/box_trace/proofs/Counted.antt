@@ -1,5 +1,6 @@
 -- How many of the first nodes are variables.
-use Rattle.std.specs.Prelude.{◌≡◌, ◌+◌, ℕ, zero, suc, List, [], ◌∷◌, length, take, Some, slice_get, refl}
+use Rattle.std.specs.Prelude.{◌≡◌, ◌+◌, ℕ, zero, suc, List, [], ◌∷◌, length, take, Some, slice_get}
+use Rattle.std.specs.Prelude.{refl}
 use Rattle.std.proofs.Common.{arith, ap, ◌∙◌, add-one}
 use Rattle.fx_model.specs.declared.Node.{Node}
 use Rattle.fx_model.specs.declared.Node.TheVariants.{Var, Lit, Neg, Add, Sub, Mul, Div, Abs, Round}
@@ -36,7 +37,8 @@ none_for (Abs x) d = refl
 none_for (Round r x) d = refl
 
 pub count_other : (nodes : List Node) (n : ℕ) (node : Node) → slice_get nodes n ≡ Some node
-    → ((v : ℕ) → ¬ (node ≡ Var v)) → variable_count (take (n + 1) nodes) ≡ variable_count (take n nodes)
+    → ((v : ℕ) → ¬ (node ≡ Var v))
+    → variable_count (take (n + 1) nodes) ≡ variable_count (take n nodes)
 count_other nodes n node e d =
     let h = count_more nodes n node e in let z = none_for node d in omega (arith, h, z)
 

@@ -9,24 +9,33 @@ use Rattle.saturate.specs.rule_universe.Worlds.{World}
 use Rattle.saturate.specs.Universes.{setting_of}
 use Rattle.box_trace.specs.Boxes.{IsBox, IsSomeBox}
 
-module _ (u : World) (h : ℕ) (piece : Option Piece) (parent : Option (Bor Known)) (P : List Piece → Type 0) where
-  pub child_box : (p : Piece) (t : Bor Known) → piece ≡ Some p → parent ≡ Some t → ((above : List Piece) → IsTableAt (setting_of u) h above (known_at u t.now) → P (p ∷ above)) →
-      (pieces : List Piece) → IsBox u h piece parent pieces → P pieces
+module _ (u : World) (h : ℕ) (piece : Option Piece) (parent : Option (Bor Known))
+    (P : List Piece → Type 0) where
+  pub child_box : (p : Piece) (t : Bor Known) → piece ≡ Some p → parent ≡ Some t
+      → ((above : List Piece) → IsTableAt (setting_of u) h above (known_at u t.now) → P (p ∷ above))
+      → (pieces : List Piece) → IsBox u h piece parent pieces → P pieces
   child_box p t e f g pieces b =
-      let w : (above : List Piece) × (pieces ≡ p ∷ above) × IsTableAt (setting_of u) h above (known_at u t.now) = subst (λ o. IsBox u h (Some p) o pieces) f (subst (λ o. IsBox u h o parent pieces) e b) in
+      let w : (above : List Piece)
+      × (pieces ≡ p ∷ above) × IsTableAt (setting_of u) h above (known_at u t.now) =
+      subst (λ o. IsBox u h (Some p) o pieces) f (subst (λ o. IsBox u h o parent pieces) e b) in
       subst P (sym w.1) (g w.0 w.2)
 
-  pub root_box : (piece ≡ None) ⊎ (parent ≡ None) → P [] → (pieces : List Piece) → IsBox u h piece parent pieces → P pieces
+  pub root_box : (piece ≡ None) ⊎ (parent ≡ None) → P [] → (pieces : List Piece)
+      → IsBox u h piece parent pieces → P pieces
   root_box n g pieces b = subst P (sym (no_pieces piece parent n b)) g
     where
-      no_pieces : (piece : Option Piece) (parent : Option (Bor Known)) → (piece ≡ None) ⊎ (parent ≡ None) → IsBox u h piece parent pieces → pieces ≡ []
+      no_pieces : (piece : Option Piece) (parent : Option (Bor Known))
+          → (piece ≡ None) ⊎ (parent ≡ None) → IsBox u h piece parent pieces → pieces ≡ []
       no_pieces None None n b = b
       no_pieces (Some p) None n b = absurd b
       no_pieces None (Some t) n b = absurd b
       no_pieces (Some p) (Some t) n b = elim n [ inl e ↦ cc | inr e ↦ cc ]
 
 -- the parent's table is best at some box
-pub parent_best : (u : World) (h : ℕ) (piece : Option Piece) (parent : Option (Bor Known)) (p : Piece) (t : Bor Known) → piece ≡ Some p → parent ≡ Some t → IsSomeBox u h piece parent →
-    (above : List Piece) × IsTableAt (setting_of u) h above (known_at u t.now)
+pub parent_best : (u : World) (h : ℕ) (piece : Option Piece) (parent : Option (Bor Known))
+    (p : Piece) (t : Bor Known) → piece ≡ Some p → parent ≡ Some t → IsSomeBox u h piece parent
+    → (above : List Piece) × IsTableAt (setting_of u) h above (known_at u t.now)
 parent_best u h piece parent p t e f b =
-    let w : (above : List Piece) × (b.0 ≡ p ∷ above) × IsTableAt (setting_of u) h above (known_at u t.now) = subst (λ o. IsBox u h (Some p) o b.0) f (subst (λ o. IsBox u h o parent b.0) e b.1) in (w.0, w.2)
+    let w : (above : List Piece) × (b.0 ≡ p ∷ above)
+    × IsTableAt (setting_of u) h above (known_at u t.now) = subst (λ o. IsBox u h (Some p) o b.0) f
+    (subst (λ o. IsBox u h o parent b.0) e b.1) in (w.0, w.2)

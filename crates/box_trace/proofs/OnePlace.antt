@@ -23,17 +23,22 @@ module _ (n : ℕ) (pairs : List Pair) where
   pub place_within : (s : Slot) (p : ℕ) → IsPlace n pairs s p → p < place_count n pairs
   place_within (slot.Bnd x) p h = let l : x.0 < n = h.0 in let e : p ≡ x.0 = h.1 in omega arith
   place_within (slot.Abs x) p h = let l : x.0 < n = h.0 in let e : p ≡ n + x.0 = h.1 in omega arith
-  place_within (slot.Fix x) p h = let l : x.0 < n = h.0 in let e : p ≡ 2 * n + x.0 = h.1 in omega arith
-  place_within (slot.Nzr x) p h = let l : x.0 < n = h.0 in let e : p ≡ 3 * n + x.0 = h.1 in omega arith
-  place_within (slot.Rel x y) p h = let l = slice_get_within pairs h.0 (x, y) h.1 in let e : p ≡ 4 * n + h.0 = h.2 in omega (arith, l)
+  place_within (slot.Fix x) p h = let l : x.0 < n = h.0 in
+      let e : p ≡ 2 * n + x.0 = h.1 in omega arith
+  place_within (slot.Nzr x) p h = let l : x.0 < n = h.0 in
+      let e : p ≡ 3 * n + x.0 = h.1 in omega arith
+  place_within (slot.Rel x y) p h = let l = slice_get_within pairs h.0 (x, y) h.1 in
+      let e : p ≡ 4 * n + h.0 = h.2 in omega (arith, l)
   place_within slot.Void p h = let e : p ≡ 4 * n + length pairs = h in omega arith
 
-  pub place_once : IsEachOnce pairs → (s : Slot) (p q : ℕ) → IsPlace n pairs s p → IsPlace n pairs s q → p ≡ q
+  pub place_once : IsEachOnce pairs → (s : Slot) (p q : ℕ) → IsPlace n pairs s p
+      → IsPlace n pairs s q → p ≡ q
   place_once o (slot.Bnd x) p q g h = g.1 ∙ sym h.1
   place_once o (slot.Abs x) p q g h = g.1 ∙ sym h.1
   place_once o (slot.Fix x) p q g h = g.1 ∙ sym h.1
   place_once o (slot.Nzr x) p q g h = g.1 ∙ sym h.1
-  place_once o (slot.Rel x y) p q g h = g.2 ∙ ap (λ k. 4 * n + k) (o g.0 h.0 (x, y) g.1 h.1) ∙ sym h.2
+  place_once o (slot.Rel x y) p q g h =
+      g.2 ∙ ap (λ k. 4 * n + k) (o g.0 h.0 (x, y) g.1 h.1) ∙ sym h.2
   place_once o slot.Void p q g h = g ∙ sym h
 
   id_of : (x y : ExprId) → x.0 ≡ y.0 → x ≡ y
@@ -41,39 +46,101 @@ module _ (n : ℕ) (pairs : List Pair) where
 
   -- the slot of a place
   pub slot_once : (s t : Slot) (p : ℕ) → IsPlace n pairs s p → IsPlace n pairs t p → s ≡ t
-  slot_once (slot.Bnd x) (slot.Bnd y) p g h = let la : x.0 < n = g.0 in let ea : p ≡ x.0 = g.1 in let lb : y.0 < n = h.0 in let eb : p ≡ y.0 = h.1 in ap slot.Bnd (id_of x y (omega arith))
-  slot_once (slot.Bnd x) (slot.Abs y) p g h = let la : x.0 < n = g.0 in let ea : p ≡ x.0 = g.1 in let lb : y.0 < n = h.0 in let eb : p ≡ n + y.0 = h.1 in absurd (omega arith)
-  slot_once (slot.Bnd x) (slot.Fix y) p g h = let la : x.0 < n = g.0 in let ea : p ≡ x.0 = g.1 in let lb : y.0 < n = h.0 in let eb : p ≡ 2 * n + y.0 = h.1 in absurd (omega arith)
-  slot_once (slot.Bnd x) (slot.Nzr y) p g h = let la : x.0 < n = g.0 in let ea : p ≡ x.0 = g.1 in let lb : y.0 < n = h.0 in let eb : p ≡ 3 * n + y.0 = h.1 in absurd (omega arith)
-  slot_once (slot.Bnd x) (slot.Rel y w) p g h = let la : x.0 < n = g.0 in let ea : p ≡ x.0 = g.1 in let lb = slice_get_within pairs h.0 (y, w) h.1 in let eb : p ≡ 4 * n + h.0 = h.2 in absurd (omega (arith, lb))
-  slot_once (slot.Bnd x) slot.Void p g h = let la : x.0 < n = g.0 in let ea : p ≡ x.0 = g.1 in let eb : p ≡ 4 * n + length pairs = h in absurd (omega arith)
-  slot_once (slot.Abs x) (slot.Bnd y) p g h = let la : x.0 < n = g.0 in let ea : p ≡ n + x.0 = g.1 in let lb : y.0 < n = h.0 in let eb : p ≡ y.0 = h.1 in absurd (omega arith)
-  slot_once (slot.Abs x) (slot.Abs y) p g h = let la : x.0 < n = g.0 in let ea : p ≡ n + x.0 = g.1 in let lb : y.0 < n = h.0 in let eb : p ≡ n + y.0 = h.1 in ap slot.Abs (id_of x y (omega arith))
-  slot_once (slot.Abs x) (slot.Fix y) p g h = let la : x.0 < n = g.0 in let ea : p ≡ n + x.0 = g.1 in let lb : y.0 < n = h.0 in let eb : p ≡ 2 * n + y.0 = h.1 in absurd (omega arith)
-  slot_once (slot.Abs x) (slot.Nzr y) p g h = let la : x.0 < n = g.0 in let ea : p ≡ n + x.0 = g.1 in let lb : y.0 < n = h.0 in let eb : p ≡ 3 * n + y.0 = h.1 in absurd (omega arith)
-  slot_once (slot.Abs x) (slot.Rel y w) p g h = let la : x.0 < n = g.0 in let ea : p ≡ n + x.0 = g.1 in let lb = slice_get_within pairs h.0 (y, w) h.1 in let eb : p ≡ 4 * n + h.0 = h.2 in absurd (omega (arith, lb))
-  slot_once (slot.Abs x) slot.Void p g h = let la : x.0 < n = g.0 in let ea : p ≡ n + x.0 = g.1 in let eb : p ≡ 4 * n + length pairs = h in absurd (omega arith)
-  slot_once (slot.Fix x) (slot.Bnd y) p g h = let la : x.0 < n = g.0 in let ea : p ≡ 2 * n + x.0 = g.1 in let lb : y.0 < n = h.0 in let eb : p ≡ y.0 = h.1 in absurd (omega arith)
-  slot_once (slot.Fix x) (slot.Abs y) p g h = let la : x.0 < n = g.0 in let ea : p ≡ 2 * n + x.0 = g.1 in let lb : y.0 < n = h.0 in let eb : p ≡ n + y.0 = h.1 in absurd (omega arith)
-  slot_once (slot.Fix x) (slot.Fix y) p g h = let la : x.0 < n = g.0 in let ea : p ≡ 2 * n + x.0 = g.1 in let lb : y.0 < n = h.0 in let eb : p ≡ 2 * n + y.0 = h.1 in ap slot.Fix (id_of x y (omega arith))
-  slot_once (slot.Fix x) (slot.Nzr y) p g h = let la : x.0 < n = g.0 in let ea : p ≡ 2 * n + x.0 = g.1 in let lb : y.0 < n = h.0 in let eb : p ≡ 3 * n + y.0 = h.1 in absurd (omega arith)
-  slot_once (slot.Fix x) (slot.Rel y w) p g h = let la : x.0 < n = g.0 in let ea : p ≡ 2 * n + x.0 = g.1 in let lb = slice_get_within pairs h.0 (y, w) h.1 in let eb : p ≡ 4 * n + h.0 = h.2 in absurd (omega (arith, lb))
-  slot_once (slot.Fix x) slot.Void p g h = let la : x.0 < n = g.0 in let ea : p ≡ 2 * n + x.0 = g.1 in let eb : p ≡ 4 * n + length pairs = h in absurd (omega arith)
-  slot_once (slot.Nzr x) (slot.Bnd y) p g h = let la : x.0 < n = g.0 in let ea : p ≡ 3 * n + x.0 = g.1 in let lb : y.0 < n = h.0 in let eb : p ≡ y.0 = h.1 in absurd (omega arith)
-  slot_once (slot.Nzr x) (slot.Abs y) p g h = let la : x.0 < n = g.0 in let ea : p ≡ 3 * n + x.0 = g.1 in let lb : y.0 < n = h.0 in let eb : p ≡ n + y.0 = h.1 in absurd (omega arith)
-  slot_once (slot.Nzr x) (slot.Fix y) p g h = let la : x.0 < n = g.0 in let ea : p ≡ 3 * n + x.0 = g.1 in let lb : y.0 < n = h.0 in let eb : p ≡ 2 * n + y.0 = h.1 in absurd (omega arith)
-  slot_once (slot.Nzr x) (slot.Nzr y) p g h = let la : x.0 < n = g.0 in let ea : p ≡ 3 * n + x.0 = g.1 in let lb : y.0 < n = h.0 in let eb : p ≡ 3 * n + y.0 = h.1 in ap slot.Nzr (id_of x y (omega arith))
-  slot_once (slot.Nzr x) (slot.Rel y w) p g h = let la : x.0 < n = g.0 in let ea : p ≡ 3 * n + x.0 = g.1 in let lb = slice_get_within pairs h.0 (y, w) h.1 in let eb : p ≡ 4 * n + h.0 = h.2 in absurd (omega (arith, lb))
-  slot_once (slot.Nzr x) slot.Void p g h = let la : x.0 < n = g.0 in let ea : p ≡ 3 * n + x.0 = g.1 in let eb : p ≡ 4 * n + length pairs = h in absurd (omega arith)
-  slot_once (slot.Rel x z) (slot.Bnd y) p g h = let la = slice_get_within pairs g.0 (x, z) g.1 in let ea : p ≡ 4 * n + g.0 = g.2 in let lb : y.0 < n = h.0 in let eb : p ≡ y.0 = h.1 in absurd (omega (arith, la))
-  slot_once (slot.Rel x z) (slot.Abs y) p g h = let la = slice_get_within pairs g.0 (x, z) g.1 in let ea : p ≡ 4 * n + g.0 = g.2 in let lb : y.0 < n = h.0 in let eb : p ≡ n + y.0 = h.1 in absurd (omega (arith, la))
-  slot_once (slot.Rel x z) (slot.Fix y) p g h = let la = slice_get_within pairs g.0 (x, z) g.1 in let ea : p ≡ 4 * n + g.0 = g.2 in let lb : y.0 < n = h.0 in let eb : p ≡ 2 * n + y.0 = h.1 in absurd (omega (arith, la))
-  slot_once (slot.Rel x z) (slot.Nzr y) p g h = let la = slice_get_within pairs g.0 (x, z) g.1 in let ea : p ≡ 4 * n + g.0 = g.2 in let lb : y.0 < n = h.0 in let eb : p ≡ 3 * n + y.0 = h.1 in absurd (omega (arith, la))
-  slot_once (slot.Rel x z) (slot.Rel y w) p g h = let la = slice_get_within pairs g.0 (x, z) g.1 in let ea : p ≡ 4 * n + g.0 = g.2 in let lb = slice_get_within pairs h.0 (y, w) h.1 in let eb : p ≡ 4 * n + h.0 = h.2 in let k : g.0 ≡ h.0 = omega arith in let e : (x, z) ≡ (y, w) = some-inj (x, z) (y, w) (sym g.1 ∙ ap (slice_get pairs) k ∙ h.1) in ap (λ (q : Pair). slot.Rel q.0 q.1) e
-  slot_once (slot.Rel x z) slot.Void p g h = let la = slice_get_within pairs g.0 (x, z) g.1 in let ea : p ≡ 4 * n + g.0 = g.2 in let eb : p ≡ 4 * n + length pairs = h in absurd (omega (arith, la))
-  slot_once slot.Void (slot.Bnd y) p g h = let ea : p ≡ 4 * n + length pairs = g in let lb : y.0 < n = h.0 in let eb : p ≡ y.0 = h.1 in absurd (omega arith)
-  slot_once slot.Void (slot.Abs y) p g h = let ea : p ≡ 4 * n + length pairs = g in let lb : y.0 < n = h.0 in let eb : p ≡ n + y.0 = h.1 in absurd (omega arith)
-  slot_once slot.Void (slot.Fix y) p g h = let ea : p ≡ 4 * n + length pairs = g in let lb : y.0 < n = h.0 in let eb : p ≡ 2 * n + y.0 = h.1 in absurd (omega arith)
-  slot_once slot.Void (slot.Nzr y) p g h = let ea : p ≡ 4 * n + length pairs = g in let lb : y.0 < n = h.0 in let eb : p ≡ 3 * n + y.0 = h.1 in absurd (omega arith)
-  slot_once slot.Void (slot.Rel y w) p g h = let ea : p ≡ 4 * n + length pairs = g in let lb = slice_get_within pairs h.0 (y, w) h.1 in let eb : p ≡ 4 * n + h.0 = h.2 in absurd (omega (arith, lb))
+  slot_once (slot.Bnd x) (slot.Bnd y) p g h = let la : x.0 < n = g.0 in let ea : p ≡ x.0 = g.1 in
+      let lb : y.0 < n = h.0 in let eb : p ≡ y.0 = h.1 in ap slot.Bnd (id_of x y (omega arith))
+  slot_once (slot.Bnd x) (slot.Abs y) p g h = let la : x.0 < n = g.0 in let ea : p ≡ x.0 = g.1 in
+      let lb : y.0 < n = h.0 in let eb : p ≡ n + y.0 = h.1 in absurd (omega arith)
+  slot_once (slot.Bnd x) (slot.Fix y) p g h = let la : x.0 < n = g.0 in let ea : p ≡ x.0 = g.1 in
+      let lb : y.0 < n = h.0 in let eb : p ≡ 2 * n + y.0 = h.1 in absurd (omega arith)
+  slot_once (slot.Bnd x) (slot.Nzr y) p g h = let la : x.0 < n = g.0 in let ea : p ≡ x.0 = g.1 in
+      let lb : y.0 < n = h.0 in let eb : p ≡ 3 * n + y.0 = h.1 in absurd (omega arith)
+  slot_once (slot.Bnd x) (slot.Rel y w) p g h = let la : x.0 < n = g.0 in let ea : p ≡ x.0 = g.1 in
+      let lb = slice_get_within pairs h.0 (y, w) h.1 in let eb : p ≡ 4 * n + h.0 = h.2 in
+      absurd (omega (arith, lb))
+  slot_once (slot.Bnd x) slot.Void p g h = let la : x.0 < n = g.0 in let ea : p ≡ x.0 = g.1 in
+      let eb : p ≡ 4 * n + length pairs = h in absurd (omega arith)
+  slot_once (slot.Abs x) (slot.Bnd y) p g h = let la : x.0 < n = g.0 in
+      let ea : p ≡ n + x.0 = g.1 in let lb : y.0 < n = h.0 in
+      let eb : p ≡ y.0 = h.1 in absurd (omega arith)
+  slot_once (slot.Abs x) (slot.Abs y) p g h = let la : x.0 < n = g.0 in
+      let ea : p ≡ n + x.0 = g.1 in let lb : y.0 < n = h.0 in let eb : p ≡ n + y.0 = h.1 in
+      ap slot.Abs (id_of x y (omega arith))
+  slot_once (slot.Abs x) (slot.Fix y) p g h = let la : x.0 < n = g.0 in
+      let ea : p ≡ n + x.0 = g.1 in let lb : y.0 < n = h.0 in
+      let eb : p ≡ 2 * n + y.0 = h.1 in absurd (omega arith)
+  slot_once (slot.Abs x) (slot.Nzr y) p g h = let la : x.0 < n = g.0 in
+      let ea : p ≡ n + x.0 = g.1 in let lb : y.0 < n = h.0 in
+      let eb : p ≡ 3 * n + y.0 = h.1 in absurd (omega arith)
+  slot_once (slot.Abs x) (slot.Rel y w) p g h = let la : x.0 < n = g.0 in
+      let ea : p ≡ n + x.0 = g.1 in let lb = slice_get_within pairs h.0 (y, w) h.1 in
+      let eb : p ≡ 4 * n + h.0 = h.2 in absurd (omega (arith, lb))
+  slot_once (slot.Abs x) slot.Void p g h = let la : x.0 < n = g.0 in let ea : p ≡ n + x.0 = g.1 in
+      let eb : p ≡ 4 * n + length pairs = h in absurd (omega arith)
+  slot_once (slot.Fix x) (slot.Bnd y) p g h = let la : x.0 < n = g.0 in
+      let ea : p ≡ 2 * n + x.0 = g.1 in let lb : y.0 < n = h.0 in
+      let eb : p ≡ y.0 = h.1 in absurd (omega arith)
+  slot_once (slot.Fix x) (slot.Abs y) p g h = let la : x.0 < n = g.0 in
+      let ea : p ≡ 2 * n + x.0 = g.1 in let lb : y.0 < n = h.0 in
+      let eb : p ≡ n + y.0 = h.1 in absurd (omega arith)
+  slot_once (slot.Fix x) (slot.Fix y) p g h = let la : x.0 < n = g.0 in
+      let ea : p ≡ 2 * n + x.0 = g.1 in let lb : y.0 < n = h.0 in let eb : p ≡ 2 * n + y.0 = h.1 in
+      ap slot.Fix (id_of x y (omega arith))
+  slot_once (slot.Fix x) (slot.Nzr y) p g h = let la : x.0 < n = g.0 in
+      let ea : p ≡ 2 * n + x.0 = g.1 in let lb : y.0 < n = h.0 in
+      let eb : p ≡ 3 * n + y.0 = h.1 in absurd (omega arith)
+  slot_once (slot.Fix x) (slot.Rel y w) p g h = let la : x.0 < n = g.0 in
+      let ea : p ≡ 2 * n + x.0 = g.1 in let lb = slice_get_within pairs h.0 (y, w) h.1 in
+      let eb : p ≡ 4 * n + h.0 = h.2 in absurd (omega (arith, lb))
+  slot_once (slot.Fix x) slot.Void p g h = let la : x.0 < n = g.0 in
+      let ea : p ≡ 2 * n + x.0 = g.1 in
+      let eb : p ≡ 4 * n + length pairs = h in absurd (omega arith)
+  slot_once (slot.Nzr x) (slot.Bnd y) p g h = let la : x.0 < n = g.0 in
+      let ea : p ≡ 3 * n + x.0 = g.1 in let lb : y.0 < n = h.0 in
+      let eb : p ≡ y.0 = h.1 in absurd (omega arith)
+  slot_once (slot.Nzr x) (slot.Abs y) p g h = let la : x.0 < n = g.0 in
+      let ea : p ≡ 3 * n + x.0 = g.1 in let lb : y.0 < n = h.0 in
+      let eb : p ≡ n + y.0 = h.1 in absurd (omega arith)
+  slot_once (slot.Nzr x) (slot.Fix y) p g h = let la : x.0 < n = g.0 in
+      let ea : p ≡ 3 * n + x.0 = g.1 in let lb : y.0 < n = h.0 in
+      let eb : p ≡ 2 * n + y.0 = h.1 in absurd (omega arith)
+  slot_once (slot.Nzr x) (slot.Nzr y) p g h = let la : x.0 < n = g.0 in
+      let ea : p ≡ 3 * n + x.0 = g.1 in let lb : y.0 < n = h.0 in let eb : p ≡ 3 * n + y.0 = h.1 in
+      ap slot.Nzr (id_of x y (omega arith))
+  slot_once (slot.Nzr x) (slot.Rel y w) p g h = let la : x.0 < n = g.0 in
+      let ea : p ≡ 3 * n + x.0 = g.1 in let lb = slice_get_within pairs h.0 (y, w) h.1 in
+      let eb : p ≡ 4 * n + h.0 = h.2 in absurd (omega (arith, lb))
+  slot_once (slot.Nzr x) slot.Void p g h = let la : x.0 < n = g.0 in
+      let ea : p ≡ 3 * n + x.0 = g.1 in
+      let eb : p ≡ 4 * n + length pairs = h in absurd (omega arith)
+  slot_once (slot.Rel x z) (slot.Bnd y) p g h = let la = slice_get_within pairs g.0 (x, z) g.1 in
+      let ea : p ≡ 4 * n + g.0 = g.2 in let lb : y.0 < n = h.0 in let eb : p ≡ y.0 = h.1 in
+      absurd (omega (arith, la))
+  slot_once (slot.Rel x z) (slot.Abs y) p g h = let la = slice_get_within pairs g.0 (x, z) g.1 in
+      let ea : p ≡ 4 * n + g.0 = g.2 in let lb : y.0 < n = h.0 in let eb : p ≡ n + y.0 = h.1 in
+      absurd (omega (arith, la))
+  slot_once (slot.Rel x z) (slot.Fix y) p g h = let la = slice_get_within pairs g.0 (x, z) g.1 in
+      let ea : p ≡ 4 * n + g.0 = g.2 in let lb : y.0 < n = h.0 in let eb : p ≡ 2 * n + y.0 = h.1 in
+      absurd (omega (arith, la))
+  slot_once (slot.Rel x z) (slot.Nzr y) p g h = let la = slice_get_within pairs g.0 (x, z) g.1 in
+      let ea : p ≡ 4 * n + g.0 = g.2 in let lb : y.0 < n = h.0 in let eb : p ≡ 3 * n + y.0 = h.1 in
+      absurd (omega (arith, la))
+  slot_once (slot.Rel x z) (slot.Rel y w) p g h = let la = slice_get_within pairs g.0 (x, z) g.1 in
+      let ea : p ≡ 4 * n + g.0 = g.2 in let lb = slice_get_within pairs h.0 (y, w) h.1 in
+      let eb : p ≡ 4 * n + h.0 = h.2 in let k : g.0 ≡ h.0 = omega arith in
+      let e : (x, z) ≡ (y, w) = some-inj (x, z) (y, w) (sym g.1 ∙ ap (slice_get pairs) k ∙ h.1) in
+      ap (λ (q : Pair). slot.Rel q.0 q.1) e
+  slot_once (slot.Rel x z) slot.Void p g h = let la = slice_get_within pairs g.0 (x, z) g.1 in
+      let ea : p ≡ 4 * n + g.0 = g.2 in let eb : p ≡ 4 * n + length pairs = h in
+      absurd (omega (arith, la))
+  slot_once slot.Void (slot.Bnd y) p g h = let ea : p ≡ 4 * n + length pairs = g in
+      let lb : y.0 < n = h.0 in let eb : p ≡ y.0 = h.1 in absurd (omega arith)
+  slot_once slot.Void (slot.Abs y) p g h = let ea : p ≡ 4 * n + length pairs = g in
+      let lb : y.0 < n = h.0 in let eb : p ≡ n + y.0 = h.1 in absurd (omega arith)
+  slot_once slot.Void (slot.Fix y) p g h = let ea : p ≡ 4 * n + length pairs = g in
+      let lb : y.0 < n = h.0 in let eb : p ≡ 2 * n + y.0 = h.1 in absurd (omega arith)
+  slot_once slot.Void (slot.Nzr y) p g h = let ea : p ≡ 4 * n + length pairs = g in
+      let lb : y.0 < n = h.0 in let eb : p ≡ 3 * n + y.0 = h.1 in absurd (omega arith)
+  slot_once slot.Void (slot.Rel y w) p g h = let ea : p ≡ 4 * n + length pairs = g in
+      let lb = slice_get_within pairs h.0 (y, w) h.1 in let eb : p ≡ 4 * n + h.0 = h.2 in
+      absurd (omega (arith, lb))
   slot_once slot.Void slot.Void p g h = refl

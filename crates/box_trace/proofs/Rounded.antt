@@ -24,5 +24,11 @@ pub ends_beat : (new : At) (c : Fact) → BeatsEnds new c → Beats new c
 ends_beat new c e =
     let g : Fact = e.beats_low.0 in
     let here : new (slot_of c) ≡ Some g = ap new (sym e.low_slot) ∙ e.beats_low.1 in
-    let same : e.beats_high.0 ≡ g = some_same e.beats_high.0 g (new (slot_of c)) (ap new (sym e.high_slot) ∙ e.beats_high.1) here in
-    (g, here, ends_enough e.low e.high c g e.low_slot e.high_slot e.low_end e.high_end e.beats_low.2 (subst (λ f. IsStronger f e.high) same e.beats_high.2))
+    let same : e.beats_high.0 ≡ g =
+    some_same e.beats_high.0 g (new (slot_of c))
+    (ap new (sym e.high_slot) ∙ e.beats_high.1) here in (
+      g,
+      here,
+      ends_enough e.low e.high c g e.low_slot e.high_slot e.low_end e.high_end e.beats_low.2
+          (subst (λ f. IsStronger f e.high) same e.beats_high.2),
+    )

@@ -1,5 +1,6 @@
 -- How many bytes the steps of a box and the item behind them have.
-use Rattle.std.specs.Prelude.{◌≡◌, ◌≤◌, ◌+◌, ◌*◌, ◌^◌, ℕ, zero, suc, List, [], ◌∷◌, ◌++◌, length, map, Option, Some, None, refl}
+use Rattle.std.specs.Prelude.{◌≡◌, ◌≤◌, ◌+◌, ◌*◌, ◌^◌, ℕ, zero, suc, List, [], ◌∷◌, ◌++◌, length}
+use Rattle.std.specs.Prelude.{map, Option, Some, None, refl}
 use Rattle.std.specs.Borrow.{Bor}
 use Rattle.std.specs.List.{AllByRecursion}
 use Rattle.std.proofs.Common.{arith, sym, ap, subst, ◌∙◌}
@@ -13,7 +14,9 @@ use Rattle.tree_certificates.specs.cert_bytes.Sizes.{most_bytes, most_bytes_in}
 use Rattle.saturate.specs.rule_universe.Worlds.{World}
 use Rattle.box_trace.specs.declared.known.Known.{Known}
 use Rattle.saturate.specs.rule_universe.Sizes.{beyond_four, IsSmall}
-use Rattle.box_trace.specs.Rounds.{premises_in, premises_a_round, IsGivenStep, IsRoundOf, AreRounds, one_if_variable, variable_count, most_given, IsOfParent, AreItsRounds}
+use Rattle.box_trace.specs.Rounds.{premises_in, premises_a_round, IsGivenStep, IsRoundOf, AreRounds}
+use Rattle.box_trace.specs.Rounds.{one_if_variable, variable_count, most_given, IsOfParent}
+use Rattle.box_trace.specs.Rounds.{AreItsRounds}
 use Rattle.box_trace.specs.Short.{EndsBox, BoxesAreShort}
 
 -- ---- steps
@@ -101,8 +104,10 @@ boxes_short u parent height first steps last small low are ends =
     let later = are.later in
     let few = are.given_are.0 in
     let most = given_most u parent small in
-    let one = rounds_few u (IsOfParent u parent) first (first + length given) height later are.rounds in
-    let two = rounds_cite u (IsOfParent u parent) first (first + length given) height later round are.rounds in
+    let one = rounds_few u (IsOfParent u parent) first
+    (first + length given) height later are.rounds in
+    let two = rounds_cite u (IsOfParent u parent) first
+    (first + length given) height later round are.rounds in
     let none = given_none given are.given_are.1 in
     let e = ap length are.steps_are in
     let f = ap premises_in are.steps_are in

@@ -1,5 +1,6 @@
 -- What a box begins with, in each section where its steps may stand.
-use Rattle.std.specs.Prelude.{◌≡◌, ◌<◌, ◌≤◌, ◌+◌, ℕ, List, [], length, Option, Some, None, slice_get, refl}
+use Rattle.std.specs.Prelude.{◌≡◌, ◌<◌, ◌≤◌, ◌+◌, ℕ, List, [], length, Option, Some, None}
+use Rattle.std.specs.Prelude.{slice_get, refl}
 use Rattle.std.proofs.Common.{sym, ◌∙◌, ap, subst, arith}
 use Rattle.std.proofs.lemmas.Option.{slice_get_within}
 use Rattle.fx_model.specs.declared.ExprId.{ExprId}
@@ -22,7 +23,8 @@ use Rattle.saturate.specs.derivation.Parts.{none_some}
 use Rattle.saturate.specs.derivation.Exists.{joined}
 use Rattle.tree_certificates.specs.cert_bytes.Certificates.{IsShort}
 use Rattle.tree_certificates.specs.cert_checker.Open.{Numbered}
-use Rattle.tree_certificates.specs.cert_checker.Steps.{met_with, IsEnough, whole_line, variable_fact}
+use Rattle.tree_certificates.specs.cert_checker.Steps.{met_with, IsEnough, whole_line}
+use Rattle.tree_certificates.specs.cert_checker.Steps.{variable_fact}
 use Rattle.saturate.specs.rule_universe.Worlds.{World}
 use Rattle.saturate.specs.rule_universe.Places.{place_count}
 use Rattle.saturate.specs.Universes.{setting_of}
@@ -39,18 +41,25 @@ use Rattle.box_trace.proofs.Logged.{Suffices, comes_rows, comes_first, comes_few
 use Rattle.tree_certificates.specs.Coming.{enough, met_by_interval, met_by}
 
 -- what comes by a rule that is told by its number
-pub comes_as : (u : World) (old : Log) (rule arg : ℕ) (premises : List ℕ) (c : Fact) (new : Log) (r a : ℕ) → rule ≡ r → arg ≡ a → premises ≡ [] → Comes u old rule arg premises c new → Comes u old r a [] c new
+pub comes_as : (u : World) (old : Log) (rule arg : ℕ) (premises : List ℕ) (c : Fact)
+    (new : Log) (r a : ℕ) → rule ≡ r → arg ≡ a → premises ≡ [] → Comes u old rule arg premises c new
+    → Comes u old r a [] c new
 comes_as u old rule arg premises c new r a d e f w =
-    subst (λ n. Comes u old n a [] c new) d (subst (λ n. Comes u old rule n [] c new) e (subst (λ ps. Comes u old rule arg ps c new) f w))
+    subst (λ n. Comes u old n a [] c new) d
+    (subst (λ n. Comes u old rule n [] c new) e (subst (λ ps. Comes u old rule arg ps c new) f w))
 
 -- rows of nothing
-pub blank_rows : (u : World) (k : Known) → length k.rows.items ≡ place_count (length u.nodes) u.pairs → IsBlank (known_at u k) → HasRows u k
-blank_rows u k n b = record { count = n; proper = λ s f e. absurd (none_some f (known_at u k s) (b s) e) }
+pub blank_rows : (u : World) (k : Known)
+    → length k.rows.items ≡ place_count (length u.nodes) u.pairs
+    → IsBlank (known_at u k) → HasRows u k
+blank_rows u k n b =
+    record { count = n; proper = λ s f e. absurd (none_some f (known_at u k s) (b s) e) }
 
 -- ---- the root
 module _ (u : World) (first : ℕ) where
   -- before the first step
-  pub begins_blank : (log : Log) → log.first ≡ first → log.steps.items ≡ [] → HasRows u log.known → IsBlank (known_at u log.known) → BeginsWithin u first 0 log
+  pub begins_blank : (log : Log) → log.first ≡ first → log.steps.items ≡ [] → HasRows u log.known
+      → IsBlank (known_at u log.known) → BeginsWithin u first 0 log
   begins_blank log f e r b = record {
     rows = r;
     first_is = f;
@@ -65,28 +74,52 @@ module _ (u : World) (first : ℕ) where
   }
 
   -- A fact comes that is given.
-  module _ (most : ℕ) (old new : Log) (rule arg : ℕ) (c : Fact) (b : BeginsWithin u first most old) (come : Comes u old rule arg [] c new)
-      (suffices : IsWritable (setting_of u) u.hints → (rule < 256) × IsShort arg × IsSlotKnown u.nodes (slot_of c) × ((s : Numbered) → Suffices u None s old new rule arg [] c [])) where
+  module _ (most : ℕ) (old new : Log) (rule arg : ℕ) (c : Fact) (b : BeginsWithin u first most old)
+      (come : Comes u old rule arg [] c new)
+      (suffices : IsWritable (setting_of u) u.hints
+      → (rule < 256) × IsShort arg × IsSlotKnown u.nodes (slot_of c)
+      × ((s : Numbered) → Suffices u None s old new rule arg [] c [])) where
     pub begins_more : BeginsWithin u first (most + 1) new
     begins_more = record {
       rows = comes_rows u old new rule arg [] c b.rows come;
       first_is = comes_first u old new rule arg [] c come ∙ b.first_is;
-      few = (let a = b.few in let d = comes_few u old new rule arg [] c come in omega (arith, a, d));
+      few =
+          (let a = b.few in let d = comes_few u old new rule arg [] c come in omega (arith, a, d));
       steps = λ w s n.
-          let i : InSection u None s old = record { below = n.1; next = n.0 ∙ sym b.first_is; traced = (b.steps w s n).0; fields = (b.steps w s n).1 } in
-          let j = comes_section u None s old new rule arg [] c b.rows.proper (omega arith, (suffices w).0, (suffices w).1) (suffices w).2 [] refl ((suffices w).3 s) come i in
+          let i : InSection u None s old = record {
+            below = n.1;
+            next = n.0 ∙ sym b.first_is;
+            traced = (b.steps w s n).0;
+            fields = (b.steps w s n).1;
+          } in
+          let j = comes_section u None s old new rule arg [] c b.rows.proper
+          (omega arith, (suffices w).0, (suffices w).1)
+          (suffices w).2 [] refl ((suffices w).3 s) come i in
           (j.traced, j.fields);
     }
 
-  pub begins_slack : (most m : ℕ) (log : Log) → most ≤ m → BeginsWithin u first most log → BeginsWithin u first m log
-  begins_slack most m log l b = record { rows = b.rows; first_is = b.first_is; few = (let a = b.few in omega (arith, a, l)); steps = b.steps }
+  pub begins_slack : (most m : ℕ) (log : Log) → most ≤ m → BeginsWithin u first most log
+      → BeginsWithin u first m log
+  begins_slack most m log l b = record {
+    rows = b.rows;
+    first_is = b.first_is;
+    few = (let a = b.few in omega (arith, a, l));
+    steps = b.steps;
+  }
 
   -- A hypothesis comes.
-  pub begins_hypothesis : (k : ℕ) (old new : Log) (c : Fact) → slice_get u.hypotheses k ≡ Some c → BeginsWithin u first k old → Comes u old 100 k [] c new → BeginsWithin u first (k + 1) new
+  pub begins_hypothesis : (k : ℕ) (old new : Log) (c : Fact) → slice_get u.hypotheses k ≡ Some c
+      → BeginsWithin u first k old → Comes u old 100 k [] c new → BeginsWithin u first (k + 1) new
   begins_hypothesis k old new c e b come =
       let o : Option Fact = known_at u old.known (slot_of c) in
       let P : Option Fact → Type 0 = λ x. IsEnough (met_with x (met_by o c)) (joined o c) in
-      begins_more k old new 100 k c b come (λ w. (omega arith, (let l = slice_get_within u.hypotheses k c e in let m = w.few_hypotheses in omega (arith, l, m)), w.hypotheses k c e, λ s. subst P (sym e) (enough o c (λ h q. b.rows.proper (slot_of c) h q))))
+      begins_more k old new 100 k c b come (λ w. (
+        omega arith,
+        (let l = slice_get_within u.hypotheses k c e in
+            let m = w.few_hypotheses in omega (arith, l, m)),
+        w.hypotheses k c e,
+        λ s. subst P (sym e) (enough o c (λ h q. b.rows.proper (slot_of c) h q)),
+      ))
 
   below_infinity : (b : Bound) → BoundLe b Above
   below_infinity Below = tt
@@ -94,62 +127,88 @@ module _ (u : World) (first : ℕ) where
   below_infinity Above = tt
 
   -- what is met with the line of a variable is a BND of the variable
-  line_joined : (x : ExprId) (o : Option Fact) → ((g : Fact) → o ≡ Some g → slot_of g ≡ slot.Bnd x) → (j : Interval) × (joined o (fact.Bnd x whole_interval) ≡ fact.Bnd x j)
+  line_joined : (x : ExprId) (o : Option Fact) → ((g : Fact) → o ≡ Some g → slot_of g ≡ slot.Bnd x)
+      → (j : Interval) × (joined o (fact.Bnd x whole_interval) ≡ fact.Bnd x j)
   line_joined x None p = (whole_interval, refl)
   line_joined x (Some (fact.Bnd y i)) p =
       let d : y ≡ x = let q : slot.Bnd y ≡ slot.Bnd x = p (fact.Bnd y i) refl in cc in
-      let m = meet-stronger (fact.Bnd y i) (fact.Bnd x whole_interval) (d, (tt, below_infinity (range_of i).high)) in
+      let m = meet-stronger (fact.Bnd y i) (fact.Bnd x whole_interval)
+      (d, (tt, below_infinity (range_of i).high)) in
       (i, rw m (ap (λ z. fact.Bnd z i) d))
   line_joined x (Some fact.Void) p = let q : slot.Void ≡ slot.Bnd x = p fact.Void refl in cc
-  line_joined x (Some (fact.Abs y i)) p = let q : slot.Abs y ≡ slot.Bnd x = p (fact.Abs y i) refl in cc
-  line_joined x (Some (fact.Rel y z e)) p = let q : slot.Rel y z ≡ slot.Bnd x = p (fact.Rel y z e) refl in cc
-  line_joined x (Some (fact.Fix y k)) p = let q : slot.Fix y ≡ slot.Bnd x = p (fact.Fix y k) refl in cc
+  line_joined x (Some (fact.Abs y i)) p =
+      let q : slot.Abs y ≡ slot.Bnd x = p (fact.Abs y i) refl in cc
+  line_joined x (Some (fact.Rel y z e)) p =
+      let q : slot.Rel y z ≡ slot.Bnd x = p (fact.Rel y z e) refl in cc
+  line_joined x (Some (fact.Fix y k)) p =
+      let q : slot.Fix y ≡ slot.Bnd x = p (fact.Fix y k) refl in cc
   line_joined x (Some (fact.Nzr y)) p = let q : slot.Nzr y ≡ slot.Bnd x = p (fact.Nzr y) refl in cc
 
   -- The line of a variable comes.
-  pub begins_line : (n v most : ℕ) (old new : Log) → slice_get u.nodes n ≡ Some (node.Var v) → BeginsWithin u first most old →
-      Comes u old 101 0 [] (fact.Bnd (record { 0 = n }) whole_interval) new → BeginsWithin u first (most + 1) new
+  pub begins_line : (n v most : ℕ) (old new : Log) → slice_get u.nodes n ≡ Some (node.Var v)
+      → BeginsWithin u first most old
+      → Comes u old 101 0 [] (fact.Bnd (record { 0 = n }) whole_interval) new
+      → BeginsWithin u first (most + 1) new
   begins_line n v most old new e b come =
       let x : ExprId = record { 0 = n } in
       let c : Fact = fact.Bnd x whole_interval in
       let o : Option Fact = known_at u old.known (slot_of c) in
       let j = line_joined x o (λ g q. b.rows.proper (slot.Bnd x) g q) in
-      let line : whole_line u.nodes (joined o c) ≡ Some c = ap (whole_line u.nodes) j.1 ∙ ap (variable_fact x) e in
+      let line : whole_line u.nodes (joined o c) ≡ Some c =
+      ap (whole_line u.nodes) j.1 ∙ ap (variable_fact x) e in
       let P : Option Fact → Type 0 = λ y. IsEnough (met_with y (met_by o c)) (joined o c) in
-      begins_more most old new 101 0 c b come (λ w. (omega arith, omega arith, slice_get_within u.nodes n (node.Var v) e, λ s. subst P (sym line) (enough o c (λ h q. b.rows.proper (slot_of c) h q))))
+      begins_more most old new 101 0 c b come (λ w. (
+        omega arith,
+        omega arith,
+        slice_get_within u.nodes n (node.Var v) e,
+        λ s. subst P (sym line) (enough o c (λ h q. b.rows.proper (slot_of c) h q)),
+      ))
 
 -- ---- a box below another
-module _ (u : World) (piece : Piece) (parent : Known) (first : ℕ) (old new : Log) (e : old.known.rows.items ≡ parent.rows.items) (none : old.steps.items ≡ []) (f : old.first ≡ first) (r : HasRows u parent) where
+module _ (u : World) (piece : Piece) (parent : Known) (first : ℕ)
+    (old new : Log) (e : old.known.rows.items ≡ parent.rows.items) (none : old.steps.items ≡ [])
+    (f : old.first ≡ first) (r : HasRows u parent) where
   abbrev Piece_fact : Fact
   Piece_fact = fact.Bnd piece.0 piece.1
 
-  old_section : (s : Numbered) (p : Fact) → IsSectionBelow u piece parent first s p → InSection u (Some p) s old
+  old_section : (s : Numbered) (p : Fact) → IsSectionBelow u piece parent first s p
+      → InSection u (Some p) s old
   old_section s p sec =
       let P : At → Type 0 = λ at. ArePlaces s at (place_in u old.known) in
       let Q : (Slot → ℕ) → Type 0 = λ place. ArePlaces s (known_at u parent) place in
-      let places : ArePlaces s (known_at u old.known) (place_in u old.known) = subst P (sym (same_known u parent old.known e)) (subst Q (sym (same_places u parent old.known e)) sec.1) in
+      let places : ArePlaces s (known_at u old.known) (place_in u old.known) =
+      subst P (sym (same_known u parent old.known e))
+      (subst Q (sym (same_places u parent old.known e)) sec.1) in
       record {
         below = sec.0.1;
         next = sec.0.0 ∙ sym f;
         traced = record {
-          accepted = subst (AreAccepted (givens_of (setting_of u) u.hints (Some p)) s) (sym none) tt;
-          placed = subst (λ rows. ArePlaces (behind s rows) (known_at u old.known) (place_in u old.known)) (sym none) places;
+          accepted =
+              subst (AreAccepted (givens_of (setting_of u) u.hints (Some p)) s) (sym none) tt;
+          placed = subst (λ rows. ArePlaces (behind s rows) (known_at u old.known)
+              (place_in u old.known)) (sym none) places;
         };
         fields = subst HaveFields (sym none) tt;
       }
 
   -- The piece comes.
-  pub begins_below : (piece.0).0 < length u.nodes → Comes u old 102 0 [] Piece_fact new → BeginsBelow u piece parent first new
+  pub begins_below : (piece.0).0 < length u.nodes → Comes u old 102 0 [] Piece_fact new
+      → BeginsBelow u piece parent first new
   begins_below known come =
       let rows : HasRows u old.known = same_rows u parent old.known e r in
       let o : Option Fact = known_at u old.known (slot.Bnd piece.0) in
       record {
         rows = comes_rows u old new 102 0 [] Piece_fact rows come;
         first_is = comes_first u old new 102 0 [] Piece_fact come ∙ f;
-        few = (let a : length old.steps.items ≡ 0 = ap length none in let d = comes_few u old new 102 0 [] Piece_fact come in omega (arith, a, d));
+        few = (let a : length old.steps.items ≡ 0 = ap length none in
+            let d = comes_few u old new 102 0 [] Piece_fact come in omega (arith, a, d));
         steps = λ w s p sec.
-            let P : Option Fact → Type 0 = λ m. IsEnough (met_with (Some p) m) (joined o Piece_fact) in
-            let cut : IsCutTo (known_at u old.known) p piece = subst (λ (at : At). IsCutTo at p piece) (sym (same_known u parent old.known e)) sec.2 in
-            let j = comes_section u (Some p) s old new 102 0 [] Piece_fact rows.proper (omega arith, omega arith, omega arith) known [] refl (subst P (sym (met_by_interval o piece.0 piece.1)) cut) come (old_section s p sec) in
+            let P : Option Fact → Type 0 =
+            λ m. IsEnough (met_with (Some p) m) (joined o Piece_fact) in
+            let cut : IsCutTo (known_at u old.known) p piece =
+            subst (λ (at : At). IsCutTo at p piece) (sym (same_known u parent old.known e)) sec.2 in
+            let j = comes_section u (Some p) s old new 102 0 [] Piece_fact rows.proper
+            (omega arith, omega arith, omega arith) known [] refl
+            (subst P (sym (met_by_interval o piece.0 piece.1)) cut) come (old_section s p sec) in
             (j.traced, j.fields);
       }

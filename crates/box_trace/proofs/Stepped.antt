@@ -1,5 +1,6 @@
 -- What the code of one step comes to.
-use Rattle.std.specs.Prelude.{◌≡◌, ◌<◌, ◌+◌, ℕ, List, [], ◌∷◌, ◌++◌, length, Option, Some, slice_set, refl}
+use Rattle.std.specs.Prelude.{◌≡◌, ◌<◌, ◌+◌, ℕ, List, [], ◌∷◌, ◌++◌, length, Option, Some}
+use Rattle.std.specs.Prelude.{slice_set, refl}
 use Rattle.std.proofs.Common.{sym, ◌∙◌, ap, subst, inl, inr, arith, length-set}
 use Rattle.facts.specs.declared.fact.Fact.{Fact}
 use Rattle.facts.specs.Order.{slot_of, IsStronger, meet_of}
@@ -11,7 +12,8 @@ use Rattle.saturate.specs.rule_universe.Worlds.{World, HasSlot}
 use Rattle.saturate.specs.rule_universe.Places.{IsPlace}
 use Rattle.box_trace.specs.declared.known.Cited.{Cited}
 use Rattle.box_trace.specs.declared.log.Log.{Log}
-use Rattle.box_trace.specs.Tables.{row_in, fact_of, number_or, cited_at, known_at, place_in, HasRows}
+use Rattle.box_trace.specs.Tables.{row_in, fact_of, number_or, cited_at, known_at, place_in}
+use Rattle.box_trace.specs.Tables.{HasRows}
 use Rattle.box_trace.specs.Logs.{kept_in, Comes}
 use Rattle.box_trace.proofs.OnePlace.{place_slot, place_within}
 use Rattle.box_trace.proofs.Rows.{read_at, put_here, put_there}
@@ -23,10 +25,13 @@ pub met_joined : (g c k : Fact) → meet_of g c ≡ Some k → k ≡ joined (Som
 met_joined g c k e = sym (ap (λ o. or_else o g) e)
 
 -- Where what is known isn't as strong as c, c isn't VOID.
-pub met_with_step : (g c : Fact) (n : ℕ) → slot_of g ≡ slot_of c → ¬ IsStronger g c → Some n ≡ with_by (Some g) n c
-met_with_step g c n s weak = sym (with_by-some g n c (λ v. weak (subst (λ f. IsStronger f c) (sym (void_is g (s ∙ ap slot_of v))) tt)))
+pub met_with_step : (g c : Fact) (n : ℕ) → slot_of g ≡ slot_of c → ¬ IsStronger g c
+    → Some n ≡ with_by (Some g) n c
+met_with_step g c n s weak = sym (with_by-some g n c
+    (λ v. weak (subst (λ f. IsStronger f c) (sym (void_is g (s ∙ ap slot_of v))) tt)))
 
-module _ (u : World) (once : IsEachOnce u.pairs) (old : Log) (c : Fact) (place : ℕ) (p : IsPlace (length u.nodes) u.pairs (slot_of c) place) (r : HasRows u old.known)
+module _ (u : World) (once : IsEachOnce u.pairs) (old : Log) (c : Fact) (place : ℕ)
+    (p : IsPlace (length u.nodes) u.pairs (slot_of c) place) (r : HasRows u old.known)
     (found : Option Cited) (f : found ≡ row_in old.known.rows.items (Some place)) where
   found_at : found ≡ cited_at u old.known (slot_of c)
   found_at = f ∙ read_at u once old.known (slot_of c) place p
@@ -36,7 +41,8 @@ module _ (u : World) (once : IsEachOnce u.pairs) (old : Log) (c : Fact) (place :
   found_slot row e = r.proper (slot_of c) row.fact (ap fact_of (sym found_at ∙ e))
 
   -- Nothing changes.
-  pub stays_done : (rule arg : ℕ) (premises : List ℕ) → (row : Cited) × (found ≡ Some row) × IsStronger row.fact c → Comes u old rule arg premises c old
+  pub stays_done : (rule arg : ℕ) (premises : List ℕ) → (row : Cited) × (found ≡ Some row)
+      × IsStronger row.fact c → Comes u old rule arg premises c old
   stays_done rule arg premises w = inl ((w.0).fact, ap fact_of (sym found_at ∙ w.1), w.2, refl)
 
   module _ (k : Fact) (e : k ≡ joined (fact_of found) c) where
@@ -47,30 +53,47 @@ module _ (u : World) (once : IsEachOnce u.pairs) (old : Log) (c : Fact) (place :
     pub kept_known : HasSlot u (slot_of k)
     kept_known =
         let at = known_at u old.known in
-        let s : IsStronger (kept_in u old c) c = improved_stronger at (with_fact at c) c (kept_in u old c) (with_fact-improves at r.proper c) in
+        let s : IsStronger (kept_in u old c) c = improved_stronger at (with_fact at c) c
+        (kept_in u old c) (with_fact-improves at r.proper c) in
         subst (λ x. HasSlot u (slot_of x)) (sym kept_is)
         (elim (IsStronger-slot (kept_in u old c) c s) [
           | inl v ↦ subst (λ x. HasSlot u (slot_of x)) (sym v) tt
-          | inr q ↦ subst (HasSlot u) (sym q) (place_slot (length u.nodes) u.pairs (slot_of c) place p)
+          | inr q ↦ subst (HasSlot u) (sym q)
+              (place_slot (length u.nodes) u.pairs (slot_of c) place p)
         ])
 
     module _ (here : ℕ) (h : IsPlace (length u.nodes) u.pairs (slot_of k) here) where
       -- its place is one of the rows'
       pub kept_within : here < length old.known.rows.items
-      kept_within = (let l = place_within (length u.nodes) u.pairs (slot_of k) here h in let n = r.count in omega (arith, l, n))
+      kept_within = (let l = place_within (length u.nodes) u.pairs (slot_of k) here h in
+          let n = r.count in omega (arith, l, n))
 
       -- One step more.
-      pub step_done : (new : Log) (rule arg : ℕ) (premises : List ℕ) (with : Option ℕ) (number : ℕ) → with ≡ with_by (fact_of found) (number_or found) c →
-          new.steps.items ≡ old.steps.items ++ record { rule = rule; arg = arg; fact = k; with = with; premises = premises } ∷ [] →
-          new.known.rows.items ≡ slice_set old.known.rows.items here (Some (record { fact = k; number = number })) →
-          number ≡ old.first + length old.steps.items → new.first ≡ old.first → Comes u old rule arg premises c new
+      pub step_done : (new : Log) (rule arg : ℕ) (premises : List ℕ) (with : Option ℕ) (number : ℕ)
+          → with ≡ with_by (fact_of found) (number_or found) c
+          → new.steps.items ≡ old.steps.items
+          ++ record { rule = rule; arg = arg; fact = k; with = with; premises = premises } ∷ []
+          → new.known.rows.items ≡ slice_set old.known.rows.items here
+          (Some (record { fact = k; number = number }))
+          → number ≡ old.first + length old.steps.items → new.first ≡ old.first
+          → Comes u old rule arg premises c new
       step_done new rule arg premises with number w steps rows n first =
-          let met : with ≡ with_by (known_at u old.known (slot_of c)) (place_in u old.known (slot_of c)) c = w ∙ ap (λ o. with_by (fact_of o) (number_or o) c) found_at in
+          let met : with ≡ with_by (known_at u old.known (slot_of c)) (place_in u old.known
+          (slot_of c)) c = w ∙ ap (λ o. with_by (fact_of o) (number_or o) c) found_at in
           let row : Cited = record { fact = k; number = number } in
           inr (record {
-            steps = steps ∙ (λ i. old.steps.items ++ record { rule = rule; arg = arg; fact = kept_is i; with = met i; premises = premises } ∷ []);
-            here = ap (λ x. cited_at u new.known (slot_of x)) (sym kept_is) ∙ put_here u once old.known new.known (slot_of k) here row h rows kept_within ∙ (λ i. Some (record { fact = kept_is i; number = n i }));
-            others = λ s d. put_there u once old.known new.known (slot_of k) here row h rows s (λ q. d (q ∙ ap slot_of kept_is));
+            steps = steps ∙ (λ i. old.steps.items ++ record {
+              rule = rule;
+              arg = arg;
+              fact = kept_is i;
+              with = met i;
+              premises = premises;
+            } ∷ []);
+            here = ap (λ x. cited_at u new.known (slot_of x)) (sym kept_is)
+                ∙ put_here u once old.known new.known (slot_of k) here row h rows kept_within
+                ∙ (λ i. Some (record { fact = kept_is i; number = n i }));
+            others = λ s d. put_there u once old.known new.known (slot_of k) here row h rows s
+                (λ q. d (q ∙ ap slot_of kept_is));
             count = ap length rows ∙ length-set old.known.rows.items here (Some row);
             first = first;
           })

@@ -1,5 +1,6 @@
 -- What a round gathers from its instances, before it writes.
-use Rattle.std.specs.Prelude.{◌≡◌, ◌⊎◌, ◌<◌, ◌≤◌, ◌+◌, ◌*◌, ◌-◌, ⊤, min, ℕ, Bool, true, false, List, length, Option, Some, None, slice_get, slice_set}
+use Rattle.std.specs.Prelude.{◌≡◌, ◌⊎◌, ◌<◌, ◌≤◌, ◌+◌, ◌*◌, ◌-◌, ⊤, min, ℕ, Bool, true, false, List}
+use Rattle.std.specs.Prelude.{length, Option, Some, None, slice_get, slice_set}
 use Rattle.facts.specs.declared.fact.Fact.{Fact}
 use Rattle.facts.specs.declared.fact.Fact.TheVariants as fact
 use Rattle.facts.specs.declared.instance.Instance.{Instance}

@@ -6,7 +6,8 @@ ghost use Rattle.saturate.specs.derivation.Rounds.{IsBlank};
 ghost use Rattle.saturate.specs.rule_universe.Worlds.{HasSlot};
 ghost use Rattle.saturate.specs.rule_universe.Places.{place_count};
 ghost use Rattle.saturate.specs.rule_universe.Placed.{IsPlaced};
-ghost use Rattle.box_trace.specs.Tables.{row_in, flat, fact_of, number_of, number_or, known_at, step_at, place_in, HasRows};
+ghost use Rattle.box_trace.specs.Tables.{row_in, flat, fact_of, number_of, number_or, known_at};
+ghost use Rattle.box_trace.specs.Tables.{step_at, place_in, HasRows};
 
 use facts::{Fact, Slot};
 use saturate::{Placed, Universe};

@@ -1,6 +1,7 @@
 //! What the instances of a round conclude, and which of these conclusions give the ends of a slot's
 //! fact.
-ghost use Rattle.std.specs.Prelude.{◌≡◌, ◌<◌, ◌*◌, ◌+◌, ℕ, Some, None, IfOk, OnOk, length, slice_get, map, replicate, Contains};
+ghost use Rattle.std.specs.Prelude.{◌≡◌, ◌<◌, ◌*◌, ◌+◌, ℕ, Some, None, IfOk, OnOk, length};
+ghost use Rattle.std.specs.Prelude.{slice_get, map, replicate, Contains};
 ghost use Rattle.facts.specs.declared.fact.Slot.{Slot};
 ghost use Rattle.facts.specs.declared.instance.Instance.{Instance as Applied};
 ghost use Rattle.saturate.specs.theorem_list.Concludes.{concludes};
@@ -11,7 +12,8 @@ ghost use Rattle.saturate.specs.rule_universe.Places.{IsPlace, place_count};
 ghost use Rattle.saturate.specs.rule_universe.Placed.{IsPlaced, slots_of};
 ghost use Rattle.saturate.specs.Universes.{setting_of};
 ghost use Rattle.box_trace.specs.Tables.{row_in, known_at, place_in, HasRows};
-ghost use Rattle.box_trace.specs.Scans.{IsBeaten, IsWith, IsConcludedBy, IsNoted, IsVisited, IsGathered};
+ghost use Rattle.box_trace.specs.Scans.{IsBeaten, IsWith, IsConcludedBy, IsNoted, IsVisited};
+ghost use Rattle.box_trace.specs.Scans.{IsGathered};
 
 use crate::ends::{Ends, Found};
 use crate::known::Known;

@@ -1,5 +1,6 @@
 //! What a box begins with.
-ghost use Rattle.std.specs.Prelude.{◌≡◌, ◌<◌, ◌≤◌, ◌+◌, ◌^◌, [], None, Some, IfOk, length, slice_get};
+ghost use Rattle.std.specs.Prelude.{◌≡◌, ◌<◌, ◌≤◌, ◌+◌, ◌^◌, [], None, Some, IfOk, length};
+ghost use Rattle.std.specs.Prelude.{slice_get};
 ghost use Rattle.facts.specs.declared.fact.Fact.{Fact as Claim};
 ghost use Rattle.facts.specs.declared.fact.Fact.TheVariants as fact;
 ghost use Rattle.saturate.specs.derivation.Known.{IsGiven};

@@ -4,7 +4,9 @@ ghost use Rattle.saturate.specs.derivation.Known.{Piece, IsTableAt};
 ghost use Rattle.saturate.specs.Universes.{setting_of};
 ghost use Rattle.box_trace.specs.Tables.{known_at, HasRows};
 ghost use Rattle.box_trace.specs.Rounds.{AreItsRounds, AreRoundsBelow, IsByRounds};
-ghost use Rattle.box_trace.specs.Boxes.{IsSomeBox, IsOfUniverse, IsItsTable, IsTableBelow, AreRootSteps, AreStepsBelow, AreItsSteps, log_of, most_steps};
+ghost use Rattle.box_trace.specs.Boxes.{IsSomeBox, IsOfUniverse, IsItsTable, IsTableBelow};
+ghost use Rattle.box_trace.specs.Boxes.{AreRootSteps, AreStepsBelow, AreItsSteps, log_of};
+ghost use Rattle.box_trace.specs.Boxes.{most_steps};
 
 use crate::known::Known;
 use crate::log::Log;

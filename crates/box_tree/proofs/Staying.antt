@@ -1,5 +1,6 @@
 -- The points that stay, found one by one.
-use Rattle.std.specs.Prelude.{◌≡◌, ◌<◌, ◌≤◌, ◌+◌, ◌-◌, ℕ, zero, suc, Bool, true, false, ◌&&◌, ◌||◌, ◌==◌, List, [], ◌∷◌, ◌++◌, length, drop, if◌then◌else◌, refl}
+use Rattle.std.specs.Prelude.{◌≡◌, ◌<◌, ◌≤◌, ◌+◌, ◌-◌, ℕ, zero, suc, Bool, true, false, ◌&&◌, ◌||◌}
+use Rattle.std.specs.Prelude.{◌==◌, List, [], ◌∷◌, ◌++◌, length, drop, if◌then◌else◌, refl}
 use Rattle.std.proofs.Common.{sym, ap, ◌∙◌, subst, arith, length-append, append_assoc, append-nil}
 use Rattle.std.proofs.lemmas.Bool.{and_parts, eqb-true}
 use Rattle.std.proofs.lemmas.List.{at_drop_more, at_drop_all}
@@ -12,7 +13,8 @@ use Rattle.script_hints.specs.declared.hint.Cutting.{Cutting}
 use Rattle.script_hints.specs.declared.hint.Cutting.TheVariants as cutting
 use Rattle.box_tree.specs.declared.range.SplitRange.{SplitRange}
 use Rattle.box_tree.specs.Ranges.{IsOrdered, IsWithin, is_less, is_inside}
-use Rattle.box_tree.specs.Points.{part_at, parts_from, asked_points, is_above_last, with_points, cut_points, staying, piece_of}
+use Rattle.box_tree.specs.Points.{part_at, parts_from, asked_points, is_above_last, with_points}
+use Rattle.box_tree.specs.Points.{cut_points, staying, piece_of}
 use Rattle.box_tree.specs.InRanges.{at_bool, lt_in}
 use Rattle.box_tree.proofs.Near.{lt_out}
 use Rattle.box_tree.proofs.Within.{piece_ordered, points_within}

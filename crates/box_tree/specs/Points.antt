@@ -1,5 +1,6 @@
 -- The points at which a range is cut, and its pieces.
-use Rattle.std.specs.Prelude.{ℕ, zero, suc, ◌+◌, ◌-◌, Bool, true, false, ◌==◌, ◌&&◌, ◌||◌, List, [], ◌∷◌, ◌++◌, length, slice_index_or, Option, Some, None, if◌then◌else◌}
+use Rattle.std.specs.Prelude.{ℕ, zero, suc, ◌+◌, ◌-◌, Bool, true, false, ◌==◌, ◌&&◌, ◌||◌, List, []}
+use Rattle.std.specs.Prelude.{◌∷◌, ◌++◌, length, slice_index_or, Option, Some, None, if◌then◌else◌}
 use Rattle.script_hints.specs.fx_model.Fraction.{Fraction}
 use Rattle.script_hints.specs.dyadic.declared.number.Dyadic.{Dyadic}
 use Rattle.script_hints.specs.dyadic.declared.number.End.{End}

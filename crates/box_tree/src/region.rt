@@ -1,5 +1,6 @@
 // A box as the cuts on its path make it.
-ghost use Rattle.std.specs.Prelude.{◌≡◌, ◌<◌, ◌≤◌, ◌+◌, ◌-◌, ℕ, [], ◌∷◌, length, drop, Some, IfSome};
+ghost use Rattle.std.specs.Prelude.{◌≡◌, ◌<◌, ◌≤◌, ◌+◌, ◌-◌, ℕ, [], ◌∷◌, length, drop, Some};
+ghost use Rattle.std.specs.Prelude.{IfSome};
 ghost use Rattle.script_hints.specs.Few.{HasFewPieces, HaveFewPieces};
 ghost use Rattle.box_tree.specs.Nexts.{IsHalved, IsWithinNext};
 ghost use Rattle.std.specs.List.{AllByRecursion};

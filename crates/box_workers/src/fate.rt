@@ -1,5 +1,6 @@
 //! What becomes of one box.
-ghost use Rattle.std.specs.Prelude.{◌≡◌, ◌<◌, ◌≤◌, ℕ, List, [], length, Some, None, MatchOption, IfNone, IfSome};
+ghost use Rattle.std.specs.Prelude.{◌≡◌, ◌<◌, ◌≤◌, ℕ, List, [], length, Some, None, MatchOption};
+ghost use Rattle.std.specs.Prelude.{IfNone, IfSome};
 ghost use Rattle.bisect.specs.Trees.{tree_of, child_count};
 ghost use Rattle.accounts.specs.box_tree.Paths.{IsPathOf};
 ghost use Rattle.accounts.specs.box_tree.Pieces.{piece_count};

@@ -1,8 +1,11 @@
 //! What the caller finishes by itself, once all workers have ended.
-ghost use Rattle.std.specs.Prelude.{◌≡◌, ◌<◌, ◌≤◌, ◌+◌, ◌-◌, ℕ, List, All, IsTrue, false, true, IfOk, OnOk, MatchOption, length, ◌++◌};
+ghost use Rattle.std.specs.Prelude.{◌≡◌, ◌<◌, ◌≤◌, ◌+◌, ◌-◌, ℕ, List, All, IsTrue, false, true};
+ghost use Rattle.std.specs.Prelude.{IfOk, OnOk, MatchOption, length, ◌++◌};
 ghost use Rattle.accounts.specs.Weights.{total};
 ghost use Rattle.bisect.specs.Trees.{tree_of};
-ghost use Rattle.box_workers.specs.Gathered.{Went, below, held_rest, held_rest_of, record_rest, records_rest, left_rest, children_rest, nothing, IsAccount};
+ghost use Rattle.box_workers.specs.Gathered.{Went, below, held_rest, held_rest_of, record_rest};
+ghost use Rattle.box_workers.specs.Gathered.{records_rest, left_rest, children_rest, nothing};
+ghost use Rattle.box_workers.specs.Gathered.{IsAccount};
 ghost use Rattle.bisect.specs.Answers.{IsAnswer};
 ghost use Rattle.accounts.specs.box_tree.Paths.{IsPathOf};
 ghost use Rattle.accounts.specs.box_tree.Pieces.{piece_count};

@@ -1,5 +1,6 @@
 //! What all workers of a run share.
-ghost use Rattle.std.specs.Prelude.{◌≡◌, ◌≤◌, ℕ, List, IfOk, MatchOption, length, [], None, IsTrue, false, ◌<◌, ◌+◌};
+ghost use Rattle.std.specs.Prelude.{◌≡◌, ◌≤◌, ℕ, List, IfOk, MatchOption, length, [], None, IsTrue};
+ghost use Rattle.std.specs.Prelude.{false, ◌<◌, ◌+◌};
 ghost use Rattle.accounts.specs.box_tree.Paths.{IsChild, IsPathOf};
 ghost use Rattle.box_workers.specs.Gathered.{Went, below, nothing};
 ghost use Rattle.bisect.specs.Trees.{children, tree_of};

@@ -1,5 +1,6 @@
 -- What is read off the boxes of several trees.
-use Rattle.std.specs.Prelude.{◌≡◌, ◌<◌, ◌+◌, ◌⊎◌, ℕ, zero, suc, List, [], ◌∷◌, Option, Some, None, slice_get, refl}
+use Rattle.std.specs.Prelude.{◌≡◌, ◌<◌, ◌+◌, ◌⊎◌, ℕ, zero, suc, List, [], ◌∷◌, Option, Some, None}
+use Rattle.std.specs.Prelude.{slice_get, refl}
 use Rattle.std.proofs.Common.{sym, ◌∙◌, ap, subst, arith, inl, inr}
 use Rattle.bisect.specs.Trees.{Tree}
 use Rattle.bisect.specs.Boxes.{AreBoxes, IsBefore, IsOpenLeaf, first_open}
@@ -9,11 +10,14 @@ use Rattle.case_trees.specs.Laws.{IsFirstOfAll}
 
 -- what a tree's list of boxes tells
 abbrev pub FirstTold : Type 0
-FirstTold = (t : Tree) (boxes : List (List ℕ)) (path : List ℕ) (goal : ℕ) → AreBoxes t boxes → first_open t boxes ≡ Some (path, goal)
-    → IsOpenLeaf t path goal × ((other : List ℕ) (g : ℕ) → IsOpenLeaf t other g → (path ≡ other) ⊎ IsBefore path other)
+FirstTold = (t : Tree) (boxes : List (List ℕ)) (path : List ℕ) (goal : ℕ) → AreBoxes t boxes
+    → first_open t boxes ≡ Some (path, goal)
+    → IsOpenLeaf t path goal
+    × ((other : List ℕ) (g : ℕ) → IsOpenLeaf t other g → (path ≡ other) ⊎ IsBefore path other)
 
 abbrev pub NoneTold : Type 0
-NoneTold = (t : Tree) (boxes : List (List ℕ)) → AreBoxes t boxes → first_open t boxes ≡ None → (path : List ℕ) (goal : ℕ) → ¬ (IsOpenLeaf t path goal)
+NoneTold = (t : Tree) (boxes : List (List ℕ)) → AreBoxes t boxes → first_open t boxes ≡ None
+    → (path : List ℕ) (goal : ℕ) → ¬ (IsOpenLeaf t path goal)
 
 abbrev IsClosed : Tree → Type 0
 IsClosed t = (path : List ℕ) (goal : ℕ) → ¬ (IsOpenLeaf t path goal)
@@ -23,7 +27,8 @@ pub by_first : (o : Option (List ℕ × ℕ)) → (o ≡ None) ⊎ ((x : List �
 by_first None = inl refl
 by_first (Some x) = inr (x, refl)
 
-closed_at : (none : NoneTold) (t : Tree) (l : Listed) → l.tree ≡ t → AreBoxes l.tree l.boxes → first_open l.tree l.boxes ≡ None → IsClosed t
+closed_at : (none : NoneTold) (t : Tree) (l : Listed) → l.tree ≡ t → AreBoxes l.tree l.boxes
+    → first_open l.tree l.boxes ≡ None → IsClosed t
 closed_at none t l e are n = subst IsClosed e (none l.tree l.boxes are n)
 
 some_same : (x y : OpenLeaf) → Some x ≡ Some y → x ≡ y
@@ -38,18 +43,22 @@ same_tree t u e = cc
 no_tree : (u : Tree) (k : ℕ) → slice_get [] k ≡ Some u → ⊥
 no_tree u k e = cc
 
--- The first open leaf, of the tree with the number j of these, where the first is that of this case.
+-- The first open leaf, of the tree with the number j of these, where the first is that of this
+-- case.
 record IsFirstFrom (case : ℕ) (ts : List Tree) (leaf : OpenLeaf) : Type 0 where
   j : ℕ
   number : leaf.case ≡ case + j
   tree : Tree
   there : slice_get ts j ≡ Some tree
   open_leaf : IsOpenLeaf tree leaf.path leaf.goal
-  first : (other : List ℕ) (goal : ℕ) → IsOpenLeaf tree other goal → (leaf.path ≡ other) ⊎ IsBefore leaf.path other
+  first : (other : List ℕ) (goal : ℕ) → IsOpenLeaf tree other goal
+      → (leaf.path ≡ other) ⊎ IsBefore leaf.path other
   earlier : (i : ℕ) (t : Tree) → i < j → slice_get ts i ≡ Some t → IsClosed t
 
 module _ (first : FirstTold) (none : NoneTold) where
-  here : (case : ℕ) (t : Tree) (ts : List Tree) (x : List ℕ × ℕ) → IsOpenLeaf t x.0 x.1 × ((other : List ℕ) (g : ℕ) → IsOpenLeaf t other g → (x.0 ≡ other) ⊎ IsBefore x.0 other) → IsFirstFrom case (t ∷ ts) (open_at case x)
+  here : (case : ℕ) (t : Tree) (ts : List Tree) (x : List ℕ × ℕ) → IsOpenLeaf t x.0 x.1
+      × ((other : List ℕ) (g : ℕ) → IsOpenLeaf t other g → (x.0 ≡ other) ⊎ IsBefore x.0 other)
+      → IsFirstFrom case (t ∷ ts) (open_at case x)
   here case t ts x told = record {
     j = 0;
     number = omega arith;
@@ -60,7 +69,8 @@ module _ (first : FirstTold) (none : NoneTold) where
     earlier = λ i u l e. absurd (omega (arith, l));
   }
 
-  after : (case : ℕ) (t : Tree) (ts : List Tree) (leaf : OpenLeaf) → IsClosed t → IsFirstFrom (case + 1) ts leaf → IsFirstFrom case (t ∷ ts) leaf
+  after : (case : ℕ) (t : Tree) (ts : List Tree) (leaf : OpenLeaf) → IsClosed t
+      → IsFirstFrom (case + 1) ts leaf → IsFirstFrom case (t ∷ ts) leaf
   after case t ts leaf closed f = record {
     j = suc f.j;
     number = let n = f.number in omega (arith, n);
@@ -75,22 +85,28 @@ module _ (first : FirstTold) (none : NoneTold) where
       before zero u l e = subst IsClosed (same_tree t u e) closed
       before (suc i) u l e = f.earlier i u (omega (arith, l)) e
 
-  first_from : (case : ℕ) (ts : List Tree) (ls : List Listed) (leaf : OpenLeaf) → AreListed ts ls → first_open_from case ls ≡ Some leaf → IsFirstFrom case ts leaf
+  first_from : (case : ℕ) (ts : List Tree) (ls : List Listed) (leaf : OpenLeaf) → AreListed ts ls
+      → first_open_from case ls ≡ Some leaf → IsFirstFrom case ts leaf
   first_from case [] [] leaf are e = absurd (none_some leaf e)
   first_from case [] (l ∷ ls) leaf are e = absurd are
   first_from case (t ∷ ts) [] leaf are e = absurd are
   first_from case (t ∷ ts) (l ∷ ls) leaf are e = elim (by_first (first_open l.tree l.boxes)) [
     | inr x ↦
-        let f : Some (open_at case x.0) ≡ Some leaf = ap (λ o. or_later case o (first_open_from (case + 1) ls)) (sym x.1) ∙ e in
+        let f : Some (open_at case x.0) ≡ Some leaf =
+        ap (λ o. or_later case o (first_open_from (case + 1) ls)) (sym x.1) ∙ e in
         let told = first l.tree l.boxes x.0.0 x.0.1 are.1 x.1 in
         subst (IsFirstFrom case (t ∷ ts)) (some_same (open_at case x.0) leaf f)
-        (here case t ts x.0 (subst (λ u. IsOpenLeaf u x.0.0 x.0.1 × ((other : List ℕ) (g : ℕ) → IsOpenLeaf u other g → (x.0.0 ≡ other) ⊎ IsBefore x.0.0 other)) are.0 told))
+        (here case t ts x.0 (subst (λ u. IsOpenLeaf u x.0.0 x.0.1 × ((other : List ℕ) (g : ℕ)
+        → IsOpenLeaf u other g → (x.0.0 ≡ other) ⊎ IsBefore x.0.0 other)) are.0 told))
     | inl n ↦
-        let f : first_open_from (case + 1) ls ≡ Some leaf = ap (λ o. or_later case o (first_open_from (case + 1) ls)) (sym n) ∙ e in
-        after case t ts leaf (closed_at none t l are.0 are.1 n) (first_from (case + 1) ts ls leaf are.2 f)
+        let f : first_open_from (case + 1) ls ≡ Some leaf =
+        ap (λ o. or_later case o (first_open_from (case + 1) ls)) (sym n) ∙ e in
+        after case t ts leaf (closed_at none t l are.0 are.1 n)
+        (first_from (case + 1) ts ls leaf are.2 f)
   ]
 
-  pub first_of_all : (trees : List Tree) (ls : List Listed) (leaf : OpenLeaf) → AreListed trees ls → first_open_from 0 ls ≡ Some leaf → IsFirstOfAll trees leaf
+  pub first_of_all : (trees : List Tree) (ls : List Listed) (leaf : OpenLeaf) → AreListed trees ls
+      → first_open_from 0 ls ≡ Some leaf → IsFirstOfAll trees leaf
   first_of_all trees ls leaf are e =
       let f = first_from 0 trees ls leaf are e in
       let n : leaf.case ≡ f.j = let m = f.number in omega (arith, m) in
@@ -102,12 +118,14 @@ module _ (first : FirstTold) (none : NoneTold) where
         earlier = λ i t l g. f.earlier i t (omega (arith, l, n)) g;
       }
 
-later_none : (case : ℕ) (o : Option (List ℕ × ℕ)) (later : Option OpenLeaf) → or_later case o later ≡ None → (o ≡ None) × (later ≡ None)
+later_none : (case : ℕ) (o : Option (List ℕ × ℕ)) (later : Option OpenLeaf)
+    → or_later case o later ≡ None → (o ≡ None) × (later ≡ None)
 later_none case None later e = (refl, e)
 later_none case (Some x) later e = cc
 
 module _ (none : NoneTold) where
-  none_from : (case : ℕ) (ts : List Tree) (ls : List Listed) (k : ℕ) (t : Tree) → AreListed ts ls → first_open_from case ls ≡ None → slice_get ts k ≡ Some t → IsClosed t
+  none_from : (case : ℕ) (ts : List Tree) (ls : List Listed) (k : ℕ) (t : Tree) → AreListed ts ls
+      → first_open_from case ls ≡ None → slice_get ts k ≡ Some t → IsClosed t
   none_from case [] ls k t are e g = absurd (no_tree t k g)
   none_from case (u ∷ ts) [] k t are e g = absurd are
   none_from case (u ∷ ts) (l ∷ ls) zero t are e g =
@@ -117,5 +135,6 @@ module _ (none : NoneTold) where
       let n = later_none case (first_open l.tree l.boxes) (first_open_from (case + 1) ls) e in
       none_from (case + 1) ts ls k t are.2 n.1 g
 
-  pub none_open : (trees : List Tree) (ls : List Listed) (case : ℕ) (t : Tree) → AreListed trees ls → first_open_from 0 ls ≡ None → slice_get trees case ≡ Some t → IsClosed t
+  pub none_open : (trees : List Tree) (ls : List Listed) (case : ℕ) (t : Tree) → AreListed trees ls
+      → first_open_from 0 ls ≡ None → slice_get trees case ≡ Some t → IsClosed t
   none_open trees ls case t are e g = none_from 0 trees ls case t are e g

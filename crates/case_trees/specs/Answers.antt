@@ -5,7 +5,8 @@ use Rattle.bisect.specs.declared.outcome.Outcome.TheVariants as outcome
 use Rattle.bisect.specs.Trees.{Tree}
 use Rattle.case_trees.specs.declared.outcome.CaseOutcome.{CaseOutcome}
 use Rattle.case_trees.specs.declared.outcome.CaseOutcome.TheVariants as cases
-use Rattle.case_trees.specs.Listed.{Listed, AreListed, box_count, first_open_from, all_leaves, open_at}
+use Rattle.case_trees.specs.Listed.{Listed, AreListed, box_count, first_open_from, all_leaves}
+use Rattle.case_trees.specs.Listed.{open_at}
 
 -- by their boxes, in the order of their paths
 abbrev pub IsAnswerBy : ℕ → List Listed → CaseOutcome → Type 0

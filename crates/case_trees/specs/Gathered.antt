@@ -8,7 +8,8 @@ use Rattle.bisect.specs.Boxes.{AreBoxes}
 use Rattle.case_trees.specs.declared.outcome.OpenLeaf.{OpenLeaf}
 use Rattle.case_trees.specs.declared.outcome.CaseOutcome.{CaseOutcome}
 use Rattle.case_trees.specs.declared.outcome.CaseOutcome.TheVariants as cases
-use Rattle.case_trees.specs.Listed.{Listed, AreListed, box_count, first_open_from, all_leaves, open_at}
+use Rattle.case_trees.specs.Listed.{Listed, AreListed, box_count, first_open_from, all_leaves}
+use Rattle.case_trees.specs.Listed.{open_at}
 
 -- how many trees there were, how many boxes they have, how many all may have, their first open
 -- leaf, and the leaves as long as none was open

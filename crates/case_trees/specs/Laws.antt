@@ -20,7 +20,8 @@ use Rattle.case_trees.specs.declared.outcome.CaseOutcome.{CaseOutcome}
 use Rattle.case_trees.specs.declared.outcome.CaseOutcome.TheVariants as cases
 use Rattle.case_trees.specs.Listed.{Listed, AreListed, first_open_from, all_leaves}
 use Rattle.case_trees.specs.Answers.{IsAnswerOfAll, of_one}
-use Rattle.case_trees.specs.Gathered.{Seen, HasBoxes, IsWithin, EndsAs, nothing_seen, boxes_left, with_outcome, end_of}
+use Rattle.case_trees.specs.Gathered.{Seen, HasBoxes, IsWithin, EndsAs, nothing_seen, boxes_left}
+use Rattle.case_trees.specs.Gathered.{with_outcome, end_of}
 
 -- Several trees have one answer under a limit.
 abbrev pub HaveOneAnswer : Type 0

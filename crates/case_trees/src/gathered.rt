@@ -1,6 +1,7 @@
 //! Trees whose answers come one after the other.
 ghost use Rattle.std.specs.Prelude.{◌≡◌, ◌≢◌, ◌<◌, ◌≤◌, IsTrue, false, IfOk};
-ghost use Rattle.case_trees.specs.Gathered.{IsWithin, boxes_left, end_of, nothing_seen, with_outcome};
+ghost use Rattle.case_trees.specs.Gathered.{IsWithin, boxes_left, end_of, nothing_seen};
+ghost use Rattle.case_trees.specs.Gathered.{with_outcome};
 
 use crate::outcome::{CaseOutcome, OpenLeaf};
 use bisect::{Leaf, Outcome};

@@ -6,7 +6,9 @@ ghost use Rattle.bisect.specs.box_tree.Pieces.{piece_count};
 ghost use Rattle.bisect.specs.declared.settler.State.{State};
 ghost use Rattle.bisect.specs.Trees.{tree_of};
 ghost use Rattle.case_trees.specs.Gathered.{HasBoxes};
-ghost use Rattle.case_trees.specs.Laws.{AnswersAreWithin, FirstIsFirst, GoesOn, HaveOneAnswer, LinesHoldOfEach, NoneIsOpen, OneIsAll, StartsFromNothing, StopsAtEnd, StopsAtNone, StopsOver};
+ghost use Rattle.case_trees.specs.Laws.{AnswersAreWithin, FirstIsFirst, GoesOn, HaveOneAnswer};
+ghost use Rattle.case_trees.specs.Laws.{LinesHoldOfEach, NoneIsOpen, OneIsAll, StartsFromNothing};
+ghost use Rattle.case_trees.specs.Laws.{StopsAtEnd, StopsAtNone, StopsOver};
 
 use bisect::{answers_are_told, boxes_are_listed, lines_hold, one_answer};
 

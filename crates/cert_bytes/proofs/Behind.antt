@@ -2,9 +2,12 @@
 use Rattle.std.proofs.Common.{◌≡◌, ℕ, Ok, Err, refl}
 use Rattle.cert_bytes.specs.declared.fault.CertFault.{CertFault}
 use Rattle.facts.specs.dyadic.declared.number.End.{End}
-use Rattle.cert_bytes.specs.Reading.{Cursor, byte_at, expr_at, pair_at, both_at, end_at, interval_at, size_at, relative_at, error_at, place_at, bnd_at, abs_at, rel_at, fix_at, nzr_at, fact_at}
+use Rattle.cert_bytes.specs.Reading.{Cursor, byte_at, expr_at, pair_at, both_at, end_at}
+use Rattle.cert_bytes.specs.Reading.{interval_at, size_at, relative_at, error_at, place_at, bnd_at}
+use Rattle.cert_bytes.specs.Reading.{abs_at, rel_at, fix_at, nzr_at, fact_at}
 
-pub error_err : (c next : Cursor) (tag : ℕ) (f : CertFault) → tag ≡ 0 → byte_at c ≡ Ok (tag, next) → relative_at next ≡ Err f → error_at c ≡ Err f
+pub error_err : (c next : Cursor) (tag : ℕ) (f : CertFault) → tag ≡ 0 → byte_at c ≡ Ok (tag, next)
+    → relative_at next ≡ Err f → error_at c ≡ Err f
 unfolding error_at
 error_err c next tag f t e g = rw (e, t, g) refl
 
@@ -12,23 +15,28 @@ pub tag_err : (c : Cursor) (f : CertFault) → byte_at c ≡ Err f → fact_at c
 unfolding fact_at
 tag_err c f e = rw e refl
 
-pub bnd_err : (c next : Cursor) (tag : ℕ) (f : CertFault) → tag ≡ 1 → byte_at c ≡ Ok (tag, next) → both_at expr_at interval_at next ≡ Err f → fact_at c ≡ Err f
+pub bnd_err : (c next : Cursor) (tag : ℕ) (f : CertFault) → tag ≡ 1 → byte_at c ≡ Ok (tag, next)
+    → both_at expr_at interval_at next ≡ Err f → fact_at c ≡ Err f
 unfolding fact_at bnd_at
 bnd_err c next tag f t e g = rw (e, t, g) refl
 
-pub abs_err : (c next : Cursor) (tag : ℕ) (f : CertFault) → tag ≡ 2 → byte_at c ≡ Ok (tag, next) → both_at expr_at size_at next ≡ Err f → fact_at c ≡ Err f
+pub abs_err : (c next : Cursor) (tag : ℕ) (f : CertFault) → tag ≡ 2 → byte_at c ≡ Ok (tag, next)
+    → both_at expr_at size_at next ≡ Err f → fact_at c ≡ Err f
 unfolding fact_at abs_at
 abs_err c next tag f t e g = rw (e, t, g) refl
 
-pub rel_err : (c next : Cursor) (tag : ℕ) (f : CertFault) → tag ≡ 3 → byte_at c ≡ Ok (tag, next) → both_at pair_at error_at next ≡ Err f → fact_at c ≡ Err f
+pub rel_err : (c next : Cursor) (tag : ℕ) (f : CertFault) → tag ≡ 3 → byte_at c ≡ Ok (tag, next)
+    → both_at pair_at error_at next ≡ Err f → fact_at c ≡ Err f
 unfolding fact_at rel_at
 rel_err c next tag f t e g = rw (e, t, g) refl
 
-pub fix_err : (c next : Cursor) (tag : ℕ) (f : CertFault) → tag ≡ 4 → byte_at c ≡ Ok (tag, next) → both_at expr_at place_at next ≡ Err f → fact_at c ≡ Err f
+pub fix_err : (c next : Cursor) (tag : ℕ) (f : CertFault) → tag ≡ 4 → byte_at c ≡ Ok (tag, next)
+    → both_at expr_at place_at next ≡ Err f → fact_at c ≡ Err f
 unfolding fact_at fix_at
 fix_err c next tag f t e g = rw (e, t, g) refl
 
-pub nzr_err : (c next : Cursor) (tag : ℕ) (f : CertFault) → tag ≡ 5 → byte_at c ≡ Ok (tag, next) → expr_at next ≡ Err f → fact_at c ≡ Err f
+pub nzr_err : (c next : Cursor) (tag : ℕ) (f : CertFault) → tag ≡ 5 → byte_at c ≡ Ok (tag, next)
+    → expr_at next ≡ Err f → fact_at c ≡ Err f
 unfolding fact_at nzr_at
 nzr_err c next tag f t e g = rw (e, t, g) refl
 

@@ -1,5 +1,7 @@
 -- Numbers in base 128, digit by digit.
-use Rattle.std.proofs.Common.{◌≡◌, ◌≤◌, ◌<◌, ◌+◌, ◌-◌, ◌*◌, ◌/◌, ◌%◌, ◌^◌, ◌++◌, ◌∷◌, [], ⊎_elim, ℕ, zero, suc, true, false, List, length, refl, sym, ap, subst, ◌∙◌, arith, append_assoc}
+use Rattle.std.proofs.Common.{◌≡◌, ◌≤◌, ◌<◌, ◌+◌, ◌-◌, ◌*◌, ◌/◌, ◌%◌, ◌^◌, ◌++◌, ◌∷◌, [], ⊎_elim, ℕ}
+use Rattle.std.proofs.Common.{zero, suc, true, false, List, length, refl, sym, ap, subst, ◌∙◌}
+use Rattle.std.proofs.Common.{arith, append_assoc}
 use Rattle.std.proofs.Math.Nat.{pow-succ'}
 use Rattle.std.specs.Prelude.{nat_lt}
 use Rattle.std.proofs.lemmas.Bool.{cases_lt}
@@ -18,7 +20,8 @@ unfolding digits
 digits_most zero n = omega arith
 digits_most (suc k) n = ⊎_elim
     (λ l. let e = ap length (last_digit k n l) in omega (arith, e))
-    (λ l. let e = ap length (first_digit k n l) in let m = digits_most k (n / 128) in omega (arith, e, m))
+    (λ l. let e = ap length (first_digit k n l) in
+    let m = digits_most k (n / 128) in omega (arith, e, m))
     (cases_lt n 128)
 
 pub digits_some : (k n : ℕ) → 1 ≤ length (digits (suc k) n)
@@ -29,10 +32,13 @@ digits_some k n = ⊎_elim
 
 -- ---- digits that are written one by one
 
-further : (left rest : ℕ) → 128 ≤ rest → rest < 128 ^ left → (k : ℕ) × (left ≡ suc (suc k)) × (rest / 128 < 128 ^ suc k)
+further : (left rest : ℕ) → 128 ≤ rest → rest < 128 ^ left
+    → (k : ℕ) × (left ≡ suc (suc k)) × (rest / 128 < 128 ^ suc k)
 further zero rest l r = absurd (let z : rest < 1 = r in omega (arith, z, l))
 further (suc zero) rest l r = absurd (let z : rest < 128 = r in omega (arith, z, l))
-further (suc (suc k)) rest l r = let e : 128 ^ suc (suc k) ≡ 128 * 128 ^ suc k = pow-succ' 128 (suc k) in (k, refl, omega (arith, e, r))
+further (suc (suc k)) rest l r =
+    let e : 128 ^ suc (suc k) ≡ 128 * 128 ^ suc k = pow-succ' 128 (suc k) in
+    (k, refl, omega (arith, e, r))
 
 -- a number below a power has no more digits than that
 pub digits_below : (j k n : ℕ) → n < 128 ^ suc k → length (digits j n) ≤ suc k
@@ -50,18 +56,26 @@ digits_below (suc j) k n l = ⊎_elim
 less_one : (left k : ℕ) → left ≡ suc (suc k) → left - 1 ≡ suc k
 less_one left k e = omega (arith, e)
 
-pub fewer_left : (left rest : ℕ) → 128 ≤ rest → rest < 128 ^ left → (1 ≤ left - 1) × (rest / 128 < 128 ^ (left - 1))
-fewer_left left rest l r = let f = further left rest l r in let e = less_one left f.0 f.1 in (omega (arith, e), subst (λ (k : ℕ). rest / 128 < 128 ^ k) (sym e) f.2)
+pub fewer_left : (left rest : ℕ) → 128 ≤ rest → rest < 128 ^ left
+    → (1 ≤ left - 1) × (rest / 128 < 128 ^ (left - 1))
+fewer_left left rest l r = let f = further left rest l r in let e = less_one left f.0 f.1 in
+    (omega (arith, e), subst (λ (k : ℕ). rest / 128 < 128 ^ k) (sym e) f.2)
 
-pub one_written : (out new total : List ℕ) (left rest : ℕ) → 128 ≤ rest → rest < 128 ^ left → new ≡ out ++ (rest % 128 + 128) ∷ [] → out ++ digits left rest ≡ total → new ++ digits (left - 1) (rest / 128) ≡ total
+pub one_written : (out new total : List ℕ) (left rest : ℕ) → 128 ≤ rest
+    → rest < 128 ^ left → new ≡ out ++ (rest % 128 + 128) ∷ [] → out ++ digits left rest ≡ total
+    → new ++ digits (left - 1) (rest / 128) ≡ total
 one_written out new total left rest l r n e =
     let f = further left rest l r in
-    let digit : digits left rest ≡ (rest % 128 + 128) ∷ digits (left - 1) (rest / 128) = ap (λ (k : ℕ). digits k rest) f.1 ∙ first_digit (suc f.0) rest l ∙ ap (λ (k : ℕ). (rest % 128 + 128) ∷ digits k (rest / 128)) (sym (less_one left f.0 f.1)) in
+    let digit : digits left rest ≡ (rest % 128 + 128) ∷ digits (left - 1) (rest / 128) =
+    ap (λ (k : ℕ). digits k rest) f.1 ∙ first_digit (suc f.0) rest l
+    ∙ ap (λ (k : ℕ). (rest % 128 + 128) ∷ digits k (rest / 128)) (sym (less_one left f.0 f.1)) in
     ap (λ (s : List ℕ). s ++ digits (left - 1) (rest / 128)) n
     ∙ append_assoc out ((rest % 128 + 128) ∷ []) (digits (left - 1) (rest / 128))
     ∙ ap (λ (s : List ℕ). out ++ s) (sym digit)
     ∙ e
 
-pub last_written : (out new total : List ℕ) (left rest : ℕ) → rest < 128 → 1 ≤ left → new ≡ out ++ rest ∷ [] → out ++ digits left rest ≡ total → new ≡ total
+pub last_written : (out new total : List ℕ) (left rest : ℕ) → rest < 128 → 1 ≤ left
+    → new ≡ out ++ rest ∷ [] → out ++ digits left rest ≡ total → new ≡ total
 last_written out new total zero rest l s n e = absurd (let z : 1 ≤ 0 = s in omega (arith, z))
-last_written out new total (suc left) rest l s n e = n ∙ ap (λ (s : List ℕ). out ++ s) (sym (last_digit left rest l)) ∙ e
+last_written out new total (suc left) rest l s n e =
+    n ∙ ap (λ (s : List ℕ). out ++ s) (sym (last_digit left rest l)) ∙ e

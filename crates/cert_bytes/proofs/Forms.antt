@@ -13,7 +13,8 @@ kept_some m e d p q = sym (number_from_self d) ∙ ap₂ number_from p q
 pub kept_none : (m e : ℤ) → ¬ IsOnGrid (scaled m e) → None ≡ number_from m e
 kept_none m e n = sym (number_from-none m e (λ c. n (canonical_on_grid m e c)))
 
-pub kept_other : (m e : ℤ) (d : Dyadic) → value_of d ≡ scaled m e → ¬ ((d.mantissa ≡ m) × (d.exponent ≡ e)) → None ≡ number_from m e
+pub kept_other : (m e : ℤ) (d : Dyadic) → value_of d ≡ scaled m e
+    → ¬ ((d.mantissa ≡ m) × (d.exponent ≡ e)) → None ≡ number_from m e
 kept_other m e d v n = sym (number_from-none m e (λ c.
     let other : Dyadic = record { mantissa = m; exponent = e; canonical = c } in
     let same = same_value d other v in

@@ -1,5 +1,6 @@
 -- How many bytes each item spells at most, in either version.
-use Rattle.std.proofs.Common.{◌≡◌, ◌≤◌, ◌<◌, ◌+◌, ◌^◌, ◌*◌, ◌++◌, ◌∷◌, [], ℕ, ℤ, List, length, Option, Some, None, refl, arith}
+use Rattle.std.proofs.Common.{◌≡◌, ◌≤◌, ◌<◌, ◌+◌, ◌^◌, ◌*◌, ◌++◌, ◌∷◌, [], ℕ, ℤ, List, length}
+use Rattle.std.proofs.Common.{Option, Some, None, refl, arith}
 use Rattle.std.specs.Int.{w16, w64, cast_unsigned}
 use Rattle.std.proofs.lemmas.List.{length-append}
 use Rattle.fx_model.specs.declared.ExprId.{ExprId}
@@ -20,7 +21,11 @@ use Rattle.cert_bytes.specs.declared.item.Item.TheVariants as item
 use Rattle.cert_bytes.specs.Certificates.{HasSpelling, Fits}
 use Rattle.cert_bytes.specs.Styles.{style_after}
 use Rattle.cert_bytes.specs.Sizes.{most_bytes, most_bytes_in, SpellingsAreShort}
-use Rattle.cert_bytes.specs.Spelling.{digits, zigzag, distance, tiny, short, reference, signed_short, signed_long, wide, references, counted, point, points, end, interval, error, fact_bytes, node_bytes, optional, claim_bytes, cited_bytes, step_bytes, spelling, spelled_from}
+use Rattle.cert_bytes.specs.Spelling.{digits, zigzag, distance, tiny, short, reference}
+use Rattle.cert_bytes.specs.Spelling.{signed_short, signed_long, wide, references, counted, point}
+use Rattle.cert_bytes.specs.Spelling.{points, end, interval, error, fact_bytes, node_bytes}
+use Rattle.cert_bytes.specs.Spelling.{optional, claim_bytes, cited_bytes, step_bytes, spelling}
+use Rattle.cert_bytes.specs.Spelling.{spelled_from}
 use Rattle.cert_bytes.proofs.Digits.{digits_most, digits_some, digits_below}
 use Rattle.cert_bytes.proofs.Back.{length_high}
 
@@ -71,12 +76,14 @@ two_most : (s t : List ℕ) (m n : ℕ) → length s ≤ m → length t ≤ n �
 two_most s t m n p q = let e = length-append s t in omega (arith, e, p, q)
 
 pair_most : (m n : ℕ) (style : Style) → length (short m style ++ short n style) ≤ 38
-pair_most m n style = two_most (short m style) (short n style) 19 19 (short_most m style) (short_most n style)
+pair_most m n style =
+    two_most (short m style) (short n style) 19 19 (short_most m style) (short_most n style)
 
 -- ---- facts
 
 point_most : (d : Dyadic) (style : Style) → length (point d style) ≤ 38
-point_most d style = two_most (signed_long d.mantissa style) (signed_short d.exponent style) 19 19 (signed_long_most d.mantissa style) (signed_short_most d.exponent style)
+point_most d style = two_most (signed_long d.mantissa style) (signed_short d.exponent style) 19 19
+    (signed_long_most d.mantissa style) (signed_short_most d.exponent style)
 
 end_most : (e : End) (style : Style) → length (end e style) ≤ 39
 end_most (At d) style = let p = point_most d style in omega (arith, p)
@@ -84,20 +91,27 @@ end_most Low style = omega arith
 end_most High style = omega arith
 
 interval_most : (i : Interval) (style : Style) → length (interval i style) ≤ 78
-interval_most i style = two_most (end i.lo style) (end i.hi style) 39 39 (end_most i.lo style) (end_most i.hi style)
+interval_most i style =
+    two_most (end i.lo style) (end i.hi style) 39 39 (end_most i.lo style) (end_most i.hi style)
 
 error_most : (e : Option RelativeError) (style : Style) → length (error e style) ≤ 79
 error_most (Some e) style = let p = interval_most e.interval style in omega (arith, p)
 error_most None style = omega arith
 
-short_behind : (n : ℕ) (style : Style) (s : List ℕ) (m : ℕ) → length s ≤ m → length (short n style ++ s) ≤ m + 19
-short_behind n style s m p = let e = length-append (short n style) s in let q = short_most n style in omega (arith, e, p, q)
+short_behind : (n : ℕ) (style : Style) (s : List ℕ) (m : ℕ) → length s ≤ m
+    → length (short n style ++ s) ≤ m + 19
+short_behind n style s m p = let e = length-append (short n style) s in
+    let q = short_most n style in omega (arith, e, p, q)
 
 fact_most : (f : Fact) (style : Style) → length (fact_bytes f style) ≤ 118
-fact_most (fact.Bnd x i) style = let p = short_behind x.0 style (interval i style) 78 (interval_most i style) in omega (arith, p)
-fact_most (fact.Abs x s) style = let p = short_behind x.0 style (interval s.interval style) 78 (interval_most s.interval style) in omega (arith, p)
-fact_most (fact.Rel x y e) style = let p = two_most (short x.0 style ++ short y.0 style) (error e style) 38 79 (pair_most x.0 y.0 style) (error_most e style) in omega (arith, p)
-fact_most (fact.Fix x k) style = let p = short_behind x.0 style (signed_short k.exponent style) 19 (signed_short_most k.exponent style) in omega (arith, p)
+fact_most (fact.Bnd x i) style =
+    let p = short_behind x.0 style (interval i style) 78 (interval_most i style) in omega (arith, p)
+fact_most (fact.Abs x s) style = let p = short_behind x.0 style (interval s.interval style) 78
+    (interval_most s.interval style) in omega (arith, p)
+fact_most (fact.Rel x y e) style = let p = two_most (short x.0 style ++ short y.0 style)
+    (error e style) 38 79 (pair_most x.0 y.0 style) (error_most e style) in omega (arith, p)
+fact_most (fact.Fix x k) style = let p = short_behind x.0 style (signed_short k.exponent style) 19
+    (signed_short_most k.exponent style) in omega (arith, p)
 fact_most (fact.Nzr x) style = let p = short_most x.0 style in omega (arith, p)
 fact_most fact.Void style = omega arith
 
@@ -106,15 +120,18 @@ fact_most fact.Void style = omega arith
 node_most : (n : Node) (style : Style) → length (node_bytes n style) ≤ 58
 node_most (Var n) style = let p = short_most n style in omega (arith, p)
 node_most (Lit l) style =
-    let e = two_most (signed_short l.two style) (signed_short l.ten style) 19 19 (signed_short_most l.two style) (signed_short_most l.ten style) in
-    let p = two_most (wide l.num style) (signed_short l.two style ++ signed_short l.ten style) 19 38 (wide_most l.num style) e in omega (arith, p)
+    let e = two_most (signed_short l.two style) (signed_short l.ten style) 19 19
+    (signed_short_most l.two style) (signed_short_most l.ten style) in
+    let p = two_most (wide l.num style) (signed_short l.two style ++ signed_short l.ten style) 19 38
+    (wide_most l.num style) e in omega (arith, p)
 node_most (Neg x) style = let p = short_most x.0 style in omega (arith, p)
 node_most (Add x y) style = let p = pair_most x.0 y.0 style in omega (arith, p)
 node_most (Sub x y) style = let p = pair_most x.0 y.0 style in omega (arith, p)
 node_most (Mul x y) style = let p = pair_most x.0 y.0 style in omega (arith, p)
 node_most (Div x y) style = let p = pair_most x.0 y.0 style in omega (arith, p)
 node_most (Abs x) style = let p = short_most x.0 style in omega (arith, p)
-node_most (Round r x) style = let p = two_most (signed_short r.lsb style) (short x.0 style) 19 19 (signed_short_most r.lsb style) (short_most x.0 style) in omega (arith, p)
+node_most (Round r x) style = let p = two_most (signed_short r.lsb style) (short x.0 style) 19 19
+    (signed_short_most r.lsb style) (short_most x.0 style) in omega (arith, p)
 
 node_some : (n : Node) (style : Style) → 1 ≤ length (node_bytes n style)
 node_some (Var n) style = omega arith
@@ -139,7 +156,8 @@ references_most (n ∷ ns) style =
 
 points_most : (ds : List Dyadic) (style : Style) → length (points ds style) ≤ 38 * length ds
 points_most [] style = omega arith
-points_most (d ∷ ds) style = let e = length-append (point d style) (points ds style) in let p = point_most d style in let q = points_most ds style in omega (arith, e, p, q)
+points_most (d ∷ ds) style = let e = length-append (point d style) (points ds style) in
+    let p = point_most d style in let q = points_most ds style in omega (arith, e, p, q)
 
 counted_most : (ns : List ℕ) (style : Style) → length (counted ns style) ≤ 10 * length ns + 19
 counted_most ns style =
@@ -213,7 +231,8 @@ items_are_short i style h f = let p = item_most i style in let q = few i h f in 
     few item.End h f = omega arith
 
 -- and each but the end has a byte
-pub items_have_a_byte : (i : Item) (style : Style) → ¬ (i ≡ item.End) → 1 ≤ length (spelling i style)
+pub items_have_a_byte : (i : Item) (style : Style) → ¬ (i ≡ item.End)
+    → 1 ≤ length (spelling i style)
 items_have_a_byte (item.Nodes n) style e = omega arith
 items_have_a_byte (item.Node n) style e = node_some n style
 items_have_a_byte (item.Marks n) style e = short_some n style

@@ -1,5 +1,6 @@
 -- Reading through a folder, in whatever pieces it gives the bytes.
-use Rattle.std.specs.Prelude.{◌≡◌, ◌≤◌, ◌<◌, ◌∷◌, ◌++◌, ℕ, Bool, true, false, List, [], length, drop, Option, Some, None, Result, Ok, Err, ⊤}
+use Rattle.std.specs.Prelude.{◌≡◌, ◌≤◌, ◌<◌, ◌∷◌, ◌++◌, ℕ, Bool, true, false, List, [], length}
+use Rattle.std.specs.Prelude.{drop, Option, Some, None, Result, Ok, Err, ⊤}
 use Rattle.cert_bytes.specs.declared.fault.CertFault.{CertFault}
 use Rattle.cert_bytes.specs.declared.fault.Stop.{Stop}
 use Rattle.cert_bytes.specs.declared.fault.Stop.TheVariants.{Fault}

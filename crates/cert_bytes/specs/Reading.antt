@@ -1,6 +1,8 @@
 -- How bytes are read as items, field by field from the left. The first fault that is met is the
 -- fault of the bytes.
-use Rattle.std.specs.Prelude.{⊤, ◌+◌, ◌-◌, ◌*◌, ◌/◌, ◌%◌, ◌==◌, ◌&&◌, not, ℕ, zero, suc, ℤ, pos, negsuc, Bool, true, false, List, [], ◌∷◌, ◌++◌, length, drop, nat_lt, nat_le, if◌then◌else◌, Option, Some, None, Result, Ok, Err}
+use Rattle.std.specs.Prelude.{⊤, ◌+◌, ◌-◌, ◌*◌, ◌/◌, ◌%◌, ◌==◌, ◌&&◌, not, ℕ, zero, suc, ℤ, pos}
+use Rattle.std.specs.Prelude.{negsuc, Bool, true, false, List, [], ◌∷◌, ◌++◌, length, drop, nat_lt}
+use Rattle.std.specs.Prelude.{nat_le, if◌then◌else◌, Option, Some, None, Result, Ok, Err}
 use Rattle.std.specs.Int.{Width, w16, w64, cast_signed}
 use Rattle.std.specs.Int.RustNames.{int_lt}
 use Rattle.fx_model.specs.Fraction.{le_ℚ}
@@ -10,7 +12,8 @@ use Rattle.fx_model.specs.declared.Node.{Node}
 use Rattle.fx_model.specs.declared.Node.TheVariants as node
 use Rattle.fx_model.specs.declared.Rounding.{Rounding}
 use Rattle.fx_model.specs.declared.Direction.{Direction}
-use Rattle.fx_model.specs.declared.Direction.TheVariants.{Zr, Aw, Dn, Up, Od, Ne, No, Nz, Na, Nd, Nu}
+use Rattle.fx_model.specs.declared.Direction.TheVariants.{Zr, Aw, Dn, Up, Od, Ne, No, Nz, Na, Nd}
+use Rattle.fx_model.specs.declared.Direction.TheVariants.{Nu}
 use Rattle.facts.specs.dyadic.declared.number.Dyadic.{Dyadic}
 use Rattle.facts.specs.dyadic.declared.number.End.{End}
 use Rattle.facts.specs.dyadic.declared.number.End.TheVariants.{Low, At, High}
@@ -28,7 +31,9 @@ use Rattle.facts.specs.Parts.{size_from, error_from}
 use Rattle.facts.specs.Places.{place_from}
 use Rattle.cert_bytes.specs.declared.fault.CertFault.{CertFault}
 use Rattle.cert_bytes.specs.declared.fault.CertKind.{CertKind}
-use Rattle.cert_bytes.specs.declared.fault.CertKind.TheVariants.{BadMagic, BadVersion, Truncated, BadTag, BadNumber, TrailingBytes, TooLong, BadCount}
+use Rattle.cert_bytes.specs.declared.fault.CertKind.TheVariants.{BadMagic, BadVersion, Truncated}
+use Rattle.cert_bytes.specs.declared.fault.CertKind.TheVariants.{BadTag, BadNumber, TrailingBytes}
+use Rattle.cert_bytes.specs.declared.fault.CertKind.TheVariants.{TooLong, BadCount}
 use Rattle.cert_bytes.specs.declared.item.StepRow.{StepRow}
 use Rattle.cert_bytes.specs.declared.item.Item.{Item}
 use Rattle.cert_bytes.specs.declared.item.Item.TheVariants as item

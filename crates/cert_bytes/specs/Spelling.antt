@@ -1,12 +1,14 @@
 -- What each item spells, in either version. In version 1 numbers have their high byte first, and
 -- signed ones are two's complement.
-use Rattle.std.specs.Prelude.{◌+◌, ◌-◌, ◌*◌, ◌/◌, ◌%◌, ◌^◌, if◌then◌else◌, nat_lt, zero, suc, ℕ, ℤ, pos, negsuc, List, [], ◌∷◌, ◌++◌, length, Option, Some, None}
+use Rattle.std.specs.Prelude.{◌+◌, ◌-◌, ◌*◌, ◌/◌, ◌%◌, ◌^◌, if◌then◌else◌, nat_lt, zero, suc, ℕ, ℤ}
+use Rattle.std.specs.Prelude.{pos, negsuc, List, [], ◌∷◌, ◌++◌, length, Option, Some, None}
 use Rattle.std.specs.List.{flat_map}
 use Rattle.std.specs.Int.{w16, w64, w128, to_be_bytes, cast_unsigned}
 use Rattle.fx_model.specs.declared.Node.{Node}
 use Rattle.fx_model.specs.declared.Node.TheVariants.{Var, Lit, Neg, Add, Sub, Mul, Div, Abs, Round}
 use Rattle.fx_model.specs.declared.Direction.{Direction}
-use Rattle.fx_model.specs.declared.Direction.TheVariants.{Zr, Aw, Dn, Up, Od, Ne, No, Nz, Na, Nd, Nu}
+use Rattle.fx_model.specs.declared.Direction.TheVariants.{Zr, Aw, Dn, Up, Od, Ne, No, Nz, Na, Nd}
+use Rattle.fx_model.specs.declared.Direction.TheVariants.{Nu}
 use Rattle.facts.specs.dyadic.declared.number.Dyadic.{Dyadic}
 use Rattle.facts.specs.dyadic.declared.number.End.{End}
 use Rattle.facts.specs.dyadic.declared.number.End.TheVariants.{Low, At, High}

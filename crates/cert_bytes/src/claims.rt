@@ -1,5 +1,6 @@
 //! Numbers of the grid, intervals and facts, read through a folder.
-ghost use Rattle.cert_bytes.specs.Reading.{point_at, end_at, interval_at, size_at, relative_at, error_at, place_at, fact_at};
+ghost use Rattle.cert_bytes.specs.Reading.{point_at, end_at, interval_at, size_at, relative_at};
+ghost use Rattle.cert_bytes.specs.Reading.{error_at, place_at, fact_at};
 
 use crate::fault::{CertKind, Stop, fault};
 use crate::field::Field;

@@ -1,7 +1,8 @@
 //! Lists of numbers and of points, read through a folder.
 ghost use Rattle.std.specs.Prelude.{◌≡◌, ◌≤◌, ◌<◌, ◌+◌, ℕ, [], List, Some, length, IsErrOf, IfOk};
 ghost use Rattle.fx_edge.specs.Outside.{Rose};
-ghost use Rattle.cert_bytes.specs.Reading.{references_at, counted_at, optional_at, count_at, rising_at, points_at};
+ghost use Rattle.cert_bytes.specs.Reading.{references_at, counted_at, optional_at, count_at};
+ghost use Rattle.cert_bytes.specs.Reading.{rising_at, points_at};
 ghost use Rattle.cert_bytes.specs.Certificates.{IsCounted};
 ghost use Rattle.cert_bytes.specs.Pieces.{Gives, AgreesTold, kept_of};
 

@@ -1,7 +1,9 @@
 //! The item that is due, read through a folder.
 ghost use Rattle.std.specs.Prelude.{◌≡◌, ◌≤◌, ◌<◌, ℕ, List, Some, length, IsErrOf, IfOk, true};
 ghost use Rattle.fx_edge.specs.Outside.{Rose};
-ghost use Rattle.cert_bytes.specs.Reading.{more_at, end_item_at, same_count_at, counts_at, trailer_at, closed_at, node_or_marks_at, mark_or_section_at, section_or_end_at, entry_at};
+ghost use Rattle.cert_bytes.specs.Reading.{more_at, end_item_at, same_count_at, counts_at};
+ghost use Rattle.cert_bytes.specs.Reading.{trailer_at, closed_at, node_or_marks_at};
+ghost use Rattle.cert_bytes.specs.Reading.{mark_or_section_at, section_or_end_at, entry_at};
 ghost use Rattle.cert_bytes.specs.Styles.{IsStyleFor};
 ghost use Rattle.cert_bytes.specs.declared.item.Item.TheVariants as item;
 ghost use Rattle.cert_bytes.specs.Due.{is_due, is_end};

@@ -1,5 +1,6 @@
 //! A certificate, read item by item.
-ghost use Rattle.std.specs.Prelude.{◌^◌, ◌≡◌, ◌≤◌, ◌<◌, [], ℕ, List, Option, Some, None, IfOk, IsErr, IsErrOf, length, true};
+ghost use Rattle.std.specs.Prelude.{◌^◌, ◌≡◌, ◌≤◌, ◌<◌, [], ℕ, List, Option, Some, None, IfOk};
+ghost use Rattle.std.specs.Prelude.{IsErr, IsErrOf, length, true};
 ghost use Rattle.fx_edge.specs.Outside.{Rose};
 ghost use Rattle.cert_bytes.specs.declared.item.Item.TheVariants as item;
 ghost use Rattle.cert_bytes.specs.Reading.{item_at};

@@ -1,7 +1,9 @@
 //! Items of sections, read through a folder.
 ghost use Rattle.std.specs.Prelude.{◌≡◌, ◌≤◌, ◌<◌, ℕ, List, Some, length, IsErrOf, IfOk, true};
 ghost use Rattle.fx_edge.specs.Outside.{Rose};
-ghost use Rattle.cert_bytes.specs.Reading.{step_at, cut_head_at, cut_at, section_by, section_item_at, case_count_at, cases_at, root_by, root_item_at};
+ghost use Rattle.cert_bytes.specs.Reading.{step_at, cut_head_at, cut_at, section_by};
+ghost use Rattle.cert_bytes.specs.Reading.{section_item_at, case_count_at, cases_at, root_by};
+ghost use Rattle.cert_bytes.specs.Reading.{root_item_at};
 ghost use Rattle.cert_bytes.specs.Due.{is_of_section, is_of_root};
 ghost use Rattle.cert_bytes.specs.Certificates.{HasSpelling, IsCounted};
 ghost use Rattle.cert_bytes.specs.Pieces.{Gives, AgreesTold, kept_of};

@@ -1,8 +1,10 @@
 //! The bytes of a name, read through a folder one after the other.
-ghost use Rattle.std.specs.Prelude.{◌≡◌, ◌≤◌, ◌<◌, ◌+◌, ◌^◌, ◌↔◌, ◌∷◌, ℕ, List, [], Some, length, IfOk, IsTrue, IsErrOf};
+ghost use Rattle.std.specs.Prelude.{◌≡◌, ◌≤◌, ◌<◌, ◌+◌, ◌^◌, ◌↔◌, ◌∷◌, ℕ, List, [], Some, length};
+ghost use Rattle.std.specs.Prelude.{IfOk, IsTrue, IsErrOf};
 ghost use Rattle.fx_edge.specs.Outside.{Rose, HasCause};
 ghost use Rattle.cert_bytes.specs.Reading.{byte_at};
-ghost use Rattle.cert_bytes.specs.Pieces.{Gives, Agrees, IsFilled, IsReady, IsEnd, IsFirst, IsLow, kept_of};
+ghost use Rattle.cert_bytes.specs.Pieces.{Gives, Agrees, IsFilled, IsReady, IsEnd, IsFirst, IsLow};
+ghost use Rattle.cert_bytes.specs.Pieces.{kept_of};
 
 use crate::fault::{CertFault, CertKind, Stop};
 use crate::style::Style;

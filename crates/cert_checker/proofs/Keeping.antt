@@ -1,5 +1,6 @@
 -- Items that are kept one after the other.
-use Rattle.std.proofs.Common.{◌≡◌, ◌++◌, ℕ, true, List, [], ◌∷◌, Option, Some, None, Ok, Err, Result, sym, ap, subst, append-nil, append_assoc}
+use Rattle.std.proofs.Common.{◌≡◌, ◌++◌, ℕ, true, List, [], ◌∷◌, Option, Some, None, Ok, Err}
+use Rattle.std.proofs.Common.{Result, sym, ap, subst, append-nil, append_assoc}
 use Rattle.std.specs.Prelude.{IfOk}
 use Rattle.std.specs.List.{AllByRecursion}
 use Rattle.goals.specs.declared.line.Line.{Line}
@@ -9,7 +10,8 @@ use Rattle.cert_bytes.specs.declared.order.DueItem.TheVariants.{Head, Done}
 use Rattle.cert_bytes.specs.declared.style.Style.{Style}
 use Rattle.cert_bytes.specs.declared.style.Style.TheVariants.{First}
 use Rattle.cert_bytes.specs.Due.{due_after, due_behind, is_due}
-use Rattle.cert_bytes.specs.Certificates.{HasSpelling, Fits, AreDue, AreCertificate, SpellsCertificate}
+use Rattle.cert_bytes.specs.Certificates.{HasSpelling, Fits, AreDue, AreCertificate}
+use Rattle.cert_bytes.specs.Certificates.{SpellsCertificate}
 use Rattle.cert_bytes.specs.Pieces.{cursor_of}
 use Rattle.cert_bytes.specs.Readers.{Progress}
 use Rattle.cert_bytes.specs.Reading.{Cursor, cursor, item_at}
@@ -26,10 +28,22 @@ use Rattle.cert_checker.specs.declared.keep.Accepted.{Accepted}
 use Rattle.cert_checker.specs.Keeping.{TookItem, AreAcceptedItems}
 use Rattle.cert_checker.proofs.Order.{due_has_next, in_order}
 
-pub taken : (told : Option (List ℕ)) (c d : Standing) (r q : Progress) (i : Item) → TookItem told c d r q i → TakesNext told c d r q
-taken told c d r q i t = record { item = i; order = t.order; read = t.read; judged = t.judged; taken = t.taken; due = t.due; reads = t.reads; grows = t.grows; moves = t.moves }
+pub taken : (told : Option (List ℕ)) (c d : Standing) (r q : Progress) (i : Item)
+    → TookItem told c d r q i → TakesNext told c d r q
+taken told c d r q i t = record {
+  item = i;
+  order = t.order;
+  read = t.read;
+  judged = t.judged;
+  taken = t.taken;
+  due = t.due;
+  reads = t.reads;
+  grows = t.grows;
+  moves = t.moves;
+}
 
-pub led_more : (s : Subject) (c mid : Context) (items : List Item) (i : Item) → LeadsTo s c items mid → JudgesItem s mid i None → LeadsTo s c (items ++ i ∷ []) (after mid i)
+pub led_more : (s : Subject) (c mid : Context) (items : List Item) (i : Item)
+    → LeadsTo s c items mid → JudgesItem s mid i None → LeadsTo s c (items ++ i ∷ []) (after mid i)
 led_more s c mid [] i l j = (subst (λ x. JudgesItem s x i None) (sym l) j, ap (λ x. after x i) l)
 led_more s c mid (k ∷ items) i l j = (l.0, led_more s (after c k) mid items i l.1 j)
 
@@ -45,7 +59,9 @@ whole_more d e items more i so_far going order is fits rest =
     subst P (sym (due_has_next d i going order)) (subst Q is rest) in
     subst AreCertificate (sym (append_assoc items (i ∷ []) more)) (so_far (i ∷ more) (fits, due))
 
-pub read_more : (start c : Cursor) (d e : DueItem) (next : Cursor) (items later : List Item) (i : Item) → ((more : List Item) → AreRead d c more → AreRead Head start (items ++ more)) → item_at d c ≡ Ok (i, next) → ¬ (d ≡ Done) → e ≡ due_behind d i → AreRead e next later
+pub read_more : (start c : Cursor) (d e : DueItem) (next : Cursor) (items later : List Item)
+    (i : Item) → ((more : List Item) → AreRead d c more → AreRead Head start (items ++ more))
+    → item_at d c ≡ Ok (i, next) → ¬ (d ≡ Done) → e ≡ due_behind d i → AreRead e next later
     → AreRead Head start ((items ++ i ∷ []) ++ later)
 read_more start c d e next items later i so_far read going is rest =
     subst (AreRead Head start) (sym (append_assoc items (i ∷ []) later))

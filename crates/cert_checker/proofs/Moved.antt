@@ -1,4 +1,5 @@
--- What is said of an assignment over one list of nodes is said over another in which the first n have the same values.
+-- What is said of an assignment over one list of nodes is said over another in which the first n
+-- have the same values.
 use Rattle.std.proofs.Common.{◌≡◌, ◌<◌, ℕ, zero, suc, List, [], ◌∷◌, Option, Some, sym, subst, ◌∙◌}
 use Rattle.std.specs.Prelude.{slice_get}
 use Rattle.std.specs.Option.{IsSomeAnd}
@@ -33,10 +34,12 @@ pub turned : (n : ℕ) (ns ms : List Node) (a : Assignment) → AreSame n ns ms 
 turned n ns ms a e x l = sym (e x l)
 
 module _ (n : ℕ) (ns ms : List Node) (a : Assignment) (same : AreSame n ns ms a) where
-  one : (x : ExprId) (P : Fraction → Type 0) → x.0 < n → IsSomeAnd (value ns a x) P → IsSomeAnd (value ms a x) P
+  one : (x : ExprId) (P : Fraction → Type 0) → x.0 < n → IsSomeAnd (value ns a x) P
+      → IsSomeAnd (value ms a x) P
   one x P l h = subst (λ o. IsSomeAnd o P) (same x l) h
 
-  both : (x y : ExprId) (P : Fraction → Fraction → Type 0) → x.0 < n → y.0 < n → OfBoth ns a x y P → OfBoth ms a x y P
+  both : (x y : ExprId) (P : Fraction → Fraction → Type 0) → x.0 < n → y.0 < n
+      → OfBoth ns a x y P → OfBoth ms a x y P
   both x y P l k h =
       let Q : Option Fraction → Type 0 = λ o. IsSomeAnd o (λ v. IsSomeAnd (value ms a y) (P v)) in
       let R : Option Fraction → Type 0 = λ o. IsSomeAnd (value ns a x) (λ v. IsSomeAnd o (P v)) in
@@ -50,17 +53,22 @@ module _ (n : ℕ) (ns ms : List Node) (a : Assignment) (same : AreSame n ns ms 
   fact_moved (fact.Nzr x) l h = one x _ l h
   fact_moved fact.Void l h = h
 
-  pub facts_moved : (facts : List Fact) → AllByRecursion (λ (f : Fact). SlotIsAmong n (slot_of f)) facts → AllByRecursion (Holds ns a) facts → AllByRecursion (Holds ms a) facts
+  pub facts_moved : (facts : List Fact)
+      → AllByRecursion (λ (f : Fact). SlotIsAmong n (slot_of f)) facts
+      → AllByRecursion (Holds ns a) facts → AllByRecursion (Holds ms a) facts
   facts_moved [] l h = tt
   facts_moved (f ∷ facts) l h = (fact_moved f l.0 h.0, facts_moved facts l.1 h.1)
 
-  pub needs_moved : (needs : List Need) → AllByRecursion (NeedIsAmong n) needs → AllByRecursion (IsMet ns a) needs → AllByRecursion (IsMet ms a) needs
+  pub needs_moved : (needs : List Need) → AllByRecursion (NeedIsAmong n) needs
+      → AllByRecursion (IsMet ns a) needs → AllByRecursion (IsMet ms a) needs
   needs_moved [] l h = tt
   needs_moved (NotZero x ∷ needs) l h = (one x _ l.0 h.0, needs_moved needs l.1 h.1)
   needs_moved (Below x end apart ∷ needs) l h = (one x _ l.0 h.0, needs_moved needs l.1 h.1)
   needs_moved (Above x end apart ∷ needs) l h = (one x _ l.0 h.0, needs_moved needs l.1 h.1)
 
-  pub nonzero_moved : (divisors : List ExprId) → AllByRecursion (λ (d : ExprId). d.0 < n) divisors → AllByRecursion (λ d. Holds ns a (fact.Nzr d)) divisors → AllByRecursion (λ d. Holds ms a (fact.Nzr d)) divisors
+  pub nonzero_moved : (divisors : List ExprId) → AllByRecursion (λ (d : ExprId). d.0 < n) divisors
+      → AllByRecursion (λ d. Holds ns a (fact.Nzr d)) divisors
+      → AllByRecursion (λ d. Holds ms a (fact.Nzr d)) divisors
   nonzero_moved [] l h = tt
   nonzero_moved (d ∷ divisors) l h = (one d _ l.0 h.0, nonzero_moved divisors l.1 h.1)
 
@@ -87,9 +95,12 @@ module _ (n : ℕ) (ns ms : List Node) (a : Assignment) (same : AreSame n ns ms 
     holds = fact_moved h.fact (subst (SlotIsAmong n) (sym h.settles.0) named) h.holds;
   }
 
-  pub lines_moved : (goals : List Goal) (lines : List Line) → AllByRecursion (λ (g : Goal). SlotIsAmong n g.of) goals → LinesHold ns a goals lines → LinesHold ms a goals lines
+  pub lines_moved : (goals : List Goal) (lines : List Line)
+      → AllByRecursion (λ (g : Goal). SlotIsAmong n g.of) goals → LinesHold ns a goals lines
+      → LinesHold ms a goals lines
   lines_moved [] [] l h = tt
-  lines_moved (g ∷ goals) (line ∷ lines) l h = (goal_moved g line l.0 h.0, lines_moved goals lines l.1 h.1)
+  lines_moved (g ∷ goals) (line ∷ lines) l h =
+      (goal_moved g line l.0 h.0, lines_moved goals lines l.1 h.1)
   lines_moved [] (line ∷ lines) l h = absurd h
   lines_moved (g ∷ goals) [] l h = absurd h
 
@@ -97,12 +108,15 @@ module _ (n : ℕ) (ns ms : List Node) (a : Assignment) (same : AreSame n ns ms 
   row_moved : (row : HintRow) → RowIsAmong n row → RowIsTrue ns a row → RowIsTrue ms a row
   row_moved row l h z m v r =
       let back = turned n ns ms a same in
-      sym (same row.left l.left) ∙ h (nonzero_moved n ms ns a back row.divisors l.divisors z) (needs_moved n ms ns a back row.needs l.needs m) v (same row.right l.right ∙ r)
+      sym (same row.left l.left) ∙ h (nonzero_moved n ms ns a back row.divisors l.divisors z)
+      (needs_moved n ms ns a back row.needs l.needs m) v (same row.right l.right ∙ r)
 
-  row_at : (hints : List HintRow) (k : ℕ) (row : HintRow) → AllByRecursion (RowIsAmong n) hints → slice_get hints k ≡ Some row → RowIsAmong n row
+  row_at : (hints : List HintRow) (k : ℕ) (row : HintRow) → AllByRecursion (RowIsAmong n) hints
+      → slice_get hints k ≡ Some row → RowIsAmong n row
   row_at [] k row l e = cc
   row_at (r ∷ hints) zero row l e = let q : r ≡ row = cc in subst (RowIsAmong n) q l.0
   row_at (r ∷ hints) (suc k) row l e = row_at hints k row l.1 e
 
-  pub rows_moved : (hints : List HintRow) → AllByRecursion (RowIsAmong n) hints → RowsAreTrue ns a hints → RowsAreTrue ms a hints
+  pub rows_moved : (hints : List HintRow) → AllByRecursion (RowIsAmong n) hints
+      → RowsAreTrue ns a hints → RowsAreTrue ms a hints
   rows_moved hints l h k row e = row_moved row (row_at hints k row l e) (h k row e)

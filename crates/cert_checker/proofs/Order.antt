@@ -1,27 +1,34 @@
 -- Items that are due, and what is due behind them.
-use Rattle.std.proofs.Common.{◌≡◌, ◌⊎◌, ◌-◌, ◌+◌, ◌==◌, ℕ, zero, suc, Bool, true, false, List, [], ◌∷◌, length, Option, Some, None, refl, sym, subst, ◌∙◌, arith, inl, inr, ⊎_elim}
+use Rattle.std.proofs.Common.{◌≡◌, ◌⊎◌, ◌-◌, ◌+◌, ◌==◌, ℕ, zero, suc, Bool, true, false, List, []}
+use Rattle.std.proofs.Common.{◌∷◌, length, Option, Some, None, refl, sym, subst, ◌∙◌, arith, inl}
+use Rattle.std.proofs.Common.{inr, ⊎_elim}
 use Rattle.std.specs.Prelude.{⊤, if◌then◌else◌}
 use Rattle.cert_bytes.specs.declared.item.Item.{Item}
 use Rattle.cert_bytes.specs.declared.item.Item.TheVariants as item
 use Rattle.cert_bytes.specs.declared.order.DueItem.{DueItem}
 use Rattle.cert_bytes.specs.declared.order.DueItem.TheVariants.{Head, Nodes, Marks, Sections, Done}
 use Rattle.cert_bytes.specs.Certificates.{AreDue}
-use Rattle.cert_bytes.specs.Due.{due_after, due_behind, split_into, is_nodes, is_node, is_marks, is_mark, is_of_section, is_of_root, is_end, is_due, IsOfSection, IsOfRoot}
+use Rattle.cert_bytes.specs.Due.{due_after, due_behind, split_into, is_nodes, is_node, is_marks}
+use Rattle.cert_bytes.specs.Due.{is_mark, is_of_section, is_of_root, is_end, is_due, IsOfSection}
+use Rattle.cert_bytes.specs.Due.{IsOfRoot}
 use Rattle.cert_checker.specs.Accepted.{AreInOrder}
 use Rattle.cert_checker.proofs.ReadItems.{IsNext, first_of_root, of_section, a_node, a_mark}
 
 -- ---- an item that is due has its next
 
 -- which of the two holds
-chosen : (b x y : Bool) → (if b then x else y) ≡ true → ((b ≡ true) × (x ≡ true)) ⊎ ((b ≡ false) × (y ≡ true))
+chosen : (b x y : Bool) → (if b then x else y) ≡ true
+    → ((b ≡ true) × (x ≡ true)) ⊎ ((b ≡ false) × (y ≡ true))
 chosen true x y e = inl (refl, e)
 chosen false x y e = inr (refl, e)
 
 at_zero : (x y : Bool) → (if 0 == 0 then x else y) ≡ true → x ≡ true
-at_zero x y e = ⊎_elim (λ h. h.1) (λ h. let z : (0 == 0) ≡ true = grind arith in let q : true ≡ false = sym z ∙ h.0 in cc) (chosen (0 == 0) x y e)
+at_zero x y e = ⊎_elim (λ h. h.1) (λ h. let z : (0 == 0) ≡ true = grind arith in
+    let q : true ≡ false = sym z ∙ h.0 in cc) (chosen (0 == 0) x y e)
 
 past_zero : (n : ℕ) (x y : Bool) → (if suc n == 0 then x else y) ≡ true → y ≡ true
-past_zero n x y e = ⊎_elim (λ h. let z : (suc n == 0) ≡ false = grind arith in let q : false ≡ true = sym z ∙ h.0 in cc) (λ h. h.1) (chosen (suc n == 0) x y e)
+past_zero n x y e = ⊎_elim (λ h. let z : (suc n == 0) ≡ false = grind arith in
+    let q : false ≡ true = sym z ∙ h.0 in cc) (λ h. h.1) (chosen (suc n == 0) x y e)
 
 in_section : (i : Item) → is_of_section i ≡ true → IsOfSection i
 in_section (item.Step s) e = tt
@@ -114,7 +121,8 @@ due_has_next (Nodes (suc k)) i n e = by_node k i (past_zero k (is_marks i) (is_n
 due_has_next (Marks zero) i n e = first_of_root i (in_root i (at_zero (is_of_root i) (is_mark i) e))
 due_has_next (Marks (suc k)) i n e = by_mark k i (past_zero k (is_of_root i) (is_mark i) e)
 due_has_next (Sections zero) i n e = by_end i (at_zero (is_end i) (is_of_section i) e)
-due_has_next (Sections (suc w)) i n e = of_section w i (in_section i (past_zero w (is_end i) (is_of_section i) e))
+due_has_next (Sections (suc w)) i n e =
+    of_section w i (in_section i (past_zero w (is_end i) (is_of_section i) e))
 due_has_next Done i n e = absurd (n refl)
 
 -- ---- which items leave nothing due
@@ -151,7 +159,8 @@ done_by_end (Nodes k) (item.Nodes n) e f = absurd (not_done (Nodes k) tt f)
 done_by_end (Marks k) (item.Nodes n) e f = absurd (not_done (Marks k) tt f)
 done_by_end (Sections k) (item.Nodes n) e f = absurd (not_done (Sections k) tt f)
 done_by_end Head (item.Node n) e f = absurd (not_done Head tt f)
-done_by_end (Nodes k) (item.Node n) e f = absurd (neither (k == 0) (Nodes k) (Nodes (k - 1)) tt tt f)
+done_by_end (Nodes k) (item.Node n) e f =
+    absurd (neither (k == 0) (Nodes k) (Nodes (k - 1)) tt tt f)
 done_by_end (Marks k) (item.Node n) e f = absurd (not_done (Marks k) tt f)
 done_by_end (Sections k) (item.Node n) e f = absurd (not_done (Sections k) tt f)
 done_by_end Head (item.Marks n) e f = absurd (not_done Head tt f)
@@ -160,7 +169,8 @@ done_by_end (Marks k) (item.Marks n) e f = absurd (not_done (Marks k) tt f)
 done_by_end (Sections k) (item.Marks n) e f = absurd (not_done (Sections k) tt f)
 done_by_end Head (item.Mark n) e f = absurd (not_done Head tt f)
 done_by_end (Nodes k) (item.Mark n) e f = absurd (not_done (Nodes k) tt f)
-done_by_end (Marks k) (item.Mark n) e f = absurd (neither (k == 0) (Marks k) (Marks (k - 1)) tt tt f)
+done_by_end (Marks k) (item.Mark n) e f =
+    absurd (neither (k == 0) (Marks k) (Marks (k - 1)) tt tt f)
 done_by_end (Sections k) (item.Mark n) e f = absurd (not_done (Sections k) tt f)
 done_by_end Done i e f = absurd (e refl)
 
@@ -168,7 +178,8 @@ never : (b : Bool) → ¬ ((if b then false else false) ≡ true)
 never true e = cc
 never false e = cc
 
-done_where : (b : Bool) (d : DueItem) → (if b then true else false) ≡ true → (if b then Done else d) ≡ Done
+done_where : (b : Bool) (d : DueItem) → (if b then true else false) ≡ true
+    → (if b then Done else d) ≡ Done
 done_where true d e = refl
 done_where false d e = cc
 

@@ -1,5 +1,6 @@
 -- What an item that nothing is wrong with makes of the context.
-use Rattle.std.specs.Prelude.{◌≤◌, ◌+◌, ◌||◌, ℕ, Bool, false, List, [], ◌∷◌, ◌++◌, length, take, nat_lt, if◌then◌else◌, Option, Some, None}
+use Rattle.std.specs.Prelude.{◌≤◌, ◌+◌, ◌||◌, ℕ, Bool, false, List, [], ◌∷◌, ◌++◌, length, take}
+use Rattle.std.specs.Prelude.{nat_lt, if◌then◌else◌, Option, Some, None}
 use Rattle.goals.specs.facts.declared.fact.Fact.{Fact}
 use Rattle.fx_model.specs.declared.ExprId.{ExprId}
 use Rattle.goals.specs.dyadic.declared.number.Dyadic.{Dyadic}

@@ -1,5 +1,6 @@
 -- What items are judged against: the script, and the items before.
-use Rattle.std.specs.Prelude.{◌-◌, ◌==◌, ℕ, Bool, false, List, [], ◌∷◌, length, map, if◌then◌else◌, Option, None}
+use Rattle.std.specs.Prelude.{◌-◌, ◌==◌, ℕ, Bool, false, List, [], ◌∷◌, length, map, if◌then◌else◌}
+use Rattle.std.specs.Prelude.{Option, None}
 use Rattle.fx_model.specs.declared.Node.{Node}
 use Rattle.goals.specs.dyadic.declared.number.Dyadic.{Dyadic}
 use Rattle.goals.specs.dyadic.declared.number.End.{End}

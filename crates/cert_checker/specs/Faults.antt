@@ -1,5 +1,6 @@
 -- How items are judged.
-use Rattle.std.specs.Prelude.{◌≡◌, ◌<◌, ◌≤◌, ◌+◌, ⊤, true, false, ℕ, zero, suc, min, List, [], ◌∷◌, length, slice_get, Option, Some, None, Result, Ok, Err}
+use Rattle.std.specs.Prelude.{◌≡◌, ◌<◌, ◌≤◌, ◌+◌, ⊤, true, false, ℕ, zero, suc, min, List, [], ◌∷◌}
+use Rattle.std.specs.Prelude.{length, slice_get, Option, Some, None, Result, Ok, Err}
 use Rattle.fx_model.specs.Expression.{ChildrenBelow}
 use Rattle.fx_model.specs.declared.ExprId.{ExprId}
 use Rattle.fx_model.specs.declared.Node.{Node}
@@ -14,7 +15,10 @@ use Rattle.cert_bytes.specs.Due.{is_of_root}
 use Rattle.goals.specs.declared.goal.Goal.{Goal}
 use Rattle.goals.specs.Settles.{Settles}
 use Rattle.cert_checker.specs.declared.fault.CheckFault.{CheckFault}
-use Rattle.cert_checker.specs.declared.fault.CheckFault.TheVariants.{BadStep, BadPremise, BadCut, GoalMissing, HintMark as HintFault, WrongScript, BadNode, BadCases}
+use Rattle.cert_checker.specs.declared.fault.CheckFault.TheVariants.{BadStep, BadPremise, BadCut}
+use Rattle.cert_checker.specs.declared.fault.CheckFault.TheVariants.{GoalMissing}
+use Rattle.cert_checker.specs.declared.fault.CheckFault.TheVariants.{HintMark as HintFault}
+use Rattle.cert_checker.specs.declared.fault.CheckFault.TheVariants.{WrongScript, BadNode, BadCases}
 use Rattle.cert_checker.specs.declared.open.Citable.{Citable}
 use Rattle.cert_checker.specs.Contexts.{Context}
 use Rattle.cert_checker.specs.declared.subject.Subject.{Subject}

@@ -4,7 +4,8 @@ ghost use Rattle.cert_bytes.specs.expr_dag.Nodes.{IsInLimits};
 ghost use Rattle.cert_bytes.specs.declared.item.Item.TheVariants as item;
 ghost use Rattle.cert_bytes.specs.Certificates.{HasSpelling};
 ghost use Rattle.cert_checker.specs.Faults.{IsJudged, JudgesContent, HasCases, cases_told};
-ghost use Rattle.cert_checker.specs.Standing.{Standing, begun, ChangesByContent, Changes, Takes, HasRoom, left};
+ghost use Rattle.cert_checker.specs.Standing.{Standing, begun, ChangesByContent, Changes, Takes};
+ghost use Rattle.cert_checker.specs.Standing.{HasRoom, left};
 ghost use Rattle.cert_bytes.specs.Due.{is_of_root, is_end};
 
 use crate::cuts::Cuts;

@@ -1,5 +1,6 @@
 //! Whether a step is concluded.
-ghost use Rattle.std.specs.Prelude.{◌≡◌, ◌↔◌, IsTrue, Some, None, MatchOption, Option, IfOk, length};
+ghost use Rattle.std.specs.Prelude.{◌≡◌, ◌↔◌, IsTrue, Some, None, MatchOption, Option, IfOk};
+ghost use Rattle.std.specs.Prelude.{length};
 ghost use Rattle.fx_model.specs.declared.Node.{Node};
 ghost use Rattle.goals.specs.facts.declared.fact.Fact.TheVariants as fact_of;
 ghost use Rattle.cert_checker.specs.Contexts.{open_piece};

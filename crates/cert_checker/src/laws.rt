@@ -1,7 +1,8 @@
 //! What acceptance promises, for callers to cite. Nothing here is done at run time.
 ghost use Rattle.cert_checker.specs.Accepted.{HaveEachRoot};
 ghost use Rattle.cert_checker.specs.Met.{HoldsOverCertificates, AcceptedHolds, InOrderHolds};
-ghost use Rattle.cert_checker.specs.Outcomes.{ComesOnce, CheckedHolds, AcceptedAreSpelled, SpelledAreAccepted};
+ghost use Rattle.cert_checker.specs.Outcomes.{ComesOnce, CheckedHolds, AcceptedAreSpelled};
+ghost use Rattle.cert_checker.specs.Outcomes.{SpelledAreAccepted};
 ghost use Rattle.cert_checker.specs.Once.{JudgedOnce, LeadsOnce, LeadsOrFails, FailsOnce};
 
 use cert_bytes::{certificates_are_spelled_once, values_stay};

@@ -7,7 +7,8 @@ ghost use Rattle.whole_texts.specs.Pieces.{AppendsFront, PassesOn, HoldsAll, Hol
 ghost use Rattle.cert_bytes.specs.Certificates.{HasSpelling};
 ghost use Rattle.cert_rewriting.specs.Causes.{HasWriteCause};
 ghost use Rattle.cert_bytes.specs.Spelling.{certificate_of};
-ghost use Rattle.cert_rewriting.specs.declared.writing.WriteStop.TheVariants.{Failed as FailedStop, OutOfMemory};
+ghost use Rattle.cert_rewriting.specs.declared.writing.WriteStop.TheVariants.{Failed as FailedStop};
+ghost use Rattle.cert_rewriting.specs.declared.writing.WriteStop.TheVariants.{OutOfMemory};
 
 use cert_bytes::{Item, Seen, write_item2};
 use fx_edge::{Failed, Folder};

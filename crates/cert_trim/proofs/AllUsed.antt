@@ -1,16 +1,21 @@
 -- Each step that is left is used: what is used of the items that are left is what was used, by new
 -- numbers.
-use Rattle.std.proofs.Common.{◌≡◌, ◌<◌, ◌+◌, ◌==◌, ℕ, zero, suc, Bool, true, false, List, [], ◌∷◌, ◌++◌, map, Option, Some, None, refl, sym, ap, subst, ◌∙◌, arith, ⊎_elim}
+use Rattle.std.proofs.Common.{◌≡◌, ◌<◌, ◌+◌, ◌==◌, ℕ, zero, suc, Bool, true, false, List, [], ◌∷◌}
+use Rattle.std.proofs.Common.{◌++◌, map, Option, Some, None, refl, sym, ap, subst, ◌∙◌, arith}
+use Rattle.std.proofs.Common.{⊎_elim}
 use Rattle.std.specs.Prelude.{◌||◌, if◌then◌else◌}
 use Rattle.std.specs.Option.{option_map}
 use Rattle.std.proofs.lemmas.Bool.{cases_lt}
 use Rattle.cert_bytes.specs.declared.item.StepRow.{StepRow}
 use Rattle.cert_bytes.specs.declared.item.Item.{Item}
 use Rattle.cert_bytes.specs.declared.item.Item.TheVariants as item
-use Rattle.cert_trim.specs.Trimmed.{new_number, number_behind_all, step_count, moved_row, if_used, trimmed_by}
-use Rattle.cert_trim.specs.Used.{CiteEarlier, AreAllUsed, and_more, cited, is_among, used_from, trimmed}
+use Rattle.cert_trim.specs.Trimmed.{new_number, number_behind_all, step_count, moved_row, if_used}
+use Rattle.cert_trim.specs.Trimmed.{trimmed_by}
+use Rattle.cert_trim.specs.Used.{CiteEarlier, AreAllUsed, and_more, cited, is_among, used_from}
+use Rattle.cert_trim.specs.Used.{trimmed}
 use Rattle.cert_trim.proofs.Numbers.{equals, on_both, next_of_used, next_of_unused}
-use Rattle.cert_trim.proofs.Enough.{Tells, Stays, tells_later, stays_later, tells_behind, stays_behind, among_right, or_right}
+use Rattle.cert_trim.proofs.Enough.{Tells, Stays, tells_later, stays_later, tells_behind}
+use Rattle.cert_trim.proofs.Enough.{stays_behind, among_right, or_right}
 
 -- ---- images
 

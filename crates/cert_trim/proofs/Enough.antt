@@ -1,6 +1,8 @@
 -- Items with which nothing is wrong cite earlier steps alone. Where items do, the used steps are
 -- enough, and each step that is left is used.
-use Rattle.std.proofs.Common.{◌≡◌, ◌≤◌, ◌<◌, ◌+◌, ◌==◌, ℕ, zero, suc, Bool, true, false, List, [], ◌∷◌, ◌++◌, take, Option, Some, None, refl, sym, ap, subst, ◌∙◌, arith, eqb-true}
+use Rattle.std.proofs.Common.{◌≡◌, ◌≤◌, ◌<◌, ◌+◌, ◌==◌, ℕ, zero, suc, Bool, true, false, List, []}
+use Rattle.std.proofs.Common.{◌∷◌, ◌++◌, take, Option, Some, None, refl, sym, ap, subst, ◌∙◌, arith}
+use Rattle.std.proofs.Common.{eqb-true}
 use Rattle.std.specs.Prelude.{◌||◌, if◌then◌else◌}
 use Rattle.std.specs.List.{AllByRecursion}
 use Rattle.cert_checker.specs.facts.declared.fact.Fact.{Fact}
@@ -15,7 +17,8 @@ use Rattle.cert_checker.specs.Steps.{step_fact, step_facts, before, IsMetWith}
 use Rattle.cert_checker.specs.After.{after, around_of, cuts_behind}
 use Rattle.cert_checker.specs.Faults.{AreSettled}
 use Rattle.cert_checker.specs.Accepted.{LeadsTo}
-use Rattle.cert_trim.specs.Used.{AllBelow, CiteEarlier, and_more, cited, is_among, used_from, AreUsed, AreEnough}
+use Rattle.cert_trim.specs.Used.{AllBelow, CiteEarlier, and_more, cited, is_among, used_from}
+use Rattle.cert_trim.specs.Used.{AreUsed, AreEnough}
 use Rattle.cert_trim.proofs.Numbers.{equals, differs}
 
 -- ---- members

@@ -1,5 +1,6 @@
 -- A section that isn't cut, without its unused steps.
-use Rattle.std.proofs.Common.{◌≡◌, ◌≤◌, ◌<◌, ◌+◌, ℕ, Bool, true, false, List, [], ◌∷◌, ◌++◌, length, take, map, refl, sym, ap, subst, ◌∙◌, append-nil, arith}
+use Rattle.std.proofs.Common.{◌≡◌, ◌≤◌, ◌<◌, ◌+◌, ℕ, Bool, true, false, List, [], ◌∷◌, ◌++◌, length}
+use Rattle.std.proofs.Common.{take, map, refl, sym, ap, subst, ◌∙◌, append-nil, arith}
 use Rattle.std.specs.List.{AllByRecursion}
 use Rattle.std.proofs.lemmas.List.{take-append-le, length-append}
 use Rattle.cert_bytes.specs.declared.item.StepRow.{StepRow}
@@ -13,9 +14,11 @@ use Rattle.cert_checker.specs.After.{after, around_of, cuts_behind}
 use Rattle.cert_checker.specs.Accepted.{LeadsTo}
 use Rattle.cert_trim.specs.Trimmed.{new_number, number_behind_all, moved_row, if_used, trimmed_by}
 use Rattle.cert_trim.specs.Used.{cited, AreUsed, AreEnough}
-use Rattle.cert_trim.specs.Behind.{stays_behind, trimmed_behind, section_of, with_next, IsLeafOrDead, LeavesAreTrimmed}
+use Rattle.cert_trim.specs.Behind.{stays_behind, trimmed_behind, section_of, with_next}
+use Rattle.cert_trim.specs.Behind.{IsLeafOrDead, LeavesAreTrimmed}
 use Rattle.cert_trim.proofs.Numbers.{on_both, next_of_used, next_of_unused}
-use Rattle.cert_trim.proofs.Kept.{kept, if_kept, renumbered, kept_append, found_again, concluded_again, settled_again, shown_again}
+use Rattle.cert_trim.proofs.Kept.{kept, if_kept, renumbered, kept_append, found_again}
+use Rattle.cert_trim.proofs.Kept.{concluded_again, settled_again, shown_again}
 use Rattle.cert_trim.proofs.Enough.{cite_earlier}
 use Rattle.cert_trim.proofs.AllUsed.{left_count}
 use Rattle.cert_trim.proofs.Trims.{image, made}

@@ -1,5 +1,6 @@
 -- The items that are left are in order, and have spellings.
-use Rattle.std.proofs.Common.{◌≡◌, ◌≤◌, ◌+◌, ℕ, zero, suc, Bool, true, false, List, [], ◌∷◌, ◌++◌, map, Option, Some, None, refl, sym, subst, append-nil, arith}
+use Rattle.std.proofs.Common.{◌≡◌, ◌≤◌, ◌+◌, ℕ, zero, suc, Bool, true, false, List, [], ◌∷◌, ◌++◌}
+use Rattle.std.proofs.Common.{map, Option, Some, None, refl, sym, subst, append-nil, arith}
 use Rattle.std.specs.Prelude.{IfSome, if◌then◌else◌}
 use Rattle.std.specs.Option.{option_map}
 use Rattle.std.specs.List.{AllByRecursion}
@@ -10,7 +11,8 @@ use Rattle.cert_bytes.specs.declared.item.Item.TheVariants as item
 use Rattle.cert_bytes.specs.declared.order.DueItem.{DueItem}
 use Rattle.cert_bytes.specs.declared.order.DueItem.TheVariants.{Head, Nodes, Marks, Sections, Done}
 use Rattle.cert_bytes.specs.Due.{due_after}
-use Rattle.cert_bytes.specs.Certificates.{IsCounted, IsLong, HasRoomFor, HasSpelling, Fits, AreDue, AreCertificate}
+use Rattle.cert_bytes.specs.Certificates.{IsCounted, IsLong, HasRoomFor, HasSpelling, Fits, AreDue}
+use Rattle.cert_bytes.specs.Certificates.{AreCertificate}
 use Rattle.cert_checker.specs.Accepted.{AreInOrder}
 use Rattle.cert_trim.specs.Trimmed.{new_number, moved_row, if_used, trimmed_by}
 use Rattle.cert_trim.specs.Behind.{CertificatesStaySo}

@@ -1,12 +1,14 @@
 -- Steps and their numbers from start on.
-use Rattle.std.proofs.Common.{◌≡◌, ◌≤◌, ◌<◌, ◌+◌, ◌-◌, ℕ, zero, suc, Bool, true, List, length, refl, sym, ap, subst, ◌∙◌, arith, ⊎_elim}
+use Rattle.std.proofs.Common.{◌≡◌, ◌≤◌, ◌<◌, ◌+◌, ◌-◌, ℕ, zero, suc, Bool, true, List, length, refl}
+use Rattle.std.proofs.Common.{sym, ap, subst, ◌∙◌, arith, ⊎_elim}
 use Rattle.std.specs.Prelude.{◌||◌, nat_lt, if◌then◌else◌}
 use Rattle.std.proofs.lemmas.Bool.{cases_lt, lt-ltb, le-ltb}
 use Rattle.cert_bytes.specs.declared.item.Item.{Item}
 use Rattle.cert_bytes.specs.declared.item.Item.TheVariants as item
 use Rattle.cert_trim.specs.Trimmed.{new_number}
 use Rattle.cert_trim.specs.Used.{CiteEarlier, is_among, used_from, AreEnough}
-use Rattle.cert_trim.specs.Flags.{flag_at, number_at, number_of, AreFlags, AreNumbers, stays, stays_by}
+use Rattle.cert_trim.specs.Flags.{flag_at, number_at, number_of, AreFlags, AreNumbers, stays}
+use Rattle.cert_trim.specs.Flags.{stays_by}
 use Rattle.cert_trim.specs.Behind.{stays_behind}
 use Rattle.cert_trim.proofs.Numbers.{on_both, next_suc}
 use Rattle.cert_trim.proofs.Enough.{enough, or_right}

@@ -1,5 +1,6 @@
 -- Items with which nothing is wrong, without the steps that no other item cites.
-use Rattle.std.proofs.Common.{◌≡◌, inl, ◌<◌, ◌+◌, ℕ, Bool, true, false, List, [], ◌∷◌, ◌++◌, length, take, Some, refl, sym, ap, subst, ◌∙◌, append-nil}
+use Rattle.std.proofs.Common.{◌≡◌, inl, ◌<◌, ◌+◌, ℕ, Bool, true, false, List, [], ◌∷◌, ◌++◌, length}
+use Rattle.std.proofs.Common.{take, Some, refl, sym, ap, subst, ◌∙◌, append-nil}
 use Rattle.cert_bytes.specs.declared.item.StepRow.{StepRow}
 use Rattle.cert_bytes.specs.declared.item.Item.{Item}
 use Rattle.cert_bytes.specs.declared.item.Item.TheVariants as item
@@ -17,9 +18,12 @@ use Rattle.cert_trim.specs.Trimmed.{new_number, moved_row, if_used, trimmed_by}
 use Rattle.cert_trim.specs.Used.{cited, AreUsed, AreEnough}
 use Rattle.cert_trim.specs.Law.{TrimmedAreAccepted}
 use Rattle.cert_trim.proofs.Numbers.{on_both, next_of_used, next_of_unused}
-use Rattle.cert_trim.proofs.Kept.{kept, if_kept, renumbered, kept_append, found_again, concluded_again, settled_again, shown_again}
-use Rattle.cert_trim.proofs.CasesFirst.{CasesFirst, Begins, cases_first, still_one, still_told, goes_first}
-use Rattle.cert_trim.proofs.Cuts.{AreLike, like_depth, like_case, like_piece, like_grown, like_behind, like_cut}
+use Rattle.cert_trim.proofs.Kept.{kept, if_kept, renumbered, kept_append, found_again}
+use Rattle.cert_trim.proofs.Kept.{concluded_again, settled_again, shown_again}
+use Rattle.cert_trim.proofs.CasesFirst.{CasesFirst, Begins, cases_first, still_one, still_told}
+use Rattle.cert_trim.proofs.CasesFirst.{goes_first}
+use Rattle.cert_trim.proofs.Cuts.{AreLike, like_depth, like_case, like_piece, like_grown}
+use Rattle.cert_trim.proofs.Cuts.{like_behind, like_cut}
 
 -- the context of the items without unused steps: what is told of the sections' begin may come
 -- later,

@@ -1,6 +1,7 @@
 //! What trimming promises, for callers to cite. Nothing here is done at run time.
 ghost use Rattle.cert_trim.specs.Behind.{LeavesAreTrimmed, CertificatesStaySo, AreFewer};
-ghost use Rattle.cert_trim.specs.Law.{TrimmedAreAccepted, AcceptsTrimmed, AllLeftAreUsed, LedCiteEarlier, SpelledStaySo};
+ghost use Rattle.cert_trim.specs.Law.{TrimmedAreAccepted, AcceptsTrimmed, AllLeftAreUsed};
+ghost use Rattle.cert_trim.specs.Law.{LedCiteEarlier, SpelledStaySo};
 
 /// Nothing is done. The clauses tell a caller that items with which nothing is wrong have nothing
 /// wrong without steps that no other item cites, and lead to the same lines; that they cite earlier

@@ -1,6 +1,7 @@
 //! The items that are left.
 ghost use Rattle.std.specs.Prelude.{◌≡◌, ◌<◌, ◌≤◌, ◌+◌, length, map, IfOk};
-ghost use Rattle.cert_trim.specs.Flags.{flag_at, stays_by, number_of, renumbered, renumbered_row, stays, AreNumbers};
+ghost use Rattle.cert_trim.specs.Flags.{flag_at, stays_by, number_of, renumbered, renumbered_row};
+ghost use Rattle.cert_trim.specs.Flags.{stays, AreNumbers};
 ghost use Rattle.cert_trim.specs.Trimmed.{step_count, trimmed_by};
 ghost use Rattle.cert_trim.specs.Used.{AllBelow, CiteEarlier, cited, cited_by};
 

@@ -27,7 +27,8 @@ begun_more items i d e b n f more a =
     subst (λ (x : Option DueItem). AreDue x more) (sym n) a in
     subst AreCertificate (sym (append_assoc items (i ∷ []) more)) (b (i ∷ more) (f, due))
 
-pub begun_all : (items : List Item) (d : DueItem) → AreBegun items d → d ≡ Done → AreCertificate items
+pub begun_all : (items : List Item) (d : DueItem) → AreBegun items d
+    → d ≡ Done → AreCertificate items
 begun_all items d b e = subst AreCertificate (append-nil items) (b [] e)
 
 -- ---- from each place some items lead to the end

@@ -1,5 +1,6 @@
 -- What a file took, and what it holds.
-use Rattle.std.specs.Prelude.{◌≡◌, ◌-◌, ◌++◌, ℕ, List, [], length, take, drop, Option, Some, None, Result, Ok, Err, OnErr, refl}
+use Rattle.std.specs.Prelude.{◌≡◌, ◌-◌, ◌++◌, ℕ, List, [], length, take, drop, Option, Some, None}
+use Rattle.std.specs.Prelude.{Result, Ok, Err, OnErr, refl}
 use Rattle.std.specs.Io.KnownBytes.{Appends, Keeps}
 use Rattle.std.proofs.Common.{ap, sym, ◌∙◌, append_assoc, append-nil, length-drop}
 use Rattle.std.proofs.Math.Seq.{take-length}

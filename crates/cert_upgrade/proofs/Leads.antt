@@ -15,7 +15,8 @@ same_place : (d e : DueItem) (c end : Cursor) → d ≡ e → c ≡ end → item
 same_place d e c end p q = ap (λ x. item_at x c) p ∙ ap (λ y. item_at e y) q
 
 -- one more
-pub leads_more : (d : DueItem) (c : Cursor) (items : List Item) (e : DueItem) (end : Cursor) (i : Item)
+pub leads_more : (d : DueItem) (c : Cursor) (items : List Item) (e : DueItem)
+    (end : Cursor) (i : Item)
     (next : Cursor) → LeadsTo d c items e end → item_at e end ≡ Ok (i, next) → ¬ (e ≡ Done)
     → LeadsTo d c (items ++ i ∷ []) (due_behind e i) next
 leads_more d c [] e end i next l r n = (

@@ -1,11 +1,14 @@
 -- What is due behind an item that is due.
-use Rattle.std.specs.Prelude.{◌≡◌, ◌⊎◌, ◌+◌, ◌-◌, ◌==◌, if◌then◌else◌, ℕ, zero, suc, Bool, true, false, length, Some, refl}
+use Rattle.std.specs.Prelude.{◌≡◌, ◌⊎◌, ◌+◌, ◌-◌, ◌==◌, if◌then◌else◌, ℕ, zero, suc, Bool, true}
+use Rattle.std.specs.Prelude.{false, length, Some, refl}
 use Rattle.std.proofs.Common.{sym, ◌∙◌, ap, inl, inr, ⊎_elim, arith}
 use Rattle.cert_bytes.specs.declared.item.Item.{Item}
 use Rattle.cert_bytes.specs.declared.item.Item.TheVariants as item
 use Rattle.cert_bytes.specs.declared.order.DueItem.{DueItem}
 use Rattle.cert_bytes.specs.declared.order.DueItem.TheVariants.{Head, Nodes, Marks, Sections, Done}
-use Rattle.cert_bytes.specs.Due.{due_after, due_behind, behind_node, behind_mark, split_into, is_nodes, is_node, is_marks, is_mark, is_of_section, is_of_root, is_end, is_due}
+use Rattle.cert_bytes.specs.Due.{due_after, due_behind, behind_node, behind_mark, split_into}
+use Rattle.cert_bytes.specs.Due.{is_nodes, is_node, is_marks, is_mark, is_of_section, is_of_root}
+use Rattle.cert_bytes.specs.Due.{is_end, is_due}
 
 -- the item is due there
 abbrev pub IsNext : DueItem → Item → Type 0

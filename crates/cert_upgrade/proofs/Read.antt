@@ -1,5 +1,6 @@
 -- What a reader has read, item by item.
-use Rattle.std.specs.Prelude.{◌≡◌, ◌<◌, ◌≤◌, ◌-◌, ◌+◌, ℕ, List, [], ◌∷◌, ◌++◌, Bool, true, false, Option, Some, None, Err, refl}
+use Rattle.std.specs.Prelude.{◌≡◌, ◌<◌, ◌≤◌, ◌-◌, ◌+◌, ℕ, List, [], ◌∷◌, ◌++◌, Bool, true, false}
+use Rattle.std.specs.Prelude.{Option, Some, None, Err, refl}
 use Rattle.std.proofs.Common.{sym, ◌∙◌, ap, subst, arith}
 use Rattle.cert_bytes.specs.declared.fault.CertFault.{CertFault}
 use Rattle.cert_bytes.specs.declared.item.Item.{Item}
@@ -11,9 +12,11 @@ use Rattle.cert_bytes.specs.Pieces.{cursor_of}
 use Rattle.cert_bytes.specs.ReadOut.{AreRead, HasFault, ReadsAreSpelled}
 use Rattle.cert_bytes.specs.Readers.{Progress}
 use Rattle.cert_bytes.specs.Reading.{cursor, item_at}
-use Rattle.cert_upgrade.specs.Items.{AreBegun, AreItemsFor, AreItemsOf, ItemsAreOne, LeadsFromStart, Respells}
+use Rattle.cert_upgrade.specs.Items.{AreBegun, AreItemsFor, AreItemsOf, ItemsAreOne, LeadsFromStart}
+use Rattle.cert_upgrade.specs.Items.{Respells}
 use Rattle.cert_upgrade.proofs.Begun.{begun_none, begun_more, begun_all}
-use Rattle.cert_upgrade.proofs.Leads.{leads_more, leads_to_end, leads_to_fault, read_once, read_or_fails}
+use Rattle.cert_upgrade.proofs.Leads.{leads_more, leads_to_end, leads_to_fault, read_once}
+use Rattle.cert_upgrade.proofs.Leads.{read_or_fails}
 use Rattle.cert_upgrade.proofs.Spelled.{seen_one}
 
 -- Of a name whose bytes may be told a reader has read these items, in which this was seen; it has

@@ -7,7 +7,8 @@ use Rattle.cert_bytes.specs.declared.fault.Stop.{Stop}
 use Rattle.cert_bytes.specs.declared.fault.Stop.TheVariants as cert_stop
 use Rattle.cert_bytes.specs.declared.style.Seen.{Seen}
 use Rattle.cert_upgrade.specs.declared.stop.UpgradeStop.{UpgradeStop}
-use Rattle.cert_upgrade.specs.declared.stop.UpgradeStop.TheVariants.{NewTooLong, ReadFailed, WriteFailed}
+use Rattle.cert_upgrade.specs.declared.stop.UpgradeStop.TheVariants.{NewTooLong, ReadFailed}
+use Rattle.cert_upgrade.specs.declared.stop.UpgradeStop.TheVariants.{WriteFailed}
 use Rattle.cert_upgrade.specs.Answers.{HasCauseOf, IsBroken}
 use Rattle.cert_upgrade.specs.Stops.{stop_of}
 

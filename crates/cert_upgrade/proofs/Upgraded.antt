@@ -1,5 +1,6 @@
 -- What comes of a certificate that is to be rewritten, by the steps of the call.
-use Rattle.std.specs.Prelude.{◌≡◌, ◌≤◌, ◌<◌, ◌⊎◌, ℕ, List, [], Option, Some, Result, Ok, Err, IfOk, OnErr, IsErrOf, refl}
+use Rattle.std.specs.Prelude.{◌≡◌, ◌≤◌, ◌<◌, ◌⊎◌, ℕ, List, [], Option, Some, Result, Ok, Err, IfOk}
+use Rattle.std.specs.Prelude.{OnErr, IsErrOf, refl}
 use Rattle.std.proofs.Common.{subst, inl, inr, arith}
 use Rattle.fx_edge.specs.Outside.{Empties}
 use Rattle.cert_bytes.specs.declared.fault.CertFault.{CertFault}
@@ -11,8 +12,11 @@ use Rattle.cert_bytes.specs.declared.style.Seen.{Seen}
 use Rattle.cert_bytes.specs.Certificates.{AreCertificate}
 use Rattle.cert_bytes.specs.ReadOut.{HasFault}
 use Rattle.cert_upgrade.specs.declared.stop.UpgradeStop.{UpgradeStop}
-use Rattle.cert_upgrade.specs.declared.stop.UpgradeStop.TheVariants.{Fault, NewTooLong, ReadFailed, WriteFailed, OutOfMemory}
-use Rattle.cert_upgrade.specs.Answers.{MayBecome, IsUpgraded, IsTooLong, IsBrokenOff, ComesOf, IsSomeFront, IsUnwritten, ComesOfAny, IsTaken, IsTakenInPart, IsBroken}
+use Rattle.cert_upgrade.specs.declared.stop.UpgradeStop.TheVariants.{Fault, NewTooLong, ReadFailed}
+use Rattle.cert_upgrade.specs.declared.stop.UpgradeStop.TheVariants.{WriteFailed, OutOfMemory}
+use Rattle.cert_upgrade.specs.Answers.{MayBecome, IsUpgraded, IsTooLong, IsBrokenOff, ComesOf}
+use Rattle.cert_upgrade.specs.Answers.{IsSomeFront, IsUnwritten, ComesOfAny, IsTaken, IsTakenInPart}
+use Rattle.cert_upgrade.specs.Answers.{IsBroken}
 use Rattle.cert_upgrade.specs.Items.{AreItemsOf}
 use Rattle.cert_upgrade.specs.Spelled.{most, told_length}
 use Rattle.cert_bytes.specs.Spelling.{certificate_of}

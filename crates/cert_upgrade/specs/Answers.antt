@@ -1,5 +1,6 @@
 -- What comes of a certificate that is to be rewritten.
-use Rattle.std.specs.Prelude.{◌≡◌, ◌≤◌, ◌<◌, ◌⊎◌, ⊤, ℕ, List, length, Option, Some, Result, Ok, Err, IsErrOf}
+use Rattle.std.specs.Prelude.{◌≡◌, ◌≤◌, ◌<◌, ◌⊎◌, ⊤, ℕ, List, length, Option, Some, Result, Ok, Err}
+use Rattle.std.specs.Prelude.{IsErrOf}
 use Rattle.std.specs.Io.KnownBytes.{Appends}
 use Rattle.fx_edge.specs.Outside.{Rose}
 use Rattle.cert_bytes.specs.declared.item.Item.{Item}
@@ -7,7 +8,8 @@ use Rattle.cert_bytes.specs.declared.style.Seen.{Seen}
 use Rattle.cert_bytes.specs.Certificates.{AreCertificate}
 use Rattle.cert_bytes.specs.ReadOut.{HasFault}
 use Rattle.cert_upgrade.specs.declared.stop.UpgradeStop.{UpgradeStop}
-use Rattle.cert_upgrade.specs.declared.stop.UpgradeStop.TheVariants.{Fault, NewTooLong, ReadFailed, WriteFailed, OutOfMemory}
+use Rattle.cert_upgrade.specs.declared.stop.UpgradeStop.TheVariants.{Fault, NewTooLong, ReadFailed}
+use Rattle.cert_upgrade.specs.declared.stop.UpgradeStop.TheVariants.{WriteFailed, OutOfMemory}
 use Rattle.cert_upgrade.specs.Files.{AppendsFront, Holds, HoldsFront}
 use Rattle.cert_upgrade.specs.Items.{AreItemsFor, AreItemsOf}
 use Rattle.cert_upgrade.specs.Spelled.{most}

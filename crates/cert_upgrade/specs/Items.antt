@@ -6,7 +6,8 @@ use Rattle.cert_bytes.specs.declared.order.DueItem.TheVariants.{Head, Done}
 use Rattle.cert_bytes.specs.declared.fault.CertFault.{CertFault}
 use Rattle.cert_bytes.specs.declared.style.Seen.{Seen}
 use Rattle.cert_bytes.specs.declared.style.Style.TheVariants.{First, Second}
-use Rattle.cert_bytes.specs.Certificates.{HasSpelling, Fits, AreDue, AreCertificate, SpellsCertificate}
+use Rattle.cert_bytes.specs.Certificates.{HasSpelling, Fits, AreDue, AreCertificate}
+use Rattle.cert_bytes.specs.Certificates.{SpellsCertificate}
 use Rattle.cert_bytes.specs.Due.{due_after, due_behind}
 use Rattle.cert_bytes.specs.Pieces.{cursor_of}
 use Rattle.cert_bytes.specs.ReadOut.{AreBytes, AreRead, HasFault}

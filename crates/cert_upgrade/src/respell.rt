@@ -1,5 +1,6 @@
 //! Items of a certificate, read in either version and spelled in version 2.
-ghost use Rattle.std.specs.Prelude.{◌≡◌, ◌≤◌, ◌<◌, ◌^◌, ℕ, List, Some, None, Err, IfOk, IsErrOf, false};
+ghost use Rattle.std.specs.Prelude.{◌≡◌, ◌≤◌, ◌<◌, ◌^◌, ℕ, List, Some, None, Err, IfOk, IsErrOf};
+ghost use Rattle.std.specs.Prelude.{false};
 ghost use Rattle.fx_edge.specs.Outside.{Rose};
 ghost use Rattle.cert_bytes.specs.declared.item.Item.{Item};
 ghost use Rattle.cert_bytes.specs.declared.fault.CertFault.{CertFault};

@@ -1,7 +1,8 @@
 //! A certificate, rewritten in version 2 under another name.
 ghost use Rattle.std.specs.Prelude.{◌≡◌, ◌≢◌, ℕ, List, Some, OnErr, IfOk, IsErrOf};
 ghost use Rattle.cert_bytes.specs.declared.item.Item.{Item};
-ghost use Rattle.cert_upgrade.specs.Answers.{ComesOf, ComesOfAny, HasCauseOf, IsBroken, IsTaken, IsTakenInPart};
+ghost use Rattle.cert_upgrade.specs.Answers.{ComesOf, ComesOfAny, HasCauseOf, IsBroken, IsTaken};
+ghost use Rattle.cert_upgrade.specs.Answers.{IsTakenInPart};
 ghost use Rattle.cert_upgrade.specs.Items.{AreItemsOf};
 ghost use Rattle.cert_upgrade.specs.declared.stop.UpgradeStop.TheVariants as UpgradeStop;
 

@@ -1,7 +1,8 @@
 //! Why a certificate wasn't rewritten.
 ghost use Rattle.std.specs.Prelude.{◌≡◌};
 ghost use Rattle.cert_upgrade.specs.Stops.{stop_of};
-ghost use Rattle.cert_upgrade.specs.declared.stop.UpgradeStop.TheVariants.{WriteFailed, OutOfMemory};
+ghost use Rattle.cert_upgrade.specs.declared.stop.UpgradeStop.TheVariants.{WriteFailed};
+ghost use Rattle.cert_upgrade.specs.declared.stop.UpgradeStop.TheVariants.{OutOfMemory};
 
 use cert_bytes::{CertFault, Stop};
 use fx_edge::Failed;

@@ -1,5 +1,6 @@
 -- What is so of the bytes of a box's own items.
-use Rattle.std.specs.Prelude.{◌≡◌, ◌<◌, ◌≤◌, ◌+◌, ◌-◌, ℕ, zero, suc, List, [], ◌∷◌, ◌++◌, length, Option, Some, None, refl}
+use Rattle.std.specs.Prelude.{◌≡◌, ◌<◌, ◌≤◌, ◌+◌, ◌-◌, ℕ, zero, suc, List, [], ◌∷◌, ◌++◌, length}
+use Rattle.std.specs.Prelude.{Option, Some, None, refl}
 use Rattle.std.specs.Borrow.{Bor}
 use Rattle.std.specs.List.{AllByRecursion}
 use Rattle.std.proofs.Common.{sym, ◌∙◌, ap, subst, arith}
@@ -37,16 +38,20 @@ use Rattle.cert_trim.specs.Trimmed.{number_behind_all}
 use Rattle.cert_trim.specs.Used.{CiteEarlier}
 use Rattle.cert_trim.specs.Behind.{stays_behind, trimmed_behind, IsLeafOrDead, AreFewer, section_of}
 use Rattle.cert_writer.specs.Boxes.{HasShortList, KnowsVoid, CutsAt, IsEnd, written_of}
-use Rattle.cert_writer.specs.Standing.{Target, SectionStart, IsAt, Ended, HasEnded, AreBoxSteps, inside, closed, trimmed}
-use Rattle.cert_writer.specs.Courses.{Course, IsCourse, HasBest, course, setting, below, IsBefore, IsKnownAt, AreOwnBytes}
+use Rattle.cert_writer.specs.Standing.{Target, SectionStart, IsAt, Ended, HasEnded, AreBoxSteps}
+use Rattle.cert_writer.specs.Standing.{inside, closed, trimmed}
+use Rattle.cert_writer.specs.Courses.{Course, IsCourse, HasBest, course, setting, below, IsBefore}
+use Rattle.cert_writer.specs.Courses.{IsKnownAt, AreOwnBytes}
 use Rattle.cert_writer.specs.Walks.{MayEnd, IsLast, WalkGoesOn}
 use Rattle.cert_writer.proofs.Seen.{seen_with}
 use Rattle.cert_writer.proofs.Trimmed.{seen_steps}
 use Rattle.cert_writer.proofs.Turn.{begun_front, enter, enter_at}
-use Rattle.cert_writer.proofs.Own.{OwnSteps, own_steps, closed_here, box_ends, nothing_there, first_is}
+use Rattle.cert_writer.proofs.Own.{OwnSteps, own_steps, closed_here, box_ends, nothing_there}
+use Rattle.cert_writer.proofs.Own.{first_is}
 use Rattle.cert_writer.proofs.Node.{node_leaf, node_cut}
 
-not_void : (at : At) (goals : List Goal) (k : Cut) (p : ExprId × List Dyadic) → CutsAt at goals k (Some p) → ¬ KnowsVoid at
+not_void : (at : At) (goals : List Goal) (k : Cut) (p : ExprId × List Dyadic)
+    → CutsAt at goals k (Some p) → ¬ KnowsVoid at
 not_void at goals (Forced x points) p h = h.0
 not_void at goals (Half x m) p h = h.0
 not_void at goals Bottom p h = absurd h
@@ -87,9 +92,14 @@ pub own_length : (rows : List StepRow) (i : Item) → length (section_of rows i)
 own_length [] i = refl
 own_length (row ∷ rows) i = let h = own_length rows i in omega (arith, h)
 
-module _ (plan : PlanParts) (laws : WalkGoesOn plan) (u : World) (height : ℕ) (t : Target) (lines : List Line) (states : List ℕ → State) (is : IsCourse (course u plan height t lines states))
-    (path : List ℕ) (parent : Option (Bor Known)) (first : Seen) (p : SectionStart) (before : IsBefore (course u plan height t lines states) path parent first p)
-    (tr : Traced) (its : IsItsTable u height (piece_at plan path) parent tr.known) (rows : HasRows u tr.known) (steps : AreItsSteps u (piece_at plan path) parent first.steps (log_of first.steps tr))
+module _ (plan : PlanParts) (laws : WalkGoesOn plan)
+    (u : World) (height : ℕ) (t : Target) (lines : List Line) (states : List ℕ → State)
+    (is : IsCourse (course u plan height t lines states))
+    (path : List ℕ) (parent : Option (Bor Known)) (first : Seen) (p : SectionStart)
+    (before : IsBefore (course u plan height t lines states) path parent first p)
+    (tr : Traced) (its : IsItsTable u height (piece_at plan path) parent tr.known)
+    (rows : HasRows u tr.known)
+    (steps : AreItsSteps u (piece_at plan path) parent first.steps (log_of first.steps tr))
     (few : length tr.steps.items ≤ most_steps u height) (boxes : BoxesAreShort)
     (rounds : IsByRounds u parent height first.steps tr) (fewer : AreFewer) where
   abbrev c : Course
@@ -99,16 +109,19 @@ module _ (plan : PlanParts) (laws : WalkGoesOn plan) (u : World) (height : ℕ) 
   best = laws.best c is
 
   pub own : OwnSteps c p tr
-  own = own_steps laws.moves laws.tables c is best path parent first p before tr its steps few boxes rounds
+  own = own_steps laws.moves laws.tables c is best path parent first p before tr
+      its steps few boxes rounds
 
   table : IsTableAt (setting c) height (pieces_at plan path) (known_at u tr.known)
   table = subst (λ y. IsTableAt (setting c) height y (known_at u tr.known)) before.pieces own.table
 
   pub may_end : MayEnd u tr.known (cut_at plan path)
-  may_end h = closed_here laws.tables c is best p before.here (before.tree ∙ node_leaf c is path tr.known table h) tr.known own.table
+  may_end h = closed_here laws.tables c is best p before.here (before.tree
+      ∙ node_leaf c is path tr.known table h) tr.known own.table
 
   -- ---- the last item is how a box ends
-  module _ (i : Item) (whole : CutsAt (known_at u tr.known) u.goals (cut_at plan path) None) (end : IsEnd u tr.known i) where
+  module _ (i : Item) (whole : CutsAt (known_at u tr.known) u.goals (cut_at plan path) None)
+      (end : IsEnd u tr.known i) where
     leaf_here : p.tree ≡ leaf
     leaf_here = before.tree ∙ node_leaf c is path tr.known table whole
 
@@ -165,9 +178,11 @@ module _ (plan : PlanParts) (laws : WalkGoesOn plan) (u : World) (height : ℕ) 
         })
 
   -- ---- it is a cut
-  module _ (x : ExprId) (points : List Dyadic) (cuts : CutsAt (known_at u tr.known) u.goals (cut_at plan path) (Some (x, points))) where
+  module _ (x : ExprId) (points : List Dyadic)
+      (cuts : CutsAt (known_at u tr.known) u.goals (cut_at plan path) (Some (x, points))) where
     no_void : known_at u tr.known slot.Void ≡ None
-    no_void = nothing_there (setting c) height (pieces_at plan path) (known_at u tr.known) table (not_void (known_at u tr.known) u.goals (cut_at plan path) (x, points) cuts)
+    no_void = nothing_there (setting c) height (pieces_at plan path) (known_at u tr.known) table
+        (not_void (known_at u tr.known) u.goals (cut_at plan path) (x, points) cuts)
 
     known_is : IsKnownAt c path tr.known (numbered (behind_steps p.context tr.steps.items))
     known_is = record { table = table; no_void = no_void; rows = rows; placed = own.placed }
@@ -175,28 +190,42 @@ module _ (plan : PlanParts) (laws : WalkGoesOn plan) (u : World) (height : ℕ) 
     box_steps : AreBoxSteps c.aim p tr.steps.items
     box_steps = record { steps = own.steps; behind = own.behind no_void; few = own.few }
 
-    node : (length path < 36) × (p.tree ≡ cut x points (pieces_from plan (below c (35 - length path)) path 0 (length points + 1)))
-        × ((k : ℕ) → k < length points + 1 → piece_at plan (path ++ k ∷ []) ≡ Some (x, range_of_piece (piece_at plan (path ++ k ∷ []))))
-    node = let n = node_cut c is laws.pieces path tr.known table x points cuts in (n.0, before.tree ∙ n.1, n.3)
+    node : (length path < 36) × (p.tree
+        ≡ cut x points (pieces_from plan (below c (35 - length path)) path 0 (length points + 1)))
+        × ((k : ℕ) → k < length points + 1 → piece_at plan (path ++ k ∷ [])
+        ≡ Some (x, range_of_piece (piece_at plan (path ++ k ∷ []))))
+    node = let n = node_cut c is laws.pieces path tr.known table x points cuts in
+        (n.0, before.tree ∙ n.1, n.3)
 
     few_points : length points ≤ 63
-    few_points = let proved = subst (λ y. IsProved (setting c) height u.goals y p.pieces p.depth) node.1 before.here.entered.proved in proved.2.few
+    few_points = let proved = subst (λ y. IsProved (setting c) height u.goals y p.pieces p.depth)
+        node.1 before.here.entered.proved in proved.2.few
 
     some_points : 1 ≤ length points
-    some_points = let proved = subst (λ y. IsProved (setting c) height u.goals y p.pieces p.depth) node.1 before.here.entered.proved in proved.2.some
+    some_points = let proved = subst (λ y. IsProved (setting c) height u.goals y p.pieces p.depth)
+        node.1 before.here.entered.proved in proved.2.some
 
     cut_done : (n : ℕ) (next : Seen) → n ≡ length points + 1
         → next ≡ seen_behind first (section_of tr.steps.items (item.Cut x points))
         → AreOwnBytes c path p tr.known n next
         (spelled_behind (seen_in p.items) (section_of tr.steps.items (item.Cut x points)))
     cut_done n next count same =
-        let tree : p.tree ≡ cut x points (pieces_from plan (below c (35 - length path)) path 0 n) = node.1 ∙ ap (λ m. cut x points (pieces_from plan (below c (35 - length path)) path 0 m)) (sym count) in
-        let of_variable : (k : ℕ) → k < n → piece_at plan (path ++ k ∷ []) ≡ Some (x, range_of_piece (piece_at plan (path ++ k ∷ []))) = λ k l. node.2 k (omega (arith, l, count)) in
-        let q : SectionStart = inside p tr.steps.items x points (range_of_piece (piece_at plan (path ++ 0 ∷ []))) (below c (35 - length path) (path ++ 0 ∷ [])) (pieces_from plan (below c (35 - length path)) path (0 + 1) (length points)) in
-        let at : IsAt c.aim q = enter_at laws.tables laws.writing c is path parent first p before tr.steps.items box_steps x points (own.sized (item.Cut x points) few_points) n count tree in
+        let tree : p.tree ≡ cut x points (pieces_from plan (below c (35 - length path)) path 0 n) =
+        node.1 ∙ ap (λ m. cut x points
+        (pieces_from plan (below c (35 - length path)) path 0 m)) (sym count) in
+        let of_variable : (k : ℕ) → k < n → piece_at plan (path ++ k ∷ [])
+        ≡ Some (x, range_of_piece (piece_at plan (path ++ k ∷ []))) =
+        λ k l. node.2 k (omega (arith, l, count)) in
+        let q : SectionStart = inside p tr.steps.items x points (range_of_piece
+        (piece_at plan (path ++ 0 ∷ []))) (below c (35 - length path) (path ++ 0 ∷ []))
+        (pieces_from plan (below c (35 - length path)) path (0 + 1) (length points)) in
+        let at : IsAt c.aim q = enter_at laws.tables laws.writing c is path parent first p before
+        tr.steps.items box_steps x points (own.sized (item.Cut x points) few_points) n count tree in
         record {
           done = λ old new a. (
-            (λ l. enter laws.tables laws.writing c is best laws.one_more path parent first p before tr.steps.items box_steps tr.known known_is x points (own.sized (item.Cut x points) few_points) n count tree of_variable old new a next same),
+            (λ l. enter laws.tables laws.writing c is best laws.one_more path
+                parent first p before tr.steps.items box_steps tr.known known_is x points (own.sized
+                (item.Cut x points) few_points) n count tree of_variable old new a next same),
             λ z. absurd (omega (arith, z, count)),
           );
           front = λ old new a.
@@ -253,7 +282,8 @@ module _ (plan : PlanParts) (laws : WalkGoesOn plan) (u : World) (height : ℕ) 
   last_spelled : (i : Item) (n : ℕ) → IsLast u tr.known (cut_at plan path) i n → HasSpelling i
   last_spelled (item.Cut x points) n l = some_points x points l.0
   last_spelled (item.Leaf refs) n l =
-      let e : length refs ≡ length u.goals = ap length l.1.2 ∙ length-map u.goals (λ (g : Goal). place_in u tr.known g.of) in
+      let e : length refs ≡ length u.goals =
+      ap length l.1.2 ∙ length-map u.goals (λ (g : Goal). place_in u tr.known g.of) in
       let few_goals = is.aim.subject.few_goals in
       omega (arith, e, few_goals)
   last_spelled (item.Dead r) n l = tt

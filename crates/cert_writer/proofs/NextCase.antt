@@ -1,5 +1,6 @@
 -- How the walk goes on from case to case.
-use Rattle.std.specs.Prelude.{◌≡◌, ◌≤◌, ◌+◌, ℕ, List, [], ◌∷◌, length, drop, Option, Some, None, slice_get, refl}
+use Rattle.std.specs.Prelude.{◌≡◌, ◌≤◌, ◌+◌, ℕ, List, [], ◌∷◌, length, drop, Option, Some, None}
+use Rattle.std.specs.Prelude.{slice_get, refl}
 use Rattle.std.proofs.Common.{sym, ◌∙◌, ap, subst, append-nil}
 use Rattle.std.proofs.lemmas.List.{drop_more}
 use Rattle.std.proofs.lemmas.Option.{slice_get_within, get_or_from_slice_get}
@@ -28,7 +29,8 @@ use Rattle.cert_trim.specs.cert_bytes.Styles.{none_seen, seen_in}
 use Rattle.cert_trim.specs.cert_bytes.Spelling.{spelled_behind, certificate_of}
 use Rattle.cert_writer.specs.Standing.{IsAim, IsBegun, Ended, HasEnded, next_root}
 use Rattle.cert_writer.specs.Courses.{Course, IsCourse, course, IsBefore, IsPast, Grew, GrewToFront}
-use Rattle.cert_writer.specs.Cases.{Task, task, plan_in, target_of, aim_of, whole_aim, IsBeforeCase, StandsAt, OfStanding, GrewFront}
+use Rattle.cert_writer.specs.Cases.{Task, task, plan_in, target_of, aim_of, whole_aim, IsBeforeCase}
+use Rattle.cert_writer.specs.Cases.{StandsAt, OfStanding, GrewFront}
 use Rattle.cert_writer.specs.Laws.{WritingGoesOn}
 use Rattle.cert_writer.proofs.Seen.{spelled_both}
 use Rattle.cert_writer.proofs.Turn.{appends_none, begun_still}

@@ -1,5 +1,6 @@
 -- How many bytes items have at most, one behind the other.
-use Rattle.std.specs.Prelude.{◌≡◌, ◌≤◌, ◌<◌, ◌+◌, ◌*◌, ◌^◌, ℕ, zero, suc, List, [], ◌∷◌, ◌++◌, length, map}
+use Rattle.std.specs.Prelude.{◌≡◌, ◌≤◌, ◌<◌, ◌+◌, ◌*◌, ◌^◌, ℕ, zero, suc, List, [], ◌∷◌, ◌++◌}
+use Rattle.std.specs.Prelude.{length, map}
 use Rattle.std.proofs.Common.{arith}
 use Rattle.goals.specs.fx_model.declared.Node.{Node}
 use Rattle.goals.specs.facts.declared.hint.HintMark.{HintMark}

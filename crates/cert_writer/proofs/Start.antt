@@ -21,7 +21,8 @@ use Rattle.cert_trim.specs.cert_bytes.declared.item.Item.{Item}
 use Rattle.box_trace.specs.cert_checker.declared.subject.Subject.{Subject}
 use Rattle.answer_certificates.specs.script_checker.rewrite_hints.Marks.{AreMarks}
 use Rattle.answer_certificates.specs.script_checker.Subjects.{IsSubjectOf, facts_of}
-use Rattle.box_trace.specs.tree_certificates.Roots.{Root, AreRoots, IsRoot, steps_in_roots, lines_of_roots}
+use Rattle.box_trace.specs.tree_certificates.Roots.{Root, AreRoots, IsRoot, steps_in_roots}
+use Rattle.box_trace.specs.tree_certificates.Roots.{lines_of_roots}
 use Rattle.box_trace.specs.tree_certificates.Trees.{Tree}
 use Rattle.answer_certificates.specs.Boxes.{boxes_of}
 use Rattle.answer_certificates.specs.Roots.{AreRootsOf, HasRoots}
@@ -32,7 +33,8 @@ use Rattle.box_trace.specs.Short.{bytes_a_box}
 use Rattle.answer_certificates.specs.Universes.{UniversesAreSmall}
 use Rattle.cert_writer.specs.Heads.{head_items}
 use Rattle.cert_writer.specs.Standing.{Aim, IsAim, at_root, steps_needed}
-use Rattle.cert_writer.specs.Cases.{bare, subject_in, Task, task, plan_in, aim_of, StandsAt, StandsBefore}
+use Rattle.cert_writer.specs.Cases.{bare, subject_in, Task, task, plan_in, aim_of, StandsAt}
+use Rattle.cert_writer.specs.Cases.{StandsBefore}
 use Rattle.cert_writer.specs.Laws.{WritingGoesOn}
 use Rattle.cert_trim.specs.cert_bytes.Styles.{none_seen}
 use Rattle.cert_writer.proofs.NextCase.{drop_none}
@@ -75,7 +77,8 @@ module _ (go : WritingGoesOn) (w : Task) where
       → w.lines ≡ lines_of_roots w.rounds w.world.goals roots
       (map (λ g. line.Empty) w.world.goals)
       → length w.subject.cases ≤ 64 → StandsAt w 0 cases none_seen (head_of w)
-  starts [] some roots of are room enough low nodes premises shown few = absurd (omega (arith, some))
+  starts [] some roots of are room enough low nodes premises shown few =
+      absurd (omega (arith, some))
   starts (claims ∷ later) some [] of are room enough low nodes premises shown few = absurd of
   starts (claims ∷ later) some (r ∷ roots) of are room enough low nodes premises shown few =
       let tree : Tree = boxes_of (plan_in w claims) of.0.states in
@@ -172,11 +175,13 @@ start go exist few sizes s u t rounds depth cases subject rounds_few depth_few b
     let found : HasRoots s (bare u) o t most lines =
     exist s (bare u) (bare_cases s u cases) o
     (rounds_few, depth_few, boxes_few) lines proved t subject most (omega (arith, low)) in
-    let all : most * boxes ≤ bytes_a_box * 8192 = mul-le most boxes bytes_a_box 8192 (omega arith) boxes_few in
+    let all : most * boxes ≤ bytes_a_box * 8192 =
+    mul-le most boxes bytes_a_box 8192 (omega arith) boxes_few in
     let steps = found.few in
     let count : length t.cases ≡ length (cases_of s) =
     ap length subject.cases ∙ length-map (cases_of s) facts_of in
     let few_cases = cases.few in
     subst (λ cs. StandsAt w 0 cs none_seen (head_of w)) (sym (drop_none (cases_of s)))
     (starts go w (cases_of s) cases.some found.roots found.are_of found.are
-    (omega (arith, steps, all)) (omega (arith, low)) rounds_few size.0 size.1 found.shown (omega (arith, count, few_cases)))
+    (omega (arith, steps, all))
+    (omega (arith, low)) rounds_few size.0 size.1 found.shown (omega (arith, count, few_cases)))

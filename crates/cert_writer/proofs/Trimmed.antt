@@ -20,7 +20,8 @@ use Rattle.box_trace.specs.tree_certificates.Walks.{behind_steps}
 use Rattle.box_trace.specs.tree_certificates.Moves.{lead_both}
 use Rattle.cert_trim.specs.Trimmed.{number_behind_all, moved_row, if_used, trimmed_by}
 use Rattle.cert_trim.specs.Used.{CiteEarlier}
-use Rattle.cert_trim.specs.Behind.{stays_behind, trimmed_behind, with_next, IsLeafOrDead, IsOpenAt, LeavesAreTrimmed, CertificatesStaySo, AreFewer, section_of}
+use Rattle.cert_trim.specs.Behind.{stays_behind, trimmed_behind, with_next, IsLeafOrDead, IsOpenAt}
+use Rattle.cert_trim.specs.Behind.{LeavesAreTrimmed, CertificatesStaySo, AreFewer, section_of}
 use Rattle.cert_writer.specs.Laws.{OfAims}
 use Rattle.cert_writer.specs.Standing.{SectionStart, IsAt, HasEnded, closed, trimmed}
 use Rattle.cert_writer.proofs.Seen.{seen_both}
@@ -89,7 +90,8 @@ module _ (used : ℕ → Bool) where
   sections_left (item.End ∷ items) n s q e = sections_left items n s q e
 
 module _ (leaves : LeavesAreTrimmed) (order : CertificatesStaySo) (fewer : AreFewer) where
-  pub trims : OfAims (λ t. (p : SectionStart) (rows : List StepRow) (last : Item) (lines : List Line)
+  pub trims : OfAims (λ t. (p : SectionStart) (rows : List StepRow)
+      (last : Item) (lines : List Line)
       → IsAt t p → IsLeafOrDead last → HasEnded t (closed p rows last lines)
       → CiteEarlier p.context.next (section_of rows last) × HasEnded t (trimmed p rows last lines))
   trims t a p rows last lines here ends ended =

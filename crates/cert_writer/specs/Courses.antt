@@ -1,5 +1,6 @@
 -- The walk over a script's boxes that writes its certificate: where it stands.
-use Rattle.std.specs.Prelude.{◌≡◌, ◌<◌, ◌≤◌, ◌+◌, ◌-◌, ℕ, List, [], ◌∷◌, ◌++◌, length, Option, Some, None}
+use Rattle.std.specs.Prelude.{◌≡◌, ◌<◌, ◌≤◌, ◌+◌, ◌-◌, ℕ, List, [], ◌∷◌, ◌++◌, length, Option, Some}
+use Rattle.std.specs.Prelude.{None}
 use Rattle.std.specs.Io.KnownBytes.{Appends}
 use Rattle.std.specs.Borrow.{Bor}
 use Rattle.goals.specs.facts.declared.fact.Slot.TheVariants as slot
@@ -31,7 +32,8 @@ use Rattle.box_trace.specs.tree_certificates.Walks.{numbered, Frame}
 use Rattle.answer_certificates.specs.Scripts.{HasSlots}
 use Rattle.answer_certificates.specs.Boxes.{range_of_piece, pieces_from, boxes_below}
 use Rattle.whole_texts.specs.Pieces.{AppendsFront}
-use Rattle.cert_writer.specs.Standing.{Target, Aim, IsAim, IsBegun, SectionStart, IsAt, Ended, HasEnded}
+use Rattle.cert_writer.specs.Standing.{Target, Aim, IsAim, IsBegun, SectionStart, IsAt, Ended}
+use Rattle.cert_writer.specs.Standing.{HasEnded}
 
 -- ---- what is walked over
 -- For what the certificate is written, how boxes are cut, and how they stand.

@@ -1,5 +1,6 @@
 -- What is promised of a certificate that is written box by box.
-use Rattle.std.specs.Prelude.{◌≡◌, ◌<◌, ◌≤◌, ◌+◌, ◌*◌, ℕ, List, [], ◌∷◌, ◌++◌, length, map, Some, None}
+use Rattle.std.specs.Prelude.{◌≡◌, ◌<◌, ◌≤◌, ◌+◌, ◌*◌, ℕ, List, [], ◌∷◌, ◌++◌, length, map, Some}
+use Rattle.std.specs.Prelude.{None}
 use Rattle.goals.specs.fx_model.declared.ExprId.{ExprId}
 use Rattle.goals.specs.dyadic.declared.number.Dyadic.{Dyadic}
 use Rattle.goals.specs.interval.declared.interval.Interval.{Interval}
@@ -17,13 +18,17 @@ use Rattle.box_trace.specs.Short.{bytes_a_box}
 use Rattle.cert_trim.specs.cert_bytes.Spelling.{certificate_of}
 use Rattle.box_trace.specs.cert_checker.Contexts.{Context}
 use Rattle.box_trace.specs.cert_checker.Steps.{step_fact}
-use Rattle.box_trace.specs.tree_certificates.Trees.{Tree, Trees, leaf, cut, last, next, IsProved, lines_of_tree, steps_in}
+use Rattle.box_trace.specs.tree_certificates.Trees.{Tree, Trees, leaf, cut, last, next, IsProved}
+use Rattle.box_trace.specs.tree_certificates.Trees.{lines_of_tree, steps_in}
 use Rattle.box_trace.specs.tree_certificates.Roots.{Root}
 use Rattle.box_trace.specs.tree_certificates.Walks.{behind_steps, Frame}
 use Rattle.box_trace.specs.tree_certificates.Moves.{AreSteps}
 use Rattle.cert_trim.specs.Behind.{IsLeafOrDead, section_of}
 use Rattle.cert_trim.specs.Used.{CiteEarlier}
-use Rattle.cert_writer.specs.Standing.{Aim, IsAim, IsWhole, IsBegun, SectionStart, IsAt, Ended, HasEnded, AreBoxSteps, AreShort, AreCited, most_for, steps_left, lines_left, at_root, inside, closed, trimmed, beside, around, next_aim, next_root, root_with}
+use Rattle.cert_writer.specs.Standing.{Aim, IsAim, IsWhole, IsBegun, SectionStart, IsAt, Ended}
+use Rattle.cert_writer.specs.Standing.{HasEnded, AreBoxSteps, AreShort, AreCited, most_for}
+use Rattle.cert_writer.specs.Standing.{steps_left, lines_left, at_root, inside, closed, trimmed}
+use Rattle.cert_writer.specs.Standing.{beside, around, next_aim, next_root, root_with}
 
 -- This is so of each aim.
 abbrev pub OfAims : (Aim → Type 0) → Type 0

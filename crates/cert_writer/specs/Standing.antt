@@ -1,5 +1,6 @@
 -- Where a certificate that is being written stands.
-use Rattle.std.specs.Prelude.{◌≡◌, ◌<◌, ◌≤◌, ◌+◌, ◌*◌, ◌^◌, ⊤, ℕ, suc, List, [], ◌∷◌, ◌++◌, length, Some}
+use Rattle.std.specs.Prelude.{◌≡◌, ◌<◌, ◌≤◌, ◌+◌, ◌*◌, ◌^◌, ⊤, ℕ, suc, List, [], ◌∷◌, ◌++◌, length}
+use Rattle.std.specs.Prelude.{Some}
 use Rattle.goals.specs.fx_model.declared.ExprId.{ExprId}
 use Rattle.goals.specs.dyadic.declared.number.Dyadic.{Dyadic}
 use Rattle.goals.specs.interval.declared.interval.Interval.{Interval}
@@ -32,7 +33,8 @@ use Rattle.box_trace.specs.tree_certificates.Writing.{IsWritable}
 use Rattle.box_trace.specs.tree_certificates.Trees.{Tree, Trees, lines_of_tree, steps_in}
 use Rattle.box_trace.specs.tree_certificates.Trees as trees
 use Rattle.box_trace.specs.tree_certificates.Roots.{Root, AreRoots, steps_in_roots, lines_of_roots}
-use Rattle.box_trace.specs.tree_certificates.Walks.{behind_steps, IsBehind, IsEndOf, Frame, LiesIn, left_in, lines_behind, steps_behind}
+use Rattle.box_trace.specs.tree_certificates.Walks.{behind_steps, IsBehind, IsEndOf, Frame, LiesIn}
+use Rattle.box_trace.specs.tree_certificates.Walks.{left_in, lines_behind, steps_behind}
 use Rattle.box_trace.specs.tree_certificates.Moves.{AreSteps, IsEntered, frame_of, turned}
 use Rattle.cert_trim.specs.Behind.{section_of, trimmed_behind, with_next}
 use Rattle.cert_trim.specs.Trimmed.{number_behind_all}

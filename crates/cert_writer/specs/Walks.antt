@@ -1,5 +1,6 @@
 -- What the calls of the walk answer.
-use Rattle.std.specs.Prelude.{◌≡◌, ◌≤◌, ◌+◌, ℕ, List, [], ◌∷◌, ◌++◌, length, Some, None, Result, IsErrOf}
+use Rattle.std.specs.Prelude.{◌≡◌, ◌≤◌, ◌+◌, ℕ, List, [], ◌∷◌, ◌++◌, length, Some, None, Result}
+use Rattle.std.specs.Prelude.{IsErrOf}
 use Rattle.fx_edge.specs.Outside.{Rose}
 use Rattle.derivation.specs.Laws.{TablesAreOne, BoxesComeToOneState}
 use Rattle.box_trace.specs.rule_universe.Worlds.{World}

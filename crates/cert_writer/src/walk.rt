@@ -2,7 +2,8 @@
 ghost use Rattle.std.specs.Prelude.{◌≡◌, ◌≢◌, ◌<◌, ◌≤◌, ℕ, List, length, IfOk, OnErr};
 ghost use Rattle.box_trace.specs.Tables.{HasRows};
 ghost use Rattle.answer_certificates.specs.Scripts.{HasSlots};
-ghost use Rattle.cert_writer.specs.Courses.{GrewToFront, IsSomewhere, OnCourses, IsPast, HasDone, AreOwnBytes};
+ghost use Rattle.cert_writer.specs.Courses.{GrewToFront, IsSomewhere, OnCourses, IsPast, HasDone};
+ghost use Rattle.cert_writer.specs.Courses.{AreOwnBytes};
 ghost use Rattle.cert_writer.specs.Walks.{MayEnd, IsLast, HasWriteCause};
 ghost use Rattle.cert_writer.specs.declared.walk.WriteStop.TheVariants as WriteStop;
 

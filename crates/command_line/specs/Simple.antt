@@ -1,7 +1,9 @@
 -- A simple command as clap sees it, and what its words ask for.
-use Rattle.std.specs.Prelude.{◌==◌, ◌&&◌, Bool, not, List, [], ◌∷◌, length, true, Option, Some, None}
+use Rattle.std.specs.Prelude.{◌==◌, ◌&&◌, Bool, not, List, [], ◌∷◌, length, true, Option, Some}
+use Rattle.std.specs.Prelude.{None}
 use Rattle.std.specs.Str.{bytes_eq}
-use Rattle.clap.specs.Words.{App, Row, Rule, Text, new_app, new_rule, matches_of, first_of, Kinds, fault_of}
+use Rattle.clap.specs.Words.{App, Row, Rule, Text, new_app, new_rule, matches_of, first_of, Kinds}
+use Rattle.clap.specs.Words.{fault_of}
 use Rattle.clap.specs.declared.builder.ArgAction.TheVariants.{Set}
 
 -- ---- the command

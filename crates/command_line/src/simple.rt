@@ -1,7 +1,8 @@
 // Simple commands: names, and options with a value.
 ghost use Rattle.std.specs.Prelude.{◌≡◌, ◌≢◌, [], map, string_bytes, IfOk, IfErr, true, false};
 ghost use Rattle.std.specs.Option.{option_map};
-ghost use Rattle.clap.specs.Words.{rule_of, app_of, rows_of, found_of, matches_of, fault_of, is_simple_and_free};
+ghost use Rattle.clap.specs.Words.{rule_of, app_of, rows_of, found_of, matches_of, fault_of};
+ghost use Rattle.clap.specs.Words.{is_simple_and_free};
 ghost use Rattle.command_line.specs.Simple.{option_rule, name_rule, bare_app, are_names};
 
 use clap::error::ErrorKind;

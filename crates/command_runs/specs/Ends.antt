@@ -1,5 +1,6 @@
 -- How runs end, by what their parts did: the laws that the commands' proofs rest on.
-use Rattle.std.specs.Prelude.{◌≡◌, ◌≢◌, ◌⊎◌, ◌++◌, ℕ, List, [], Bool, true, false, Option, Some, None}
+use Rattle.std.specs.Prelude.{◌≡◌, ◌≢◌, ◌⊎◌, ◌++◌, ℕ, List, [], Bool, true, false, Option, Some}
+use Rattle.std.specs.Prelude.{None}
 use Rattle.std.specs.Str.{bytes_eq}
 use Rattle.std.specs.Io.KnownBytes.{Appends, Keeps}
 use Rattle.std.proofs.Common.{inl, inr, refl, sym, ap, subst, ◌∙◌, append-nil}
@@ -8,8 +9,11 @@ use Rattle.fx_edge.specs.Outside.{Rose}
 use Rattle.whole_texts.specs.Pieces.{AppendsFront, HoldsAll, HoldsFront}
 use Rattle.whole_texts.specs.declared.read.ReadStop.{ReadStop}
 use Rattle.whole_texts.specs.declared.read.ReadStop.TheVariants as stop
-use Rattle.command_runs.specs.Runs.{Bytes, Run, IsKept, IsSilent, ReadFailed, WriteFailed, PutFailed}
-use Rattle.command_runs.specs.Fates.{Left, Fate, Leaves, begun, Written, IsBrokenOff, IsUntouched, BreaksOff, Ending, ending, EndsBy, EndsIn, Runs, Comes, AreTold, IsExact, IsRunOf, OrUnread, IsKeptFile}
+use Rattle.command_runs.specs.Runs.{Bytes, Run, IsKept, IsSilent, ReadFailed, WriteFailed}
+use Rattle.command_runs.specs.Runs.{PutFailed}
+use Rattle.command_runs.specs.Fates.{Left, Fate, Leaves, begun, Written, IsBrokenOff, IsUntouched}
+use Rattle.command_runs.specs.Fates.{BreaksOff, Ending, ending, EndsBy, EndsIn, Runs, Comes}
+use Rattle.command_runs.specs.Fates.{AreTold, IsExact, IsRunOf, OrUnread, IsKeptFile}
 use Rattle.command_runs.specs.Fates.Ending.{Done, Cut, Starved}
 use Rattle.command_runs.specs.Fates.Left.{Kept, Whole, Begun}
 use Rattle.command_runs.specs.Statuses.{read_fault_line}

@@ -9,9 +9,11 @@ use Rattle.goals.specs.facts.Order.{slot_of}
 use Rattle.goals.specs.facts.Laws.{IsStronger-refl, IsStronger-trans}
 use Rattle.goals.specs.facts.declared.instance.Instance.{Instance}
 use Rattle.derivation.specs.Derivations.{Setting, At, Beats}
-use Rattle.derivation.specs.Rounds.{IsProper, IsSame, conclusion, Improves, Made, old, concluded_by, meets, IsAhead}
+use Rattle.derivation.specs.Rounds.{IsProper, IsSame, conclusion, Improves, Made, old, concluded_by}
+use Rattle.derivation.specs.Rounds.{meets, IsAhead}
 use Rattle.derivation.specs.Parts.{some_same, none_some, slot_cases}
-use Rattle.derivation.specs.Steps.{kept_cases, improved_proper, improved_beats, improved_grows, old_no_void}
+use Rattle.derivation.specs.Steps.{kept_cases, improved_proper, improved_beats, improved_grows}
+use Rattle.derivation.specs.Steps.{old_no_void}
 
 -- A round begins with the table of the round before.
 pub ahead_begin : (u : Setting) (at new : At) (Seen : ℕ → Type 0) → IsProper at → IsSame at new

@@ -10,9 +10,12 @@ use Rattle.goals.specs.facts.Laws.{IsStronger-trans}
 use Rattle.goals.specs.facts.Promises.{EachStronger}
 use Rattle.derivation.specs.Lists.{IsLawful}
 use Rattle.goals.specs.facts.declared.instance.Instance.{Instance}
-use Rattle.derivation.specs.Derivations.{Setting, Derives, DeriveEach, given, drawn, met, none, next, At, Beats, IsBest, IsClosed}
-use Rattle.derivation.specs.Rounds.{IsProper, Reads, Made, old, concluded_by, meets, IsAhead, AllSeen}
-use Rattle.derivation.specs.Parts.{not_void, beats_weaker, beats_meet, conclusion_reads, reads_conclusion}
+use Rattle.derivation.specs.Derivations.{Setting, Derives, DeriveEach, given, drawn, met, none}
+use Rattle.derivation.specs.Derivations.{next, At, Beats, IsBest, IsClosed}
+use Rattle.derivation.specs.Rounds.{IsProper, Reads, Made, old, concluded_by, meets, IsAhead}
+use Rattle.derivation.specs.Rounds.{AllSeen}
+use Rattle.derivation.specs.Parts.{not_void, beats_weaker, beats_meet, conclusion_reads}
+use Rattle.derivation.specs.Parts.{reads_conclusion}
 
 -- more height does no harm
 mutual

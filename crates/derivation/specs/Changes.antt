@@ -1,5 +1,6 @@
 -- Rounds that look at changes alone.
-use Rattle.std.specs.Prelude.{◌≡◌, ◌⊎◌, ℕ, Bool, true, false, List, [], ◌∷◌, Option, Some, None, slice_get, Contains, refl}
+use Rattle.std.specs.Prelude.{◌≡◌, ◌⊎◌, ℕ, Bool, true, false, List, [], ◌∷◌, Option, Some, None}
+use Rattle.std.specs.Prelude.{slice_get, Contains, refl}
 use Rattle.std.proofs.Common.{zero, suc, sym, ◌∙◌, ap, inl, inr, arith}
 use Rattle.goals.specs.facts.declared.fact.Fact.{Fact}
 use Rattle.goals.specs.facts.declared.fact.Slot.{Slot}

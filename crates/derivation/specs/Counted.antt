@@ -1,5 +1,6 @@
 -- How many steps the rounds of a box may take.
-use Rattle.std.specs.Prelude.{◌≡◌, ◌<◌, ◌≤◌, ◌+◌, ◌-◌, ◌&&◌, ◌||◌, ℕ, zero, suc, not, Bool, true, false, List, [], ◌∷◌, Option, Some, None, length, count_by}
+use Rattle.std.specs.Prelude.{◌≡◌, ◌<◌, ◌≤◌, ◌+◌, ◌-◌, ◌&&◌, ◌||◌, ℕ, zero, suc, not, Bool, true}
+use Rattle.std.specs.Prelude.{false, List, [], ◌∷◌, Option, Some, None, length, count_by}
 use Rattle.std.specs.Ordering.{int_eq}
 use Rattle.goals.specs.interval.declared.interval.Interval.{Interval}
 use Rattle.goals.specs.facts.declared.relative.RelativeError.{RelativeError}

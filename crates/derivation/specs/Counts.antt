@@ -1,5 +1,7 @@
 -- Laws of the count of steps.
-use Rattle.std.specs.Prelude.{◌≡◌, ◌≢◌, ◌<◌, ◌≤◌, ◌+◌, ◌-◌, ◌&&◌, ◌||◌, ℕ, zero, suc, not, Bool, true, false, List, [], ◌∷◌, Option, Some, None, length, count_by, cond, slice_get, Contains, refl}
+use Rattle.std.specs.Prelude.{◌≡◌, ◌≢◌, ◌<◌, ◌≤◌, ◌+◌, ◌-◌, ◌&&◌, ◌||◌, ℕ, zero, suc, not, Bool}
+use Rattle.std.specs.Prelude.{true, false, List, [], ◌∷◌, Option, Some, None, length, count_by}
+use Rattle.std.specs.Prelude.{cond, slice_get, Contains, refl}
 use Rattle.std.specs.Ordering.{int_eq}
 use Rattle.std.proofs.Common.{sym, ap, subst, inl, inr, arith, get_or}
 use Rattle.std.proofs.lemmas.Int.{ints}
@@ -32,7 +34,8 @@ use Rattle.derivation.specs.States.{best_once}
 use Rattle.derivation.specs.Decided.{is_within}
 use Rattle.derivation.specs.Changes.{AreUsers}
 use Rattle.derivation.specs.Parts.{some_same}
-use Rattle.derivation.specs.Counted.{same_interval, same_error, same_fact, differ, is_touched, touched, touched_by, AreHeights}
+use Rattle.derivation.specs.Counted.{same_interval, same_error, same_fact, differ, is_touched}
+use Rattle.derivation.specs.Counted.{touched, touched_by, AreHeights}
 
 -- ---- facts that pass the test are the same
 within_in : (i j : Interval) → is_within i j ≡ true → IsWithin i j

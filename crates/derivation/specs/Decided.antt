@@ -1,5 +1,6 @@
 -- What a box comes to, decided by its best table.
-use Rattle.std.specs.Prelude.{◌&&◌, ℕ, zero, suc, Bool, true, false, List, [], ◌∷◌, Option, Some, None, if◌then◌else◌}
+use Rattle.std.specs.Prelude.{◌&&◌, ℕ, zero, suc, Bool, true, false, List, [], ◌∷◌, Option, Some}
+use Rattle.std.specs.Prelude.{None, if◌then◌else◌}
 use Rattle.expr_dag.specs.fx_model.Grid.{Bound, At}
 use Rattle.goals.specs.dyadic.Order.{le_bound}
 use Rattle.goals.specs.interval.declared.interval.Interval.{Interval}

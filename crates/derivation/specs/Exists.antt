@@ -1,6 +1,7 @@
 -- The best table of a box as a function, with no code: it is there whether or not memory is found
 -- for it.
-use Rattle.std.specs.Prelude.{◌≡◌, ◌≢◌, ◌⊎◌, ◌<◌, ◌≤◌, ◌+◌, ℕ, zero, suc, List, [], ◌∷◌, Option, Some, None, slice_get, length, refl}
+use Rattle.std.specs.Prelude.{◌≡◌, ◌≢◌, ◌⊎◌, ◌<◌, ◌≤◌, ◌+◌, ℕ, zero, suc, List, [], ◌∷◌, Option}
+use Rattle.std.specs.Prelude.{Some, None, slice_get, length, refl}
 use Rattle.std.proofs.Common.{sym, ◌∙◌, ap, inl, inr, arith}
 use Rattle.expr_dag.specs.fx_model.declared.Node.{Node}
 use Rattle.expr_dag.specs.fx_model.declared.Node.TheVariants as node
@@ -15,13 +16,17 @@ use Rattle.derivation.specs.Lists.{IsLawful}
 use Rattle.goals.specs.facts.declared.instance.Instance.{Instance}
 use Rattle.derivation.specs.Derivations.{Setting, At, IsBest, IsClosed}
 use Rattle.derivation.specs.Known.{Piece, IsGiven, GivenAt, IsTableAt}
-use Rattle.derivation.specs.Rounds.{IsProper, conclusion, IsWritten, IsKept, Improves, IsAhead, AllSeen, InTable, IsBestFrom}
+use Rattle.derivation.specs.Rounds.{IsProper, conclusion, IsWritten, IsKept, Improves, IsAhead}
+use Rattle.derivation.specs.Rounds.{AllSeen, InTable, IsBestFrom}
 use Rattle.derivation.specs.Parts.{slot_cases}
 use Rattle.derivation.specs.Best.{best_proper, next_best}
 use Rattle.derivation.specs.Ahead.{ahead_begin, ahead_fewer, ahead_skip, ahead_step, ahead_next}
 use Rattle.derivation.specs.Heights.{best_start, best_void}
 use Rattle.derivation.specs.Rebased.{rebase}
-use Rattle.derivation.specs.Begun.{given_lines, known_given, IsGathered, FirstHypotheses, FirstLines, gather_blank, gather_less, gather_hypothesis, gather_line, lines_none, lines_skip, child_start, child_table, root_table}
+use Rattle.derivation.specs.Begun.{given_lines, known_given, IsGathered, FirstHypotheses}
+use Rattle.derivation.specs.Begun.{FirstLines, gather_blank, gather_less, gather_hypothesis}
+use Rattle.derivation.specs.Begun.{gather_line, lines_none, lines_skip, child_start, child_table}
+use Rattle.derivation.specs.Begun.{root_table}
 use Rattle.goals.specs.facts.CommonParts.{at_option}
 
 -- ---- a fact that comes to a table

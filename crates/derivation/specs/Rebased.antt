@@ -12,7 +12,8 @@ use Rattle.goals.specs.facts.Meets.{meet-none}
 use Rattle.goals.specs.facts.Promises.{EachStronger}
 use Rattle.derivation.specs.Lists.{IsLawful}
 use Rattle.goals.specs.facts.declared.instance.Instance.{Instance}
-use Rattle.derivation.specs.Derivations.{Setting, Derives, DeriveEach, given, drawn, met, none, next, At, Beats, IsBest, IsClosed}
+use Rattle.derivation.specs.Derivations.{Setting, Derives, DeriveEach, given, drawn, met, none}
+use Rattle.derivation.specs.Derivations.{next, At, Beats, IsBest, IsClosed}
 use Rattle.derivation.specs.Rounds.{IsProper, InTable, IsBestFrom}
 use Rattle.derivation.specs.Parts.{none_some, slot_cases, void_alone, stronger_slot, beats_weaker}
 use Rattle.derivation.specs.Best.{Derives-suc, best_proper}

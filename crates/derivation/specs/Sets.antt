@@ -6,7 +6,8 @@ use Rattle.goals.specs.facts.declared.fact.Slot.{Slot}
 use Rattle.goals.specs.facts.declared.instance.Instance.{Instance}
 use Rattle.derivation.specs.Lists.{RuleList}
 use Rattle.goals.specs.declared.goal.Goal.{Goal}
-use Rattle.derivation.specs.Derivations.{Setting, Derives, DeriveEach, given, drawn, met, none, next}
+use Rattle.derivation.specs.Derivations.{Setting, Derives, DeriveEach, given, drawn, met, none}
+use Rattle.derivation.specs.Derivations.{next}
 use Rattle.derivation.specs.Known.{Piece, IsLine, IsGiven, GivenAt, Known}
 use Rattle.derivation.specs.Settled.{IsMet, State, settled, void, unsettled, IsState}
 

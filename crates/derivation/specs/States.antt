@@ -1,5 +1,6 @@
 -- Each box comes to one thing, which its best table decides.
-use Rattle.std.specs.Prelude.{◌≡◌, ◌↔◌, ◌&&◌, ◌<◌, ℕ, zero, suc, Bool, true, false, List, [], ◌∷◌, Option, Some, None, slice_get, IsTrue, if◌then◌else◌, refl}
+use Rattle.std.specs.Prelude.{◌≡◌, ◌↔◌, ◌&&◌, ◌<◌, ℕ, zero, suc, Bool, true, false, List, [], ◌∷◌}
+use Rattle.std.specs.Prelude.{Option, Some, None, slice_get, IsTrue, if◌then◌else◌, refl}
 use Rattle.std.proofs.Common.{sym, ◌∙◌, ap, subst, inl, inr, arith}
 use Rattle.std.proofs.lemmas.Bool.{cases_lt, and_parts, and_from}
 use Rattle.expr_dag.specs.fx_model.Fraction.{Fraction}
@@ -22,7 +23,8 @@ use Rattle.goals.specs.declared.goal.Goal.{Goal}
 use Rattle.derivation.specs.Derivations.{Setting, IsBest}
 use Rattle.derivation.specs.Known.{Piece, GivenAt, Known, IsTableAt}
 use Rattle.derivation.specs.Settled.{IsMet, State, settled, void, unsettled, IsFirstUnmet, IsState}
-use Rattle.derivation.specs.Decided.{is_number, meets, answers, is_met, one_later, first_unmet, state_by, state_in}
+use Rattle.derivation.specs.Decided.{is_number, meets, answers, is_met, one_later, first_unmet}
+use Rattle.derivation.specs.Decided.{state_by, state_in}
 use Rattle.derivation.specs.Rounds.{IsSame}
 use Rattle.derivation.specs.Parts.{none_some, some_same, not_void}
 use Rattle.derivation.specs.Best.{best_proper}

@@ -1,5 +1,7 @@
 // What holds of derivations, for callers to cite. Nothing here is done at run time.
-ghost use Rattle.derivation.specs.Laws.{TablesExist, TablesAreOne, HeightsExist, BoxesComeToOneState, KnownFactsHold, SettledBoxesHold, KnownFactsAreOfSets};
+ghost use Rattle.derivation.specs.Laws.{TablesExist, TablesAreOne, HeightsExist};
+ghost use Rattle.derivation.specs.Laws.{BoxesComeToOneState, KnownFactsHold, SettledBoxesHold};
+ghost use Rattle.derivation.specs.Laws.{KnownFactsAreOfSets};
 
 use goals::settling_facts;
 

@@ -4,7 +4,8 @@ use mathlib.Core.HLevel.{is_prop→PathP}
 use Rattle.fx_model.specs.Fraction.{Fraction}
 use Rattle.fx_model.specs.Powers.{scaled}
 use Rattle.fx_model.specs.Grid.{IsOnGrid}
-use Rattle.dyadic.specs.Canonical.{IsCanonical, IsCanonical-prop, zero_canonical, canonical_on_grid, canonical_same}
+use Rattle.dyadic.specs.Canonical.{IsCanonical, IsCanonical-prop, zero_canonical, canonical_on_grid}
+use Rattle.dyadic.specs.Canonical.{canonical_same}
 use Rattle.dyadic.specs.declared.number.Dyadic.{Dyadic}
 
 -- mantissa * 2^exponent

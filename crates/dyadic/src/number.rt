@@ -1,4 +1,5 @@
-ghost use Rattle.std.specs.Prelude.{◌≡◌, ◌⊎◌, ◌↔◌, ◌≤◌, ◌<◌, ◌*◌, ◌%◌, ◌^◌, ◌≤ℤ◌, ◌+ℤ◌, pos, negsuc, IsTrue, MatchOption};
+ghost use Rattle.std.specs.Prelude.{◌≡◌, ◌⊎◌, ◌↔◌, ◌≤◌, ◌<◌, ◌*◌, ◌%◌, ◌^◌, ◌≤ℤ◌, ◌+ℤ◌, pos};
+ghost use Rattle.std.specs.Prelude.{negsuc, IsTrue, MatchOption};
 ghost use Rattle.std.specs.Int.RustNames.{unsigned_abs, int_lt};
 ghost use Rattle.fx_model.specs.Powers.{scaled};
 ghost use Rattle.fx_model.specs.Grid.{IsOnGrid};

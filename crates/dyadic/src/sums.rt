@@ -1,5 +1,6 @@
 // Sums, whose parts may lie far apart.
-ghost use Rattle.std.specs.Prelude.{◌≡◌, ◌+◌, ◌-◌, ◌*◌, ◌^◌, ◌≤◌, ◌<◌, ◌≤ℤ◌, ◌+ℤ◌, pos, negsuc, true, false, not};
+ghost use Rattle.std.specs.Prelude.{◌≡◌, ◌+◌, ◌-◌, ◌*◌, ◌^◌, ◌≤◌, ◌<◌, ◌≤ℤ◌, ◌+ℤ◌, pos, negsuc};
+ghost use Rattle.std.specs.Prelude.{true, false, not};
 ghost use Rattle.std.specs.Int.RustNames.{unsigned_abs, int_lt};
 ghost use Rattle.fx_model.specs.Fraction.{Fraction, ◌+ℚ◌};
 ghost use Rattle.fx_model.specs.Powers.{scaled};

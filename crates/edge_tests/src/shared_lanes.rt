@@ -1,7 +1,8 @@
 //! A lane that its owner and one other hand work on, at once or in turn.
 ghost use Rattle.std.specs.Prelude.{◌≡◌, ◌≢◌, ◌<◌, ◌≤◌, ℕ, [], length, vec_len, None, IfOk, OnOk};
 ghost use Rattle.box_deques.specs.Seen as seen;
-ghost use Rattle.box_deques.specs.Seen.{AllPasses, Each, HasPass, IsReady, IsSeated, Lent, OwnIsEmpty};
+ghost use Rattle.box_deques.specs.Seen.{AllPasses, Each, HasPass, IsReady, IsSeated, Lent};
+ghost use Rattle.box_deques.specs.Seen.{OwnIsEmpty};
 ghost use Rattle.box_deques.specs.Moments.{SamePasses};
 
 use crate::of_box_deques::{Job, numbered};

@@ -1,5 +1,6 @@
 -- Products in lowest terms: each numerator without its common divisor with the other denominator.
-use Rattle.std.specs.Prelude.{◌≡◌, ℕ, ℤ, pos, negsuc, int_lt, ◌*ℤ◌, ◌≤ℤ◌, ◌+◌, ◌≤◌, ◌*◌, ◌/◌, ◌<◌, Bool, true, false, refl}
+use Rattle.std.specs.Prelude.{◌≡◌, ℕ, ℤ, pos, negsuc, int_lt, ◌*ℤ◌, ◌≤ℤ◌, ◌+◌, ◌≤◌, ◌*◌, ◌/◌, ◌<◌}
+use Rattle.std.specs.Prelude.{Bool, true, false, refl}
 use Rattle.std.specs.Int.{IsGcd, ◌∣◌}
 use Rattle.std.specs.Int.RustNames.{unsigned_abs}
 use Rattle.std.proofs.Common.{arith, sym, ap, ◌∙◌, subst, suc, zero}
@@ -9,12 +10,19 @@ use Rattle.std.proofs.Math.Nat.{div-mul_cancel, dvd-mul_right, mul-pos, one-dvd,
 use mathlib.Core.Quot.{sound}
 use lib.IntN.{neg_ℤ}
 use borrow.Author.Differences.{up, down, neg_is, product_is, same_in}
-use Rattle.fx_model.specs.Fraction.{Same, Fraction, of_ratio, ◌*ℚ◌, inverse_ℚ, neg_ℚ, zero_ℚ, one_ℚ, mul_ratio, mul-mk, mul_comm, mul_assoc, one-mul, mul-inverse, neg-mul, zero-mul, le_refl, ◌≤ℚ◌, abs_ℚ, abs-from, abs-below, le_in, lt_by}
+use Rattle.fx_model.specs.Fraction.{Same, Fraction, of_ratio, ◌*ℚ◌, inverse_ℚ, neg_ℚ, zero_ℚ, one_ℚ}
+use Rattle.fx_model.specs.Fraction.{mul_ratio, mul-mk, mul_comm, mul_assoc, one-mul, mul-inverse}
+use Rattle.fx_model.specs.Fraction.{neg-mul, zero-mul, le_refl, ◌≤ℚ◌, abs_ℚ, abs-from, abs-below}
+use Rattle.fx_model.specs.Fraction.{le_in, lt_by}
 use Rattle.fx_model.specs.Powers.{whole, whole-neg, zero-whole}
 use Rattle.exact_fractions.specs.declared.exact.Exact.{Exact}
-use Rattle.exact_fractions.specs.Divisors.{gcd, gcd_is, gcd_of, gcd_positive, AreCoprime, divides_other, cofactors}
-use Rattle.exact_fractions.specs.Reduced.{numerator, denominator, over, signed_number, cofactor, IsLowest, IsSmall}
-use Rattle.exact_fractions.specs.Lowest.{lowest_ratio, over-mk, numerator-over, denominator-over, quotient_positive, unsigned_abs-signed, reduced_small, over_reduced}
+use Rattle.exact_fractions.specs.Divisors.{gcd, gcd_is, gcd_of, gcd_positive, AreCoprime}
+use Rattle.exact_fractions.specs.Divisors.{divides_other, cofactors}
+use Rattle.exact_fractions.specs.Reduced.{numerator, denominator, over, signed_number, cofactor}
+use Rattle.exact_fractions.specs.Reduced.{IsLowest, IsSmall}
+use Rattle.exact_fractions.specs.Lowest.{lowest_ratio, over-mk, numerator-over, denominator-over}
+use Rattle.exact_fractions.specs.Lowest.{quotient_positive, unsigned_abs-signed, reduced_small}
+use Rattle.exact_fractions.specs.Lowest.{over_reduced}
 use Rattle.exact_fractions.specs.Exact.{value_of}
 use Rattle.exact_fractions.proofs.Numbers.{over-cancel, over-le_out, num_is, den_is}
 

@@ -10,12 +10,14 @@ use Rattle.std.specs.Ordering.{int_cmp, MatchOrdering}
 use Rattle.std.proofs.lemmas.Cmp.{int_ranked}
 use Rattle.std.specs.declared.cmp.Ordering.{Ordering}
 use Rattle.std.specs.declared.cmp.Ordering.TheVariants as order
-use Rattle.fx_model.specs.Fraction.{lt_by, Same, Fraction, ◌+ℚ◌, ◌*ℚ◌, ◌≤ℚ◌, inverse_ℚ, le_out, cancel_le, mul_comm, mul-add}
+use Rattle.fx_model.specs.Fraction.{lt_by, Same, Fraction, ◌+ℚ◌, ◌*ℚ◌, ◌≤ℚ◌, inverse_ℚ, le_out}
+use Rattle.fx_model.specs.Fraction.{cancel_le, mul_comm, mul-add}
 use Rattle.fx_model.specs.Powers.{whole, whole-add}
 use Rattle.exact_fractions.specs.declared.exact.Exact.{Exact}
 use Rattle.exact_fractions.specs.Divisors.{gcd, gcd_is, gcd_positive}
 use Rattle.exact_fractions.specs.Reduced.{numerator, denominator, over}
-use Rattle.exact_fractions.specs.Lowest.{lowest_ratio, over-mk, over_parts, numerator-over, denominator-over, denominator-positive, quotient_positive}
+use Rattle.exact_fractions.specs.Lowest.{lowest_ratio, over-mk, over_parts, numerator-over}
+use Rattle.exact_fractions.specs.Lowest.{denominator-over, denominator-positive, quotient_positive}
 use Rattle.exact_fractions.specs.Exact.{value_of, IsOrder}
 use Rattle.exact_fractions.specs.Wide.{shared, left_number, right_number, common_denominator}
 

@@ -1,7 +1,8 @@
 -- Tests on fractions, from their numbers and from how they compare.
 use Rattle.std.specs.Prelude.{◌≡◌, pos, Bool, true, false, ◌&&◌, refl}
 use Rattle.std.proofs.Common.{ap, ◌∙◌, subst}
-use Rattle.fx_model.specs.Fraction.{Fraction, le_ℚ, is_zero_ℚ, is_zero-zero, is_zero_out, ◌<ℚ◌, lt_le, le_refl, le_antisymm}
+use Rattle.fx_model.specs.Fraction.{Fraction, le_ℚ, is_zero_ℚ, is_zero-zero, is_zero_out, ◌<ℚ◌}
+use Rattle.fx_model.specs.Fraction.{lt_le, le_refl, le_antisymm}
 use Rattle.exact_fractions.specs.declared.exact.Exact.{Exact}
 use Rattle.exact_fractions.specs.Exact.{value_of, are_equal}
 use Rattle.exact_fractions.specs.Reduced.{over}

@@ -1,5 +1,6 @@
 -- Products with powers of two, in lowest terms.
-use Rattle.std.specs.Prelude.{◌≡◌, ◌≢◌, ◌⊎◌, ℕ, ℤ, pos, negsuc, int_lt, nat_lt, ◌*ℤ◌, ◌+◌, ◌≤◌, ◌*◌, ◌/◌, ◌%◌, ◌<◌, ◌^◌, ◌&&◌, Bool, true, false, refl}
+use Rattle.std.specs.Prelude.{◌≡◌, ◌≢◌, ◌⊎◌, ℕ, ℤ, pos, negsuc, int_lt, nat_lt, ◌*ℤ◌, ◌+◌, ◌≤◌, ◌*◌}
+use Rattle.std.specs.Prelude.{◌/◌, ◌%◌, ◌<◌, ◌^◌, ◌&&◌, Bool, true, false, refl}
 use Rattle.std.specs.Int.{◌∣◌}
 use Rattle.std.specs.Int.RustNames.{unsigned_abs}
 use Rattle.std.proofs.Common.{arith, sym, ap, ◌∙◌, subst, suc, zero, ⊎_elim, lit<}
@@ -7,18 +8,22 @@ use Rattle.std.proofs.lemmas.Int.{ints, unsigned_abs-mul}
 use Rattle.std.proofs.lemmas.Nat.{pow_pos, pow-add, pow_below}
 use Rattle.std.proofs.lemmas.Nat.Gcd.{dvd_refl, IsGcd-swap, mod-eq-zero_of_dvd}
 use Rattle.std.proofs.lemmas.Bool.{le-ltb, lt-ltb, ltb-true}
-use Rattle.std.proofs.Math.Nat.{dvd-mul_right, mul-pos, one-dvd, mul-le-mul_right, mul-le-mul_left, eq-zero_of_zero-dvd, le_of_dvd}
+use Rattle.std.proofs.Math.Nat.{dvd-mul_right, mul-pos, one-dvd, mul-le-mul_right, mul-le-mul_left}
+use Rattle.std.proofs.Math.Nat.{eq-zero_of_zero-dvd, le_of_dvd}
 use Rattle.std.proofs.Math.Pow.{pow_mono}
 use mathlib.Core.Quot.{sound}
 use lib.IntN.{neg_ℤ}
 use borrow.Author.Differences.{neg_is, product_is, same_in}
 use Rattle.fx_model.specs.Fraction.{Same, Fraction, ◌*ℚ◌, zero_ℚ, one_ℚ}
-use Rattle.fx_model.specs.Powers.{whole, whole-mk, two_to, two_to_ratio, two_to-mk, two_to-pos, zero-whole, one-whole}
+use Rattle.fx_model.specs.Powers.{whole, whole-mk, two_to, two_to_ratio, two_to-mk, two_to-pos}
+use Rattle.fx_model.specs.Powers.{zero-whole, one-whole}
 use Rattle.exact_fractions.specs.declared.exact.Exact.{Exact}
 use Rattle.exact_fractions.specs.Divisors.{gcd, gcd_of, AreCoprime}
 use Rattle.exact_fractions.specs.Narrow.{is_narrow}
-use Rattle.exact_fractions.specs.Reduced.{numerator, denominator, over, signed_number, IsLowest, IsSmall}
-use Rattle.exact_fractions.specs.Lowest.{lowest_ratio, over-mk, numerator-over, denominator-over, unsigned_abs-signed}
+use Rattle.exact_fractions.specs.Reduced.{numerator, denominator, over, signed_number, IsLowest}
+use Rattle.exact_fractions.specs.Reduced.{IsSmall}
+use Rattle.exact_fractions.specs.Lowest.{lowest_ratio, over-mk, numerator-over, denominator-over}
+use Rattle.exact_fractions.specs.Lowest.{unsigned_abs-signed}
 use Rattle.exact_fractions.specs.Exact.{value_of}
 use Rattle.exact_fractions.specs.Wide.{are_narrow, numbers_of}
 use Rattle.exact_fractions.specs.Twos.{LosesTwos}

@@ -1,5 +1,7 @@
 -- The whole numbers next to a fraction, from its whole part and what is left of it.
-use Rattle.std.specs.Prelude.{◌≡◌, ℕ, ℤ, pos, negsuc, int_lt, ◌+ℤ◌, ◌*ℤ◌, ◌≤ℤ◌, ◌<ℤ◌, ◌+◌, ◌-◌, ◌*◌, ◌/◌, ◌%◌, ◌^◌, ◌<◌, ◌≤◌, nat_lt, nat_le, Bool, true, false, if◌then◌else◌, refl}
+use Rattle.std.specs.Prelude.{◌≡◌, ℕ, ℤ, pos, negsuc, int_lt, ◌+ℤ◌, ◌*ℤ◌, ◌≤ℤ◌, ◌<ℤ◌, ◌+◌, ◌-◌, ◌*◌}
+use Rattle.std.specs.Prelude.{◌/◌, ◌%◌, ◌^◌, ◌<◌, ◌≤◌, nat_lt, nat_le, Bool, true, false}
+use Rattle.std.specs.Prelude.{if◌then◌else◌, refl}
 use Rattle.std.specs.Int.RustNames.{unsigned_abs}
 use Rattle.std.proofs.Common.{arith, sym, ap, ◌∙◌, subst, lit<}
 use Rattle.std.proofs.lemmas.Int.{ints}
@@ -13,7 +15,8 @@ use Rattle.fx_model.specs.Powers.{whole, floor_unique}
 use Rattle.fx_model.specs.Rounded.{floor, ceiling, near_low, near_high, half, is_even}
 use Rattle.rounding.specs.Shifts.{near_low-neg}
 use Rattle.fx_model.specs.declared.Direction.{Direction}
-use Rattle.fx_model.specs.declared.Direction.TheVariants.{Zr, Aw, Dn, Up, Od, Ne, No, Nz, Na, Nd, Nu}
+use Rattle.fx_model.specs.declared.Direction.TheVariants.{Zr, Aw, Dn, Up, Od, Ne, No, Nz, Na, Nd}
+use Rattle.fx_model.specs.declared.Direction.TheVariants.{Nu}
 use Rattle.rounding.specs.declared.neighbours.Neighbours.{Neighbours}
 use Rattle.rounding.specs.Chosen.{AreNeighbours, chosen, is_from_zero}
 use Rattle.exact_fractions.specs.declared.roundings.Sizes.{Sizes}

@@ -1,11 +1,14 @@
 -- The greatest common divisor.
-use Rattle.std.specs.Prelude.{◌≡◌, ℕ, ◌+◌, ◌*◌, ◌/◌, ◌%◌, ◌≤◌, ◌<◌, ◌==◌, Bool, true, false, if◌then◌else◌, refl}
+use Rattle.std.specs.Prelude.{◌≡◌, ℕ, ◌+◌, ◌*◌, ◌/◌, ◌%◌, ◌≤◌, ◌<◌, ◌==◌, Bool, true, false}
+use Rattle.std.specs.Prelude.{if◌then◌else◌, refl}
 use Rattle.std.specs.Int.{IsGcd, ◌∣◌}
 use Rattle.std.proofs.Common.{arith, sym, ap, subst, zero, suc}
 use Rattle.std.proofs.lemmas.Bool.{eqb-true}
 use Rattle.std.proofs.lemmas.Nat.{div-add-mod', mod_below, mod-mul-add}
-use Rattle.std.proofs.lemmas.Nat.Gcd.{IsGcd-from_zero, IsGcd-from_mod, same_from_IsGcd, dvd_antisymm, dvd-zero}
-use Rattle.std.proofs.Math.Nat.{mul-dvd-mul_right, dvd-mul_left, dvd_of_mul-dvd-mul_right, div-mul_cancel, one-dvd, mul-le-mul_right}
+use Rattle.std.proofs.lemmas.Nat.Gcd.{IsGcd-from_zero, IsGcd-from_mod, same_from_IsGcd}
+use Rattle.std.proofs.lemmas.Nat.Gcd.{dvd_antisymm, dvd-zero}
+use Rattle.std.proofs.Math.Nat.{mul-dvd-mul_right, dvd-mul_left, dvd_of_mul-dvd-mul_right}
+use Rattle.std.proofs.Math.Nat.{div-mul_cancel, one-dvd, mul-le-mul_right}
 
 -- Euclid's steps, at most k of them
 unfoldable pub gcd_within : ℕ → ℕ → ℕ → ℕ

@@ -1,5 +1,6 @@
 -- Each fraction is its numerator over its denominator, and a fraction in lowest terms has these.
-use Rattle.std.specs.Prelude.{◌≡◌, ℕ, ℤ, pos, negsuc, ◌+◌, ◌-◌, ◌*◌, ◌/◌, ◌^◌, ◌<◌, ◌≤◌, nat_lt, Bool, true, false, refl}
+use Rattle.std.specs.Prelude.{◌≡◌, ℕ, ℤ, pos, negsuc, ◌+◌, ◌-◌, ◌*◌, ◌/◌, ◌^◌, ◌<◌, ◌≤◌, nat_lt}
+use Rattle.std.specs.Prelude.{Bool, true, false, refl}
 use Rattle.std.specs.Int.{◌∣◌}
 use Rattle.std.specs.Int.RustNames.{unsigned_abs, int_lt}
 use Rattle.std.proofs.lemmas.Int.{ints}
@@ -9,10 +10,14 @@ use Rattle.std.proofs.lemmas.Bool.{ltb-true, ltb-false, le-ltb, lt-ltb}
 use Rattle.std.specs.Coded.{le_prop}
 use mathlib.Core.Quot.{sound}
 use borrow.Author.Differences.{up, down, neg_is}
-use Rattle.fx_model.specs.Fraction.{Ratio, Same, Fraction, of_ratio, by_ratio, Fraction-set, mul_ratio, mul-mk, inverse_ratio, inverse-mk, ◌*ℚ◌, ◌/ℚ◌, inverse_ℚ}
+use Rattle.fx_model.specs.Fraction.{Ratio, Same, Fraction, of_ratio, by_ratio, Fraction-set}
+use Rattle.fx_model.specs.Fraction.{mul_ratio, mul-mk, inverse_ratio, inverse-mk, ◌*ℚ◌, ◌/ℚ◌}
+use Rattle.fx_model.specs.Fraction.{inverse_ℚ}
 use Rattle.fx_model.specs.Powers.{whole, whole_ratio, whole-mk}
 use Rattle.exact_fractions.specs.Divisors.{gcd, gcd_is, gcd_of, gcd_positive, cofactors}
-use Rattle.exact_fractions.specs.Reduced.{size, divisor, signed_number, numerator, denominator, numerator_ratio, denominator_ratio, numerator-mk, denominator-mk, over, IsLowest, IsSmall}
+use Rattle.exact_fractions.specs.Reduced.{size, divisor, signed_number, numerator, denominator}
+use Rattle.exact_fractions.specs.Reduced.{numerator_ratio, denominator_ratio, numerator-mk}
+use Rattle.exact_fractions.specs.Reduced.{denominator-mk, over, IsLowest, IsSmall}
 
 -- how n / d is written
 abbrev pub lowest_ratio : (n : ℤ) (d : ℕ) → 0 < d → Ratio

@@ -1,5 +1,6 @@
 -- Fractions in lowest terms: the numerator and the denominator of a fraction.
-use Rattle.std.specs.Prelude.{◌≡◌, ℕ, ℤ, pos, ◌+◌, ◌-◌, ◌*◌, ◌/◌, ◌^◌, ◌<◌, nat_lt, Bool, true, false, if◌then◌else◌, refl}
+use Rattle.std.specs.Prelude.{◌≡◌, ℕ, ℤ, pos, ◌+◌, ◌-◌, ◌*◌, ◌/◌, ◌^◌, ◌<◌, nat_lt, Bool, true}
+use Rattle.std.specs.Prelude.{false, if◌then◌else◌, refl}
 use Rattle.std.specs.Int.{◌∣◌}
 use Rattle.std.proofs.Common.{arith, sym, ap, ◌∙◌, subst, zero, suc, ⊎_elim}
 use Rattle.std.proofs.Math.Nat.{ℕ_set, mul-pos, dvd-mul_left, div-mul_cancel, mul-le-mul_right}
@@ -11,7 +12,8 @@ use lib.IntN.{neg_ℤ, ℤ_set}
 use Rattle.std.specs.Int.RustNames.{unsigned_abs, int_lt}
 use Rattle.fx_model.specs.Powers.{whole}
 use Rattle.fx_model.specs.Fraction.{Ratio, Same, Fraction, ◌/ℚ◌, of_ratio}
-use Rattle.exact_fractions.specs.Divisors.{gcd, gcd_is, gcd_positive, AreCoprime, divides_other, cofactors}
+use Rattle.exact_fractions.specs.Divisors.{gcd, gcd_is, gcd_positive, AreCoprime, divides_other}
+use Rattle.exact_fractions.specs.Divisors.{cofactors}
 
 -- ---- as it is written: |plus - minus|, and its greatest common divisor with what it stands over
 abbrev pub size : Ratio → ℕ

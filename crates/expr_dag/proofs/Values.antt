@@ -1,15 +1,21 @@
 -- The values of nodes stay where more nodes follow.
-use Rattle.std.proofs.Common.{◌≡◌, ℕ, zero, suc, ◌<◌, List, ◌++◌, length, Option, refl, sym, ap, ◌∙◌, arith, length-append, slice_index_or}
+use Rattle.std.proofs.Common.{◌≡◌, ℕ, zero, suc, ◌<◌, List, ◌++◌, length, Option, refl, sym, ap}
+use Rattle.std.proofs.Common.{◌∙◌, arith, length-append, slice_index_or}
 use Rattle.std.proofs.lemmas.List.{get_or_append_left}
 use Rattle.literal.specs.fx_model.Fraction.{Fraction, ◌+ℚ◌, ◌-ℚ◌, ◌*ℚ◌, neg_ℚ, abs_ℚ}
 use Rattle.literal.specs.fx_model.Rounded.{rounded}
 use Rattle.literal.specs.fx_model.declared.ExprId.{ExprId}
 use Rattle.literal.specs.fx_model.declared.Node.{Node}
-use Rattle.literal.specs.fx_model.declared.Node.TheVariants.{Var, Lit, Neg, Add, Sub, Mul, Div, Abs, Round}
-use Rattle.literal.specs.fx_model.Expression.{Assignment, ChildrenBelow, IsOrdered, node_value, value, value_step, lift₁, lift₂, quotient, same_children}
+use Rattle.literal.specs.fx_model.declared.Node.TheVariants.{Var, Lit, Neg, Add, Sub, Mul, Div, Abs}
+use Rattle.literal.specs.fx_model.declared.Node.TheVariants.{Round}
+use Rattle.literal.specs.fx_model.Expression.{Assignment, ChildrenBelow, IsOrdered, node_value}
+use Rattle.literal.specs.fx_model.Expression.{value, value_step, lift₁, lift₂, quotient}
+use Rattle.literal.specs.fx_model.Expression.{same_children}
 
-module _ (nodes more : List Node) (a : Assignment) (o : IsOrdered nodes) (p : IsOrdered (nodes ++ more)) where
-  value_below : (k : ℕ) (x : ExprId) → x.0 < k → x.0 < length nodes → value (nodes ++ more) a x ≡ value nodes a x
+module _ (nodes more : List Node) (a : Assignment) (o : IsOrdered nodes)
+    (p : IsOrdered (nodes ++ more)) where
+  value_below : (k : ℕ) (x : ExprId) → x.0 < k → x.0 < length nodes
+      → value (nodes ++ more) a x ≡ value nodes a x
   value_below zero x h l = absurd (omega arith)
   value_below (suc k) x h l =
       let d : Node = Var 0 in
@@ -17,7 +23,8 @@ module _ (nodes more : List Node) (a : Assignment) (o : IsOrdered nodes) (p : Is
       let n : Node = slice_index_or nodes x.0 d in
       let e : slice_index_or (nodes ++ more) x.0 d ≡ n = get_or_append_left nodes more d x.0 l in
       value_step (nodes ++ more) a x d p m ∙ ap (node_value a (value (nodes ++ more) a)) e
-      ∙ same_children a (value (nodes ++ more) a) (value nodes a) x.0 n (o x.0 d l) (λ y b. value_below k y (omega arith) (omega arith))
+      ∙ same_children a (value (nodes ++ more) a) (value nodes a) x.0 n (o x.0 d l)
+      (λ y b. value_below k y (omega arith) (omega arith))
       ∙ sym (value_step nodes a x d o l)
 
   pub value_stays : (x : ExprId) → x.0 < length nodes → value (nodes ++ more) a x ≡ value nodes a x

@@ -1,9 +1,11 @@
 -- What holds of the value of a node, from what holds of those of its parts.
-use Rattle.std.specs.Prelude.{◌≡◌, ◌≢◌, Bool, true, false, List, Option, Some, None, if◌then◌else◌, refl}
+use Rattle.std.specs.Prelude.{◌≡◌, ◌≢◌, Bool, true, false, List, Option, Some, None, if◌then◌else◌}
+use Rattle.std.specs.Prelude.{refl}
 use Rattle.std.specs.Option.{IsSomeAnd}
 use Rattle.std.proofs.Common.{sym, subst}
 use Rattle.literal.specs.fx_model.Fraction.{Fraction, ◌/ℚ◌, zero_ℚ, is_zero_ℚ, is_zero_out}
-use Rattle.literal.specs.fx_model.Expression.{Assignment, IsOrdered, value, node_value, lift₁, lift₂, quotient}
+use Rattle.literal.specs.fx_model.Expression.{Assignment, IsOrdered, value, node_value, lift₁}
+use Rattle.literal.specs.fx_model.Expression.{lift₂, quotient}
 use Rattle.literal.specs.fx_model.declared.ExprId.{ExprId}
 use Rattle.literal.specs.fx_model.declared.Node.{Node}
 use Rattle.expr_dag.specs.Shapes.{is_at, is_at_out, node_at-value}

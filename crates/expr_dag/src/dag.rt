@@ -1,11 +1,13 @@
 //! The list of nodes.
 
-ghost use Rattle.std.specs.Prelude.{◌≡◌, ℕ, ◌<◌, ◌≤◌, ◌↔◌, [], length, slice_index_or, slice_get, Err, Some, IsNone, IfSome, IfOk, OnErr};
+ghost use Rattle.std.specs.Prelude.{◌≡◌, ℕ, ◌<◌, ◌≤◌, ◌↔◌, [], length, slice_index_or, slice_get};
+ghost use Rattle.std.specs.Prelude.{Err, Some, IsNone, IfSome, IfOk, OnErr};
 ghost use Rattle.literal.specs.fx_model.declared.Node.{Node};
 ghost use Rattle.literal.specs.fx_model.declared.ExprId.{ExprId};
 ghost use Rattle.literal.specs.fx_model.Expression.{IsOrdered};
 ghost use Rattle.expr_dag.specs.Shapes.{is_at, is_known, are_known};
-ghost use Rattle.expr_dag.specs.Nodes.{IsLawful, IsAt, IsAbsent, IsFull, IsPlaced, IsKept, place_of, with_node};
+ghost use Rattle.expr_dag.specs.Nodes.{IsLawful, IsAt, IsAbsent, IsFull, IsPlaced, IsKept};
+ghost use Rattle.expr_dag.specs.Nodes.{place_of, with_node};
 
 use crate::key::Key;
 use indexmap::IndexSet;

@@ -10,10 +10,12 @@ token_send E sent shared = search sendable depth 20
 
 -- a copy of a value that only proofs read owns nothing
 snapshot_send : (Y : RattleType) → IsSend (snapshot.the_row Y)
-snapshot_send Y = record { owned = λ d vs. ((λ vss. (tt, ((λ uss. (tt, tt)), tt))), tt); leaving = λ k f vs. tt }
+snapshot_send Y =
+    record { owned = λ d vs. ((λ vss. (tt, ((λ uss. (tt, tt)), tt))), tt); leaving = λ k f vs. tt }
 
 snapshot_sync : (Y : RattleType) → IsSync (snapshot.the_row Y)
-snapshot_sync Y = record { shared = λ d b o κ q. part_keyless (snapshot.the_row Y) (snapshot_send Y) q d b o }
+snapshot_sync Y =
+    record { shared = λ d b o κ q. part_keyless (snapshot.the_row Y) (snapshot_send Y) q d b o }
 
 pub token_sync : (E : RattleType) → IsSend E → IsSync E → IsSync (the_row E)
 token_sync E sent shared = search (sendable, placed_s.the_sync, snapshot_sync) depth 20

@@ -1,5 +1,7 @@
 -- What two sizes, two relative errors or two places have in common.
-use Rattle.std.specs.Prelude.{◌≡◌, ◌⊎◌, ◌&&◌, ◌||◌, ◌≤ℤ◌, Bool, true, false, Option, Some, None, if◌then◌else◌, refl, ◌<◌, ℕ, zero, suc, List, [], ◌∷◌, ◌++◌, length, slice_get}
+use Rattle.std.specs.Prelude.{◌≡◌, ◌⊎◌, ◌&&◌, ◌||◌, ◌≤ℤ◌, Bool, true, false, Option, Some, None}
+use Rattle.std.specs.Prelude.{if◌then◌else◌, refl, ◌<◌, ℕ, zero, suc, List, [], ◌∷◌, ◌++◌, length}
+use Rattle.std.specs.Prelude.{slice_get}
 use Rattle.std.specs.Int.RustNames.{int_lt}
 use Rattle.std.proofs.Common.{sym, ◌∙◌, ap, subst, arith, inl, inr}
 use Rattle.std.proofs.lemmas.Int.{ints}
@@ -17,7 +19,8 @@ use Rattle.facts.specs.declared.size.Size.{Size}
 use Rattle.facts.specs.declared.relative.RelativeError.{RelativeError}
 use Rattle.facts.specs.declared.place.FixPlace.{FixPlace}
 use Rattle.facts.specs.Ranges.{IsBelow, IsBelow-mono}
-use Rattle.facts.specs.Parts.{size_from-some, size_from_out, error_from-some, error_from_out, common_size, common_error, greater_place, size_of_part, error_of_part}
+use Rattle.facts.specs.Parts.{size_from-some, size_from_out, error_from-some, error_from_out}
+use Rattle.facts.specs.Parts.{common_size, common_error, greater_place, size_of_part, error_of_part}
 use Rattle.facts.specs.Order.{IsWithin, IsWithinError, is_same, slot_of}
 use Rattle.facts.specs.declared.fact.Fact.{Fact}
 use Rattle.facts.specs.declared.fact.Fact.TheVariants as fact

@@ -1,5 +1,6 @@
 -- Conclusions of rules: how they are written, when one improves another, and where they stand.
-use Rattle.std.specs.Prelude.{◌≡◌, ◌⊎◌, ◌≤ℤ◌, Bool, true, false, Option, Some, None, if◌then◌else◌, refl}
+use Rattle.std.specs.Prelude.{◌≡◌, ◌⊎◌, ◌≤ℤ◌, Bool, true, false, Option, Some, None, if◌then◌else◌}
+use Rattle.std.specs.Prelude.{refl}
 use Rattle.std.proofs.Common.{ap, subst, inl}
 use Rattle.interval.specs.fx_model.declared.ExprId.{ExprId}
 use Rattle.interval.specs.declared.interval.Interval.{Interval}

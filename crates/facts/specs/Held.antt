@@ -1,5 +1,6 @@
 -- What holds is kept by "weaker" and by meets.
-use Rattle.std.specs.Prelude.{◌≡◌, ◌≢◌, ◌&&◌, ◌≤ℤ◌, ℤ, pos, ◌*ℤ◌, ◌^◌, Bool, true, false, Option, Some, None, List, if◌then◌else◌, refl}
+use Rattle.std.specs.Prelude.{◌≡◌, ◌≢◌, ◌&&◌, ◌≤ℤ◌, ℤ, pos, ◌*ℤ◌, ◌^◌, Bool, true, false, Option}
+use Rattle.std.specs.Prelude.{Some, None, List, if◌then◌else◌, refl}
 use Rattle.std.specs.Option.{IsSomeAnd}
 use Rattle.std.specs.Int.RustNames.{int_lt}
 use Rattle.std.proofs.Common.{sym, ◌∙◌, ap, subst, inl, inr, ⊎_elim, rules}

@@ -11,7 +11,9 @@ use Rattle.facts.specs.declared.fact.Fact.{Fact}
 use Rattle.facts.specs.declared.fact.Fact.TheVariants as fact
 use Rattle.facts.specs.declared.fact.Slot.TheVariants as slot
 use Rattle.facts.specs.Parts.{common_size, common_error, greater_place}
-use Rattle.facts.specs.CommonParts.{at_option, some-inj, same_expr, common_size-within, within-common_size, meet_error, error_meet_left, error_meet_right, place_left, place_right, place_most}
+use Rattle.facts.specs.CommonParts.{at_option, some-inj, same_expr, common_size-within}
+use Rattle.facts.specs.CommonParts.{within-common_size, meet_error, error_meet_left}
+use Rattle.facts.specs.CommonParts.{error_meet_right, place_left, place_right, place_most}
 use Rattle.facts.specs.Order.{slot_of, IsWithin, IsWithinError, IsStronger, is_same, meet_of}
 
 pub IsWithin-refl : (i : Interval) → IsWithin i i

@@ -17,8 +17,10 @@ use Rattle.facts.specs.declared.place.FixPlace.{FixPlace}
 use Rattle.facts.specs.declared.fact.Fact.{Fact}
 use Rattle.facts.specs.declared.fact.Fact.TheVariants as fact
 use Rattle.facts.specs.declared.fact.Slot.TheVariants as slot
-use Rattle.facts.specs.Parts.{common_size, common_error, greater_place, size_from_self, error_from_self}
-use Rattle.facts.specs.Order.{slot_of, IsWithin, IsWithinError, IsStronger, is_same, bounded, sized, meet_of, AreUnlike}
+use Rattle.facts.specs.Parts.{common_size, common_error, greater_place, size_from_self}
+use Rattle.facts.specs.Parts.{error_from_self}
+use Rattle.facts.specs.Order.{slot_of, IsWithin, IsWithinError, IsStronger, is_same, bounded, sized}
+use Rattle.facts.specs.Order.{meet_of, AreUnlike}
 use Rattle.facts.specs.CommonParts.{at_option, some-inj, if-some, expr_same}
 use Rattle.facts.specs.Laws.{IsStronger-refl, IsStronger-slot, IsStronger-meet, IsMeet, meet_exists}
 use Rattle.interval.specs.dyadic.Extremes.{BoundLe-antisymm}

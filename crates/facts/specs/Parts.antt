@@ -14,7 +14,8 @@ use Rattle.interval.specs.Meets.{common_of}
 use Rattle.facts.specs.declared.size.Size.{Size}
 use Rattle.facts.specs.declared.relative.RelativeError.{RelativeError}
 use Rattle.facts.specs.declared.place.FixPlace.{FixPlace}
-use Rattle.facts.specs.Ranges.{IsFromZero, IsFromZero-prop, IsAboveMinusOne, IsAboveMinusOne-prop, is_below, is_below_in, is_below_out}
+use Rattle.facts.specs.Ranges.{IsFromZero, IsFromZero-prop, IsAboveMinusOne, IsAboveMinusOne-prop}
+use Rattle.facts.specs.Ranges.{is_below, is_below_in, is_below_out}
 
 -- ---- absolute values
 abbrev sized : (i : Interval) → IsFromZero (range_of i) → Size

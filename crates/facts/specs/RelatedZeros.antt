@@ -1,7 +1,8 @@
 -- Of two related values one is 0 exactly where the other is.
 use Rattle.std.specs.Prelude.{◌≡◌, ◌≢◌}
 use Rattle.std.proofs.Common.{ap, subst, ◌∙◌, ⊎_elim}
-use Rattle.interval.specs.fx_model.Fraction.{Fraction, ◌-ℚ◌, ◌/ℚ◌, inverse_ℚ, neg_ℚ, zero_ℚ, one_ℚ, lt_not, zero-add, zero-mul}
+use Rattle.interval.specs.fx_model.Fraction.{Fraction, ◌-ℚ◌, ◌/ℚ◌, inverse_ℚ, neg_ℚ, zero_ℚ, one_ℚ}
+use Rattle.interval.specs.fx_model.Fraction.{lt_not, zero-add, zero-mul}
 use Rattle.interval.specs.fx_model.Grid.{Bound, Below, At, Above}
 use Rattle.interval.specs.fx_model.Enclosure.{Lies, IsFrom}
 use Rattle.interval.specs.Intervals.{range_of}

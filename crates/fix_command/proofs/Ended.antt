@@ -3,7 +3,8 @@ use Rattle.std.proofs.Common.{◌≡◌, ◌≢◌, ◌<◌, ◌^◌, ℕ, Optio
 use Rattle.std.specs.Io.KnownBytes.{Keeps}
 use Rattle.command_line.specs.Fix.{AskedFix}
 use Rattle.command_runs.specs.Runs.{Bytes, Run, IsKept, ReadFailed, WriteFailed}
-use Rattle.command_runs.specs.Ends.{IsPutBy, IsStopPutBy, put_runs, stop_runs, unwritten_runs, run_by, unread_kept, unread_once}
+use Rattle.command_runs.specs.Ends.{IsPutBy, IsStopPutBy, put_runs, stop_runs, unwritten_runs}
+use Rattle.command_runs.specs.Ends.{run_by, unread_kept, unread_once}
 use Rattle.command_runs.specs.Fates.{Left, Leaves, begun, Runs, MayWrite, IsKeptFile}
 use Rattle.command_runs.specs.declared.status.Status.{Status}
 use Rattle.command_runs.specs.declared.status.Status.TheVariants as status

@@ -1,12 +1,15 @@
 -- A token's text by itself is that token.
-use Rattle.std.proofs.Common.{◌≡◌, ℕ, zero, suc, ◌+◌, ◌-◌, ◌≤◌, ◌==◌, ◌&&◌, ◌||◌, nat_lt, cond, Bool, true, false, List, [], ◌∷◌, length, take, drop, Some, None, refl, sym, ap, ◌∙◌, subst, arith, length-drop, if◌then◌else◌}
+use Rattle.std.proofs.Common.{◌≡◌, ℕ, zero, suc, ◌+◌, ◌-◌, ◌≤◌, ◌==◌, ◌&&◌, ◌||◌, nat_lt, cond}
+use Rattle.std.proofs.Common.{Bool, true, false, List, [], ◌∷◌, length, take, drop, Some, None}
+use Rattle.std.proofs.Common.{refl, sym, ap, ◌∙◌, subst, arith, length-drop, if◌then◌else◌}
 use Rattle.std.specs.Char.{is_ascii_digit}
 use Rattle.std.proofs.lemmas.List.{drop-take}
 use Rattle.std.proofs.lemmas.Bool.{eqb-true}
 use Rattle.script_words.specs.declared.lex.Run.{Run}
 use Rattle.script_words.specs.declared.lex.Run.TheVariants.{Word, Digit, HexDigit}
 use Rattle.script_words.specs.declared.lex.TokenKind.TheVariants as kind
-use Rattle.script_words.specs.Literals.{is_in, run_len, part_len, signed_len, exponent_len, scaled_len, is_hex, literal_len}
+use Rattle.script_words.specs.Literals.{is_in, run_len, part_len, signed_len, exponent_len}
+use Rattle.script_words.specs.Literals.{scaled_len, is_hex, literal_len}
 use Rattle.script_words.specs.Signs.{sign_at, reserved_word}
 use Rattle.script_words.specs.Lex.{front, word_kind, sign_token}
 

@@ -1,5 +1,7 @@
 -- The names and literals of a program's text are tokens by themselves.
-use Rattle.std.proofs.Common.{◌≡◌, ℕ, ◌+◌, ◌-◌, ◌≤◌, ◌==◌, ◌&&◌, nat_lt, Bool, true, false, List, [], ◌∷◌, length, take, drop, codes, Option, Some, None, refl, sym, ap, ◌∙◌, subst, arith, if◌then◌else◌}
+use Rattle.std.proofs.Common.{◌≡◌, ℕ, ◌+◌, ◌-◌, ◌≤◌, ◌==◌, ◌&&◌, nat_lt, Bool, true, false, List}
+use Rattle.std.proofs.Common.{[], ◌∷◌, length, take, drop, codes, Option, Some, None, refl, sym, ap}
+use Rattle.std.proofs.Common.{◌∙◌, subst, arith, if◌then◌else◌}
 use Rattle.std.specs.List.{AllByRecursion}
 use Rattle.std.specs.Str.{bytes_eq}
 use Rattle.std.proofs.lemmas.List.{drop-drop, length-take-le}
@@ -14,7 +16,8 @@ use Rattle.fixprog.specs.declared.token.Kind.{Kind}
 use Rattle.fixprog.specs.declared.token.Kind.TheVariants as kind
 use Rattle.fixprog.specs.declared.token.ProgramToken.{ProgramToken}
 use Rattle.fixprog.specs.Words.{kind_word}
-use Rattle.fixprog.specs.Lex.{front, format_len, own_sign, of_script, or_else, Lexes, ends, bad, token, token_word, words_of}
+use Rattle.fixprog.specs.Lex.{front, format_len, own_sign, of_script, or_else, Lexes, ends, bad}
+use Rattle.fixprog.specs.Lex.{token, token_word, words_of}
 use Rattle.fixprog.specs.First.{IsAlone, IsAloneWord, WordsAreAlone}
 use Rattle.fixprog.proofs.Alone.{run-le, literal-le, word_by_itself, literal_by_itself}
 
@@ -157,7 +160,8 @@ token_plain text start len k e =
     (word_by k len (drop start text) (subst (IsAloneFound (drop start text)) e
     (front_plain (drop start text))))
 
-words_plain : (text : List ℕ) (at : ℕ) (rest : List ℕ) (ts : List ProgramToken) (o : Option ℕ) → rest
+words_plain : (text : List ℕ) (at : ℕ) (rest : List ℕ)
+    (ts : List ProgramToken) (o : Option ℕ) → rest
     ≡ drop at text → Lexes at rest ts o → AllByRecursion IsAloneWord (words_of text ts)
 words_plain text at rest ts o e (ends h) = tt
 words_plain text at rest ts o e (bad h n) = tt

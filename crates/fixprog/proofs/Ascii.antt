@@ -1,11 +1,13 @@
 -- The texts of names and literals are ASCII.
-use Rattle.std.proofs.Common.{◌≡◌, ℕ, suc, ◌+◌, ◌<◌, ◌==◌, ◌&&◌, ◌||◌, nat_lt, cond, Bool, true, false, List, [], ◌∷◌, ◌++◌, take, drop, refl, sym, subst, arith}
+use Rattle.std.proofs.Common.{◌≡◌, ℕ, suc, ◌+◌, ◌<◌, ◌==◌, ◌&&◌, ◌||◌, nat_lt, cond, Bool, true}
+use Rattle.std.proofs.Common.{false, List, [], ◌∷◌, ◌++◌, take, drop, refl, sym, subst, arith}
 use Rattle.std.specs.List.{AllByRecursion}
 use Rattle.std.specs.Char.{is_ascii_digit, is_ascii_hexdigit}
 use Rattle.std.proofs.Math.Seq.{take-add}
 use Rattle.script_words.specs.declared.lex.Run.{Run}
 use Rattle.script_words.specs.declared.lex.Run.TheVariants.{Word, Digit, HexDigit}
-use Rattle.script_words.specs.Literals.{is_word, is_in, run_len, part_len, signed_len, exponent_len, scaled_len, is_hex, literal_len}
+use Rattle.script_words.specs.Literals.{is_word, is_in, run_len, part_len, signed_len, exponent_len}
+use Rattle.script_words.specs.Literals.{scaled_len, is_hex, literal_len}
 
 -- each byte is ASCII
 abbrev pub Plain : List ℕ → Type 0

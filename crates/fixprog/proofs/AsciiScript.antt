@@ -1,5 +1,7 @@
 -- The script of a program is ASCII.
-use Rattle.std.proofs.Common.{◌≡◌, ℕ, pos, zero, suc, ◌-◌, ◌^◌, ◌<◌, ◌≤◌, ◌&&◌, nat_lt, Bool, true, false, codes, List, [], ◌∷◌, ◌++◌, map, None, refl, sym, subst, arith, lit≤, lit<, if◌then◌else◌}
+use Rattle.std.proofs.Common.{◌≡◌, ℕ, pos, zero, suc, ◌-◌, ◌^◌, ◌<◌, ◌≤◌, ◌&&◌, nat_lt, Bool, true}
+use Rattle.std.proofs.Common.{false, codes, List, [], ◌∷◌, ◌++◌, map, None, refl, sym, subst, arith}
+use Rattle.std.proofs.Common.{lit≤, lit<, if◌then◌else◌}
 use Rattle.std.specs.Prelude.{neg_ℤ}
 use Rattle.std.specs.List.{All, AllByRecursion, list_all, flat_map}
 use Rattle.std.specs.Str.{IsAscii, IsUtf8}
@@ -13,15 +15,23 @@ use lib.Signed.{mag}
 use Rattle.fixprog.specs.declared.program.Mark.{Mark}
 use Rattle.fixprog.specs.declared.program.Mark.TheVariants as mark
 use Rattle.fixprog.specs.Words.{Name}
-use Rattle.fixprog.specs.Grammar.{Operand, named, given, Operation, copy, negation, sum, difference, product, shift_right, shift_left, Bound, Input, Way, called, reserved, reserved_out, Step, input, step, output, Program, outputs, statements}
+use Rattle.fixprog.specs.Grammar.{Operand, named, given, Operation, copy, negation, sum, difference}
+use Rattle.fixprog.specs.Grammar.{product, shift_right, shift_left, Bound, Input, Way, called}
+use Rattle.fixprog.specs.Grammar.{reserved, reserved_out, Step, input, step, output, Program}
+use Rattle.fixprog.specs.Grammar.{outputs, statements}
 use Rattle.fixprog.specs.Formats.{Format, format_of, is_format, least, greatest, last_place}
 use Rattle.fixprog.specs.Faults.{program_faults}
 use Rattle.fixprog.specs.First.{Spells}
 use Rattle.fixprog.specs.Execution.{way_text}
-use Rattle.fixprog.specs.Turned.{Bytes, operand_text, operation_text, last_place_text, step_line, mark_text, bound_text, range_text, input_text, word_text, format_goal, output_goal, joined, hypotheses_text, goals_text, lines_of, script_of}
+use Rattle.fixprog.specs.Turned.{Bytes, operand_text, operation_text, last_place_text, step_line}
+use Rattle.fixprog.specs.Turned.{mark_text, bound_text, range_text, input_text, word_text}
+use Rattle.fixprog.specs.Turned.{format_goal, output_goal, joined, hypotheses_text, goals_text}
+use Rattle.fixprog.specs.Turned.{lines_of, script_of}
 use Rattle.fixprog.specs.Printed.{IsShort, IsPrintable, IsInputPrintable}
 use Rattle.fixprog.proofs.Ascii.{Plain}
-use Rattle.fixprog.proofs.AsciiWords.{IsPlainWord, all_words_plain, statements_plain, IsPlainOperand, IsPlainOperation, IsPlainWay, IsPlainInput, IsPlainStep, IsPlainStatement}
+use Rattle.fixprog.proofs.AsciiWords.{IsPlainWord, all_words_plain, statements_plain}
+use Rattle.fixprog.proofs.AsciiWords.{IsPlainOperand, IsPlainOperation, IsPlainWay, IsPlainInput}
+use Rattle.fixprog.proofs.AsciiWords.{IsPlainStep, IsPlainStatement}
 use Rattle.fixprog.proofs.Faultless.{fine, all_fine, all_front, all_behind}
 
 all_of : {X : Type 0} (P : X → Type 0) (xs : List X) → AllByRecursion P xs → All P xs

@@ -1,5 +1,7 @@
 -- The words of a program's text that are printed are ASCII.
-use Rattle.std.proofs.Common.{◌≡◌, ℕ, ◌+◌, ◌-◌, ◌==◌, ◌&&◌, nat_lt, Bool, true, false, List, [], ◌∷◌, ◌++◌, take, drop, codes, Option, Some, None, refl, sym, ap, ◌∙◌, subst, arith, if◌then◌else◌}
+use Rattle.std.proofs.Common.{◌≡◌, ℕ, ◌+◌, ◌-◌, ◌==◌, ◌&&◌, nat_lt, Bool, true, false, List, []}
+use Rattle.std.proofs.Common.{◌∷◌, ◌++◌, take, drop, codes, Option, Some, None, refl, sym, ap, ◌∙◌}
+use Rattle.std.proofs.Common.{subst, arith, if◌then◌else◌}
 use Rattle.std.specs.List.{AllByRecursion}
 use Rattle.std.specs.Str.{bytes_eq}
 use Rattle.std.proofs.lemmas.List.{drop-drop}
@@ -16,8 +18,13 @@ use Rattle.fixprog.specs.declared.token.Kind.{Kind}
 use Rattle.fixprog.specs.declared.token.Kind.TheVariants as kind
 use Rattle.fixprog.specs.declared.token.ProgramToken.{ProgramToken}
 use Rattle.fixprog.specs.Words.{Word, name, literal, kind_word}
-use Rattle.fixprog.specs.Lex.{front, format_len, own_sign, of_script, or_else, Lexes, ends, bad, token, token_word, words_of}
-use Rattle.fixprog.specs.Grammar.{Operand, named, given, operand_words, Operation, copy, negation, sum, difference, product, shift_right, shift_left, operation_words, bound_words, Input, Way, called, reserved, reserved_out, way_words, Step, Statement, input, step, output, statement_words, words_from}
+use Rattle.fixprog.specs.Lex.{front, format_len, own_sign, of_script, or_else, Lexes, ends, bad}
+use Rattle.fixprog.specs.Lex.{token, token_word, words_of}
+use Rattle.fixprog.specs.Grammar.{Operand, named, given, operand_words, Operation, copy, negation}
+use Rattle.fixprog.specs.Grammar.{sum, difference, product, shift_right, shift_left}
+use Rattle.fixprog.specs.Grammar.{operation_words, bound_words, Input, Way, called, reserved}
+use Rattle.fixprog.specs.Grammar.{reserved_out, way_words, Step, Statement, input, step, output}
+use Rattle.fixprog.specs.Grammar.{statement_words, words_from}
 use Rattle.fixprog.proofs.Ascii.{Plain, literal_plain, word_plain}
 
 one_value : {A : Type 0} (x y : A) → Some x ≡ Some y → y ≡ x
@@ -153,7 +160,8 @@ token_plain text start len k e =
     (word_by k len (drop start text) (subst (IsPlainFound (drop start text)) e
     (front_plain (drop start text))))
 
-words_plain : (text : List ℕ) (at : ℕ) (rest : List ℕ) (ts : List ProgramToken) (o : Option ℕ) → rest
+words_plain : (text : List ℕ) (at : ℕ) (rest : List ℕ)
+    (ts : List ProgramToken) (o : Option ℕ) → rest
     ≡ drop at text → Lexes at rest ts o → AllByRecursion IsPlainWord (words_of text ts)
 words_plain text at rest ts o e (ends h) = tt
 words_plain text at rest ts o e (bad h n) = tt

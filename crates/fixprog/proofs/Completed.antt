@@ -1,5 +1,6 @@
 -- Words that a course has taken begin a program.
-use Rattle.std.proofs.Common.{◌≡◌, ℕ, zero, suc, codes, List, [], ◌∷◌, ◌++◌, map, refl, sym, ap, ◌∙◌, arith, append_assoc, append-nil, ◌⊎◌, inl, inr, ⊎_elim}
+use Rattle.std.proofs.Common.{◌≡◌, ℕ, zero, suc, codes, List, [], ◌∷◌, ◌++◌, map, refl, sym, ap}
+use Rattle.std.proofs.Common.{◌∙◌, arith, append_assoc, append-nil, ◌⊎◌, inl, inr, ⊎_elim}
 use Rattle.std.specs.List.{All, AllByRecursion}
 use Rattle.script_words.specs.declared.class.Symbol.TheVariants as s
 use Rattle.script_words.specs.Literals.{literal_len, scaled_len}
@@ -10,11 +11,20 @@ use Rattle.fixprog.specs.declared.program.Shift.TheVariants as shift
 use Rattle.fixprog.specs.declared.token.Kind.TheVariants as kind
 use Rattle.fixprog.specs.Words.{Name, Word, name, literal, format, sign, colon, out}
 use Rattle.fixprog.specs.Lex.{front, IsToken}
-use Rattle.fixprog.specs.Grammar.{Operand, named, Digits, Operation, copy, sum, difference, product, shift_right, shift_left, negation, Bound, Input, Way, called, Step, Statement, input, step, output, statement_words, words_from, Program, program_words}
+use Rattle.fixprog.specs.Grammar.{Operand, named, Digits, Operation, copy, sum, difference, product}
+use Rattle.fixprog.specs.Grammar.{shift_right, shift_left, negation, Bound, Input, Way, called}
+use Rattle.fixprog.specs.Grammar.{Step, Statement, input, step, output, statement_words, words_from}
+use Rattle.fixprog.specs.Grammar.{Program, program_words}
 use Rattle.fixprog.specs.First.{Begins}
-use Rattle.fixprog.specs.Standing.{Part, part_words, between, input_name, input_colon, input_format, input_open, lower, lower_marked, comma, upper, upper_marked, input_close, input_end, step_colon, step_format, step_way, step_equal, step_operand, step_negated, step_operator, step_second, step_places, step_end, output_name, output_end, bound_of, Standing, with_statement}
+use Rattle.fixprog.specs.Standing.{Part, part_words, between, input_name, input_colon, input_format}
+use Rattle.fixprog.specs.Standing.{input_open, lower, lower_marked, comma, upper, upper_marked}
+use Rattle.fixprog.specs.Standing.{input_close, input_end, step_colon, step_format, step_way}
+use Rattle.fixprog.specs.Standing.{step_equal, step_operand, step_negated, step_operator}
+use Rattle.fixprog.specs.Standing.{step_second, step_places, step_end, output_name, output_end}
+use Rattle.fixprog.specs.Standing.{bound_of, Standing, with_statement}
 use Rattle.fixprog.specs.Finding.{Course}
-use Rattle.fixprog.proofs.Course.{in_place, may_join, join_whole, one_word_more, whole, stand_words, IsCourse}
+use Rattle.fixprog.proofs.Course.{in_place, may_join, join_whole, one_word_more, whole, stand_words}
+use Rattle.fixprog.proofs.Course.{IsCourse}
 
 all_of : {X : Type 0} (P : X → Type 0) (xs : List X) → AllByRecursion P xs → All P xs
 all_of P [] h k d l = absurd (omega arith)

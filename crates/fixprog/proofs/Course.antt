@@ -1,14 +1,28 @@
 -- The course of words: what stands behind them, and the faults that they tell.
-use Rattle.std.proofs.Common.{◌≡◌, ℕ, ◌+◌, ◌<◌, ◌&&◌, Bool, true, false, List, [], ◌∷◌, ◌++◌, length, map, Option, Some, None, refl, sym, ap, ◌∙◌, subst, append_assoc, append-nil, length-append, if◌then◌else◌}
+use Rattle.std.proofs.Common.{◌≡◌, ℕ, ◌+◌, ◌<◌, ◌&&◌, Bool, true, false, List, [], ◌∷◌, ◌++◌}
+use Rattle.std.proofs.Common.{length, map, Option, Some, None, refl, sym, ap, ◌∙◌, subst}
+use Rattle.std.proofs.Common.{append_assoc, append-nil, length-append, if◌then◌else◌}
 use Rattle.std.specs.Option.{option_map}
 use Rattle.std.specs.List.{All}
 use Rattle.std.proofs.lemmas.List.{map-append}
 use Rattle.script_words.specs.declared.class.Symbol.TheVariants as s
 use Rattle.fixprog.specs.Words.{Name, Word, sign}
-use Rattle.fixprog.specs.Grammar.{Input, Step, Statement, input, step, output, statement_words, words_from}
-use Rattle.fixprog.specs.Standing.{Part, part_words, input_name, input_colon, input_format, input_open, lower, lower_marked, comma, upper, upper_marked, input_close, input_end, step_colon, step_format, step_way, step_equal, step_operand, step_negated, step_operator, step_second, step_places, step_end, output_end, is_semicolon, Opening, ending, ended, Standing, is_none, with_statement, stands_after}
+use Rattle.fixprog.specs.Grammar.{Input, Step, Statement, input, step, output, statement_words}
+use Rattle.fixprog.specs.Grammar.{words_from}
+use Rattle.fixprog.specs.Standing.{Part, part_words, input_name, input_colon, input_format}
+use Rattle.fixprog.specs.Standing.{input_open, lower, lower_marked, comma, upper, upper_marked}
+use Rattle.fixprog.specs.Standing.{input_close, input_end, step_colon, step_format, step_way}
+use Rattle.fixprog.specs.Standing.{step_equal, step_operand, step_negated, step_operator}
+use Rattle.fixprog.specs.Standing.{step_second, step_places, step_end, output_end, is_semicolon}
+use Rattle.fixprog.specs.Standing.{Opening, ending, ended, Standing, is_none, with_statement}
+use Rattle.fixprog.specs.Standing.{stands_after}
 use Rattle.fixprog.specs.Finding.{finds, at_word, Course, begin_after, course_after}
-use Rattle.fixprog.proofs.Takes.{Takes, input_begins, output_begins, step_begins, input_named, input_typed, input_formatted, opened, lower_signed, lower_plain, lower_valued, parted, upper_signed, upper_plain, upper_valued, closed, step_typed, step_formatted, step_directed, equalled, negation_begins, first_operand, negated, joint, shift, second, digits, output_named, semicolon_is}
+use Rattle.fixprog.proofs.Takes.{Takes, input_begins, output_begins, step_begins, input_named}
+use Rattle.fixprog.proofs.Takes.{input_typed, input_formatted, opened, lower_signed, lower_plain}
+use Rattle.fixprog.proofs.Takes.{lower_valued, parted, upper_signed, upper_plain, upper_valued}
+use Rattle.fixprog.proofs.Takes.{closed, step_typed, step_formatted, step_directed, equalled}
+use Rattle.fixprog.proofs.Takes.{negation_begins, first_operand, negated, joint, shift, second}
+use Rattle.fixprog.proofs.Takes.{digits, output_named, semicolon_is}
 use Rattle.fixprog.proofs.Found.{IsMarked}
 
 -- ---- inputs stand before steps, and these before outputs

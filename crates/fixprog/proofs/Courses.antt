@@ -1,16 +1,22 @@
 -- Courses go on word by word.
-use Rattle.std.proofs.Common.{◌≡◌, ℕ, ◌+◌, ◌<◌, ◌≤◌, List, [], ◌∷◌, ◌++◌, length, Option, Some, None, refl, sym, ap, ◌∙◌, subst, arith, append_assoc, append-nil, length-append}
+use Rattle.std.proofs.Common.{◌≡◌, ℕ, ◌+◌, ◌<◌, ◌≤◌, List, [], ◌∷◌, ◌++◌, length, Option, Some}
+use Rattle.std.proofs.Common.{None, refl, sym, ap, ◌∙◌, subst, arith, append_assoc, append-nil}
+use Rattle.std.proofs.Common.{length-append}
 use Rattle.std.specs.Option.{option_map}
 use Rattle.std.specs.List.{All}
 use Rattle.std.proofs.lemmas.List.Elements.{All-nil, All-append}
 use Rattle.fixprog.specs.Words.{Word}
 use Rattle.fixprog.specs.Grammar.{Statement, input, step, output, statement_words, words_from}
 use Rattle.fixprog.specs.Faults.{Fault}
-use Rattle.fixprog.specs.Standing.{Part, part_words, between, next_part, ended, Standing, opening_of, with_statement, with_part, stands_by, stands_after}
-use Rattle.fixprog.specs.Finding.{finds, at_word, Course, begin_after, course_after, goes_on, course_of, nothing_judged}
+use Rattle.fixprog.specs.Standing.{Part, part_words, between, next_part, ended, Standing}
+use Rattle.fixprog.specs.Standing.{opening_of, with_statement, with_part, stands_by, stands_after}
+use Rattle.fixprog.specs.Finding.{finds, at_word, Course, begin_after, course_after, goes_on}
+use Rattle.fixprog.specs.Finding.{course_of, nothing_judged}
 use Rattle.fixprog.proofs.Takes.{Takes, next_takes, takes_words}
 use Rattle.fixprog.proofs.Found.{IsMarked, finds_told}
-use Rattle.fixprog.proofs.Course.{in_place, takes_place, takes_marked, ended_is, ending_words, ending_place, join_whole, one_word_more, whole, stand_words, IsCourse, due_number, number_is, goes_so}
+use Rattle.fixprog.proofs.Course.{in_place, takes_place, takes_marked, ended_is, ending_words}
+use Rattle.fixprog.proofs.Course.{ending_place, join_whole, one_word_more, whole, stand_words}
+use Rattle.fixprog.proofs.Course.{IsCourse, due_number, number_is, goes_so}
 
 one_value : {A : Type 0} (x y : A) → Some x ≡ Some y → y ≡ x
 one_value x y e = cc

@@ -1,7 +1,10 @@
 -- The first fault of a text, from the course of its words.
-use Rattle.std.proofs.Common.{◌≡◌, ⊎_elim, ℕ, zero, suc, ◌+◌, ◌<◌, ◌≤◌, true, false, List, [], ◌∷◌, ◌++◌, length, take, map, Option, Some, None, refl, sym, ap, ◌∙◌, subst, arith, append-nil, get_or}
+use Rattle.std.proofs.Common.{◌≡◌, ⊎_elim, ℕ, zero, suc, ◌+◌, ◌<◌, ◌≤◌, true, false, List, [], ◌∷◌}
+use Rattle.std.proofs.Common.{◌++◌, length, take, map, Option, Some, None, refl, sym, ap, ◌∙◌}
+use Rattle.std.proofs.Common.{subst, arith, append-nil, get_or}
 use Rattle.std.specs.List.{All, Contains}
-use Rattle.std.proofs.lemmas.List.Elements.{All-contains, Contains-push, Contains-append_left, Contains-append_right, Contains-append_cases}
+use Rattle.std.proofs.lemmas.List.Elements.{All-contains, Contains-push, Contains-append_left}
+use Rattle.std.proofs.lemmas.List.Elements.{Contains-append_right, Contains-append_cases}
 use Rattle.std.proofs.lemmas.List.{get_or-map, length-map, length-take-le}
 use Rattle.std.proofs.Math.Seq.{take-length}
 use Rattle.fixprog.specs.declared.fault.ProgKind.TheVariants as kind
@@ -11,7 +14,9 @@ use Rattle.fixprog.specs.Words.{Name, Word}
 use Rattle.fixprog.specs.Lex.{Lexes, words_of}
 use Rattle.fixprog.specs.Grammar.{input, step, output, words_from, Program, outputs, program_words}
 use Rattle.fixprog.specs.Faults.{Fault, program_faults}
-use Rattle.fixprog.specs.First.{IsProgram, Begins, Reading, IsReadingOf, fault, start_of, HasFault, out_of_place, no_token, cut_short, judged, is_before, IsReadable, IsFirstFault, first, faultless}
+use Rattle.fixprog.specs.First.{IsProgram, Begins, Reading, IsReadingOf, fault, start_of, HasFault}
+use Rattle.fixprog.specs.First.{out_of_place, no_token, cut_short, judged, is_before, IsReadable}
+use Rattle.fixprog.specs.First.{IsFirstFault, first, faultless}
 use Rattle.fixprog.specs.Views.{program_with}
 use Rattle.fixprog.specs.Standing.{Part, part_words, between, Standing, is_whole}
 use Rattle.fixprog.specs.Finding.{placed, first_from, Course, course_of, nothing_judged}
@@ -269,7 +274,8 @@ complete_faults c ws p e w =
     ∙ x.1) in
     sym x.2.faults ∙ ap (λ d. d.faults) same
 
-pub no_faults : (tokens : List ProgramToken) (c : Course) → first_from None (map (placed tokens) c.faults)
+pub no_faults : (tokens : List ProgramToken) (c : Course)
+    → first_from None (map (placed tokens) c.faults)
     ≡ None → c.faults ≡ []
 no_faults tokens c e = none_mapped (placed tokens) c.faults
     (subst (IsFirstOf (map (placed tokens) c.faults)) e (first_of (map (placed tokens) c.faults)))

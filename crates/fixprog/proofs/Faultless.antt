@@ -1,5 +1,7 @@
 -- The formats and shifts of programs in which nothing is wrong.
-use Rattle.std.proofs.Common.{◌≡◌, ℕ, zero, suc, ◌+◌, ◌<◌, ◌≤◌, nat_lt, not, Bool, true, false, List, [], ◌∷◌, ◌++◌, length, map, Some, refl, sym, ap, ◌∙◌, subst, arith, length-append}
+use Rattle.std.proofs.Common.{◌≡◌, ℕ, zero, suc, ◌+◌, ◌<◌, ◌≤◌, nat_lt, not, Bool, true, false}
+use Rattle.std.proofs.Common.{List, [], ◌∷◌, ◌++◌, length, map, Some, refl, sym, ap, ◌∙◌, subst}
+use Rattle.std.proofs.Common.{arith, length-append}
 use Rattle.std.specs.List.{All, AllByRecursion}
 use Rattle.std.proofs.lemmas.List.{length-map}
 use Rattle.std.proofs.lemmas.Simd.{map-map}
@@ -7,8 +9,12 @@ use Rattle.std.specs.Str.Parse.{digits_value}
 use Rattle.fixprog.specs.declared.fault.ProgKind.{ProgKind}
 use Rattle.fixprog.specs.declared.program.Program.{Program as CodeProgram}
 use Rattle.fixprog.specs.Words.{Name}
-use Rattle.fixprog.specs.Grammar.{Operation, copy, negation, sum, difference, product, shift_right, shift_left, Input, Step, Statement, input, step, output, statement_words, Program, outputs, statements}
-use Rattle.fixprog.specs.Faults.{Before, after, fault_if, new_name_faults, known_name_faults, weight_faults, format_faults, operand_faults, operation_faults, statement_faults, faults_from, program_faults, is_way}
+use Rattle.fixprog.specs.Grammar.{Operation, copy, negation, sum, difference, product, shift_right}
+use Rattle.fixprog.specs.Grammar.{shift_left, Input, Step, Statement, input, step, output}
+use Rattle.fixprog.specs.Grammar.{statement_words, Program, outputs, statements}
+use Rattle.fixprog.specs.Faults.{Before, after, fault_if, new_name_faults, known_name_faults}
+use Rattle.fixprog.specs.Faults.{weight_faults, format_faults, operand_faults, operation_faults}
+use Rattle.fixprog.specs.Faults.{statement_faults, faults_from, program_faults, is_way}
 use Rattle.fixprog.specs.Printed.{IsShort, IsPrintable, IsInputPrintable}
 use Rattle.fixprog.specs.Views.{input_of, step_of, program_with, program_of}
 

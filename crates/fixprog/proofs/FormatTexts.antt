@@ -1,5 +1,7 @@
 -- Formats by their texts.
-use Rattle.std.proofs.Common.{◌≡◌, ℕ, ◌+◌, ◌<◌, ◌&&◌, nat_lt, nat_eq, Bool, true, false, List, [], ◌∷◌, length, take, drop, Some, None, refl, sym, ap, ◌∙◌, subst, arith, if◌then◌else◌}
+use Rattle.std.proofs.Common.{◌≡◌, ℕ, ◌+◌, ◌<◌, ◌&&◌, nat_lt, nat_eq, Bool, true, false, List, []}
+use Rattle.std.proofs.Common.{◌∷◌, length, take, drop, Some, None, refl, sym, ap, ◌∙◌, subst, arith}
+use Rattle.std.proofs.Common.{if◌then◌else◌}
 use Rattle.std.specs.Str.Parse.{digits_value}
 use Rattle.fixprog.specs.Lex.{digits_len}
 use Rattle.fixprog.specs.Formats.{Format, format_of, is_format, within_limits}

@@ -1,5 +1,7 @@
 -- The faults that a word tells, by their places.
-use Rattle.std.proofs.Common.{◌≡◌, ℕ, ◌+◌, ◌-◌, ◌<◌, ◌||◌, not, nat_lt, Bool, true, false, List, [], ◌∷◌, ◌++◌, length, map, Option, Some, None, refl, sym, ap, ◌∙◌, arith, length-append, get_or, if◌then◌else◌}
+use Rattle.std.proofs.Common.{◌≡◌, ℕ, ◌+◌, ◌-◌, ◌<◌, ◌||◌, not, nat_lt, Bool, true, false, List, []}
+use Rattle.std.proofs.Common.{◌∷◌, ◌++◌, length, map, Option, Some, None, refl, sym, ap, ◌∙◌, arith}
+use Rattle.std.proofs.Common.{length-append, get_or, if◌then◌else◌}
 use Rattle.std.specs.List.{All}
 use Rattle.std.specs.Str.Parse.{digits_value}
 use Rattle.std.proofs.lemmas.List.{map-append, get_or-map}
@@ -14,12 +16,21 @@ use Rattle.fixprog.specs.declared.program.Shift.{Shift}
 use Rattle.fixprog.specs.declared.program.Shift.TheVariants as shift
 use Rattle.script_words.specs.declared.class.Symbol.TheVariants as s
 use Rattle.fixprog.specs.Words.{Name, Word, sign}
-use Rattle.fixprog.specs.Grammar.{Operand, named, given, operand_words, Digits, Bound, mark_words, bound_words, Way, called, reserved, reserved_out, way_words}
+use Rattle.fixprog.specs.Grammar.{Operand, named, given, operand_words, Digits, Bound, mark_words}
+use Rattle.fixprog.specs.Grammar.{bound_words, Way, called, reserved, reserved_out, way_words}
 use Rattle.fixprog.specs.Formats.{format_of, is_format}
-use Rattle.fixprog.specs.Faults.{Fault, Before, is_among, is_literal, is_outside, is_crossed, is_way}
+use Rattle.fixprog.specs.Faults.{Fault, Before, is_among, is_literal, is_outside, is_crossed}
+use Rattle.fixprog.specs.Faults.{is_way}
 use Rattle.fixprog.specs.First.{fault, start_of}
-use Rattle.fixprog.specs.Standing.{Part, part_words, between, input_name, input_format, lower, lower_marked, upper, upper_marked, step_format, step_way, step_operand, step_negated, step_second, step_places, output_name, Head, bound_of, name_in, literal_in, format_in, way_in, operand_in, digits_in, joint_words, shift_words}
-use Rattle.fixprog.specs.Finding.{new_name_finds, known_name_finds, output_finds, literal_finds, format_finds, bound_finds, lower_finds, upper_finds, way_finds, operand_finds, places_finds, finds, bound_at, at_byte, found, due, bound_due, placed, at_word}
+use Rattle.fixprog.specs.Standing.{Part, part_words, between, input_name, input_format, lower}
+use Rattle.fixprog.specs.Standing.{lower_marked, upper, upper_marked, step_format, step_way}
+use Rattle.fixprog.specs.Standing.{step_operand, step_negated, step_second, step_places}
+use Rattle.fixprog.specs.Standing.{output_name, Head, bound_of, name_in, literal_in, format_in}
+use Rattle.fixprog.specs.Standing.{way_in, operand_in, digits_in, joint_words, shift_words}
+use Rattle.fixprog.specs.Finding.{new_name_finds, known_name_finds, output_finds, literal_finds}
+use Rattle.fixprog.specs.Finding.{format_finds, bound_finds, lower_finds, upper_finds, way_finds}
+use Rattle.fixprog.specs.Finding.{operand_finds, places_finds, finds, bound_at, at_byte, found, due}
+use Rattle.fixprog.specs.Finding.{bound_due, placed, at_word}
 
 -- ---- made in two ways
 

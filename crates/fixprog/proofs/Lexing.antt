@@ -1,5 +1,7 @@
 -- The lexer's loops, a turn at a time.
-use Rattle.std.proofs.Common.{◌≡◌, ℕ, ◌+◌, ◌<◌, ◌≤◌, false, List, [], ◌∷◌, ◌++◌, length, drop, Option, Some, None, sym, ap, ◌∙◌, subst, arith, append_assoc, append-nil, length-append, length-drop}
+use Rattle.std.proofs.Common.{◌≡◌, ℕ, ◌+◌, ◌<◌, ◌≤◌, false, List, [], ◌∷◌, ◌++◌, length, drop}
+use Rattle.std.proofs.Common.{Option, Some, None, sym, ap, ◌∙◌, subst, arith, append_assoc}
+use Rattle.std.proofs.Common.{append-nil, length-append, length-drop}
 use Rattle.std.specs.List.{All}
 use Rattle.std.proofs.lemmas.List.{drop-drop}
 use Rattle.std.proofs.lemmas.List.Elements.{All-nil, All-push}
@@ -35,7 +37,8 @@ pub lexed_all : (text : List ℕ) (at : ℕ) (found : List ProgramToken) → Lex
 lexed_all text at found l e = done text found None
     (l.rest [] None (ends (omega (arith, length-drop at text, l.within))))
 
-pub lexed_bad : (text : List ℕ) (at start : ℕ) (found : List ProgramToken) → LexedTo text at found → start
+pub lexed_bad : (text : List ℕ) (at start : ℕ) (found : List ProgramToken)
+    → LexedTo text at found → start
     ≡ at + blank_len false (drop at text) → start < length text → front (drop start text) ≡ None
     → Lexes 0 text found (Some start)
 lexed_bad text at start found l e h n =

@@ -1,5 +1,6 @@
 -- The parts of the formula's text, one behind the other.
-use Rattle.std.proofs.Common.{◌≡◌, ℕ, codes, List, [], ◌∷◌, ◌++◌, map, Some, refl, sym, ap, ◌∙◌, append_assoc}
+use Rattle.std.proofs.Common.{◌≡◌, ℕ, codes, List, [], ◌∷◌, ◌++◌, map, Some, refl, sym, ap, ◌∙◌}
+use Rattle.std.proofs.Common.{append_assoc}
 use Rattle.std.specs.List.{flat_map}
 use Rattle.std.specs.Borrow.{Bor}
 use Rattle.std.proofs.lemmas.List.Folds.{flat_map-map}
@@ -8,7 +9,8 @@ use Rattle.fixprog.specs.declared.program.Input.{Input as CodeInput}
 use Rattle.fixprog.specs.declared.program.Program.{Program as CodeProgram}
 use Rattle.fixprog.specs.Words.{Name}
 use Rattle.fixprog.specs.Grammar.{Program}
-use Rattle.fixprog.specs.Turned.{Bytes, step_line, input_text, hypotheses_text, format_goal, output_goal, joined, goals_text, lines_of, script_of}
+use Rattle.fixprog.specs.Turned.{Bytes, step_line, input_text, hypotheses_text, format_goal}
+use Rattle.fixprog.specs.Turned.{output_goal, joined, goals_text, lines_of, script_of}
 use Rattle.fixprog.specs.Printed.{inputs_written, outputs_written, formula_text, script_text}
 use Rattle.fixprog.specs.Views.{input_of, step_of, program_with, program_of}
 

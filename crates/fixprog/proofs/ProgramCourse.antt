@@ -1,8 +1,11 @@
 -- The course of a program's words: its statements, and all its faults.
-use Rattle.std.proofs.Common.{◌≡◌, ℕ, ◌+◌, List, [], ◌∷◌, ◌++◌, length, map, Some, refl, sym, ap, ◌∙◌, append_assoc, append-nil}
+use Rattle.std.proofs.Common.{◌≡◌, ℕ, ◌+◌, List, [], ◌∷◌, ◌++◌, length, map, Some, refl, sym, ap}
+use Rattle.std.proofs.Common.{◌∙◌, append_assoc, append-nil}
 use Rattle.fixprog.specs.Words.{Name}
-use Rattle.fixprog.specs.Grammar.{Input, Step, Statement, input, step, output, statement_words, words_from, Program, outputs, program_words}
-use Rattle.fixprog.specs.Faults.{Fault, Before, after, statement_faults, faults_from, program_faults}
+use Rattle.fixprog.specs.Grammar.{Input, Step, Statement, input, step, output, statement_words}
+use Rattle.fixprog.specs.Grammar.{words_from, Program, outputs, program_words}
+use Rattle.fixprog.specs.Faults.{Fault, Before, after, statement_faults, faults_from}
+use Rattle.fixprog.specs.Faults.{program_faults}
 use Rattle.fixprog.specs.Standing.{between}
 use Rattle.fixprog.specs.Finding.{Course, course_of, nothing_judged}
 use Rattle.fixprog.proofs.Courses.{course_of-append}

@@ -1,5 +1,7 @@
 -- The reader's turns, a word at a time.
-use Rattle.std.proofs.Common.{◌≡◌, ℕ, ◌+◌, ◌-◌, ◌*◌, ◌<◌, ◌≤◌, Bool, true, false, List, [], ◌∷◌, ◌++◌, length, take, map, Option, Some, None, refl, sym, ap, ◌∙◌, subst, arith, get_or, if◌then◌else◌}
+use Rattle.std.proofs.Common.{◌≡◌, ℕ, ◌+◌, ◌-◌, ◌*◌, ◌<◌, ◌≤◌, Bool, true, false, List, [], ◌∷◌}
+use Rattle.std.proofs.Common.{◌++◌, length, take, map, Option, Some, None, refl, sym, ap, ◌∙◌}
+use Rattle.std.proofs.Common.{subst, arith, get_or, if◌then◌else◌}
 use Rattle.std.specs.Option.{option_map}
 use Rattle.std.proofs.lemmas.List.{get_or-map, map-append, length-map, length-take-le, take_more}
 use Rattle.std.proofs.Math.Seq.{take-length}
@@ -12,20 +14,24 @@ use Rattle.fixprog.specs.Words.{Word, colon}
 use Rattle.fixprog.specs.Lex.{Lexes, token_word, words_of}
 use Rattle.fixprog.specs.First.{Reading, fault, start_of, is_before, IsReadable, IsFirstFault}
 use Rattle.fixprog.specs.Standing.{Standing, ended, is_whole, stands_after, nothing_read}
-use Rattle.fixprog.specs.Finding.{finds, at_word, placed, earlier, first_from, found, due, begin_after, Course, course_after, course_of, nothing_judged}
+use Rattle.fixprog.specs.Finding.{finds, at_word, placed, earlier, first_from, found, due}
+use Rattle.fixprog.specs.Finding.{begin_after, Course, course_after, course_of, nothing_judged}
 use Rattle.fixprog.specs.Views.{standing_of, program_with, answer_of}
 use Rattle.fixprog.specs.Read.{IsTaken, IsRead}
 use Rattle.fixprog.proofs.Found.{due_is, placed_found}
 use Rattle.fixprog.proofs.Course.{IsCourse, number_is}
 use Rattle.fixprog.proofs.Courses.{is_course_after, course_of-append, nothing_is_course}
 use Rattle.fixprog.proofs.Least.{IsFirstOf, first_of, first_from-append}
-use Rattle.fixprog.proofs.Decided.{IsTakenBy, IsEnd, at_word as ends_at_word, at_byte as ends_at_byte, too_soon, complete, complete_program, complete_faults, no_faults, decided}
+use Rattle.fixprog.proofs.Decided.{IsTakenBy, IsEnd, at_word as ends_at_word}
+use Rattle.fixprog.proofs.Decided.{at_byte as ends_at_byte, too_soon, complete, complete_program}
+use Rattle.fixprog.proofs.Decided.{complete_faults, no_faults, decided}
 
 -- ---- the state behind some words
 
 -- Behind so many tokens the reader stands where the course of their words does, with the first of
 -- its faults.
-pub record RunsTo (text : List ℕ) (tokens : List ProgramToken) (r : ProgramReader) (i : ℕ) : Type 0 where
+pub record RunsTo (text : List ℕ) (tokens : List ProgramToken)
+    (r : ProgramReader) (i : ℕ) : Type 0 where
   pub course : Course
   pub stands : course.stands ≡ standing_of r
   pub is : IsCourse course (take i (words_of text tokens))
@@ -34,7 +40,8 @@ pub record RunsTo (text : List ℕ) (tokens : List ProgramToken) (r : ProgramRea
   pub last : 0 < i → r.last ≡ start_of tokens (i - 1)
   pub weight : r.names.weight ≤ 2 * i
 
-pub runs_from : (text : List ℕ) (tokens : List ProgramToken) (r : ProgramReader) → standing_of r ≡ nothing_read
+pub runs_from : (text : List ℕ) (tokens : List ProgramToken) (r : ProgramReader)
+    → standing_of r ≡ nothing_read
     → r.first ≡ None → r.names.weight ≡ 0 → RunsTo text tokens r 0
 runs_from text tokens r s f w = record {
   course = nothing_judged;
@@ -46,11 +53,13 @@ runs_from text tokens r s f w = record {
   weight = omega arith;
 }
 
-start_is : (tokens : List ProgramToken) (i : ℕ) (d : ProgramToken) → i < length tokens → start_of tokens i
+start_is : (tokens : List ProgramToken) (i : ℕ) (d : ProgramToken)
+    → i < length tokens → start_of tokens i
     ≡ (get_or tokens i d).start
 start_is tokens i d h = get_or-map (λ t. t.start) tokens i d 0 h
 
-next_words : (text : List ℕ) (tokens : List ProgramToken) (i : ℕ) (d : ProgramToken) → i < length tokens
+next_words : (text : List ℕ) (tokens : List ProgramToken) (i : ℕ) (d : ProgramToken)
+    → i < length tokens
     → take (i + 1) (words_of text tokens) ≡ take i (words_of text tokens)
     ++ (token_word text (get_or tokens i d) ∷ [])
 next_words text tokens i d h =
@@ -72,7 +81,8 @@ course_with c w s = record {
   faults = c.faults ++ finds (at_word c.begin c.stands.part) c.stands.before c.stands.part w;
 }
 
-pub runs_on : (text : List ℕ) (tokens : List ProgramToken) (r next : ProgramReader) (i : ℕ) (d : ProgramToken)
+pub runs_on : (text : List ℕ) (tokens : List ProgramToken) (r next : ProgramReader)
+    (i : ℕ) (d : ProgramToken)
     → RunsTo text tokens r i → i < length tokens
     → IsTaken r next (token_word text (get_or tokens i d)) (get_or tokens i d).start
     → next.names.weight ≤ r.names.weight + 2 → RunsTo text tokens next (i + 1)
@@ -128,7 +138,8 @@ reading text tokens bad i = record {
   taken = i;
 }
 
-taken_all : (text : List ℕ) (tokens : List ProgramToken) (bad : Option ℕ) (r : ProgramReader) (i : ℕ)
+taken_all : (text : List ℕ) (tokens : List ProgramToken) (bad : Option ℕ)
+    (r : ProgramReader) (i : ℕ)
     (h : RunsTo text tokens r i) → Lexes 0 text tokens bad → i ≤ length tokens
     → (i < length (words_of text tokens) → course_of (Some nothing_judged)
     (take (i + 1) (words_of text tokens)) ≡ None)
@@ -143,7 +154,8 @@ taken_all text tokens bad r i h x l s = record {
 }
 
 -- with the fault at which the reading ends
-ends_with : (text : List ℕ) (tokens : List ProgramToken) (bad : Option ℕ) (r : ProgramReader) (i : ℕ)
+ends_with : (text : List ℕ) (tokens : List ProgramToken) (bad : Option ℕ)
+    (r : ProgramReader) (i : ℕ)
     (h : RunsTo text tokens r i) (e : List ProgFault) → IsReadable text
     → IsTakenBy text (reading text tokens bad i) h.course
     → IsEnd text (reading text tokens bad i) h.course e
@@ -166,7 +178,8 @@ some_answer text (Some first) f p h = by_test (is_before f first) h
     by_test true k = k
     by_test false k = k
 
-pub read_stuck : (text : List ℕ) (tokens : List ProgramToken) (bad : Option ℕ) (r : ProgramReader) (i : ℕ)
+pub read_stuck : (text : List ℕ) (tokens : List ProgramToken) (bad : Option ℕ)
+    (r : ProgramReader) (i : ℕ)
     (d : ProgramToken) (p : CodeProgram) → RunsTo text tokens r i → IsReadable text
     → Lexes 0 text tokens bad
     → i < length tokens → stands_after (standing_of r) (token_word text (get_or tokens i d)) ≡ None
@@ -186,7 +199,8 @@ read_stuck text tokens bad r i d p h u x l s =
     (λ k. none)) (ends_at_word (subst (λ n. i < n) (sym (length-map tokens (token_word text)))
     l))))
 
-module _ (text : List ℕ) (tokens : List ProgramToken) (bad : Option ℕ) (r : ProgramReader) (p : CodeProgram)
+module _ (text : List ℕ) (tokens : List ProgramToken) (bad : Option ℕ)
+    (r : ProgramReader) (p : CodeProgram)
     (h : RunsTo text tokens r (length tokens)) (u : IsReadable text) (x : Lexes 0 text tokens bad)
   where
     all_taken : IsTakenBy text (reading text tokens bad (length tokens)) h.course

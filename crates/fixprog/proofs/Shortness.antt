@@ -1,5 +1,8 @@
 -- A program's script is no longer than a script may be.
-use Rattle.std.proofs.Common.{◌≡◌, ◌<◌, ◌≤◌, ◌+◌, ◌-◌, ◌*◌, ◌^◌, ◌&&◌, nat_lt, ℕ, ℤ, pos, zero, suc, Bool, true, false, codes, List, [], ◌∷◌, ◌++◌, length, take, drop, map, Option, None, refl, sym, ap, ◌∙◌, arith, length-append, lit≤, if◌then◌else◌}
+use Rattle.std.proofs.Common.{◌≡◌, ◌<◌, ◌≤◌, ◌+◌, ◌-◌, ◌*◌, ◌^◌, ◌&&◌, nat_lt, ℕ, ℤ, pos, zero, suc}
+use Rattle.std.proofs.Common.{Bool, true, false, codes, List, [], ◌∷◌, ◌++◌, length, take, drop}
+use Rattle.std.proofs.Common.{map, Option, None, refl, sym, ap, ◌∙◌, arith, length-append, lit≤}
+use Rattle.std.proofs.Common.{if◌then◌else◌}
 use Rattle.std.specs.Prelude.{neg_ℤ}
 use Rattle.std.specs.List.{AllByRecursion, flat_map}
 use Rattle.std.specs.Fmt.{decimal, signed_decimal}
@@ -18,11 +21,17 @@ use Rattle.fixprog.specs.declared.token.Kind.TheVariants as kind
 use Rattle.fixprog.specs.declared.token.ProgramToken.{ProgramToken}
 use Rattle.fixprog.specs.Words.{Name, Word, name, literal, format, sign, kind_word}
 use Rattle.fixprog.specs.Lex.{Lexes, ends, bad, token, words_of}
-use Rattle.fixprog.specs.Grammar.{Operand, named, given, operand_words, Operation, copy, negation, sum, difference, product, shift_right, shift_left, operation_words, Bound, bound_words, Input, Way, called, reserved, reserved_out, way_words, Step, input, step, output, statement_words, words_from, outputs, statements, program_words}
+use Rattle.fixprog.specs.Grammar.{Operand, named, given, operand_words, Operation, copy, negation}
+use Rattle.fixprog.specs.Grammar.{sum, difference, product, shift_right, shift_left}
+use Rattle.fixprog.specs.Grammar.{operation_words, Bound, bound_words, Input, Way, called, reserved}
+use Rattle.fixprog.specs.Grammar.{reserved_out, way_words, Step, input, step, output}
+use Rattle.fixprog.specs.Grammar.{statement_words, words_from, outputs, statements, program_words}
 use Rattle.fixprog.specs.Formats.{format_of, is_format, least, greatest}
 use Rattle.fixprog.specs.Execution.{way_text}
 use Rattle.fixprog.specs.First.{IsFirstFault, too_long, not_text, first, faultless}
-use Rattle.fixprog.specs.Turned.{Bytes, operand_text, operation_text, last_place_text, step_line, range_text, bound_text, input_text, word_text, format_goal, output_goal, joined, hypotheses_text, goals_text, lines_of}
+use Rattle.fixprog.specs.Turned.{Bytes, operand_text, operation_text, last_place_text, step_line}
+use Rattle.fixprog.specs.Turned.{range_text, bound_text, input_text, word_text, format_goal}
+use Rattle.fixprog.specs.Turned.{output_goal, joined, hypotheses_text, goals_text, lines_of}
 use Rattle.fixprog.specs.Printed.{IsShort}
 use Rattle.fixprog.specs.Answer.{ScriptsAreShort}
 use Rattle.fixprog.proofs.ProgramCourse.{words-append}

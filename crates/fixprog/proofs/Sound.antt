@@ -1,5 +1,6 @@
 -- A text without a fault spells a program, and nothing is wrong in it.
-use Rattle.std.proofs.Common.{◌≡◌, ⊎_elim, ℕ, ◌<◌, Bool, true, false, List, [], ◌∷◌, length, take, Option, Some, None, refl, sym, ap, ◌∙◌, subst, arith, append-nil}
+use Rattle.std.proofs.Common.{◌≡◌, ⊎_elim, ℕ, ◌<◌, Bool, true, false, List, [], ◌∷◌, length, take}
+use Rattle.std.proofs.Common.{Option, Some, None, refl, sym, ap, ◌∙◌, subst, arith, append-nil}
 use Rattle.std.specs.List.{All, Contains}
 use Rattle.std.proofs.lemmas.Bool.{cases_lt}
 use Rattle.std.proofs.lemmas.List.Elements.{All-contains, All-nil}
@@ -8,7 +9,9 @@ use Rattle.fixprog.specs.declared.fault.ProgFault.{ProgFault}
 use Rattle.fixprog.specs.Lex.{IsToken, Lexes, words_of}
 use Rattle.fixprog.specs.Grammar.{Program, program_words}
 use Rattle.fixprog.specs.Faults.{Fault, program_faults}
-use Rattle.fixprog.specs.First.{Reading, IsReadingOf, HasFault, out_of_place, no_token, cut_short, judged, IsReadable, IsFirstFault, too_long, not_text, first, faultless, Spells, SpellsAll, SpelledAreFaultless}
+use Rattle.fixprog.specs.First.{Reading, IsReadingOf, HasFault, out_of_place, no_token, cut_short}
+use Rattle.fixprog.specs.First.{judged, IsReadable, IsFirstFault, too_long, not_text, first}
+use Rattle.fixprog.specs.First.{faultless, Spells, SpellsAll, SpelledAreFaultless}
 use Rattle.fixprog.specs.Standing.{is_whole}
 use Rattle.fixprog.specs.Finding.{Course, course_of, nothing_judged}
 use Rattle.fixprog.specs.Answer.{ScriptsAreText}

@@ -1,5 +1,6 @@
 -- The course of a step's words.
-use Rattle.std.proofs.Common.{◌≡◌, ℕ, ◌+◌, Bool, true, false, List, [], ◌∷◌, ◌++◌, length, Option, Some, None, refl, ap, ◌∙◌, append_assoc, append-nil, if◌then◌else◌}
+use Rattle.std.proofs.Common.{◌≡◌, ℕ, ◌+◌, Bool, true, false, List, [], ◌∷◌, ◌++◌, length, Option}
+use Rattle.std.proofs.Common.{Some, None, refl, ap, ◌∙◌, append_assoc, append-nil, if◌then◌else◌}
 use Rattle.std.proofs.Math.Bool.{Bool-set}
 use Rattle.std.specs.List.{list_all}
 use Rattle.std.specs.Char.{is_ascii_digit}
@@ -11,9 +12,18 @@ use Rattle.fixprog.specs.declared.program.Joint.TheVariants as joint
 use Rattle.fixprog.specs.declared.program.Shift.{Shift}
 use Rattle.fixprog.specs.declared.program.Shift.TheVariants as shift
 use Rattle.fixprog.specs.Words.{Name, name, literal, format, sign, colon, right, left}
-use Rattle.fixprog.specs.Grammar.{Operand, named, given, operand_words, Digits, Operation, copy, negation, sum, difference, product, shift_right, shift_left, operation_words, Input, Way, called, reserved, reserved_out, Reserved, way_words, Step, step_words, Statement, step, output, output_words}
-use Rattle.fixprog.specs.Faults.{Fault, Before, after, output_faults, new_name_faults, weight_faults, format_faults, step_faults, operation_faults, operand_faults, shift_faults}
-use Rattle.fixprog.specs.Standing.{Part, between, step_way, step_equal, step_operand, step_negated, step_operator, step_second, step_places, step_end, Head, Begun, headed, directed, stepped, joined, shifted, digits_if, digits_of, reserved_if, is_semicolon, way_in, joint_words, shift_words}
+use Rattle.fixprog.specs.Grammar.{Operand, named, given, operand_words, Digits, Operation, copy}
+use Rattle.fixprog.specs.Grammar.{negation, sum, difference, product, shift_right, shift_left}
+use Rattle.fixprog.specs.Grammar.{operation_words, Input, Way, called, reserved, reserved_out}
+use Rattle.fixprog.specs.Grammar.{Reserved, way_words, Step, step_words, Statement, step, output}
+use Rattle.fixprog.specs.Grammar.{output_words}
+use Rattle.fixprog.specs.Faults.{Fault, Before, after, output_faults, new_name_faults}
+use Rattle.fixprog.specs.Faults.{weight_faults, format_faults, step_faults, operation_faults}
+use Rattle.fixprog.specs.Faults.{operand_faults, shift_faults}
+use Rattle.fixprog.specs.Standing.{Part, between, step_way, step_equal, step_operand, step_negated}
+use Rattle.fixprog.specs.Standing.{step_operator, step_second, step_places, step_end, Head, Begun}
+use Rattle.fixprog.specs.Standing.{headed, directed, stepped, joined, shifted, digits_if, digits_of}
+use Rattle.fixprog.specs.Standing.{reserved_if, is_semicolon, way_in, joint_words, shift_words}
 use Rattle.fixprog.specs.Finding.{Course, course_of, way_finds, at_word}
 use Rattle.fixprog.proofs.Courses.{course_of-append}
 use Rattle.fixprog.proofs.InputCourse.{at}

@@ -1,5 +1,7 @@
 -- Which words lead from which part of a statement to which.
-use Rattle.std.proofs.Common.{◌≡◌, ℕ, Bool, true, false, List, [], ◌∷◌, ◌++◌, Option, Some, None, refl, sym, ap, ◌∙◌, subst, ◌&&◌, append_assoc, append-nil, if◌then◌else◌}
+use Rattle.std.proofs.Common.{◌≡◌, ℕ, Bool, true, false, List, [], ◌∷◌, ◌++◌, Option, Some, None}
+use Rattle.std.proofs.Common.{refl, sym, ap, ◌∙◌, subst, ◌&&◌, append_assoc, append-nil}
+use Rattle.std.proofs.Common.{if◌then◌else◌}
 use Rattle.std.specs.List.{list_all}
 use Rattle.std.specs.Char.{is_ascii_digit}
 use Rattle.std.specs.Option.{option_map}
@@ -13,8 +15,20 @@ use Rattle.fixprog.specs.declared.program.Shift.{Shift}
 use Rattle.fixprog.specs.declared.program.Joint.TheVariants as joint_kind
 use Rattle.fixprog.specs.declared.program.Shift.TheVariants as shift_kind
 use Rattle.fixprog.specs.Words.{Name, Word, name, literal, format, sign, colon, right, left, out}
-use Rattle.fixprog.specs.Grammar.{Operand, named, given, operand_words, Digits, operation_words, negation, mark_words, Bound, bound_words, Input, Way, way_words}
-use Rattle.fixprog.specs.Standing.{name_in, literal_in, format_in, operand_in, mark_in, joint_in, shift_in, digits_if, digits_in, reserved_if, way_in, is_in, is_out, is_colon, is_open, is_comma, is_close, is_semicolon, is_equal, is_minus, Head, Begun, Part, between, input_name, input_colon, input_format, input_open, lower, lower_marked, comma, upper, upper_marked, input_close, input_end, step_colon, step_format, step_way, step_equal, step_operand, step_negated, step_operator, step_second, step_places, step_end, output_name, output_end, joint_words, shift_words, head_words, range_words, begun_words, part_words, some_if, headed, directed, bound_of, ranged, stepped, joined, shifted, Opening, begun_otherwise, lower_next, upper_next, operand_next, operator_next, next_part}
+use Rattle.fixprog.specs.Grammar.{Operand, named, given, operand_words, Digits, operation_words}
+use Rattle.fixprog.specs.Grammar.{negation, mark_words, Bound, bound_words, Input, Way, way_words}
+use Rattle.fixprog.specs.Standing.{name_in, literal_in, format_in, operand_in, mark_in, joint_in}
+use Rattle.fixprog.specs.Standing.{shift_in, digits_if, digits_in, reserved_if, way_in, is_in}
+use Rattle.fixprog.specs.Standing.{is_out, is_colon, is_open, is_comma, is_close, is_semicolon}
+use Rattle.fixprog.specs.Standing.{is_equal, is_minus, Head, Begun, Part, between, input_name}
+use Rattle.fixprog.specs.Standing.{input_colon, input_format, input_open, lower, lower_marked}
+use Rattle.fixprog.specs.Standing.{comma, upper, upper_marked, input_close, input_end, step_colon}
+use Rattle.fixprog.specs.Standing.{step_format, step_way, step_equal, step_operand, step_negated}
+use Rattle.fixprog.specs.Standing.{step_operator, step_second, step_places, step_end, output_name}
+use Rattle.fixprog.specs.Standing.{output_end, joint_words, shift_words, head_words, range_words}
+use Rattle.fixprog.specs.Standing.{begun_words, part_words, some_if, headed, directed, bound_of}
+use Rattle.fixprog.specs.Standing.{ranged, stepped, joined, shifted, Opening, begun_otherwise}
+use Rattle.fixprog.specs.Standing.{lower_next, upper_next, operand_next, operator_next, next_part}
 
 -- ---- which words there are where something is seen
 

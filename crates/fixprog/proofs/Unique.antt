@@ -1,5 +1,7 @@
 -- A text has one reading, and one first fault.
-use Rattle.std.proofs.Common.{◌≡◌, ⊎_elim, ℕ, ◌+◌, ◌<◌, ◌≤◌, nat_lt, ◌==◌, ◌&&◌, ◌||◌, false, List, [], ◌∷◌, ◌++◌, ◌-◌, length, take, drop, Option, Some, None, refl, sym, ap, ◌∙◌, subst, arith, if◌then◌else◌}
+use Rattle.std.proofs.Common.{◌≡◌, ⊎_elim, ℕ, ◌+◌, ◌<◌, ◌≤◌, nat_lt, ◌==◌, ◌&&◌, ◌||◌, false, List}
+use Rattle.std.proofs.Common.{[], ◌∷◌, ◌++◌, ◌-◌, length, take, drop, Option, Some, None, refl, sym}
+use Rattle.std.proofs.Common.{ap, ◌∙◌, subst, arith, if◌then◌else◌}
 use Rattle.std.specs.Str.{IsUtf8, IsValidUpTo}
 use Rattle.std.proofs.lemmas.Str.{utf8_valid_len-IsValidUpTo}
 use Rattle.std.proofs.lemmas.Bool.{cases_lt}
@@ -10,7 +12,9 @@ use Rattle.fixprog.specs.declared.fault.ProgFault.{ProgFault}
 use Rattle.fixprog.specs.Words.{Name, Word}
 use Rattle.fixprog.specs.Grammar.{Program, outputs, program_words}
 use Rattle.fixprog.specs.Lex.{words_of}
-use Rattle.fixprog.specs.First.{BeginsProgram, Reading, IsReadingOf, fault, HasFault, number, is_before, too_long, not_text, first, faultless, FirstsAreUnique, SpellsOnce}
+use Rattle.fixprog.specs.First.{BeginsProgram, Reading, IsReadingOf, fault, HasFault, number}
+use Rattle.fixprog.specs.First.{is_before, too_long, not_text, first, faultless, FirstsAreUnique}
+use Rattle.fixprog.specs.First.{SpellsOnce}
 use Rattle.fixprog.specs.Finding.{Course, course_of, nothing_judged}
 use Rattle.fixprog.proofs.LexedOnce.{lexed_once}
 use Rattle.fixprog.proofs.Courses.{course_goes, course_of-append, none_stays, nothing_is_course}

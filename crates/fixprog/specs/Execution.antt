@@ -9,7 +9,9 @@ use Rattle.script_nodes.specs.Literals.{literal_of}
 use Rattle.script_nodes.specs.Operators.{direction_of}
 use Rattle.script_nodes.specs.Known.{entry_of}
 use Rattle.fixprog.specs.Words.{Name}
-use Rattle.fixprog.specs.Grammar.{Operand, named, given, Operation, copy, negation, sum, difference, product, shift_right, shift_left, Input, Way, called, Step, Program}
+use Rattle.fixprog.specs.Grammar.{Operand, named, given, Operation, copy, negation, sum, difference}
+use Rattle.fixprog.specs.Grammar.{product, shift_right, shift_left, Input, Way, called, Step}
+use Rattle.fixprog.specs.Grammar.{Program}
 use Rattle.fixprog.specs.Formats.{format_of, last_place, word_value, is_within}
 use Rattle.fixprog.specs.Faults.{bound_value}
 

@@ -1,5 +1,6 @@
 -- What is wrong with the words of a program, by recursion on its tree.
-use Rattle.std.specs.Prelude.{ℕ, ◌+◌, ◌&&◌, ◌||◌, not, nat_lt, List, [], ◌∷◌, ◌++◌, length, Bool, true, false, if◌then◌else◌}
+use Rattle.std.specs.Prelude.{ℕ, ◌+◌, ◌&&◌, ◌||◌, not, nat_lt, List, [], ◌∷◌, ◌++◌, length, Bool}
+use Rattle.std.specs.Prelude.{true, false, if◌then◌else◌}
 use Rattle.std.specs.List.{list_any}
 use Rattle.std.specs.Str.{bytes_eq}
 use Rattle.std.specs.Str.Parse.{digits_value}
@@ -13,7 +14,10 @@ use Rattle.fixprog.specs.declared.fault.ProgKind.TheVariants as kind
 use Rattle.fixprog.specs.declared.program.Mark.{Mark}
 use Rattle.fixprog.specs.declared.program.Mark.TheVariants as mark
 use Rattle.fixprog.specs.Words.{Name}
-use Rattle.fixprog.specs.Grammar.{Operand, named, given, Digits, Operation, copy, negation, sum, difference, product, shift_right, shift_left, Bound, mark_words, bound_words, Input, Way, called, Step, Statement, input, step, output, statement_words, Program, statements}
+use Rattle.fixprog.specs.Grammar.{Operand, named, given, Digits, Operation, copy, negation, sum}
+use Rattle.fixprog.specs.Grammar.{difference, product, shift_right, shift_left, Bound, mark_words}
+use Rattle.fixprog.specs.Grammar.{bound_words, Input, Way, called, Step, Statement, input, step}
+use Rattle.fixprog.specs.Grammar.{output, statement_words, Program, statements}
 use Rattle.fixprog.specs.Formats.{Format, format_of, is_format, is_within}
 
 -- The word that is refused, by its number, and the last word that it takes to tell.

@@ -1,5 +1,6 @@
 -- The faults that a word tells where it is taken.
-use Rattle.std.specs.Prelude.{ℕ, ◌+◌, ◌||◌, not, nat_lt, List, [], ◌∷◌, ◌++◌, length, Option, Some, None, Bool, true, false, if◌then◌else◌}
+use Rattle.std.specs.Prelude.{ℕ, ◌+◌, ◌||◌, not, nat_lt, List, [], ◌∷◌, ◌++◌, length, Option, Some}
+use Rattle.std.specs.Prelude.{None, Bool, true, false, if◌then◌else◌}
 use Rattle.std.specs.Option.{option_map}
 use Rattle.std.specs.Str.Parse.{digits_value}
 use Rattle.fixprog.specs.declared.fault.ProgKind.{ProgKind}
@@ -9,11 +10,18 @@ use Rattle.fixprog.specs.declared.program.Mark.{Mark}
 use Rattle.fixprog.specs.declared.program.Mark.TheVariants as mark
 use Rattle.fixprog.specs.declared.token.ProgramToken.{ProgramToken}
 use Rattle.fixprog.specs.Words.{Name, Word}
-use Rattle.fixprog.specs.Grammar.{Operand, named, given, Digits, Bound, mark_words, bound_words, Way, Statement, statement_words}
+use Rattle.fixprog.specs.Grammar.{Operand, named, given, Digits, Bound, mark_words, bound_words}
+use Rattle.fixprog.specs.Grammar.{Way, Statement, statement_words}
 use Rattle.fixprog.specs.Formats.{format_of, is_format}
-use Rattle.fixprog.specs.Faults.{Fault, Before, is_among, is_literal, is_outside, is_crossed, is_way}
+use Rattle.fixprog.specs.Faults.{Fault, Before, is_among, is_literal, is_outside, is_crossed}
+use Rattle.fixprog.specs.Faults.{is_way}
 use Rattle.fixprog.specs.First.{fault, start_of, is_before}
-use Rattle.fixprog.specs.Standing.{Part, part_words, between, input_name, input_format, lower, lower_marked, upper, upper_marked, step_format, step_way, step_operand, step_negated, step_second, step_places, output_name, Head, bound_of, name_in, literal_in, format_in, way_in, operand_in, digits_in, ended, Standing, nothing_read, stands_after}
+use Rattle.fixprog.specs.Standing.{Part, part_words, between, input_name, input_format, lower}
+use Rattle.fixprog.specs.Standing.{lower_marked, upper, upper_marked, step_format, step_way}
+use Rattle.fixprog.specs.Standing.{step_operand, step_negated, step_second, step_places}
+use Rattle.fixprog.specs.Standing.{output_name, Head, bound_of, name_in, literal_in, format_in}
+use Rattle.fixprog.specs.Standing.{way_in, operand_in, digits_in, ended, Standing, nothing_read}
+use Rattle.fixprog.specs.Standing.{stands_after}
 
 -- A fault is made of its kind, and of whether it is one of the first word of a bound, or of the
 -- word itself.

@@ -1,5 +1,6 @@
 -- What a text spells: a program, or its first fault.
-use Rattle.std.specs.Prelude.{◌≡◌, ℕ, ◌+◌, ◌<◌, ◌≤◌, ◌^◌, ◌==◌, ◌&&◌, ◌||◌, nat_lt, All, List, [], ◌++◌, length, take, map, get_or, Option, Some, None, Bool, false}
+use Rattle.std.specs.Prelude.{◌≡◌, ℕ, ◌+◌, ◌<◌, ◌≤◌, ◌^◌, ◌==◌, ◌&&◌, ◌||◌, nat_lt, All, List, []}
+use Rattle.std.specs.Prelude.{◌++◌, length, take, map, get_or, Option, Some, None, Bool, false}
 use Rattle.std.specs.List.{Contains, AllByRecursion}
 use Rattle.std.specs.Str.{IsUtf8, IsValidUpTo}
 use Rattle.fixprog.specs.declared.fault.ProgKind.{ProgKind}

@@ -1,5 +1,7 @@
 -- The tokens of a program's text, by cases on its bytes. At each place the longest token is taken.
-use Rattle.std.specs.Prelude.{◌≡◌, ℕ, ◌+◌, ◌==◌, ◌&&◌, ◌||◌, nat_lt, ◌<◌, ◌≤◌, List, [], ◌∷◌, length, drop, take, map, slice_range, Option, Some, None, false, if◌then◌else◌}
+use Rattle.std.specs.Prelude.{◌≡◌, ℕ, ◌+◌, ◌==◌, ◌&&◌, ◌||◌, nat_lt, ◌<◌, ◌≤◌, List, [], ◌∷◌}
+use Rattle.std.specs.Prelude.{length, drop, take, map, slice_range, Option, Some, None, false}
+use Rattle.std.specs.Prelude.{if◌then◌else◌}
 use Rattle.script_words.specs.declared.lex.TokenKind.{TokenKind}
 use Rattle.std.specs.List.{prefix_len}
 use Rattle.std.specs.Char.{is_ascii_digit}

@@ -1,6 +1,7 @@
 -- Where the reading of a program stands: its whole statements, and the words of one that isn't
 -- ended.
-use Rattle.std.specs.Prelude.{◌≡◌, ℕ, ◌&&◌, List, [], ◌∷◌, ◌++◌, Option, Some, None, Bool, true, false, if◌then◌else◌, refl}
+use Rattle.std.specs.Prelude.{◌≡◌, ℕ, ◌&&◌, List, [], ◌∷◌, ◌++◌, Option, Some, None, Bool, true}
+use Rattle.std.specs.Prelude.{false, if◌then◌else◌, refl}
 use Rattle.std.specs.List.{list_all}
 use Rattle.std.specs.Option.{option_map}
 use Rattle.std.specs.Char.{is_ascii_digit}
@@ -14,7 +15,11 @@ use Rattle.fixprog.specs.declared.program.Joint.TheVariants as joint
 use Rattle.fixprog.specs.declared.program.Shift.{Shift}
 use Rattle.fixprog.specs.declared.program.Shift.TheVariants as shift
 use Rattle.fixprog.specs.Words.{Name, Word, name, literal, format, sign, colon, right, left, out}
-use Rattle.fixprog.specs.Grammar.{Operand, named, given, operand_words, Digits, Operation, operation_words, mark_words, bound_words, way_words, copy, negation, sum, difference, product, shift_right, shift_left, Bound, Input, Way, called, reserved, reserved_out, Step, Statement, input, step, output}
+use Rattle.fixprog.specs.Grammar.{Operand, named, given, operand_words, Digits, Operation}
+use Rattle.fixprog.specs.Grammar.{operation_words, mark_words, bound_words, way_words, copy}
+use Rattle.fixprog.specs.Grammar.{negation, sum, difference, product, shift_right, shift_left}
+use Rattle.fixprog.specs.Grammar.{Bound, Input, Way, called, reserved, reserved_out, Step}
+use Rattle.fixprog.specs.Grammar.{Statement, input, step, output}
 use Rattle.fixprog.specs.Faults.{Before, after}
 
 -- ---- what a word can be

@@ -6,7 +6,9 @@ use Rattle.std.specs.Str.Parse.{digits_value}
 use Rattle.fixprog.specs.declared.program.Mark.{Mark}
 use Rattle.fixprog.specs.declared.program.Mark.TheVariants as mark
 use Rattle.fixprog.specs.Words.{Name}
-use Rattle.fixprog.specs.Grammar.{Operand, named, given, Operation, copy, negation, sum, difference, product, shift_right, shift_left, Bound, Input, Step, Program, outputs}
+use Rattle.fixprog.specs.Grammar.{Operand, named, given, Operation, copy, negation, sum, difference}
+use Rattle.fixprog.specs.Grammar.{product, shift_right, shift_left, Bound, Input, Step, Program}
+use Rattle.fixprog.specs.Grammar.{outputs}
 use Rattle.fixprog.specs.Formats.{Format, format_of, least, greatest, last_place}
 use Rattle.fixprog.specs.Execution.{way_text}
 

@@ -1,6 +1,7 @@
 //! Formats of fixed-point numbers.
 
-ghost use Rattle.std.specs.Prelude.{◌≡◌, ◌<◌, ◌≤◌, ◌+◌, ◌%◌, ◌^◌, ◌≤ℤ◌, ◌+ℤ◌, ◌-◌, pos, negsuc, neg_ℤ, ◌∷◌, length, take, drop, IfSome, Some};
+ghost use Rattle.std.specs.Prelude.{◌≡◌, ◌<◌, ◌≤◌, ◌+◌, ◌%◌, ◌^◌, ◌≤ℤ◌, ◌+ℤ◌, ◌-◌, pos, negsuc};
+ghost use Rattle.std.specs.Prelude.{neg_ℤ, ◌∷◌, length, take, drop, IfSome, Some};
 ghost use Rattle.fx_model.specs.Grid.{signed};
 ghost use Rattle.fx_model.specs.Powers.{scaled};
 ghost use Rattle.literal_order.specs.Values.{written_value, IsWritten};

@@ -1,6 +1,7 @@
 //! The faults that a word tells.
 
-ghost use Rattle.std.specs.Prelude.{◌≡◌, ℕ, ◌<◌, ◌≤◌, ◌^◌, ◌+◌, ◌++◌, [], ◌∷◌, true, false, nat_lt, OnOk, IfSome, MatchOption, if◌then◌else◌};
+ghost use Rattle.std.specs.Prelude.{◌≡◌, ℕ, ◌<◌, ◌≤◌, ◌^◌, ◌+◌, ◌++◌, [], ◌∷◌, true, false, nat_lt};
+ghost use Rattle.std.specs.Prelude.{OnOk, IfSome, MatchOption, if◌then◌else◌};
 ghost use Rattle.std.specs.Option.{option_map, option_copied};
 ghost use Rattle.std.specs.List.{list_any};
 ghost use Rattle.std.specs.Str.{bytes_eq};
@@ -14,7 +15,8 @@ ghost use Rattle.fixprog.specs.Faults as faults;
 ghost use Rattle.fixprog.specs.Standing as standing;
 ghost use Rattle.fixprog.specs.Finding as spec;
 ghost use Rattle.fixprog.specs.Finding.{first_from, at_byte};
-ghost use Rattle.fixprog.specs.Views.{before_seen, bound_of, head_of, part_of, word_of, operand_of, way_of};
+ghost use Rattle.fixprog.specs.Views.{before_seen, bound_of, head_of, part_of, word_of, operand_of};
+ghost use Rattle.fixprog.specs.Views.{way_of};
 
 use crate::fault::{ProgFault, ProgKind};
 use crate::format::format_of;

@@ -3,7 +3,8 @@
 ghost use Rattle.std.specs.Prelude.{◌≡◌, Option};
 ghost use Rattle.std.specs.Option.{option_map, option_copied};
 ghost use Rattle.fixprog.specs.Standing as spec;
-ghost use Rattle.fixprog.specs.Views.{word_of, operand_of, operation_of, part_of, statement_of, way_of, head_of, begun_of, digits_seen};
+ghost use Rattle.fixprog.specs.Views.{word_of, operand_of, operation_of, part_of, statement_of};
+ghost use Rattle.fixprog.specs.Views.{way_of, head_of, begun_of, digits_seen};
 ghost use Rattle.std.specs.List.{list_all};
 ghost use Rattle.std.specs.Char.{is_ascii_digit};
 ghost use Rattle.fixprog.specs.Views as views;

@@ -1,6 +1,7 @@
 //! The text of a program's script.
 
-ghost use Rattle.std.specs.Prelude.{◌≡◌, ◌<◌, ◌≤◌, ◌++◌, codes, ◌∷◌, true, All, Some, IfOk, OnOk, map};
+ghost use Rattle.std.specs.Prelude.{◌≡◌, ◌<◌, ◌≤◌, ◌++◌, codes, ◌∷◌, true, All, Some, IfOk, OnOk};
+ghost use Rattle.std.specs.Prelude.{map};
 ghost use Rattle.std.specs.List.{flat_map};
 ghost use Rattle.std.specs.Fmt.{decimal, signed_decimal};
 ghost use Rattle.std.specs.Str.Parse.{digits_value};
@@ -8,8 +9,10 @@ ghost use Rattle.fixprog.specs.Grammar as grammar;
 ghost use Rattle.fixprog.specs.Turned as spec;
 ghost use Rattle.fixprog.specs.Formats as formats;
 ghost use Rattle.fixprog.specs.Execution as execution;
-ghost use Rattle.fixprog.specs.Printed.{formula_text, script_text, inputs_written, outputs_written, IsPrintable, IsInputPrintable, IsShort};
-ghost use Rattle.fixprog.specs.Views.{operand_of, operation_of, bound_of, input_of, step_of, way_of, digits_seen, program_of};
+ghost use Rattle.fixprog.specs.Printed.{formula_text, script_text, inputs_written, outputs_written};
+ghost use Rattle.fixprog.specs.Printed.{IsPrintable, IsInputPrintable, IsShort};
+ghost use Rattle.fixprog.specs.Views.{operand_of, operation_of, bound_of, input_of, step_of};
+ghost use Rattle.fixprog.specs.Views.{way_of, digits_seen, program_of};
 
 use crate::format::{Format, format_of};
 use crate::program::{Bound, Digits, Input, Mark, Operand, Operation, Program, Step, Way};

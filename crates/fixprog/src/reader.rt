@@ -1,6 +1,7 @@
 //! Reads tokens as a program.
 
-ghost use Rattle.std.specs.Prelude.{◌≡◌, ◌+◌, ◌<◌, ◌≤◌, ◌^◌, None, true, false, length, All, IfOk, OnOk};
+ghost use Rattle.std.specs.Prelude.{◌≡◌, ◌+◌, ◌<◌, ◌≤◌, ◌^◌, None, true, false, length, All, IfOk};
+ghost use Rattle.std.specs.Prelude.{OnOk};
 ghost use Rattle.fixprog.specs.Standing as standing;
 ghost use Rattle.fixprog.specs.Finding as finding;
 ghost use Rattle.fixprog.specs.Lex.{IsWithin, Lexes};

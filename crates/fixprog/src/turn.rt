@@ -2,7 +2,8 @@
 
 ghost use Rattle.std.specs.Prelude.{◌≡◌, Some, None, Err, IfOk, IfSome};
 ghost use Rattle.fixprog.specs.Grammar as grammar;
-ghost use Rattle.fixprog.specs.First.{IsFirstFault, IsReadable, Spells, FirstsAreUnique, SpellsOnce, SpellsAll, SpelledAreFaultless, WordsAreAlone};
+ghost use Rattle.fixprog.specs.First.{IsFirstFault, IsReadable, Spells, FirstsAreUnique};
+ghost use Rattle.fixprog.specs.First.{SpellsOnce, SpellsAll, SpelledAreFaultless, WordsAreAlone};
 ghost use Rattle.fixprog.specs.Answer.{Turns, ScriptsAreText, ScriptsAreShort};
 ghost use Rattle.fixprog.specs.Read.{IsRead};
 ghost use Rattle.std.specs.Prelude.{Ok};

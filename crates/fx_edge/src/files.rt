@@ -1,6 +1,7 @@
 // Files in memory, by name. A name that is to be written stands among them from the start, so that
 // no call takes memory.
-ghost use Rattle.std.specs.Prelude.{◌≡◌, ◌↔◌, ℕ, List, Some, length, min, IsNone, IsSome, IsTrue, IfOk, IfSome};
+ghost use Rattle.std.specs.Prelude.{◌≡◌, ◌↔◌, ℕ, List, Some, length, min, IsNone, IsSome, IsTrue};
+ghost use Rattle.std.specs.Prelude.{IfOk, IfSome};
 ghost use Rattle.std.specs.Option.{option_map};
 ghost use Rattle.fx_edge.specs.Held.{emptied, readable, filled};
 ghost use Rattle.fx_edge.specs.Files.{file_at, last_file, bytes_there, bytes_or_none};

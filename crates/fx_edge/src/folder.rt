@@ -1,6 +1,7 @@
 // Folders in memory.
 ghost use Rattle.std.specs.Prelude.{◌≡◌, ◌≤◌, ◌<◌, ◌⊎◌, ◌↔◌, ℕ, List, Some, length, min};
-ghost use Rattle.std.specs.Prelude.{IfOk, IfSome, IsErr, IsOk, IsOkAnd, IsNone, IsSome, OnOk, OnErr};
+ghost use Rattle.std.specs.Prelude.{IfOk, IfSome, IsErr, IsOk, IsOkAnd, IsNone, IsSome, OnOk};
+ghost use Rattle.std.specs.Prelude.{OnErr};
 ghost use Rattle.std.specs.Option.{option_map};
 ghost use Rattle.fx_edge.specs.Outside.{HasCause, ReadsFrom, count_after};
 ghost use Rattle.fx_edge.specs.Calls.{FailsNext};

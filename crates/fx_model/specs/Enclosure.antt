@@ -6,10 +6,22 @@ pub mod SumEnds
 pub mod Isotone
 pub mod Ends
 pub mod Unique
-pub use Rattle.fx_model.specs.Enclosure.Sets.{Range, IsFrom, IsUpTo, Lies, Set, IsInfimum, IsSupremum, IsEnclosure, Negations, Sizes, Squares, Sums, Differences, Products, Quotients, MultiplesIn, IsFinite, whole_line, IsNegation, IsSize, IsSquare, IsSum, IsDifference, IsProduct, IsQuotient}
+pub use Rattle.fx_model.specs.Enclosure.Sets.{Range, IsFrom, IsUpTo, Lies, Set, IsInfimum}
+pub use Rattle.fx_model.specs.Enclosure.Sets.{IsSupremum, IsEnclosure, Negations, Sizes, Squares}
+pub use Rattle.fx_model.specs.Enclosure.Sets.{Sums, Differences, Products, Quotients, MultiplesIn}
+pub use Rattle.fx_model.specs.Enclosure.Sets.{IsFinite, whole_line, IsNegation, IsSize, IsSquare}
+pub use Rattle.fx_model.specs.Enclosure.Sets.{IsSum, IsDifference, IsProduct, IsQuotient}
 pub use Rattle.fx_model.specs.Enclosure.Attained.{infimum_at, supremum_at, in_enclosure}
-pub use Rattle.fx_model.specs.Enclosure.SumEnds.{sum_low, sum_low_infinite, sum_high, LowSum, HighSum, sum_high_infinite, sum_is}
-pub use Rattle.fx_model.specs.Enclosure.Isotone.{BoundLe, Within, enclosure_isotone, within_in, sum_isotone}
+pub use Rattle.fx_model.specs.Enclosure.SumEnds.{sum_low, sum_low_infinite, sum_high, LowSum}
+pub use Rattle.fx_model.specs.Enclosure.SumEnds.{HighSum, sum_high_infinite, sum_is}
+pub use Rattle.fx_model.specs.Enclosure.Isotone.{BoundLe, Within, enclosure_isotone, within_in}
+pub use Rattle.fx_model.specs.Enclosure.Isotone.{sum_isotone}
 pub use Rattle.fx_model.specs.Enclosure.Ends.{IsOrdered, IsOrdered-prop, member_of, ordered_by}
-pub use Rattle.fx_model.specs.Enclosure.Members.{from-le, up_to-le, lower_up_to, higher_from, end_up_to, end_from, low_lies, high_lies, deep, far, mirror, from_neg, up_to_neg, mirror-mirror, lies_mirror, lies_mirrored, mirror_ordered, enclosure_ordered, infimum_same, supremum_same, enclosure_same}
-pub use Rattle.fx_model.specs.Enclosure.Unique.{enclosure_unique, finite_or, product_unique, product_holds}
+pub use Rattle.fx_model.specs.Enclosure.Members.{from-le, up_to-le, lower_up_to, higher_from}
+pub use Rattle.fx_model.specs.Enclosure.Members.{end_up_to, end_from, low_lies, high_lies, deep}
+pub use Rattle.fx_model.specs.Enclosure.Members.{far, mirror, from_neg, up_to_neg, mirror-mirror}
+pub use Rattle.fx_model.specs.Enclosure.Members.{lies_mirror, lies_mirrored, mirror_ordered}
+pub use Rattle.fx_model.specs.Enclosure.Members.{enclosure_ordered, infimum_same, supremum_same}
+pub use Rattle.fx_model.specs.Enclosure.Members.{enclosure_same}
+pub use Rattle.fx_model.specs.Enclosure.Unique.{enclosure_unique, finite_or, product_unique}
+pub use Rattle.fx_model.specs.Enclosure.Unique.{product_holds}

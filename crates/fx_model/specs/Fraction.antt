@@ -1,9 +1,30 @@
 -- Fractions of unbounded whole numbers, with their laws.
 pub mod Core
-pub use Rattle.fx_model.specs.Fraction.Core.{Ratio, Same, Fraction, positive-mul, add_ratio, mul_ratio, neg_ratio, add_left, add_right, mul_left, mul_right, neg_same, ◌+ℚ◌, ◌*ℚ◌, neg_ℚ, ◌-ℚ◌, T_true, cancel_le, le_ratio, LeRatio, le_ℚ, ◌≤ℚ◌, ◌<ℚ◌, by_ratio, Fraction-set, same_1, same_2, same_3, of_ratio, add-mk, mul-mk, neg-mk, le-mk}
+pub use Rattle.fx_model.specs.Fraction.Core.{Ratio, Same, Fraction, positive-mul, add_ratio}
+pub use Rattle.fx_model.specs.Fraction.Core.{mul_ratio, neg_ratio, add_left, add_right, mul_left}
+pub use Rattle.fx_model.specs.Fraction.Core.{mul_right, neg_same, ◌+ℚ◌, ◌*ℚ◌, neg_ℚ, ◌-ℚ◌, T_true}
+pub use Rattle.fx_model.specs.Fraction.Core.{cancel_le, le_ratio, LeRatio, le_ℚ, ◌≤ℚ◌, ◌<ℚ◌}
+pub use Rattle.fx_model.specs.Fraction.Core.{by_ratio, Fraction-set, same_1, same_2, same_3}
+pub use Rattle.fx_model.specs.Fraction.Core.{of_ratio, add-mk, mul-mk, neg-mk, le-mk}
 unfoldable pub use Rattle.fx_model.specs.Fraction.Core.{zero_ℚ, one_ℚ}
-pub use Rattle.fx_model.specs.Fraction.Core.Ring.{add_comm, add_assoc, zero-add, add-neg, mul_comm, mul_assoc, one-mul, zero-mul, mul-add, neg-mul, neg-add, neg-neg}
-pub use Rattle.fx_model.specs.Fraction.Core.Order.{le_in, le_out, Le-prop, le_refl, le_trans, le_antisymm, le_total, add-le, mul-le, lt_by, lt_not, lt_le, le_lt_trans, lt_le_trans, le_or_lt, mul-le_cancel, mul-lt_cancel, mul_cancel, neg-le, add-le-add, Lt-prop, minus_one, under, plus_one, over}
-pub use Rattle.fx_model.specs.Fraction.Core.Laws.{add-zero, add-sub, middle_sums, left_swap, middle_products, mul-one, mul-zero, add-mul, mul-neg, add-le_out, add-lt, mul-lt, times-le, times-lt, neg-le_out, neg-lt, neg_zero, neg_up, neg_down, sub-add}
-pub use Rattle.fx_model.specs.Fraction.Core.Floor.{floor_ratio, FloorRatio, floor_ℚ, floor_law, floor-mk}
-pub use Rattle.fx_model.specs.Fraction.Core.Inverse.{abs_ℚ, is_zero_ℚ, square_ratio, square_positive, inverse_ratio, inverse_ℚ, ◌/ℚ◌, mul-inverse, inverse-mk, abs-from, abs-below, is_zero-zero, is_zero_out, is_zero_not, div-mul}
+pub use Rattle.fx_model.specs.Fraction.Core.Ring.{add_comm, add_assoc, zero-add, add-neg, mul_comm}
+pub use Rattle.fx_model.specs.Fraction.Core.Ring.{mul_assoc, one-mul, zero-mul, mul-add, neg-mul}
+pub use Rattle.fx_model.specs.Fraction.Core.Ring.{neg-add, neg-neg}
+pub use Rattle.fx_model.specs.Fraction.Core.Order.{le_in, le_out, Le-prop, le_refl, le_trans}
+pub use Rattle.fx_model.specs.Fraction.Core.Order.{le_antisymm, le_total, add-le, mul-le, lt_by}
+pub use Rattle.fx_model.specs.Fraction.Core.Order.{lt_not, lt_le, le_lt_trans, lt_le_trans}
+pub use Rattle.fx_model.specs.Fraction.Core.Order.{le_or_lt, mul-le_cancel, mul-lt_cancel}
+pub use Rattle.fx_model.specs.Fraction.Core.Order.{mul_cancel, neg-le, add-le-add, Lt-prop}
+pub use Rattle.fx_model.specs.Fraction.Core.Order.{minus_one, under, plus_one, over}
+pub use Rattle.fx_model.specs.Fraction.Core.Laws.{add-zero, add-sub, middle_sums, left_swap}
+pub use Rattle.fx_model.specs.Fraction.Core.Laws.{middle_products, mul-one, mul-zero, add-mul}
+pub use Rattle.fx_model.specs.Fraction.Core.Laws.{mul-neg, add-le_out, add-lt, mul-lt, times-le}
+pub use Rattle.fx_model.specs.Fraction.Core.Laws.{times-lt, neg-le_out, neg-lt, neg_zero, neg_up}
+pub use Rattle.fx_model.specs.Fraction.Core.Laws.{neg_down, sub-add}
+pub use Rattle.fx_model.specs.Fraction.Core.Floor.{floor_ratio, FloorRatio, floor_ℚ, floor_law}
+pub use Rattle.fx_model.specs.Fraction.Core.Floor.{floor-mk}
+pub use Rattle.fx_model.specs.Fraction.Core.Inverse.{abs_ℚ, is_zero_ℚ, square_ratio}
+pub use Rattle.fx_model.specs.Fraction.Core.Inverse.{square_positive, inverse_ratio, inverse_ℚ}
+pub use Rattle.fx_model.specs.Fraction.Core.Inverse.{◌/ℚ◌, mul-inverse, inverse-mk, abs-from}
+pub use Rattle.fx_model.specs.Fraction.Core.Inverse.{abs-below, is_zero-zero, is_zero_out}
+pub use Rattle.fx_model.specs.Fraction.Core.Inverse.{is_zero_not, div-mul}

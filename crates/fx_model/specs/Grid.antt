@@ -6,8 +6,10 @@ use mathlib.Core.Bool.{xor}
 use Rattle.std.proofs.Common.{arith, sym, subst, ap, ◌∙◌, refl}
 use Rattle.std.proofs.lemmas.Int.{ints}
 use lib.IntN.{neg_ℤ}
-use Rattle.fx_model.specs.Fraction.{Fraction, ◌*ℚ◌, ◌≤ℚ◌, le_antisymm, neg_ℚ, neg-le, neg-neg, neg-mul, mul_comm, mul_assoc}
-use Rattle.fx_model.specs.Powers.{scaled, two_to, whole, whole-neg, whole-mul, two_to-add, IsMultiple}
+use Rattle.fx_model.specs.Fraction.{Fraction, ◌*ℚ◌, ◌≤ℚ◌, le_antisymm, neg_ℚ, neg-le, neg-neg}
+use Rattle.fx_model.specs.Fraction.{neg-mul, mul_comm, mul_assoc}
+use Rattle.fx_model.specs.Powers.{scaled, two_to, whole, whole-neg, whole-mul, two_to-add}
+use Rattle.fx_model.specs.Powers.{IsMultiple}
 
 -- 2^60
 abbrev pub mantissa_limit : ℤ

@@ -6,7 +6,11 @@ use Rattle.std.proofs.lemmas.Int.{ints, by_lt_z}
 use borrow.Author.Differences.{up, down, sum_is_lem, product_is, neg_is}
 use lib.IntN.{neg_ℤ}
 use mathlib.Core.Quot.{sound}
-use Rattle.fx_model.specs.Fraction.{Ratio, Same, Fraction, ◌+ℚ◌, ◌*ℚ◌, neg_ℚ, ◌≤ℚ◌, of_ratio, zero_ℚ, one_ℚ, le_in, le_out, add_ratio, mul_ratio, neg_ratio, add-mk, mul-mk, neg-mk, ◌<ℚ◌, lt_by, lt_not, lt_le, mul_comm, mul_assoc, mul-le, mul-le_cancel, zero-mul, by_ratio, Le-prop, Lt-prop, le_trans, floor_ℚ, floor_law, add-mul, le_refl}
+use Rattle.fx_model.specs.Fraction.{Ratio, Same, Fraction, ◌+ℚ◌, ◌*ℚ◌, neg_ℚ, ◌≤ℚ◌, of_ratio}
+use Rattle.fx_model.specs.Fraction.{zero_ℚ, one_ℚ, le_in, le_out, add_ratio, mul_ratio, neg_ratio}
+use Rattle.fx_model.specs.Fraction.{add-mk, mul-mk, neg-mk, ◌<ℚ◌, lt_by, lt_not, lt_le, mul_comm}
+use Rattle.fx_model.specs.Fraction.{mul_assoc, mul-le, mul-le_cancel, zero-mul, by_ratio, Le-prop}
+use Rattle.fx_model.specs.Fraction.{Lt-prop, le_trans, floor_ℚ, floor_law, add-mul, le_refl}
 
 -- The whole number z.
 pub whole : ℤ → Fraction

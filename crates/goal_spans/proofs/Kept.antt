@@ -6,9 +6,16 @@ use Rattle.script_shape.specs.script_words.declared.class.Spelled.TheVariants as
 use Rattle.script_shape.specs.script_words.Words.{Word, sign}
 use Rattle.script_shape.specs.declared.due.Due.{Due}
 use Rattle.script_shape.specs.declared.due.Due.TheVariants as d
-use Rattle.script_shape.specs.Tree.{AnyName, plain, operator, Special, Whole, Bound, Expr, Range, asked, between, multiple, How, exactly, rounded_by, rounded_apart, rounded_joined, Definition, names_operator, names_value}
-use Rattle.script_shape.specs.Roles.{Leaf, at, name_leaves, special_leaves, whole_leaves, bound_leaves, operator_leaves, expr_leaves, range_leaves, prop_leaves, how_leaves, definition_leaves}
-use Rattle.script_shape.specs.Inner.{EachRole, each_of_both, each_as, IsInner, name_roles, special_roles, bound_roles, whole_inner, operator_roles, expr_inner}
+use Rattle.script_shape.specs.Tree.{AnyName, plain, operator, Special, Whole, Bound, Expr, Range}
+use Rattle.script_shape.specs.Tree.{asked, between, multiple, How, exactly, rounded_by}
+use Rattle.script_shape.specs.Tree.{rounded_apart, rounded_joined, Definition, names_operator}
+use Rattle.script_shape.specs.Tree.{names_value}
+use Rattle.script_shape.specs.Roles.{Leaf, at, name_leaves, special_leaves, whole_leaves}
+use Rattle.script_shape.specs.Roles.{bound_leaves, operator_leaves, expr_leaves, range_leaves}
+use Rattle.script_shape.specs.Roles.{prop_leaves, how_leaves, definition_leaves}
+use Rattle.script_shape.specs.Inner.{EachRole, each_of_both, each_as, IsInner, name_roles}
+use Rattle.script_shape.specs.Inner.{special_roles, bound_roles, whole_inner, operator_roles}
+use Rattle.script_shape.specs.Inner.{expr_inner}
 use Rattle.goal_spans.specs.declared.span.Span.{Span}
 use Rattle.goal_spans.specs.declared.reader.Stage.{Stage}
 use Rattle.goal_spans.specs.declared.reader.Stage.TheVariants as stage
@@ -30,18 +37,24 @@ pub both : (g : Stage) (a b : List Leaf) → AreKept g a → AreKept g b → Are
 both g [] b p q = q
 both g (l ∷ a) b p q = (p.0, both g a b p.1 q)
 
-kept_word : (g : Stage) (r : Due) (w : Word) (n f e : ℕ) (ss : List Span) → IsKept g r w → read_word r w (state g n f e ss) ≡ state g (n + 1) f e ss
+kept_word : (g : Stage) (r : Due) (w : Word) (n f e : ℕ) (ss : List Span) → IsKept g r w
+    → read_word r w (state g n f e ss) ≡ state g (n + 1) f e ss
 unfolding read_word
-kept_word g r w n f e ss h = ap (λ (st : State). state st.stage (n + 1) st.first st.end st.spans) (h (state g n f e ss))
+kept_word g r w n f e ss h =
+    ap (λ (st : State). state st.stage (n + 1) st.first st.end st.spans) (h (state g n f e ss))
 
-pub kept_words : (g : Stage) (ls rest : List Leaf) (n f e : ℕ) (ss : List Span) → AreKept g ls → read_leaves (ls ++ rest) (state g n f e ss) ≡ read_leaves rest (state g (n + length ls) f e ss)
+pub kept_words : (g : Stage) (ls rest : List Leaf) (n f e : ℕ) (ss : List Span)
+    → AreKept g ls → read_leaves (ls ++ rest) (state g n f e ss)
+    ≡ read_leaves rest (state g (n + length ls) f e ss)
 unfolding read_leaves
 kept_words g [] rest n f e ss h =
     let c : n ≡ n + 0 = omega arith in
     ap (λ (k : ℕ). read_leaves rest (state g k f e ss)) c
 kept_words g (l ∷ ls) rest n f e ss h =
     let c : n + 1 + length ls ≡ n + suc (length ls) = omega arith in
-    ap (read_leaves (ls ++ rest)) (kept_word g l.role l.word n f e ss h.0) ∙ kept_words g ls rest (n + 1) f e ss h.1 ∙ ap (λ (k : ℕ). read_leaves rest (state g k f e ss)) c
+    ap (read_leaves (ls ++ rest)) (kept_word g l.role l.word n f e ss h.0)
+    ∙ kept_words g ls rest (n + 1) f e ss h.1
+    ∙ ap (λ (k : ℕ). read_leaves rest (state g k f e ss)) c
 
 -- ---- words of definitions
 
@@ -68,8 +81,10 @@ expr_between e = each_as IsInner IsBetween inner_between (expr_leaves e) (expr_i
 how_between : (h : How) → EachRole IsBetween (how_leaves h)
 how_between exactly = (tt, tt)
 how_between (rounded_by k t) = (tt, (tt, tt))
-how_between (rounded_apart o) = each_of_both IsBetween (operator_leaves d.DefinedBy o) _ (operator_roles IsBetween d.DefinedBy o tt inner_between) (tt, (tt, tt))
-how_between (rounded_joined o) = each_of_both IsBetween (operator_leaves d.DefinedBy o) _ (operator_roles IsBetween d.DefinedBy o tt inner_between) (tt, tt)
+how_between (rounded_apart o) = each_of_both IsBetween (operator_leaves d.DefinedBy o) _
+    (operator_roles IsBetween d.DefinedBy o tt inner_between) (tt, (tt, tt))
+how_between (rounded_joined o) = each_of_both IsBetween (operator_leaves d.DefinedBy o) _
+    (operator_roles IsBetween d.DefinedBy o tt inner_between) (tt, tt)
 
 name_kept : (n : AnyName) → AreKept stage.Definitions (name_leaves d.Script n)
 name_kept (plain k t) = (λ st. refl, tt)
@@ -78,10 +93,17 @@ name_kept (operator k t) = (λ st. refl, tt)
 pub definition_kept : (x : Definition) → AreKept stage.Definitions (definition_leaves x)
 definition_kept (names_operator n o) =
     let end = at d.Greater (sign s.Greater) ∷ (at d.Semicolon (sign s.Semicolon) ∷ []) in
-    let behind : EachRole IsBetween (operator_leaves d.Operator o ++ end) = each_of_both IsBetween (operator_leaves d.Operator o) end (operator_roles IsBetween d.Operator o tt inner_between) (tt, (tt, tt)) in
-    (λ st. refl, all_between _ (each_of_both IsBetween (name_leaves d.NewName n) _ (name_roles IsBetween d.NewName n tt) (tt, behind)))
+    let behind : EachRole IsBetween (operator_leaves d.Operator o ++ end) =
+    each_of_both IsBetween (operator_leaves d.Operator o) end
+    (operator_roles IsBetween d.Operator o tt inner_between) (tt, (tt, tt)) in (
+      λ st. refl,
+      all_between _ (each_of_both IsBetween (name_leaves d.NewName n) _
+          (name_roles IsBetween d.NewName n tt) (tt, behind)),
+    )
 definition_kept (names_value n h e) =
-    both stage.Definitions (name_leaves d.Script n) _ (name_kept n) (all_between _ (each_of_both IsBetween (how_leaves h) _ (how_between h) (each_of_both IsBetween (expr_leaves e) _ (expr_between e) (tt, tt))))
+    both stage.Definitions (name_leaves d.Script n) _ (name_kept n)
+    (all_between _ (each_of_both IsBetween (how_leaves h) _ (how_between h)
+    (each_of_both IsBetween (expr_leaves e) _ (expr_between e) (tt, tt))))
 
 -- ---- words of propositions
 
@@ -124,19 +146,29 @@ pub range_kept : (r : Range) → AreKept stage.Formula (range_leaves r)
 range_kept asked = (λ st. refl, tt)
 range_kept (between a b) =
     let close = at d.CloseBracket (sign s.CloseBracket) ∷ [] in
-    let second : EachRole IsQuiet (bound_leaves b ++ close) = each_of_both IsQuiet (bound_leaves b) close (bound_roles IsQuiet b tt tt) (tt, tt) in
-    let first : EachRole IsQuiet (bound_leaves a ++ (at d.Comma (sign s.Comma) ∷ (bound_leaves b ++ close))) = each_of_both IsQuiet (bound_leaves a) _ (bound_roles IsQuiet a tt tt) (tt, second) in
+    let second : EachRole IsQuiet (bound_leaves b ++ close) =
+    each_of_both IsQuiet (bound_leaves b) close (bound_roles IsQuiet b tt tt) (tt, tt) in
+    let first : EachRole IsQuiet
+    (bound_leaves a ++ (at d.Comma (sign s.Comma) ∷ (bound_leaves b ++ close))) =
+    each_of_both IsQuiet (bound_leaves a) _ (bound_roles IsQuiet a tt tt) (tt, second) in
     (λ st. refl, all_quiet _ first)
 
 pub bound_kept : (b : Bound) → AreKept stage.Formula (bound_leaves b)
 bound_kept b = all_quiet (bound_leaves b) (bound_roles IsQuiet b tt tt)
 
-pub multiple_kept : (f : Special) (e : Expr) (k : Whole) → AreKept stage.Formula (prop_leaves (multiple f e k))
+pub multiple_kept : (f : Special) (e : Expr) (k : Whole)
+    → AreKept stage.Formula (prop_leaves (multiple f e k))
 multiple_kept f e k =
     let close = at d.CloseParen (sign s.CloseParen) ∷ [] in
-    let last : EachRole IsQuiet (whole_leaves k ++ close) = each_of_both IsQuiet (whole_leaves k) close (each_as IsInner IsQuiet inner_quiet (whole_leaves k) (whole_inner k)) (tt, tt) in
-    let inner : EachRole IsQuiet (expr_leaves e ++ (at d.Comma (sign s.Comma) ∷ (whole_leaves k ++ close))) = each_of_both IsQuiet (expr_leaves e) _ (expr_quiet e) (tt, last) in
-    (λ st. refl, all_quiet _ (each_of_both IsQuiet (special_leaves d.Fix spelled.Fix f) _ (special_roles IsQuiet d.Fix spelled.Fix f tt) (tt, inner)))
+    let last : EachRole IsQuiet (whole_leaves k ++ close) = each_of_both IsQuiet (whole_leaves k)
+    close (each_as IsInner IsQuiet inner_quiet (whole_leaves k) (whole_inner k)) (tt, tt) in
+    let inner : EachRole IsQuiet
+    (expr_leaves e ++ (at d.Comma (sign s.Comma) ∷ (whole_leaves k ++ close))) =
+    each_of_both IsQuiet (expr_leaves e) _ (expr_quiet e) (tt, last) in (
+      λ st. refl,
+      all_quiet _ (each_of_both IsQuiet (special_leaves d.Fix spelled.Fix f) _
+          (special_roles IsQuiet d.Fix spelled.Fix f tt) (tt, inner)),
+    )
 
 pub all_behind : (ls : List Leaf) → AreKept stage.Hints ls
 all_behind [] = tt

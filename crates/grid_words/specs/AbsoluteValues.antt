@@ -1,7 +1,11 @@
 -- Absolute values of sums, products and quotients.
 use Rattle.std.specs.Prelude.{◌≡◌, ◌≢◌, ◌⊎◌}
 use Rattle.std.proofs.Common.{sym, ap, subst, ◌∙◌, inl, inr, ⊎_elim}
-use Rattle.fx_model.specs.Fraction.{Fraction, ◌+ℚ◌, ◌-ℚ◌, ◌*ℚ◌, ◌/ℚ◌, ◌≤ℚ◌, ◌<ℚ◌, zero_ℚ, neg_ℚ, abs_ℚ, abs-from, le_refl, le_trans, le_antisymm, le_or_lt, lt_le, lt_by, mul-le, mul_cancel, mul_comm, zero-mul, zero-add, add_comm, add_assoc, add-neg, add-le-add, neg-le, neg-neg, neg-add, neg-mul, div-mul}
+use Rattle.fx_model.specs.Fraction.{Fraction, ◌+ℚ◌, ◌-ℚ◌, ◌*ℚ◌, ◌/ℚ◌, ◌≤ℚ◌, ◌<ℚ◌, zero_ℚ, neg_ℚ}
+use Rattle.fx_model.specs.Fraction.{abs_ℚ, abs-from, le_refl, le_trans, le_antisymm, le_or_lt}
+use Rattle.fx_model.specs.Fraction.{lt_le, lt_by, mul-le, mul_cancel, mul_comm, zero-mul, zero-add}
+use Rattle.fx_model.specs.Fraction.{add_comm, add_assoc, add-neg, add-le-add, neg-le, neg-neg}
+use Rattle.fx_model.specs.Fraction.{neg-add, neg-mul, div-mul}
 use Rattle.grid_words.specs.Signs.{neg_up, neg_down, mul-neg, abs_down}
 
 -- a number is 0 or above, or 0 or below, and its absolute value is it or its negative

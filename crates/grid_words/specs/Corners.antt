@@ -1,7 +1,8 @@
 -- The least and the greatest product of numbers that lie between others: they are at corners.
 use Rattle.std.specs.Prelude.{◌≡◌, Bool, true, false, cond, refl}
 use Rattle.std.proofs.Common.{sym, subst, ⊎_elim}
-use Rattle.fx_model.specs.Fraction.{Fraction, ◌*ℚ◌, ◌≤ℚ◌, zero_ℚ, le_ℚ, le_total, le_refl, le_trans, le_or_lt, lt_le, mul-le}
+use Rattle.fx_model.specs.Fraction.{Fraction, ◌*ℚ◌, ◌≤ℚ◌, zero_ℚ, le_ℚ, le_total, le_refl, le_trans}
+use Rattle.fx_model.specs.Fraction.{le_or_lt, lt_le, mul-le}
 use Rattle.fx_model.specs.Enclosure.{Range, IsEnclosure, infimum_at, supremum_at}
 use Rattle.grid_words.specs.Nearest.{down, up, down_is, up_is}
 use Rattle.grid_words.specs.Signs.{times_up, times_down, factor_down}

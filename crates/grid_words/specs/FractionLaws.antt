@@ -1,8 +1,11 @@
 -- More laws of fractions: sums, products and quotients.
 use Rattle.std.specs.Prelude.{◌≡◌, ◌≢◌}
 use Rattle.std.proofs.Common.{sym, ap, ◌∙◌}
-use Rattle.fx_model.specs.Fraction.{Fraction, ◌+ℚ◌, ◌-ℚ◌, ◌*ℚ◌, ◌/ℚ◌, inverse_ℚ, neg_ℚ, zero_ℚ, one_ℚ, add_comm, add_assoc, zero-add, add-neg, mul_comm, mul_assoc, one-mul, zero-mul, mul-add, mul-inverse, sub-add}
-pub use Rattle.fx_model.specs.Fraction.{add-zero, mul-one, mul-zero, add-mul, middle_sums, middle_products}
+use Rattle.fx_model.specs.Fraction.{Fraction, ◌+ℚ◌, ◌-ℚ◌, ◌*ℚ◌, ◌/ℚ◌, inverse_ℚ, neg_ℚ, zero_ℚ}
+use Rattle.fx_model.specs.Fraction.{one_ℚ, add_comm, add_assoc, zero-add, add-neg, mul_comm}
+use Rattle.fx_model.specs.Fraction.{mul_assoc, one-mul, zero-mul, mul-add, mul-inverse, sub-add}
+pub use Rattle.fx_model.specs.Fraction.{add-zero, mul-one, mul-zero, add-mul, middle_sums}
+pub use Rattle.fx_model.specs.Fraction.{middle_products}
 
 -- ---- sums
 neg-add_own : (y : Fraction) → neg_ℚ y +ℚ y ≡ zero_ℚ

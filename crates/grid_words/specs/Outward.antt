@@ -2,9 +2,13 @@
 -- common.
 use Rattle.std.specs.Prelude.{◌≡◌}
 use Rattle.std.proofs.Common.{refl, sym, subst, ⊎_elim}
-use Rattle.fx_model.specs.Fraction.{Fraction, ◌-ℚ◌, ◌+ℚ◌, ◌≤ℚ◌, one_ℚ, le_trans, le_refl, le_or_lt, lt_le, lt_not, minus_one, plus_one}
+use Rattle.fx_model.specs.Fraction.{Fraction, ◌-ℚ◌, ◌+ℚ◌, ◌≤ℚ◌, one_ℚ, le_trans, le_refl, le_or_lt}
+use Rattle.fx_model.specs.Fraction.{lt_le, lt_not, minus_one, plus_one}
 use Rattle.fx_model.specs.Grid.{Bound, Below, At, Above, IsOnGrid}
-use Rattle.fx_model.specs.Enclosure.{Range, IsFrom, IsUpTo, Lies, IsInfimum, IsSupremum, IsEnclosure, IsOrdered, infimum_at, supremum_at, in_enclosure, member_of, ordered_by, low_lies, high_lies, deep, far, enclosure_same}
+use Rattle.fx_model.specs.Enclosure.{Range, IsFrom, IsUpTo, Lies, IsInfimum, IsSupremum}
+use Rattle.fx_model.specs.Enclosure.{IsEnclosure, IsOrdered, infimum_at, supremum_at, in_enclosure}
+use Rattle.fx_model.specs.Enclosure.{member_of, ordered_by, low_lies, high_lies, deep, far}
+use Rattle.fx_model.specs.Enclosure.{enclosure_same}
 use Rattle.grid_words.specs.Nearest.{down, up, down_is, up_is}
 
 -- The end rounded down, and up.

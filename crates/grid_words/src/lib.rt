@@ -4,7 +4,8 @@
 
 ghost use Rattle.fx_model.specs.Fraction.{Fraction, zero_ℚ};
 ghost use Rattle.fx_model.specs.Grid.{IsDown, IsUp};
-ghost use Rattle.fx_model.specs.Enclosure.{Range, Lies, IsOrdered, IsSum, IsDifference, IsNegation, IsSize, IsProduct, IsQuotient};
+ghost use Rattle.fx_model.specs.Enclosure.{Range, Lies, IsOrdered, IsSum, IsDifference, IsNegation};
+ghost use Rattle.fx_model.specs.Enclosure.{IsSize, IsProduct, IsQuotient};
 ghost use Rattle.grid_words.specs.Nearest.{down, up};
 ghost use Rattle.grid_words.specs.Sums.{sum_range, difference_range, negation_range};
 ghost use Rattle.grid_words.specs.Sizes.{size_range};

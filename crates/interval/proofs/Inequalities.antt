@@ -1,7 +1,8 @@
 -- The order of fractions and ends.
 use Rattle.std.specs.Prelude.{◌≡◌, ℤ, pos, ◌≤ℤ◌, Bool, true, false, IsTrue}
 use Rattle.std.proofs.Common.{refl, sym, subst, ap, ◌∙◌, ⊎_elim}
-use Rattle.dyadic.specs.fx_model.Fraction.{Fraction, ◌≤ℚ◌, zero_ℚ, le_trans, le_antisymm, le_or_lt, lt_le}
+use Rattle.dyadic.specs.fx_model.Fraction.{Fraction, ◌≤ℚ◌, zero_ℚ, le_trans, le_antisymm, le_or_lt}
+use Rattle.dyadic.specs.fx_model.Fraction.{lt_le}
 use Rattle.dyadic.specs.fx_model.Powers.{scaled, scaled-le, scaled-zero, scaled-le_out}
 use Rattle.dyadic.specs.fx_model.Grid.{Bound, Below, At, Above, IsDown}
 use Rattle.dyadic.specs.fx_model.Enclosure.{BoundLe, IsFrom, IsUpTo, within_in}
@@ -26,7 +27,8 @@ down-le x y Above c l d e = absurd d
 
 -- ---- what a test that failed says
 pub below_by : (x y : Fraction) (b : Bool) → (x ≤ℚ y → IsTrue b) → b ≡ false → y ≤ℚ x
-below_by x y b f e = ⊎_elim (λ l. let t = f l in absurd (let n : true ≡ false = sym t ∙ e in cc)) (λ l. lt_le y x l) (le_or_lt x y)
+below_by x y b f e = ⊎_elim (λ l. let t = f l in
+    absurd (let n : true ≡ false = sym t ∙ e in cc)) (λ l. lt_le y x l) (le_or_lt x y)
 
 pub bound_by : (b c : Bound) (t : Bool) → (BoundLe b c → IsTrue t) → t ≡ false → BoundLe c b
 bound_by b c t f e = bound_total b c (λ l. let k = f l in let n : true ≡ false = sym k ∙ e in cc)

@@ -3,11 +3,13 @@ use Rattle.std.specs.Prelude.{◌≡◌, Bool, true, false, Option, Some, None, 
 use Rattle.std.proofs.Common.{sym, subst, ap}
 use Rattle.dyadic.specs.fx_model.Fraction.{Fraction, le_ℚ}
 use Rattle.dyadic.specs.fx_model.Grid.{Bound, Below, At, Above}
-use Rattle.dyadic.specs.fx_model.Enclosure.{IsOrdered, IsFrom, IsUpTo, Lies, BoundLe, Within, member_of, ordered_by, within_in}
+use Rattle.dyadic.specs.fx_model.Enclosure.{IsOrdered, IsFrom, IsUpTo, Lies, BoundLe, Within}
+use Rattle.dyadic.specs.fx_model.Enclosure.{member_of, ordered_by, within_in}
 use Rattle.dyadic.specs.declared.number.End.{End}
 use Rattle.dyadic.specs.Ends.{bound_of}
 use Rattle.dyadic.specs.Order.{le_bound}
-use Rattle.dyadic.specs.Extremes.{greater_end, lesser_end, greater_above, lesser_below, greater_least, lesser_most, chosen}
+use Rattle.dyadic.specs.Extremes.{greater_end, lesser_end, greater_above, lesser_below}
+use Rattle.dyadic.specs.Extremes.{greater_least, lesser_most, chosen}
 use Rattle.interval.specs.declared.interval.Interval.{Interval}
 use Rattle.interval.specs.Ends.{AreEnds, AreEnds-prop}
 use Rattle.interval.specs.Intervals.{range_of}

@@ -3,7 +3,9 @@ use Rattle.std.specs.Prelude.{◌≡◌, Some, refl}
 use Rattle.std.proofs.Common.{sym, subst, ⊎_elim}
 use Rattle.dyadic.specs.fx_model.Fraction.{Fraction, neg-le}
 use Rattle.dyadic.specs.fx_model.Grid.{Bound, Below, At, Above, neg_bound}
-use Rattle.dyadic.specs.fx_model.Enclosure.{Range, IsOrdered, IsFinite, BoundLe, Within, within_in, enclosure_isotone, Negations, Sizes, Sums, Differences, Products, Quotients, whole_line}
+use Rattle.dyadic.specs.fx_model.Enclosure.{Range, IsOrdered, IsFinite, BoundLe, Within, within_in}
+use Rattle.dyadic.specs.fx_model.Enclosure.{enclosure_isotone, Negations, Sizes, Sums, Differences}
+use Rattle.dyadic.specs.fx_model.Enclosure.{Products, Quotients, whole_line}
 use Rattle.dyadic.specs.declared.number.End.{End}
 use Rattle.dyadic.specs.Ends.{bound_of}
 use Rattle.dyadic.specs.Extremes.{BoundLe-trans, greater_end, greater_above, greater_least}
@@ -11,7 +13,9 @@ use Rattle.interval.specs.declared.interval.Interval.{Interval}
 use Rattle.interval.specs.Ends.{AreEnds}
 use Rattle.interval.specs.Intervals.{range_of}
 use Rattle.interval.specs.Meets.{interval_from, interval_from-some, interval_from_out}
-use Rattle.interval.specs.Results.{negation_of, negation_of-is, size_of, size_of-is, sum_of, sum_of-is, difference_of, difference_of-is, product_of, product_of-is, quotient_of, quotient_of-some, quotient_of-is}
+use Rattle.interval.specs.Results.{negation_of, negation_of-is, size_of, size_of-is, sum_of}
+use Rattle.interval.specs.Results.{sum_of-is, difference_of, difference_of-is, product_of}
+use Rattle.interval.specs.Results.{product_of-is, quotient_of, quotient_of-some, quotient_of-is}
 use Rattle.dyadic.specs.fx_model.Enclosure.Unique.{both_or}
 
 -- ---- ends

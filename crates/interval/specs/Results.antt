@@ -4,11 +4,19 @@ use Rattle.std.specs.Prelude.{◌≡◌, ◌⊎◌, Bool, true, false, not, ◌&
 use Rattle.std.proofs.Common.{sym, ap, ◌∙◌, subst, inl, inr, ⊎_elim}
 use Rattle.dyadic.specs.fx_model.Fraction.{Fraction, zero_ℚ, ◌≤ℚ◌, le_refl, le_antisymm}
 use Rattle.dyadic.specs.fx_model.Grid.{Bound, Below, At, Above}
-use Rattle.dyadic.specs.fx_model.Enclosure.{Range, IsOrdered, IsFrom, IsUpTo, Lies, BoundLe, IsEnclosure, IsInfimum, IsSupremum, Sums, Differences, Negations, Sizes, Products, Quotients, IsFinite, whole_line, IsNegation, IsSize, IsSum, IsDifference, IsProduct, IsQuotient, enclosure_unique, product_unique, finite_or, enclosure_ordered}
-use Rattle.grid_words.specs.Sums.{sum_range, sum_range_is, sum_range_ordered, difference_range, difference_range_is, difference_range_ordered, negation_range, negation_range_is, negation_range_ordered}
+use Rattle.dyadic.specs.fx_model.Enclosure.{Range, IsOrdered, IsFrom, IsUpTo, Lies, BoundLe}
+use Rattle.dyadic.specs.fx_model.Enclosure.{IsEnclosure, IsInfimum, IsSupremum, Sums, Differences}
+use Rattle.dyadic.specs.fx_model.Enclosure.{Negations, Sizes, Products, Quotients, IsFinite}
+use Rattle.dyadic.specs.fx_model.Enclosure.{whole_line, IsNegation, IsSize, IsSum, IsDifference}
+use Rattle.dyadic.specs.fx_model.Enclosure.{IsProduct, IsQuotient, enclosure_unique, product_unique}
+use Rattle.dyadic.specs.fx_model.Enclosure.{finite_or, enclosure_ordered}
+use Rattle.grid_words.specs.Sums.{sum_range, sum_range_is, sum_range_ordered, difference_range}
+use Rattle.grid_words.specs.Sums.{difference_range_is, difference_range_ordered, negation_range}
+use Rattle.grid_words.specs.Sums.{negation_range_is, negation_range_ordered}
 use Rattle.grid_words.specs.Sizes.{size_range, size_range_is, size_range_ordered}
 use Rattle.grid_words.specs.Outward.{outward, outward_exact}
-use Rattle.grid_words.specs.Products.{product_range, product_range_is, product_range_ordered, quotient_range, quotient_range_is, quotient_range_ordered}
+use Rattle.grid_words.specs.Products.{product_range, product_range_is, product_range_ordered}
+use Rattle.grid_words.specs.Products.{quotient_range, quotient_range_is, quotient_range_ordered}
 use Rattle.dyadic.specs.Ends.{bound_of}
 use Rattle.dyadic.specs.Order.{le_bound}
 use Rattle.dyadic.specs.Compared.{BoundLe_in, BoundLe_out}

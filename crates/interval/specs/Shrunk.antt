@@ -3,10 +3,16 @@ use Rattle.std.specs.Prelude.{◌≡◌, ℤ, pos, ◌+ℤ◌}
 use Rattle.std.proofs.Common.{arith, refl, sym, subst, ap, ◌∙◌}
 use Rattle.std.proofs.lemmas.Int.{ints}
 use lib.IntN.{neg_ℤ}
-use Rattle.dyadic.specs.fx_model.Fraction.{Fraction, ◌*ℚ◌, ◌≤ℚ◌, ◌+ℚ◌, ◌-ℚ◌, zero_ℚ, one_ℚ, neg_ℚ, le_trans, le_refl, lt_le, lt_not, mul_assoc, mul_comm, one-mul, floor_ℚ, minus_one, plus_one}
-use Rattle.dyadic.specs.fx_model.Powers.{whole, two_to, scaled, IsMultiple, scaled-zero, two_to-add, two_to-pos, two_to-positive, one-whole, floor_low}
+use Rattle.dyadic.specs.fx_model.Fraction.{Fraction, ◌*ℚ◌, ◌≤ℚ◌, ◌+ℚ◌, ◌-ℚ◌, zero_ℚ, one_ℚ, neg_ℚ}
+use Rattle.dyadic.specs.fx_model.Fraction.{le_trans, le_refl, lt_le, lt_not, mul_assoc, mul_comm}
+use Rattle.dyadic.specs.fx_model.Fraction.{one-mul, floor_ℚ, minus_one, plus_one}
+use Rattle.dyadic.specs.fx_model.Powers.{whole, two_to, scaled, IsMultiple, scaled-zero, two_to-add}
+use Rattle.dyadic.specs.fx_model.Powers.{two_to-pos, two_to-positive, one-whole, floor_low}
 use Rattle.dyadic.specs.fx_model.Grid.{Bound, Below, At, Above, scaled-neg, neg_over}
-use Rattle.dyadic.specs.fx_model.Enclosure.{Range, IsFrom, IsUpTo, Lies, MultiplesIn, IsInfimum, IsSupremum, IsEnclosure, IsOrdered, infimum_at, supremum_at, member_of, ordered_by, deep, far, low_lies, high_lies, lower_up_to, higher_from}
+use Rattle.dyadic.specs.fx_model.Enclosure.{Range, IsFrom, IsUpTo, Lies, MultiplesIn, IsInfimum}
+use Rattle.dyadic.specs.fx_model.Enclosure.{IsSupremum, IsEnclosure, IsOrdered, infimum_at}
+use Rattle.dyadic.specs.fx_model.Enclosure.{supremum_at, member_of, ordered_by, deep, far, low_lies}
+use Rattle.dyadic.specs.fx_model.Enclosure.{high_lies, lower_up_to, higher_from}
 use Rattle.dyadic.specs.Made.{IsGridBound}
 use Rattle.interval.specs.Multiples.{IsEndDown, IsEndUp}
 use Rattle.grid_words.specs.Signs.{times_up}

@@ -1,15 +1,18 @@
 -- The value of a literal as a whole number over a power of ten, and the set that a number makes
 -- alone.
-use Rattle.std.specs.Prelude.{◌≡◌, ℕ, ℤ, pos, negsuc, ◌*◌, ◌*ℤ◌, ◌+◌, ◌^◌, ◌<◌, ◌<ℤ◌, ◌≤ℤ◌, Bool, true, false}
+use Rattle.std.specs.Prelude.{◌≡◌, ℕ, ℤ, pos, negsuc, ◌*◌, ◌*ℤ◌, ◌+◌, ◌^◌, ◌<◌, ◌<ℤ◌, ◌≤ℤ◌, Bool}
+use Rattle.std.specs.Prelude.{true, false}
 use Rattle.std.proofs.Common.{arith, refl, sym, subst, ap, ◌∙◌, ◌≤◌, to_z, of_z, w32}
 use Rattle.std.specs.Int.RustNames.{unsigned_abs}
 use Rattle.std.proofs.lemmas.Int.{ints}
 use Rattle.std.proofs.Math.Nat.{pow-le-pow_right}
 use lib.IntN.{neg_ℤ}
-use Rattle.dyadic.specs.fx_model.Fraction.{Fraction, ◌*ℚ◌, ◌≤ℚ◌, zero_ℚ, one_ℚ, neg_ℚ, inverse_ℚ, le_refl, mul_comm, mul_assoc, one-mul, mul-inverse}
+use Rattle.dyadic.specs.fx_model.Fraction.{Fraction, ◌*ℚ◌, ◌≤ℚ◌, zero_ℚ, one_ℚ, neg_ℚ, inverse_ℚ}
+use Rattle.dyadic.specs.fx_model.Fraction.{le_refl, mul_comm, mul_assoc, one-mul, mul-inverse}
 use Rattle.dyadic.specs.fx_model.Powers.{whole, two_to, scaled, whole-mul, one-whole}
 use Rattle.dyadic.specs.fx_model.Grid.{Bound, IsDown, IsUp, signed, scaled-neg}
-use Rattle.dyadic.specs.fx_model.Enclosure.{IsEnclosure, IsOrdered, infimum_at, supremum_at, enclosure_ordered}
+use Rattle.dyadic.specs.fx_model.Enclosure.{IsEnclosure, IsOrdered, infimum_at, supremum_at}
+use Rattle.dyadic.specs.fx_model.Enclosure.{enclosure_ordered}
 use Rattle.dyadic.specs.fx_model.Expression.{literal_value, ten_to}
 use Rattle.dyadic.specs.fx_model.declared.Literal.{Literal}
 use Rattle.literal.specs.Normal.{IsNormal}

@@ -17,11 +17,15 @@ pub struct Interval {
 }
 
 impl Interval {
-    ghost use Rattle.dyadic.specs.fx_model.Enclosure.{Negations, Sizes, IsNegation, IsSize, IsSquare, IsSum, IsDifference, IsProduct, Quotients, IsQuotient, IsEnclosure, whole_line, Within, Lies};
+    ghost use Rattle.dyadic.specs.fx_model.Enclosure.{Negations, Sizes, IsNegation, IsSize};
+    ghost use Rattle.dyadic.specs.fx_model.Enclosure.{IsSquare, IsSum, IsDifference, IsProduct};
+    ghost use Rattle.dyadic.specs.fx_model.Enclosure.{Quotients, IsQuotient, IsEnclosure};
+    ghost use Rattle.dyadic.specs.fx_model.Enclosure.{whole_line, Within, Lies};
     ghost use Rattle.interval.specs.Intervals.{range_of};
     ghost use Rattle.interval.specs.Spans.{IsSpan, span_of};
     ghost use Rattle.interval.specs.Exact.{IsExact};
-    ghost use Rattle.interval.specs.Results.{negation_of, size_of, sum_of, difference_of, product_of, quotient_of};
+    ghost use Rattle.interval.specs.Results.{negation_of, size_of, sum_of, difference_of};
+    ghost use Rattle.interval.specs.Results.{product_of, quotient_of};
     ghost use Rattle.interval.specs.Meets.{interval_from, common_of, hull_of};
     ghost use Rattle.interval.specs.Pairs.{AreApart, IsCommon, IsHull};
     ghost use Rattle.dyadic.specs.fx_model.Fraction.{zero_ℚ, ◌<ℚ◌};

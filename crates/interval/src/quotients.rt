@@ -1,6 +1,7 @@
 // Quotients by numbers of one sign, and the ends of those by numbers above 0.
 ghost use Rattle.dyadic.specs.fx_model.Fraction.{zero_ℚ, ◌<ℚ◌};
-ghost use Rattle.dyadic.specs.fx_model.Enclosure.{Range, Lies, Quotients, IsInfimum, IsSupremum, IsEnclosure};
+ghost use Rattle.dyadic.specs.fx_model.Enclosure.{Range, Lies, Quotients, IsInfimum, IsSupremum};
+ghost use Rattle.dyadic.specs.fx_model.Enclosure.{IsEnclosure};
 ghost use Rattle.dyadic.specs.Values.{value_of};
 ghost use Rattle.dyadic.specs.Ends.{bound_of};
 ghost use Rattle.interval.specs.Spans.{span_of};

@@ -1,5 +1,6 @@
 -- A worker can take jobs of all lanes but its own, and goes on to.
-use Rattle.std.proofs.Common.{◌≡◌, ◌≢◌, ◌<◌, ℕ, List, All, length, slice_index_or, Some, sym, ap, ◌∙◌, arith}
+use Rattle.std.proofs.Common.{◌≡◌, ◌≢◌, ◌<◌, ℕ, List, All, length, slice_index_or, Some, sym, ap}
+use Rattle.std.proofs.Common.{◌∙◌, arith}
 use Rattle.std.proofs.lemmas.List.Elements.{All-weaker}
 use Rattle.box_deques.specs.Moments.{SamePasses}
 use Rattle.box_deques.specs.Seen.{Lane, Thief, Seat, Hand, Name, HasPass, IsSeated, Lent}

@@ -1,5 +1,6 @@
 -- Results of jobs, by their numbers.
-use Rattle.std.specs.Prelude.{◌<◌, ◌+◌, ⊤, ℕ, List, [], ◌∷◌, All, Option, None, IfSome, length, slice_index_or}
+use Rattle.std.specs.Prelude.{◌<◌, ◌+◌, ⊤, ℕ, List, [], ◌∷◌, All, Option, None, IfSome, length}
+use Rattle.std.specs.Prelude.{slice_index_or}
 
 -- each is a result of the number beside it
 abbrev pub AreResultsOf : {O : Type 0} → (ℕ → O → Type 0) → List (ℕ × O) → Type 0

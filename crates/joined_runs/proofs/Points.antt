@@ -31,16 +31,26 @@ evaluated b q text point h =
           read (subst (λ u. AtPrints u (Some point) status.Answered lines) same
           (subst (λ o. AtPrints t o status.Answered lines) h.told p)) where
             read : AtPrints text (Some point) status.Answered lines
-                → (s : View) × Spells text s × (rows : List Row) × SpellsPoint s.variables point rows
+                → (s : View) × Spells text s × (rows : List Row)
+                × SpellsPoint s.variables point rows
                 × (lines : Bytes) × IsEvaluated s rows lines × Puts q lines
-            read (s, spelled, there, one, (rows, spells, e)) =
-                (s, spelled, rows, subst (λ w. SpellsPoint s.variables w rows) one spells, lines, e, done.put)
+            read (s, spelled, there, one, (rows, spells, e)) = (
+              s,
+              spelled,
+              rows,
+              subst (λ w. SpellsPoint s.variables w rows) one spells,
+              lines,
+              e,
+              done.put,
+            )
 
 pub points_are_held : SpellsOnce → MeetingIsMet → PointsAreHeld
 points_are_held once met a b r q text point h k =
     by (answered a r text h) (evaluated b q text point k) where
-      by : (lines : Bytes) × IsAnswered (options_of a) text lines × Puts r lines → (s : View) × Spells text s × (rows : List Row) × SpellsPoint s.variables point rows
-          × (lines : Bytes) × IsEvaluated s rows lines × Puts q lines → HoldsAtPoint a r q text point
+      by : (lines : Bytes) × IsAnswered (options_of a) text lines × Puts r lines
+          → (s : View) × Spells text s × (rows : List Row) × SpellsPoint s.variables point rows
+          × (lines : Bytes) × IsEvaluated s rows lines × Puts q lines
+          → HoldsAtPoint a r q text point
       by (lines, d, put) (s, spelled, rows, spells, others, e, there) =
           let same : s ≡ d.script = once text s d.script spelled d.proved.spelled in
           let told = subst (λ (v : View). SpellsPoint v.variables point rows) same spells in
@@ -54,5 +64,6 @@ points_are_held once met a b r q text point h k =
             others = others;
             put_there = there;
             evaluated = seen;
-            holds = λ last. d.proved.holds (assignment_of rows) (met d.script rows others seen last);
+            holds =
+                λ last. d.proved.holds (assignment_of rows) (met d.script rows others seen last);
           }

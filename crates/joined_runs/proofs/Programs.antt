@@ -30,7 +30,8 @@ turned f r text script h =
           let kept : Leaves (Whole (Some (script_of p))) (Some h.old) (Some script) =
           subst (λ l. Leaves l (Some h.old) (Some script)) whole
           (subst (λ o. Leaves left o (Some script)) h.held
-          (subst (λ n. Leaves left (r.before.told f.script) n) h.holds (done.file f.script refl))) in
+          (subst (λ n. Leaves left (r.before.told f.script) n) h.holds
+          (done.file f.script refl))) in
           let now : script ≡ script_of p = cc kept in
           (p, subst (λ u. Spells u p) same spelled, now)
 
@@ -56,5 +57,6 @@ programs_are_sound lie f a r q text script w h =
       put = d.2;
       answer = d.1;
       within = lie text t.0 t.1 d.1.script
-          (subst (λ u. SpellsScript u d.1.script) t.2 d.1.proved.spelled) d.1.shown d.1.proved.holds;
+          (subst (λ u. SpellsScript u d.1.script) t.2 d.1.proved.spelled)
+          d.1.shown d.1.proved.holds;
     }

@@ -4,7 +4,8 @@ use Rattle.std.proofs.Common.{refl, ap, arith, ⊎_elim, inl, inr, lit<}
 use Rattle.std.proofs.lemmas.Int.{ints}
 use Rattle.std.proofs.lemmas.Nat.{pow-add}
 use Rattle.std.proofs.lemmas.Bool.{cases_lt}
-use Rattle.std.proofs.Math.Nat.{mul-le-mul_left, mul-le-mul_right, pow-le-pow_right, one-le-pow, le-mul_of_pos_right}
+use Rattle.std.proofs.Math.Nat.{mul-le-mul_left, mul-le-mul_right, pow-le-pow_right, one-le-pow}
+use Rattle.std.proofs.Math.Nat.{le-mul_of_pos_right}
 use Rattle.fx_model.specs.declared.Literal.{Literal}
 use Rattle.literal.specs.Normal.{nought, IsNormal, IsNormalDecimal, IsNormalBinary}
 

@@ -1,5 +1,6 @@
 -- How the parts of a literal are found in a text.
-use Rattle.std.specs.Prelude.{◌≡◌, ◌≢◌, ℕ, ◌≤◌, List, [], ◌∷◌, ◌++◌, Option, Some, None, Bool, MatchOption, ℤ, pos, negsuc, ◌≤ℤ◌, ◌<ℤ◌, ◌⊎◌, ⊤}
+use Rattle.std.specs.Prelude.{◌≡◌, ◌≢◌, ℕ, ◌≤◌, List, [], ◌∷◌, ◌++◌, Option, Some, None, Bool}
+use Rattle.std.specs.Prelude.{MatchOption, ℤ, pos, negsuc, ◌≤ℤ◌, ◌<ℤ◌, ◌⊎◌, ⊤}
 use Rattle.std.specs.Char.{digit_value}
 use Rattle.std.specs.Str.Parse.{AllDigits, IsNumeral}
 use denote.Ref.{Bor}
@@ -10,7 +11,9 @@ use Rattle.literal.specs.declared.scan.Mark.TheVariants.{Unmarked, Plus, Minus}
 use Rattle.literal.specs.declared.scan.Power.{Power}
 use Rattle.literal.specs.declared.scan.End.{End}
 use Rattle.literal.specs.declared.scan.LiteralParts.{LiteralParts}
-use Rattle.literal.specs.Spelling.{Exponent, Spelling, exponent_bytes, mark_bytes, letter, scale_bytes, body_bytes, is_hexadecimal, IsExponent, IsSpelling, Spells, written_as, IsWithinAs}
+use Rattle.literal.specs.Spelling.{Exponent, Spelling, exponent_bytes, mark_bytes, letter}
+use Rattle.literal.specs.Spelling.{scale_bytes, body_bytes, is_hexadecimal, IsExponent, IsSpelling}
+use Rattle.literal.specs.Spelling.{Spells, written_as, IsWithinAs}
 
 -- ---- the code's parts, read as lists
 

@@ -1,5 +1,6 @@
 -- Literals as they are written, and the numbers that they stand for.
-use Rattle.std.specs.Prelude.{◌≡◌, ℕ, ◌*◌, ◌^◌, ◌<◌, ◌≤◌, List, [], ◌∷◌, ◌++◌, length, codes, Option, Some, None, Bool, true, false, ℤ, pos, negsuc, ◌≤ℤ◌, neg_ℤ}
+use Rattle.std.specs.Prelude.{◌≡◌, ℕ, ◌*◌, ◌^◌, ◌<◌, ◌≤◌, List, [], ◌∷◌, ◌++◌, length, codes}
+use Rattle.std.specs.Prelude.{Option, Some, None, Bool, true, false, ℤ, pos, negsuc, ◌≤ℤ◌, neg_ℤ}
 use Rattle.std.specs.Str.Parse.{AllDigits, IsNumeral, digits_value}
 use Rattle.std.proofs.Common.{◌-ℤ◌}
 use Rattle.fx_model.specs.declared.Literal.{Literal}

@@ -1,5 +1,6 @@
 -- What follows the digits of a literal begins with none.
-use Rattle.std.proofs.Common.{◌≡◌, List, [], ◌∷◌, ◌++◌, ℕ, Option, Some, None, Bool, true, false, lit≤}
+use Rattle.std.proofs.Common.{◌≡◌, List, [], ◌∷◌, ◌++◌, ℕ, Option, Some, None, Bool, true, false}
+use Rattle.std.proofs.Common.{lit≤}
 use Rattle.literal.specs.declared.scan.Form.{Form}
 use Rattle.literal.specs.declared.scan.Form.TheVariants.{Decimal, Binary, Hexadecimal}
 use Rattle.literal.specs.Spelling.{Exponent, base, is_hexadecimal, point_bytes, scale_bytes}

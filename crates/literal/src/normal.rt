@@ -1,6 +1,7 @@
 //! Normal forms.
 
-ghost use Rattle.std.specs.Prelude.{◌≡◌, ◌≢◌, ℕ, ◌*◌, ◌%◌, ◌^◌, ◌<◌, ◌+◌, ◌-◌, ◌≤◌, pos, negsuc, ◌≤ℤ◌, ◌+ℤ◌};
+ghost use Rattle.std.specs.Prelude.{◌≡◌, ◌≢◌, ℕ, ◌*◌, ◌%◌, ◌^◌, ◌<◌, ◌+◌, ◌-◌, ◌≤◌, pos, negsuc};
+ghost use Rattle.std.specs.Prelude.{◌≤ℤ◌, ◌+ℤ◌};
 ghost use Rattle.literal.specs.Spelling.{IsBetween};
 ghost use Rattle.literal.specs.Normal.{IsNormal, IsNormalOf, IsSmall, TakesTensOut, TakesTwosOut};
 

@@ -1,10 +1,13 @@
 //! The parts of a spelling.
 
-ghost use Rattle.std.specs.Prelude.{◌≡◌, ◌≤◌, ◌<◌, ◌∷◌, ◌++◌, length, take, drop, IsTrue, ◌↔◌, MatchOption};
+ghost use Rattle.std.specs.Prelude.{◌≡◌, ◌≤◌, ◌<◌, ◌∷◌, ◌++◌, length, take, drop, IsTrue, ◌↔◌};
+ghost use Rattle.std.specs.Prelude.{MatchOption};
 ghost use Rattle.std.specs.Char.{digit_value};
 ghost use Rattle.std.specs.Str.Parse.{AllDigits, IsNumeral};
 ghost use Rattle.literal.specs.Spelling.{base};
-ghost use Rattle.literal.specs.Parts.{BeginsWithNo, StandsBehind, StandsBehindOpening, IsFrontDigits, IsNoDigitFirst, SplitsMark, FindsPower, FindsForm, FindsScale, FindsBody, FindsParts};
+ghost use Rattle.literal.specs.Parts.{BeginsWithNo, StandsBehind, StandsBehindOpening};
+ghost use Rattle.literal.specs.Parts.{IsFrontDigits, IsNoDigitFirst, SplitsMark, FindsPower};
+ghost use Rattle.literal.specs.Parts.{FindsForm, FindsScale, FindsBody, FindsParts};
 
 /// How a literal is written.
 #[derive(Clone, Copy, PartialEq, Eq, Debug)]

@@ -1,15 +1,19 @@
 -- The first line of a list, and those behind it.
-use Rattle.std.proofs.Common.{◌≡◌, ◌≤◌, ◌<◌, ◌+◌, ◌==◌, ℕ, Bool, true, false, List, [], ◌∷◌, ◌++◌, length, take, All, Option, Some, None, refl, sym, ap, ◌∙◌, arith, get_or, length-drop, ⊎_elim, ◌-◌, append_assoc, append-nil}
+use Rattle.std.proofs.Common.{◌≡◌, ◌≤◌, ◌<◌, ◌+◌, ◌==◌, ℕ, Bool, true, false, List, [], ◌∷◌, ◌++◌}
+use Rattle.std.proofs.Common.{length, take, All, Option, Some, None, refl, sym, ap, ◌∙◌, arith}
+use Rattle.std.proofs.Common.{get_or, length-drop, ⊎_elim, ◌-◌, append_assoc, append-nil}
 use Rattle.std.specs.Prelude.{not, ◌&&◌, ◌||◌, nat_lt, if◌then◌else◌}
 use Rattle.std.proofs.lemmas.Bool.{cases_lt}
 use Rattle.std.proofs.lemmas.List.{take_all, drop_all, length-take}
 use Rattle.std.specs.List.{slice_split, position_or_len, before_first, after_first}
 use Rattle.std.proofs.lemmas.List.Splits.{slice_split_first, slice_split_none, length-slice_split}
-use Rattle.std.proofs.lemmas.List.Sums.{position_or_len_is, fails_before_first, prefix_len-le-length}
+use Rattle.std.proofs.lemmas.List.Sums.{position_or_len_is, fails_before_first}
+use Rattle.std.proofs.lemmas.List.Sums.{prefix_len-le-length}
 use Rattle.name_list.specs.declared.fault.ListFault.{ListFault}
 use Rattle.name_list.specs.declared.fault.ListKind.TheVariants as kind
 use Rattle.name_list.specs.Order.{earlier, number}
-use Rattle.name_list.specs.Lists.{is_feed, ended, lines_of, fault, line_fault, empty_fault, long_fault, plain_fault}
+use Rattle.name_list.specs.Lists.{is_feed, ended, lines_of, fault, line_fault, empty_fault}
+use Rattle.name_list.specs.Lists.{long_fault, plain_fault}
 
 -- ---- what is ended
 
@@ -151,7 +155,8 @@ earlier_none None b e = (refl, sym e)
 earlier_none (Some f) None e = absurd (cc e)
 earlier_none (Some f) (Some g) e =
     neither (nat_lt g.at f.at || ((g.at == f.at) && nat_lt (number g.kind) (number f.kind))) e where
-      neither : (c : Bool) → None ≡ (if c then Some g else Some f) → (Some f ≡ None) × (Some g ≡ None)
+      neither : (c : Bool) → None ≡ (if c then Some g else Some f)
+          → (Some f ≡ None) × (Some g ≡ None)
       neither true e = absurd (cc e)
       neither false e = absurd (cc e)
 

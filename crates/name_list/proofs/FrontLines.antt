@@ -1,5 +1,7 @@
 -- The lines of a front are those of the list as far as a fault before its end goes.
-use Rattle.std.proofs.Common.{◌≡◌, ◌≤◌, ◌<◌, ◌+◌, ◌-◌, ◌==◌, ℕ, zero, suc, Bool, true, false, List, [], ◌∷◌, length, take, drop, Option, Some, refl, sym, ap, ◌∙◌, arith, get_or, ⊎_elim}
+use Rattle.std.proofs.Common.{◌≡◌, ◌≤◌, ◌<◌, ◌+◌, ◌-◌, ◌==◌, ℕ, zero, suc, Bool, true, false, List}
+use Rattle.std.proofs.Common.{[], ◌∷◌, length, take, drop, Option, Some, refl, sym, ap, ◌∙◌, arith}
+use Rattle.std.proofs.Common.{get_or, ⊎_elim}
 use Rattle.std.specs.Prelude.{nat_lt, if◌then◌else◌}
 use Rattle.std.specs.List.{position_or_len, after_first}
 use Rattle.std.proofs.lemmas.Bool.{cases_lt}
@@ -115,7 +117,8 @@ module _ (size : ℕ) (smaller : Agrees size) (text : List ℕ) (k at n : ℕ)
       let later = after_first is_feed text in
       let size_left = length-drop (position_or_len is_feed text + 1) text in
       let behind = left_within text n most p is h same in
-      ap capped (next_line (take n text) (take (n - (p + 1)) later) k at p same there front_some l behind)
+      ap capped (next_line (take n text)
+      (take (n - (p + 1)) later) k at p same there front_some l behind)
       ∙ smaller later (k + 1) (at + (p + 1)) (n - (p + 1)) (omega (arith, size_left, short, some))
       (omega (arith, size_left, most, is, h)) (omega (arith, wide, h)) (omega (arith, l))
       ∙ sym (ap capped (next_line text later k at p is there some l refl)))

@@ -1,12 +1,14 @@
 -- The first 65,540 bytes of a list decide.
-use Rattle.std.proofs.Common.{◌≡◌, ◌≤◌, ◌<◌, ℕ, Bool, true, false, List, [], ◌∷◌, length, take, Option, Some, None, refl, sym, ap, subst, ◌∙◌, arith, ⊎_elim}
+use Rattle.std.proofs.Common.{◌≡◌, ◌≤◌, ◌<◌, ℕ, Bool, true, false, List, [], ◌∷◌, length, take}
+use Rattle.std.proofs.Common.{Option, Some, None, refl, sym, ap, subst, ◌∙◌, arith, ⊎_elim}
 use Rattle.std.specs.Prelude.{nat_lt, ◌||◌, if◌then◌else◌}
 use Rattle.std.specs.Str.{IsValidUpTo}
 use Rattle.std.proofs.lemmas.Bool.{cases_lt}
 use Rattle.std.proofs.lemmas.List.{take_all, length-take}
 use Rattle.name_list.specs.declared.fault.ListFault.{ListFault}
 use Rattle.name_list.specs.Order.{earlier}
-use Rattle.name_list.specs.Lists.{lines_of, line_fault, long_fault, empty_fault, plain_fault, ill_fault, IsIllAt, IsFaultOf}
+use Rattle.name_list.specs.Lists.{lines_of, line_fault, long_fault, empty_fault, plain_fault}
+use Rattle.name_list.specs.Lists.{ill_fault, IsIllAt, IsFaultOf}
 use Rattle.name_list.specs.Fronts.{FrontsDecide, FaultlessAreWhole}
 use Rattle.name_list.proofs.Texts.{ill_or_text, ill_front, after_text, not_before}
 use Rattle.name_list.proofs.FrontLines.{capped, too_long, lines_agree}
@@ -122,7 +124,8 @@ none_first (Some f) p w e = one_of _ (e ∙ ap (earlier (Some f)) w.1) where
 
 long_has_fault : (text : List ℕ) → 65536 < length text → ¬ (IsFaultOf text None)
 long_has_fault text h f =
-    let within = subst IsWithin (sym (plain_of_long text h)) (capped_within (line_fault 0 0 (lines_of text))) in
+    let within = subst IsWithin (sym (plain_of_long text h))
+    (capped_within (line_fault 0 0 (lines_of text))) in
     none_first (ill_fault f.0) (plain_fault text) within f.2
 
 whole_front : (text : List ℕ) (n : ℕ) → 65540 ≤ n → IsFaultOf (take n text) None

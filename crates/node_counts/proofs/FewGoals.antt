@@ -1,11 +1,14 @@
 -- A script that the judge lets pass has few goals: each is a proposition, and those are counted.
-use Rattle.std.proofs.Common.{◌≡◌, ℕ, ◌+◌, ◌≤◌, List, [], ◌∷◌, length, true, refl, ap, ◌∙◌, subst, arith, le_refl}
+use Rattle.std.proofs.Common.{◌≡◌, ℕ, ◌+◌, ◌≤◌, List, [], ◌∷◌, length, true, refl, ap, ◌∙◌, subst}
+use Rattle.std.proofs.Common.{arith, le_refl}
 use Rattle.script_judge.specs.script_words.declared.class.Symbol.TheVariants as s
 use Rattle.script_judge.specs.script_words.Words.{Word, sign}
 use Rattle.script_judge.specs.script_shape.declared.due.Due.{Due}
 use Rattle.script_judge.specs.script_shape.declared.due.Due.TheVariants as d
-use Rattle.script_judge.specs.script_shape.Tree.{Prop, Stated, affirmed, denied, Formula, single, and, or, implies, Script, formula, define}
-use Rattle.script_judge.specs.script_shape.Roles.{Leaf, at, prop_leaves, stated_leaves, formula_leaves, definition_leaves, script_leaves}
+use Rattle.script_judge.specs.script_shape.Tree.{Prop, Stated, affirmed, denied, Formula, single}
+use Rattle.script_judge.specs.script_shape.Tree.{and, or, implies, Script, formula, define}
+use Rattle.script_judge.specs.script_shape.Roles.{Leaf, at, prop_leaves, stated_leaves}
+use Rattle.script_judge.specs.script_shape.Roles.{formula_leaves, definition_leaves, script_leaves}
 use Rattle.script_judge.specs.script_shape.Inner.{EachRole}
 use Rattle.script_judge.specs.declared.counts.ScriptPart.TheVariants as place
 use Rattle.script_judge.specs.Counts.{one_if, is_first, begins_proposition}

@@ -1,5 +1,6 @@
 -- The number of a name stays, whatever is read.
-use Rattle.std.proofs.Common.{◌≡◌, ℕ, List, [], ◌∷◌, ◌++◌, Option, Some, None, Bool, true, false, if◌then◌else◌, refl, sym, ap, ◌∙◌, subst}
+use Rattle.std.proofs.Common.{◌≡◌, ℕ, List, [], ◌∷◌, ◌++◌, Option, Some, None, Bool, true, false}
+use Rattle.std.proofs.Common.{if◌then◌else◌, refl, sym, ap, ◌∙◌, subst}
 use Rattle.std.specs.List.{list_any, position_or_len}
 use Rattle.std.specs.Str.{bytes_eq}
 use Rattle.script_judge.specs.fx_model.declared.Rounding.{Rounding}
@@ -8,10 +9,17 @@ use Rattle.script_judge.specs.fx_model.declared.Node.{Node}
 use Rattle.script_judge.specs.fx_model.declared.Node.TheVariants.{Var, Neg, Add, Mul, Abs, Round}
 use Rattle.script_hints.specs.expr_dag.Nodes.{same_node, place_of, placed, with_node}
 use Rattle.script_hints.specs.expr_dag.Same.{itself}
-use Rattle.script_judge.specs.script_shape.Tree.{Expr, term, sum, difference, Term, factor, product, quotient, Factor, negation, atom, Atom, number, variable, parenthesized, absolute, called, rounded, fused}
-use Rattle.script_hints.specs.script_nodes.Known.{Name, Known, PlacedNode, entry_of, put, variables_with, variable_put, name_put, named}
-use Rattle.script_hints.specs.script_nodes.Values.{then_rounded, fused_sum, expr_value, term_value, factor_value, atom_value}
-use Rattle.node_counts.proofs.There.{past, stays, joins, any_before, any_last, node_stays, node_joins, absent, found, has_node, itself_eq, name_joins, same_place}
+use Rattle.script_judge.specs.script_shape.Tree.{Expr, term, sum, difference, Term, factor, product}
+use Rattle.script_judge.specs.script_shape.Tree.{quotient, Factor, negation, atom, Atom, number}
+use Rattle.script_judge.specs.script_shape.Tree.{variable, parenthesized, absolute, called, rounded}
+use Rattle.script_judge.specs.script_shape.Tree.{fused}
+use Rattle.script_hints.specs.script_nodes.Known.{Name, Known, PlacedNode, entry_of, put}
+use Rattle.script_hints.specs.script_nodes.Known.{variables_with, variable_put, name_put, named}
+use Rattle.script_hints.specs.script_nodes.Values.{then_rounded, fused_sum, expr_value, term_value}
+use Rattle.script_hints.specs.script_nodes.Values.{factor_value, atom_value}
+use Rattle.node_counts.proofs.There.{past, stays, joins, any_before, any_last, node_stays}
+use Rattle.node_counts.proofs.There.{node_joins, absent, found, has_node, itself_eq, name_joins}
+use Rattle.node_counts.proofs.There.{same_place}
 
 -- ---- the number of a name
 
@@ -41,7 +49,8 @@ keeps_itself k text x h = h
 
 -- ---- one node
 
-place_stays : (nodes : List Node) (n m : Node) (o : Option ExprId) → has_node nodes m ≡ true → position_or_len (same_node m) (placed nodes n o).0 ≡ position_or_len (same_node m) nodes
+place_stays : (nodes : List Node) (n m : Node) (o : Option ExprId) → has_node nodes m ≡ true
+    → position_or_len (same_node m) (placed nodes n o).0 ≡ position_or_len (same_node m) nodes
 place_stays nodes n m (Some y) h = refl
 place_stays nodes n m None h = stays (same_node m) nodes (n ∷ []) h
 
@@ -54,7 +63,8 @@ put_keeps k n text x (by_variable v) =
       none = v.none;
       among = v.among;
       there = node_stays k.nodes m n (place_of k.nodes n) v.there;
-      at = v.at ∙ ap (λ (i : ℕ). record { 0 = i }) (sym (place_stays k.nodes n m (place_of k.nodes n) v.there));
+      at = v.at ∙ ap (λ (i : ℕ). record { 0 = i })
+          (sym (place_stays k.nodes n m (place_of k.nodes n) v.there));
     })
 
 -- ---- names
@@ -62,11 +72,13 @@ put_keeps k n text x (by_variable v) =
 abbrev with_variables : Known → List Name → Known
 with_variables k names = record k { variables = names }
 
-names_keep : (k : Known) (t : Name) (b : Bool) → Keeps k (with_variables k (if b then k.variables else k.variables ++ (t ∷ [])))
+names_keep : (k : Known) (t : Name) (b : Bool)
+    → Keeps k (with_variables k (if b then k.variables else k.variables ++ (t ∷ [])))
 names_keep k t true text x h = h
 names_keep k t false text x (by_value e) = by_value e
 names_keep k t false text x (by_variable v) =
-    let same : position_or_len (bytes_eq text) (k.variables ++ (t ∷ [])) ≡ position_or_len (bytes_eq text) k.variables = stays (bytes_eq text) k.variables (t ∷ []) v.among in
+    let same : position_or_len (bytes_eq text) (k.variables ++ (t ∷ [])) ≡ position_or_len
+    (bytes_eq text) k.variables = stays (bytes_eq text) k.variables (t ∷ []) v.among in
     by_variable (record {
       none = v.none;
       among = any_before (bytes_eq text) k.variables (t ∷ []) v.among;
@@ -76,7 +88,8 @@ names_keep k t false text x (by_variable v) =
 
 variable_keeps : (k : Known) (t : Name) → Keeps k (variable_put k t).0
 unfolding variable_put
-variable_keeps k t = keeps_both (names_keep k t (list_any (bytes_eq t) k.variables)) (put_keeps (with_variables k (variables_with k.variables t)) _)
+variable_keeps k t = keeps_both (names_keep k t (list_any (bytes_eq t) k.variables))
+    (put_keeps (with_variables k (variables_with k.variables t)) _)
 
 name_keeps : (k : Known) (t : Name) (o : Option ExprId) → Keeps k (name_put k t o).0
 name_keeps k t (Some y) = keeps_itself k
@@ -89,66 +102,89 @@ named_keeps k t = name_keeps k t (entry_of k.values t)
 -- ---- expressions
 
 module _ (q : Option Rounding) where
-  rounded_keeps : (o : Option Rounding) (k : Known) (p : PlacedNode) → Keeps k p.0 → Keeps k (then_rounded o p).0
+  rounded_keeps : (o : Option Rounding) (k : Known) (p : PlacedNode) → Keeps k p.0
+      → Keeps k (then_rounded o p).0
   rounded_keeps None k p h = h
   rounded_keeps (Some r) k p h = keeps_both h (put_keeps p.0 (Round r p.1))
 
-  operation_keeps : (k : Known) (p : PlacedNode) (n : Node) → Keeps k p.0 → Keeps k (then_rounded q (put p.0 n)).0
+  operation_keeps : (k : Known) (p : PlacedNode) (n : Node) → Keeps k p.0
+      → Keeps k (then_rounded q (put p.0 n)).0
   operation_keeps k p n h = rounded_keeps q k (put p.0 n) (keeps_both h (put_keeps p.0 n))
 
-  fused_keeps : (a b : ExprId) (k : Known) (c : PlacedNode) → Keeps k c.0 → Keeps k (fused_sum q a b c).0
-  fused_keeps a b k c h = operation_keeps k (put c.0 (Mul a b)) (Add (put c.0 (Mul a b)).1 c.1) (keeps_both h (put_keeps c.0 (Mul a b)))
+  fused_keeps : (a b : ExprId) (k : Known) (c : PlacedNode) → Keeps k c.0
+      → Keeps k (fused_sum q a b c).0
+  fused_keeps a b k c h = operation_keeps k (put c.0 (Mul a b)) (Add (put c.0 (Mul a b)).1 c.1)
+      (keeps_both h (put_keeps c.0 (Mul a b)))
 
   mutual
     pub expr_keeps : (e : Expr) (k : Known) → Keeps k (expr_value q e k).0
     expr_keeps (term t) k = term_keeps t k
-    expr_keeps (sum e t) k = operation_keeps k (term_value q t (expr_value q e k).0) _ (keeps_both (expr_keeps e k) (term_keeps t (expr_value q e k).0))
-    expr_keeps (difference e t) k = operation_keeps k (term_value q t (expr_value q e k).0) _ (keeps_both (expr_keeps e k) (term_keeps t (expr_value q e k).0))
+    expr_keeps (sum e t) k = operation_keeps k (term_value q t (expr_value q e k).0) _
+        (keeps_both (expr_keeps e k) (term_keeps t (expr_value q e k).0))
+    expr_keeps (difference e t) k = operation_keeps k (term_value q t (expr_value q e k).0) _
+        (keeps_both (expr_keeps e k) (term_keeps t (expr_value q e k).0))
 
     term_keeps : (t : Term) (k : Known) → Keeps k (term_value q t k).0
     term_keeps (factor f) k = factor_keeps f k
-    term_keeps (product t f) k = operation_keeps k (factor_value q f (term_value q t k).0) _ (keeps_both (term_keeps t k) (factor_keeps f (term_value q t k).0))
-    term_keeps (quotient t f) k = operation_keeps k (factor_value q f (term_value q t k).0) _ (keeps_both (term_keeps t k) (factor_keeps f (term_value q t k).0))
+    term_keeps (product t f) k = operation_keeps k (factor_value q f (term_value q t k).0) _
+        (keeps_both (term_keeps t k) (factor_keeps f (term_value q t k).0))
+    term_keeps (quotient t f) k = operation_keeps k (factor_value q f (term_value q t k).0) _
+        (keeps_both (term_keeps t k) (factor_keeps f (term_value q t k).0))
 
     factor_keeps : (f : Factor) (k : Known) → Keeps k (factor_value q f k).0
-    factor_keeps (negation f) k = keeps_both (factor_keeps f k) (put_keeps (factor_value q f k).0 (Neg (factor_value q f k).1))
+    factor_keeps (negation f) k = keeps_both (factor_keeps f k)
+        (put_keeps (factor_value q f k).0 (Neg (factor_value q f k).1))
     factor_keeps (atom a) k = atom_keeps a k
 
     atom_keeps : (a : Atom) (k : Known) → Keeps k (atom_value q a k).0
     atom_keeps (number c t) k = put_keeps k _
     atom_keeps (variable c t) k = named_keeps k t
     atom_keeps (parenthesized e) k = expr_keeps e k
-    atom_keeps (absolute e) k = keeps_both (expr_keeps e k) (put_keeps (expr_value q e k).0 (Abs (expr_value q e k).1))
+    atom_keeps (absolute e) k =
+        keeps_both (expr_keeps e k) (put_keeps (expr_value q e k).0 (Abs (expr_value q e k).1))
     atom_keeps (called c t e) k = keeps_both (expr_keeps e k) (put_keeps (expr_value q e k).0 _)
     atom_keeps (rounded o e) k = keeps_both (expr_keeps e k) (put_keeps (expr_value q e k).0 _)
     atom_keeps (fused a b c) k =
         let x = (expr_value q a k).0 in
         let y = (expr_value q b x).0 in
-        fused_keeps (expr_value q a k).1 (expr_value q b x).1 k (expr_value q c y) (keeps_both (expr_keeps a k) (keeps_both (expr_keeps b x) (expr_keeps c y)))
+        fused_keeps (expr_value q a k).1 (expr_value q b x).1 k (expr_value q c y)
+        (keeps_both (expr_keeps a k) (keeps_both (expr_keeps b x) (expr_keeps c y)))
 
 -- ---- a name that is read has a number, and is read again with the same
 
-placed_at : (nodes : List Node) (n : Node) → (placed nodes n (place_of nodes n)).1 ≡ record { 0 = position_or_len (same_node n) (placed nodes n (place_of nodes n)).0 }
+placed_at : (nodes : List Node) (n : Node) → (placed nodes n (place_of nodes n)).1
+    ≡ record { 0 = position_or_len (same_node n) (placed nodes n (place_of nodes n)).0 }
 placed_at nodes n = by_test (has_node nodes n) refl
   where
-    by_test : (b : Bool) → has_node nodes n ≡ b → (placed nodes n (place_of nodes n)).1 ≡ record { 0 = position_or_len (same_node n) (placed nodes n (place_of nodes n)).0 }
-    by_test true h = subst (λ o. (placed nodes n o).1 ≡ record { 0 = position_or_len (same_node n) (placed nodes n o).0 }) (sym (found nodes n h)) refl
-    by_test false h = subst (λ o. (placed nodes n o).1 ≡ record { 0 = position_or_len (same_node n) (placed nodes n o).0 }) (sym (absent nodes n h)) (ap (λ (i : ℕ). record { 0 = i }) (sym (past (same_node n) nodes h) ∙ sym (joins (same_node n) nodes n (itself n))))
+    by_test : (b : Bool) → has_node nodes n ≡ b → (placed nodes n (place_of nodes n)).1
+        ≡ record { 0 = position_or_len (same_node n) (placed nodes n (place_of nodes n)).0 }
+    by_test true h = subst (λ o. (placed nodes n o).1
+        ≡ record { 0 = position_or_len (same_node n) (placed nodes n o).0 })
+        (sym (found nodes n h)) refl
+    by_test false h = subst (λ o. (placed nodes n o).1
+        ≡ record { 0 = position_or_len (same_node n) (placed nodes n o).0 })
+        (sym (absent nodes n h)) (ap (λ (i : ℕ). record { 0 = i })
+        (sym (past (same_node n) nodes h) ∙ sym (joins (same_node n) nodes n (itself n))))
 
-variable_has : (k : Known) (text : Name) → entry_of k.values text ≡ None → HasNumber (variable_put k text).0 text (variable_put k text).1
+variable_has : (k : Known) (text : Name) → entry_of k.values text ≡ None
+    → HasNumber (variable_put k text).0 text (variable_put k text).1
 unfolding variable_put put
 variable_has k text e =
     let names = variables_with k.variables text in
     let n : Node = Var (position_or_len (bytes_eq text) k.variables) in
-    let same : position_or_len (bytes_eq text) names ≡ position_or_len (bytes_eq text) k.variables = same_place k.variables text (list_any (bytes_eq text) k.variables) in
+    let same : position_or_len (bytes_eq text) names ≡ position_or_len (bytes_eq text) k.variables =
+    same_place k.variables text (list_any (bytes_eq text) k.variables) in
     by_variable (record {
       none = e;
       among = name_joins k.variables text (list_any (bytes_eq text) k.variables) refl;
-      there = ap (λ i. has_node (with_node k.nodes n).0 (Var i)) same ∙ node_joins k.nodes n (has_node k.nodes n) (place_of k.nodes n) refl refl;
-      at = placed_at k.nodes n ∙ ap (λ i. record { 0 = position_or_len (same_node (Var i)) (with_node k.nodes n).0 }) (sym same);
+      there = ap (λ i. has_node (with_node k.nodes n).0 (Var i)) same
+          ∙ node_joins k.nodes n (has_node k.nodes n) (place_of k.nodes n) refl refl;
+      at = placed_at k.nodes n ∙ ap (λ i.
+          record { 0 = position_or_len (same_node (Var i)) (with_node k.nodes n).0 }) (sym same);
     })
 
-name_has : (k : Known) (text : Name) (o : Option ExprId) → entry_of k.values text ≡ o → HasNumber (name_put k text o).0 text (name_put k text o).1
+name_has : (k : Known) (text : Name) (o : Option ExprId) → entry_of k.values text ≡ o
+    → HasNumber (name_put k text o).0 text (name_put k text o).1
 name_has k text (Some y) e = by_value e
 name_has k text None e = variable_has k text e
 
@@ -157,7 +193,8 @@ unfolding named
 named_has k text = name_has k text (entry_of k.values text) refl
 
 -- a name has one number
-pub number_once : (k : Known) (text : Name) (x y : ExprId) → HasNumber k text x → HasNumber k text y → x ≡ y
+pub number_once : (k : Known) (text : Name) (x y : ExprId) → HasNumber k text x
+    → HasNumber k text y → x ≡ y
 number_once k text x y (by_value e) (by_value f) = let g : Some x ≡ Some y = sym e ∙ f in cc
 number_once k text x y (by_value e) (by_variable v) = absurd (let n = v.none in cc)
 number_once k text x y (by_variable v) (by_value e) = absurd (let n = v.none in cc)

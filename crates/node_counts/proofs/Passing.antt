@@ -1,5 +1,6 @@
 -- Words that the judge lets pass.
-use Rattle.std.proofs.Common.{◌≡◌, ℕ, ◌≤◌, List, [], ◌∷◌, ◌++◌, Option, None, refl, ◌∙◌, subst, arith, le_refl, le_trans}
+use Rattle.std.proofs.Common.{◌≡◌, ℕ, ◌≤◌, List, [], ◌∷◌, ◌++◌, Option, None, refl, ◌∙◌, subst}
+use Rattle.std.proofs.Common.{arith, le_refl, le_trans}
 use Rattle.script_judge.specs.script_words.Words.{Word}
 use Rattle.script_judge.specs.script_shape.declared.due.Due.{Due}
 use Rattle.script_judge.specs.script_shape.declared.due.Due.TheVariants as d
@@ -14,7 +15,9 @@ use Rattle.node_counts.proofs.Kept.{IsKept, kept_after}
 -- the judge lets the words pass from one place to another
 abbrev pub Passes : Seen → List Leaf → Seen → Type 0
 Passes seen [] last = seen ≡ last
-Passes seen (l ∷ ls) last = (v : Notes) × (behind : List Leaf) × (refusal_at v seen l.role l.word behind ≡ None) × Passes (seen_after v seen l.role l.word) ls last
+Passes seen (l ∷ ls) last =
+    (v : Notes) × (behind : List Leaf) × (refusal_at v seen l.role l.word behind ≡ None)
+    × Passes (seen_after v seen l.role l.word) ls last
 
 -- words that pass, and others behind them
 pub record PassesFirst (seen : Seen) (a b : List Leaf) : Type 0 where
@@ -23,34 +26,48 @@ pub record PassesFirst (seen : Seen) (a b : List Leaf) : Type 0 where
   pub passes : Passes seen a last
   pub rest : Judged index last b None
 
-passes_found : (a b : List Leaf) {i : ℕ} {seen : Seen} {found : Option Fault} → Judged i seen (a ++ b) found → found ≡ None → PassesFirst seen a b
-passes_found [] b {i} {seen} j e = record { last = seen; index = i; passes = refl; rest = subst (Judged i seen b) e j }
+passes_found : (a b : List Leaf) {i : ℕ} {seen : Seen} {found : Option Fault}
+    → Judged i seen (a ++ b) found → found ≡ None → PassesFirst seen a b
+passes_found [] b {i} {seen} j e =
+    record { last = seen; index = i; passes = refl; rest = subst (Judged i seen b) e j }
 passes_found (l ∷ a) b (refused t r) e = absurd (cc e)
 passes_found (l ∷ a) b (passed {v = v} t r j) e =
     let more = passes_found a b j e in
-    record { last = more.last; index = more.index; passes = (v, a ++ b, r, more.passes); rest = more.rest }
+    record {
+      last = more.last;
+      index = more.index;
+      passes = (v, a ++ b, r, more.passes);
+      rest = more.rest;
+    }
 
-pub passes_first : (a b : List Leaf) (i : ℕ) (seen : Seen) → Judged i seen (a ++ b) None → PassesFirst seen a b
+pub passes_first : (a b : List Leaf) (i : ℕ) (seen : Seen)
+    → Judged i seen (a ++ b) None → PassesFirst seen a b
 passes_first a b i seen j = passes_found a b j refl
 
-pub passes_all : (a : List Leaf) (i : ℕ) (seen : Seen) → Judged i seen a None → (last : Seen) × Passes seen a last
+pub passes_all : (a : List Leaf) (i : ℕ) (seen : Seen) → Judged i seen a None
+    → (last : Seen) × Passes seen a last
 passes_all a i seen j = all a j refl
   where
-    all : (a : List Leaf) {i : ℕ} {seen : Seen} {found : Option Fault} → Judged i seen a found → found ≡ None → (last : Seen) × Passes seen a last
+    all : (a : List Leaf) {i : ℕ} {seen : Seen} {found : Option Fault} → Judged i seen a found
+        → found ≡ None → (last : Seen) × Passes seen a last
     all [] {i} {seen} j e = (seen, refl)
     all (l ∷ a) (refused t r) e = absurd (cc e)
-    all (l ∷ a) (passed {ls = ls} {v = v} t r j) e = let more = all a j e in (more.0, (v, ls, r, more.1))
+    all (l ∷ a) (passed {ls = ls} {v = v} t r j) e = let more = all a j e in
+        (more.0, (v, ls, r, more.1))
 
-pub passes_both : (a b : List Leaf) (seen last : Seen) → Passes seen (a ++ b) last → (mid : Seen) × Passes seen a mid × Passes mid b last
+pub passes_both : (a b : List Leaf) (seen last : Seen) → Passes seen (a ++ b) last
+    → (mid : Seen) × Passes seen a mid × Passes mid b last
 passes_both [] b seen last p = (seen, refl, p)
 passes_both (l ∷ a) b seen last p =
     let more = passes_both a b (seen_after p.0 seen l.role l.word) last p.3 in
     (more.0, (p.0, p.1, p.2, more.1), more.2)
 
 -- what the judge keeps
-pub passes_kept : (ops : List Name) (ls : List Leaf) (seen last : Seen) → Passes seen ls last → IsKept ops seen → IsKept ops last
+pub passes_kept : (ops : List Name) (ls : List Leaf) (seen last : Seen) → Passes seen ls last
+    → IsKept ops seen → IsKept ops last
 passes_kept ops [] seen last p k = subst (IsKept ops) p k
-passes_kept ops (l ∷ ls) seen last p k = passes_kept ops ls (seen_after p.0 seen l.role l.word) last p.3 (kept_after ops p.0 seen l.role l.word p.1 p.2 k)
+passes_kept ops (l ∷ ls) seen last p k = passes_kept ops ls
+    (seen_after p.0 seen l.role l.word) last p.3 (kept_after ops p.0 seen l.role l.word p.1 p.2 k)
 
 -- ---- words that add nothing
 
@@ -71,18 +88,33 @@ IsStill d.Semicolon = ⊥
 IsStill d.Operand = ⊥
 IsStill r = Unit {0}
 
-one_quiet : (v : Notes) (seen : Seen) (r : Due) (w : Word) → IsStill r → IsQuiet seen (seen_after v seen r w)
+one_quiet : (v : Notes) (seen : Seen) (r : Due) (w : Word) → IsStill r
+    → IsQuiet seen (seen_after v seen r w)
 one_quiet v seen d.Script w h = absurd h
 one_quiet v seen d.NewName w h = absurd h
 one_quiet v seen d.DefinedBy w h = absurd h
 one_quiet v seen d.Semicolon w h = absurd h
 one_quiet v seen d.Operand w h = absurd h
-one_quiet v seen r w h = record { known = refl; pending = refl; rounds = refl; defined = refl; more = omega arith }
+one_quiet v seen r w h =
+    record { known = refl; pending = refl; rounds = refl; defined = refl; more = omega arith }
 
-pub passes_quiet : (ls : List Leaf) (seen last : Seen) → EachRole IsStill ls → Passes seen ls last → IsQuiet seen last
-passes_quiet [] seen last h p = subst (IsQuiet seen) p (record { known = refl; pending = refl; rounds = refl; defined = refl; more = le_refl seen.counts.nodes })
+pub passes_quiet : (ls : List Leaf) (seen last : Seen) → EachRole IsStill ls
+    → Passes seen ls last → IsQuiet seen last
+passes_quiet [] seen last h p = subst (IsQuiet seen) p (record {
+  known = refl;
+  pending = refl;
+  rounds = refl;
+  defined = refl;
+  more = le_refl seen.counts.nodes;
+})
 passes_quiet (l ∷ ls) seen last h p =
     let next = seen_after p.0 seen l.role l.word in
     let a = one_quiet p.0 seen l.role l.word h.0 in
     let b = passes_quiet ls next last h.1 p.3 in
-    record { known = b.known ∙ a.known; pending = b.pending ∙ a.pending; rounds = b.rounds ∙ a.rounds; defined = b.defined ∙ a.defined; more = le_trans a.more b.more }
+    record {
+      known = b.known ∙ a.known;
+      pending = b.pending ∙ a.pending;
+      rounds = b.rounds ∙ a.rounds;
+      defined = b.defined ∙ a.defined;
+      more = le_trans a.more b.more;
+    }

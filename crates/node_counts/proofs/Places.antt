@@ -3,8 +3,16 @@ use Rattle.std.proofs.Common.{◌≡◌, List, [], ◌∷◌, ◌++◌, refl, ap
 use Rattle.script_judge.specs.script_words.Words.{Word}
 use Rattle.script_judge.specs.script_shape.declared.due.Due.{Due}
 use Rattle.script_judge.specs.script_shape.declared.due.Due.TheVariants as d
-use Rattle.script_judge.specs.script_shape.Tree.{Operator, fixed, int, Expr, term, sum, difference, Term, factor, product, quotient, Factor, negation, atom, Atom, number, variable, parenthesized, absolute, called, rounded, fused, Prop, lies_in, relative_in, at_most, at_least, multiple, Halving, halved_by, with_goal, Hint, rewrite, like, split, halving}
-use Rattle.script_judge.specs.script_shape.Roles.{Leaf, operator_leaves, expr_leaves, term_leaves, factor_leaves, atom_leaves, prop_leaves, halving_leaves, hint_leaves}
+use Rattle.script_judge.specs.script_shape.Tree.{Operator, fixed, int, Expr, term, sum, difference}
+use Rattle.script_judge.specs.script_shape.Tree.{Term, factor, product, quotient, Factor, negation}
+use Rattle.script_judge.specs.script_shape.Tree.{atom, Atom, number, variable, parenthesized}
+use Rattle.script_judge.specs.script_shape.Tree.{absolute, called, rounded, fused, Prop, lies_in}
+use Rattle.script_judge.specs.script_shape.Tree.{relative_in, at_most, at_least, multiple, Halving}
+use Rattle.script_judge.specs.script_shape.Tree.{halved_by, with_goal, Hint, rewrite, like, split}
+use Rattle.script_judge.specs.script_shape.Tree.{halving}
+use Rattle.script_judge.specs.script_shape.Roles.{Leaf, operator_leaves, expr_leaves, term_leaves}
+use Rattle.script_judge.specs.script_shape.Roles.{factor_leaves, atom_leaves, prop_leaves}
+use Rattle.script_judge.specs.script_shape.Roles.{halving_leaves, hint_leaves}
 use Rattle.script_judge.specs.script_shape.Inner.{EachRole}
 use Rattle.script_judge.specs.declared.counts.ScriptPart.{ScriptPart}
 use Rattle.script_judge.specs.declared.counts.ScriptPart.TheVariants as place
@@ -69,7 +77,8 @@ hint_first (halving h) = halving_first d.HintRest h
 
 -- ---- places
 
-pub prop_enters : (r : Due) (w : Word) → IsOfProp r → place_after place.PropositionNext r w ≡ place.Formula
+pub prop_enters : (r : Due) (w : Word) → IsOfProp r
+    → place_after place.PropositionNext r w ≡ place.Formula
 prop_enters d.Script w h = absurd h
 prop_enters d.Connective w h = absurd h
 prop_enters d.Claim w h = absurd h
@@ -102,11 +111,17 @@ hint_stays d.Semicolon w h = absurd h
 hint_stays r w h = refl
 
 -- words that stay at a place, behind one that comes there
-module _ (P : Due → Type 0) (from to : ScriptPart) (enters : (r : Due) (w : Word) → P r → place_after from r w ≡ to) (stays : (r : Due) (w : Word) → P r → place_after to r w ≡ to) where
-  all_stay : (ls : List Leaf) (seen last : Seen) → EachRole P ls → Passes seen ls last → seen.counts.place ≡ to → last.counts.place ≡ to
+module _ (P : Due → Type 0) (from to : ScriptPart) (enters : (r : Due) (w : Word)
+    → P r → place_after from r w ≡ to) (stays : (r : Due) (w : Word) → P r
+    → place_after to r w ≡ to) where
+  all_stay : (ls : List Leaf) (seen last : Seen) → EachRole P ls → Passes seen ls last
+      → seen.counts.place ≡ to → last.counts.place ≡ to
   all_stay [] seen last h p e = subst (λ (x : Seen). x.counts.place ≡ to) p e
-  all_stay (l ∷ ls) seen last h p e = all_stay ls (seen_after p.0 seen l.role l.word) last h.1 p.3 (ap (λ q. place_after q l.role l.word) e ∙ stays l.role l.word h.0)
+  all_stay (l ∷ ls) seen last h p e = all_stay ls (seen_after p.0 seen l.role l.word) last h.1 p.3
+      (ap (λ q. place_after q l.role l.word) e ∙ stays l.role l.word h.0)
 
-  pub first_comes : (ls : List Leaf) (seen last : Seen) → HasFirst ls → EachRole P ls → Passes seen ls last → seen.counts.place ≡ from → last.counts.place ≡ to
+  pub first_comes : (ls : List Leaf) (seen last : Seen) → HasFirst ls → EachRole P ls
+      → Passes seen ls last → seen.counts.place ≡ from → last.counts.place ≡ to
   first_comes [] seen last f h p e = absurd f
-  first_comes (l ∷ ls) seen last f h p e = all_stay ls (seen_after p.0 seen l.role l.word) last h.1 p.3 (ap (λ q. place_after q l.role l.word) e ∙ enters l.role l.word h.0)
+  first_comes (l ∷ ls) seen last f h p e = all_stay ls (seen_after p.0 seen l.role l.word) last h.1
+      p.3 (ap (λ q. place_after q l.role l.word) e ∙ enters l.role l.word h.0)

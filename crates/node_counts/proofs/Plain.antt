@@ -1,5 +1,6 @@
 -- Words that leave what the judge knows of splits as it is.
-use Rattle.std.proofs.Common.{◌≡◌, List, [], ◌∷◌, None, Bool, true, false, if◌then◌else◌, refl, ap, ◌∙◌, subst}
+use Rattle.std.proofs.Common.{◌≡◌, List, [], ◌∷◌, None, Bool, true, false, if◌then◌else◌, refl, ap}
+use Rattle.std.proofs.Common.{◌∙◌, subst}
 use Rattle.script_judge.specs.script_words.Words.{Word}
 use Rattle.script_judge.specs.script_shape.declared.due.Due.{Due}
 use Rattle.script_judge.specs.script_shape.declared.due.Due.TheVariants as d
@@ -7,7 +8,8 @@ use Rattle.script_judge.specs.script_shape.Roles.{Leaf}
 use Rattle.script_judge.specs.script_shape.Inner.{EachRole, IsInner}
 use Rattle.script_judge.specs.Names.{operand_name, is_some_among}
 use Rattle.script_judge.specs.Numbers.{Notes}
-use Rattle.script_judge.specs.Subject.{Subject, nothing, node_of, other, Alias, aliases_after, subject_after}
+use Rattle.script_judge.specs.Subject.{Subject, nothing, node_of, other, Alias, aliases_after}
+use Rattle.script_judge.specs.Subject.{subject_after}
 use Rattle.script_judge.specs.Splits.{SplitRange, ends_between, ranges_after, parts_after}
 use Rattle.script_judge.specs.script_cases.Parts.{Parts}
 use Rattle.script_judge.specs.Judge.{Seen, seen_after}
@@ -34,7 +36,8 @@ no_bracket d.Range h = h
 no_bracket d.Connective h = absurd h
 no_bracket r h = tt
 
-pub no_sign : (ranges : Parts SplitRange) (r : Due) (w : Word) → IsNoRange r → parts_after ranges r w ≡ ranges
+pub no_sign : (ranges : Parts SplitRange) (r : Due) (w : Word) → IsNoRange r
+    → parts_after ranges r w ≡ ranges
 no_sign ranges d.Connective w h = absurd h
 no_sign ranges r w h = refl
 
@@ -45,14 +48,18 @@ no_range rs (node_of text) false = refl
 no_range rs other b = refl
 
 -- no upper bound gives a range where no lower one stands before
-pub word_ranges : (v : Notes) (seen : Seen) (r : Due) (w : Word) → seen.bounds.lower ≡ None → (seen_after v seen r w).splits.ranges ≡ parts_after seen.splits.ranges r w
+pub word_ranges : (v : Notes) (seen : Seen) (r : Due) (w : Word) → seen.bounds.lower ≡ None
+    → (seen_after v seen r w).splits.ranges ≡ parts_after seen.splits.ranges r w
 word_ranges v seen r w e =
-    ap (λ o. parts_after (ranges_after seen.splits.ranges seen.splits.subject v.arrow_behind (ends_between o v.number)) r w) e
+    ap (λ o. parts_after (ranges_after seen.splits.ranges seen.splits.subject v.arrow_behind
+    (ends_between o v.number)) r w) e
     ∙ ap (λ p. parts_after p r w) (no_range seen.splits.ranges seen.splits.subject v.arrow_behind)
 
-pub word_calm : (v : Notes) (seen : Seen) (r : Due) (w : Word) → IsNoBracket r → IsCalm seen → IsCalm (seen_after v seen r w)
+pub word_calm : (v : Notes) (seen : Seen) (r : Due) (w : Word) → IsNoBracket r → IsCalm seen
+    → IsCalm (seen_after v seen r w)
 word_calm v seen d.Range w h c = absurd h
-word_calm v seen d.Bound w h c = record { lower = ap (λ b. if b then v.number else None) c.due; due = refl }
+word_calm v seen d.Bound w h c =
+    record { lower = ap (λ b. if b then v.number else None) c.due; due = refl }
 word_calm v seen r w h c = record { lower = c.lower; due = refl }
 
 -- the ranges stay
@@ -60,11 +67,17 @@ pub record KeepsRanges (seen last : Seen) : Type 0 where
   pub ranges : last.splits.ranges ≡ seen.splits.ranges
   pub calm : IsCalm last
 
-pub words_still : (ls : List Leaf) (seen last : Seen) → EachRole IsNoRange ls → Passes seen ls last → IsCalm seen → KeepsRanges seen last
+pub words_still : (ls : List Leaf) (seen last : Seen) → EachRole IsNoRange ls → Passes seen ls last
+    → IsCalm seen → KeepsRanges seen last
 words_still [] seen last h p c = subst (KeepsRanges seen) p (record { ranges = refl; calm = c })
 words_still (l ∷ ls) seen last h p c =
-    let more = words_still ls (seen_after p.0 seen l.role l.word) last h.1 p.3 (word_calm p.0 seen l.role l.word (no_bracket l.role h.0) c) in
-    record { ranges = more.ranges ∙ word_ranges p.0 seen l.role l.word c.lower ∙ no_sign seen.splits.ranges l.role l.word h.0; calm = more.calm }
+    let more = words_still ls (seen_after p.0 seen l.role l.word) last h.1 p.3
+    (word_calm p.0 seen l.role l.word (no_bracket l.role h.0) c) in
+    record {
+      ranges = more.ranges ∙ word_ranges p.0 seen l.role l.word c.lower
+          ∙ no_sign seen.splits.ranges l.role l.word h.0;
+      calm = more.calm;
+    }
 
 -- ---- where no definition begins or ends
 
@@ -83,14 +96,18 @@ pub record KeepsAliases (seen last : Seen) : Type 0 where
   pub aliases : last.splits.aliases ≡ seen.splits.aliases
   pub pending : last.names.pending ≡ seen.names.pending
 
-word_plain : (v : Notes) (seen : Seen) (r : Due) (w : Word) → IsPlain r → KeepsAliases seen (seen_after v seen r w)
+word_plain : (v : Notes) (seen : Seen) (r : Due) (w : Word) → IsPlain r
+    → KeepsAliases seen (seen_after v seen r w)
 word_plain v seen d.Script w h = absurd h
 word_plain v seen d.NewName w h = absurd h
 word_plain v seen d.Semicolon w h = absurd h
-word_plain v seen r w h = record { aliases = no_alias seen.splits.aliases seen.splits.subject; pending = refl }
+word_plain v seen r w h =
+    record { aliases = no_alias seen.splits.aliases seen.splits.subject; pending = refl }
 
-pub words_plain : (ls : List Leaf) (seen last : Seen) → EachRole IsPlain ls → Passes seen ls last → KeepsAliases seen last
-words_plain [] seen last h p = subst (KeepsAliases seen) p (record { aliases = refl; pending = refl })
+pub words_plain : (ls : List Leaf) (seen last : Seen) → EachRole IsPlain ls → Passes seen ls last
+    → KeepsAliases seen last
+words_plain [] seen last h p =
+    subst (KeepsAliases seen) p (record { aliases = refl; pending = refl })
 words_plain (l ∷ ls) seen last h p =
     let a = word_plain p.0 seen l.role l.word h.0 in
     let more = words_plain ls (seen_after p.0 seen l.role l.word) last h.1 p.3 in
@@ -116,15 +133,18 @@ IsSilent d.Operand = ⊥
 IsSilent d.Tail = ⊥
 IsSilent r = Unit {0}
 
-word_silent : (x : Subject) (ls : List Alias) (b : Bool) (r : Due) (w : Word) → IsSilent r → subject_after x ls b r w ≡ x
+word_silent : (x : Subject) (ls : List Alias) (b : Bool) (r : Due) (w : Word) → IsSilent r
+    → subject_after x ls b r w ≡ x
 word_silent x ls b d.Script w h = absurd h
 word_silent x ls b d.Connective w h = absurd h
 word_silent x ls b d.Operand w h = absurd h
 word_silent x ls b d.Tail w h = absurd h
 word_silent x ls b r w h = refl
 
-pub words_silent : (ls : List Leaf) (seen last : Seen) → EachRole IsSilent ls → Passes seen ls last → last.splits.subject ≡ seen.splits.subject
+pub words_silent : (ls : List Leaf) (seen last : Seen) → EachRole IsSilent ls → Passes seen ls last
+    → last.splits.subject ≡ seen.splits.subject
 words_silent [] seen last h p = subst (λ (z : Seen). z.splits.subject ≡ seen.splits.subject) p refl
 words_silent (l ∷ ls) seen last h p =
     words_silent ls (seen_after p.0 seen l.role l.word) last h.1 p.3
-    ∙ word_silent seen.splits.subject seen.splits.aliases (is_some_among seen.names.defined (operand_name l.role l.word)) l.role l.word h.0
+    ∙ word_silent seen.splits.subject seen.splits.aliases
+    (is_some_among seen.names.defined (operand_name l.role l.word)) l.role l.word h.0

@@ -10,7 +10,9 @@ use Rattle.expr_dag.specs.fx_model.declared.Node.TheVariants.{Sub, Var}
 use Rattle.expr_dag.specs.Nodes.{IsAt}
 use Rattle.pair_closure.specs.Reached.{Has, IsListOf}
 use Rattle.pair_closure.specs.Reached.IsReached.{begin, lead}
-use Rattle.pair_closure.specs.Closure.{Pair, BeginsExpressions, LeadsToExpression, IsTaken, IsPair, IsExpression, AreManyPairs, AreTooMany, IsClosure, AreKnown, IsKnownPair, AreRising, IsFollowed, difference_of}
+use Rattle.pair_closure.specs.Closure.{Pair, BeginsExpressions, LeadsToExpression, IsTaken, IsPair}
+use Rattle.pair_closure.specs.Closure.{IsExpression, AreManyPairs, AreTooMany, IsClosure, AreKnown}
+use Rattle.pair_closure.specs.Closure.{IsKnownPair, AreRising, IsFollowed, difference_of}
 use Rattle.pair_closure.specs.Closure.BeginsExpressions.{written, difference}
 use Rattle.pair_closure.specs.Closure.LeadsToExpression.{operands, past_left, past_right}
 use Rattle.pair_closure.specs.Members.{some-inj}
@@ -36,16 +38,23 @@ pub same_pair : (p q : Pair) → difference_of p ≡ difference_of q → p ≡ q
 same_pair p q e = let a : p.0 ≡ q.0 = cc in let b : p.1 ≡ q.1 = cc in (λ i. (a i, b i))
 
 -- what stands in the list of differences is that of a pair at the same place
-pub behind : (ps : List Pair) (k : ℕ) (n : Node) → slice_get (map difference_of ps) k ≡ Some n → (p : Pair) × (slice_get ps k ≡ Some p) × (n ≡ difference_of p)
+pub behind : (ps : List Pair) (k : ℕ) (n : Node) → slice_get (map difference_of ps) k ≡ Some n
+    → (p : Pair) × (slice_get ps k ≡ Some p) × (n ≡ difference_of p)
 behind ps k n h =
     let w = slice_get_within (map difference_of ps) k n h in
     let l : k < length ps = omega (arith, length-map ps difference_of) in
     let d : Pair = (record { 0 = 0 }, record { 0 = 0 }) in
-    let at = slice_get-get_or ps k d l in
-    (_, at, some-inj n _ (sym h ∙ slice_get-map difference_of ps k ∙ ap (option_map difference_of) at))
+    let at = slice_get-get_or ps k d l in (
+      _,
+      at,
+      some-inj n _ (sym h ∙ slice_get-map difference_of ps k ∙ ap (option_map difference_of) at),
+    )
 
 module _ (nodes : List Node) (starts : List Pair) where
-  pub closed : (all : List Node) (pairs : List Pair) → ((x : ExprId) (n : Node) → IsAt nodes x n → IsAt all x n) → IsFollowed nodes all → IsListOf (IsPair nodes starts) pairs → AreRising pairs → IsListOf (IsTaken nodes (Has pairs)) all → IsClosure nodes starts all pairs
+  pub closed : (all : List Node) (pairs : List Pair)
+      → ((x : ExprId) (n : Node) → IsAt nodes x n → IsAt all x n)
+      → IsFollowed nodes all → IsListOf (IsPair nodes starts) pairs → AreRising pairs
+      → IsListOf (IsTaken nodes (Has pairs)) all → IsClosure nodes starts all pairs
   closed all pairs k o p r e = record {
     begins = k;
     order = o;
@@ -58,7 +67,8 @@ module _ (nodes : List Node) (starts : List Pair) where
     pairs = p;
   }
 
-  pub many_taken : (pairs : List Pair) → IsListOf (IsPair nodes starts) pairs → AreTooMany (IsTaken nodes (Has pairs)) → AreTooMany (IsExpression nodes starts)
+  pub many_taken : (pairs : List Pair) → IsListOf (IsPair nodes starts) pairs
+      → AreTooMany (IsTaken nodes (Has pairs)) → AreTooMany (IsExpression nodes starts)
   many_taken pairs p m = record {
     list = m.list;
     only = λ n h. taken_wider nodes (Has pairs) (IsPair nodes starts) p.only n (m.only n h);
@@ -69,7 +79,8 @@ module _ (nodes : List Node) (starts : List Pair) where
   pub many_pairs : AreManyPairs nodes starts → AreTooMany (IsExpression nodes starts)
   many_pairs m = record {
     list = map difference_of m.list;
-    only = λ n h. (let b = behind m.list h.0 n h.1 in subst (IsExpression nodes starts) (sym b.2) (begin (difference_of b.0) (difference (b.0).0 (b.0).1 (m.only b.0 (h.0, b.1)))));
+    only = λ n h. (let b = behind m.list h.0 n h.1 in subst (IsExpression nodes starts) (sym b.2)
+        (begin (difference_of b.0) (difference (b.0).0 (b.0).1 (m.only b.0 (h.0, b.1)))));
     once = λ i j n a b. (let f = behind m.list i n a in let g = behind m.list j n b in
         let e : f.0 ≡ g.0 = same_pair f.0 g.0 (sym f.2 ∙ g.2) in
         m.once i j f.0 f.1 (g.1 ∙ ap Some (sym e)));
@@ -77,17 +88,21 @@ module _ (nodes : List Node) (starts : List Pair) where
   }
 
   -- ---- a whole list of 1,024 at most shows that there aren't too many
-  pub not_many : (all : List Node) (pairs : List Pair) → IsClosure nodes starts all pairs → length all ≤ 1024 → ¬ AreTooMany (IsExpression nodes starts)
+  pub not_many : (all : List Node) (pairs : List Pair) → IsClosure nodes starts all pairs
+      → length all ≤ 1024 → ¬ AreTooMany (IsExpression nodes starts)
   not_many all pairs c l m =
-      let k : length m.list ≤ length all = no_longer all m.list m.once (λ n h. (c.expressions).each n (m.only n h)) in
+      let k : length m.list ≤ length all =
+      no_longer all m.list m.once (λ n h. (c.expressions).each n (m.only n h)) in
       let g = m.many in
       omega arith
 
   -- the sides of its pairs are among its nodes
-  pub known_sides : (all : List Node) (pairs : List Pair) → IsClosure nodes starts all pairs → ((p : Pair) → IsPair nodes starts p → IsKnownPair nodes p) → AreKnown all pairs
+  pub known_sides : (all : List Node) (pairs : List Pair) → IsClosure nodes starts all pairs
+      → ((p : Pair) → IsPair nodes starts p → IsKnownPair nodes p) → AreKnown all pairs
   known_sides all pairs c k p h =
       let w = k p ((c.pairs).only p h) in
       (there (p.0) w.0, there (p.1) w.1)
     where
       there : (x : ExprId) → x.0 < length nodes → x.0 < length all
-      there x l = slice_get_within all x.0 _ (c.begins x (slice_index_or nodes x.0 (Var 0)) (slice_get-get_or nodes x.0 (Var 0) l))
+      there x l = slice_get_within all x.0 _
+          (c.begins x (slice_index_or nodes x.0 (Var 0)) (slice_get-get_or nodes x.0 (Var 0) l))

@@ -1,7 +1,8 @@
 -- Which pairs of expressions are compared, and which expressions that takes: the least sets under
 -- the rules below. Both sides of a pair are numbers of the script's nodes, and so are those of each
 -- difference that is added.
-use Rattle.std.specs.Prelude.{◌≡◌, ◌≢◌, ◌⊎◌, ◌<◌, ◌==◌, ◌+◌, ◌*◌, ℕ, Bool, if◌then◌else◌, List, [], ◌∷◌, ◌++◌, Some, slice_get, map, length}
+use Rattle.std.specs.Prelude.{◌≡◌, ◌≢◌, ◌⊎◌, ◌<◌, ◌==◌, ◌+◌, ◌*◌, ℕ, Bool, if◌then◌else◌, List, []}
+use Rattle.std.specs.Prelude.{◌∷◌, ◌++◌, Some, slice_get, map, length}
 use Rattle.expr_dag.specs.fx_model.declared.ExprId.{ExprId}
 use Rattle.expr_dag.specs.fx_model.declared.Rounding.{Rounding}
 use Rattle.expr_dag.specs.fx_model.declared.Node.{Node}

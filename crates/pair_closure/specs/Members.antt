@@ -1,5 +1,6 @@
 -- Members of lists, and lists that hold none twice.
-use Rattle.std.specs.Prelude.{◌≡◌, ◌⊎◌, ℕ, zero, suc, List, [], ◌∷◌, ◌++◌, Some, None, slice_get, length, refl}
+use Rattle.std.specs.Prelude.{◌≡◌, ◌⊎◌, ℕ, zero, suc, List, [], ◌∷◌, ◌++◌, Some, None, slice_get}
+use Rattle.std.specs.Prelude.{length, refl}
 use Rattle.std.specs.List.{AllByRecursion, Contains}
 use Rattle.std.proofs.Common.{inl, inr, arith, ap, sym, ◌∙◌, subst}
 use Rattle.std.proofs.lemmas.Option.{slice_get-get_or, none-some}

@@ -3,7 +3,8 @@ use Rattle.std.specs.Prelude.{◌≡◌, ◌↔◌, Bool, true, false, if◌then
 use Rattle.std.proofs.Common.{inl, inr, ap, sym, subst}
 use Rattle.expr_dag.specs.fx_model.declared.ExprId.{ExprId}
 use Rattle.pair_closure.specs.Reached.{Has, IsEachOnce}
-use Rattle.pair_closure.specs.Members.{no_member, has_first, has_rest, has_cases, once_nil, once_cons, once_tail, once_front}
+use Rattle.pair_closure.specs.Members.{no_member, has_first, has_rest, has_cases, once_nil}
+use Rattle.pair_closure.specs.Members.{once_cons, once_tail, once_front}
 use Rattle.pair_closure.specs.Ids.{same_ids, self_same}
 use Rattle.pair_closure.specs.Closure.{Pair, is_same}
 use Rattle.pair_closure.specs.Rows.{seconds}

@@ -3,7 +3,8 @@
 ghost use Rattle.std.specs.Prelude.{◌≡◌, ◌≤◌, length, Ok, Err, None, IfOk, IfSome};
 ghost use Rattle.pair_closure.specs.declared.closure.ClosureFault.TheVariants as ClosureFault;
 ghost use Rattle.pair_closure.specs.Reached.{IsListOf};
-ghost use Rattle.pair_closure.specs.Closure.{AreKnown, AreRising, AreManyPairs, IsPair, IsClosure, IsExpression, AreTooMany};
+ghost use Rattle.pair_closure.specs.Closure.{AreKnown, AreRising, AreManyPairs, IsPair, IsClosure};
+ghost use Rattle.pair_closure.specs.Closure.{IsExpression, AreTooMany};
 
 use crate::differences::close;
 use crate::follow::follow_all;

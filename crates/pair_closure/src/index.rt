@@ -1,6 +1,7 @@
 //! The pairs, with the second sides of each first side.
 
-ghost use Rattle.std.specs.Prelude.{◌≡◌, ◌<◌, ◌↔◌, ◌++◌, ◌∷◌, [], List, length, vec_len, map, IfOk, OnOk};
+ghost use Rattle.std.specs.Prelude.{◌≡◌, ◌<◌, ◌↔◌, ◌++◌, ◌∷◌, [], List, length, vec_len, map, IfOk};
+ghost use Rattle.std.specs.Prelude.{OnOk};
 ghost use Rattle.expr_dag.specs.fx_model.declared.ExprId.{ExprId};
 ghost use Rattle.pair_closure.specs.Reached.{Has, IsEachOnce};
 ghost use Rattle.pair_closure.specs.Among.{is_among, IsPlaceOf};

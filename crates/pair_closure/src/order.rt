@@ -1,6 +1,7 @@
 //! The expressions in order.
 
-ghost use Rattle.std.specs.Prelude.{◌≡◌, ◌<◌, ◌≤◌, ◌↔◌, ◌++◌, ◌∷◌, [], ℕ, Some, length, slice_get, map, IfOk, OnOk};
+ghost use Rattle.std.specs.Prelude.{◌≡◌, ◌<◌, ◌≤◌, ◌↔◌, ◌++◌, ◌∷◌, [], ℕ, Some, length, slice_get};
+ghost use Rattle.std.specs.Prelude.{map, IfOk, OnOk};
 ghost use Rattle.expr_dag.specs.fx_model.declared.ExprId.{ExprId};
 ghost use Rattle.expr_dag.specs.fx_model.declared.Node.{Node};
 ghost use Rattle.expr_dag.specs.fx_model.declared.Node.TheVariants as node;

@@ -1,5 +1,6 @@
 -- The last line, and what a script's laws give an evaluation.
-use Rattle.std.specs.Prelude.{◌≡◌, ◌↔◌, ◌++◌, codes, ℕ, suc, List, [], ◌∷◌, length, Bool, true, false, IsTrue, refl}
+use Rattle.std.specs.Prelude.{◌≡◌, ◌↔◌, ◌++◌, codes, ℕ, suc, List, [], ◌∷◌, length, Bool, true}
+use Rattle.std.specs.Prelude.{false, IsTrue, refl}
 use Rattle.std.specs.List.{AllByRecursion}
 use Rattle.std.proofs.Common.{sym, ap, ◌∙◌, subst, append_assoc, Vec, Global, IfOk, Ok, Err, Result}
 use Rattle.fx_model.specs.Expression.{Assignment, value}
@@ -17,7 +18,8 @@ use Rattle.script_cases.specs.Cases.{cases}
 use Rattle.script_cases.specs.Counted.{all_of_cases}
 use Rattle.point_values.specs.Among.{IsAmong, AreAmong}
 use Rattle.script_meets.specs.Meets.{Meets}
-use Rattle.point_values.specs.Text.{Bytes, hypothesis_line, goal_line, hint_line, lines_from, point_line}
+use Rattle.point_values.specs.Text.{Bytes, hypothesis_line, goal_line, hint_line, lines_from}
+use Rattle.point_values.specs.Text.{point_line}
 use Rattle.point_values.specs.Rows.{Row}
 use Rattle.point_values.specs.Evaluation.{Subject, subject_of, evaluation_of, meets}
 use Rattle.point_values.specs.Within.{ClaimIsWithin, ConstraintIsWithin, HintIsWithin, AreWithin}

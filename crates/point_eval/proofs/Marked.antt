@@ -1,5 +1,6 @@
 -- The hints that are assumed, by their marks.
-use Rattle.std.specs.Prelude.{◌≡◌, ◌⊎◌, ◌&&◌, ◌||◌, ℕ, List, [], ◌∷◌, length, slice_get, Bool, true, false, Some, IsTrue, refl}
+use Rattle.std.specs.Prelude.{◌≡◌, ◌⊎◌, ◌&&◌, ◌||◌, ℕ, List, [], ◌∷◌, length, slice_get, Bool, true}
+use Rattle.std.specs.Prelude.{false, Some, IsTrue, refl}
 use Rattle.std.specs.List.{AllByRecursion, list_all, list_any}
 use Rattle.std.proofs.Common.{arith, suc, zero, inl, inr}
 use Rattle.fx_model.specs.Expression.{Assignment, value}

@@ -1,5 +1,6 @@
 -- Tokens among which there is no fault: names, literals and divisors.
-use Rattle.std.specs.Prelude.{◌≡◌, ◌≢◌, ◌⊎◌, ℕ, zero, suc, List, [], ◌∷◌, ◌++◌, length, slice_get, Option, Some, None}
+use Rattle.std.specs.Prelude.{◌≡◌, ◌≢◌, ◌⊎◌, ℕ, zero, suc, List, [], ◌∷◌, ◌++◌, length, slice_get}
+use Rattle.std.specs.Prelude.{Option, Some, None}
 use Rattle.std.proofs.Common.{sym, ap, ◌∙◌, subst, inl, inr, arith}
 use Rattle.std.proofs.lemmas.Option.{none-some, same_Some, slice_get_within}
 use Rattle.fx_model.specs.declared.Literal.{Literal}
@@ -7,10 +8,13 @@ use Rattle.literal.specs.Normal.{IsReading}
 use Rattle.script_nodes.specs.Known.{Name}
 use Rattle.script_nodes.specs.Literals.{ReadsLiterals}
 use Rattle.point_eval.specs.point_values.Rows.{Row}
-use Rattle.point_text.specs.Points.{Part, name, literal, slash, Entry, entries_parts, IsRowOf, IsDivisorOf}
+use Rattle.point_text.specs.Points.{Part, name, literal, slash, Entry, entries_parts, IsRowOf}
+use Rattle.point_text.specs.Points.{IsDivisorOf}
 use Rattle.point_text.proofs.Places.{push_cases}
-use Rattle.point_text.proofs.Parts.{Has, HasTwo, HasDivisor, name_of_entry, literal_of_entry, divisor_of_entry, AreOnce, no_name_twice}
-use Rattle.point_text.proofs.Machine.{State, at_name, at_equal, at_number, behind_sign, behind_number, at_divisor, behind_divisor, step_of, run}
+use Rattle.point_text.proofs.Parts.{Has, HasTwo, HasDivisor, name_of_entry, literal_of_entry}
+use Rattle.point_text.proofs.Parts.{divisor_of_entry, AreOnce, no_name_twice}
+use Rattle.point_text.proofs.Machine.{State, at_name, at_equal, at_number, behind_sign}
+use Rattle.point_text.proofs.Machine.{behind_number, at_divisor, behind_divisor, step_of, run}
 
 -- Each name is a variable's, and none stands twice; each literal is within its limits, and no
 -- divisor is 0.

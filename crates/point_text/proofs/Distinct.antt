@@ -1,5 +1,6 @@
 -- A script's variables have different names.
-use Rattle.std.specs.Prelude.{◌≡◌, ℕ, List, [], ◌∷◌, ◌++◌, slice_get, zero, suc, Option, Some, None, Bool, true, false, ◌||◌, if◌then◌else◌, refl}
+use Rattle.std.specs.Prelude.{◌≡◌, ℕ, List, [], ◌∷◌, ◌++◌, slice_get, zero, suc, Option, Some, None}
+use Rattle.std.specs.Prelude.{Bool, true, false, ◌||◌, if◌then◌else◌, refl}
 use Rattle.std.specs.List.{list_any}
 use Rattle.std.specs.Str.{bytes_eq}
 use Rattle.std.proofs.Common.{sym, ap, ◌∙◌, subst, inl, inr}
@@ -8,12 +9,25 @@ use Rattle.std.proofs.lemmas.Slice.Eq.{bytes_eq-Decides}
 use Rattle.fx_model.specs.declared.Rounding.{Rounding}
 use Rattle.fx_model.specs.declared.ExprId.{ExprId}
 use Rattle.fx_model.specs.declared.Node.{Node}
-use Rattle.script_shape.specs.Tree.{Expr, term, sum, difference, Term, factor, product, quotient, Factor, negation, atom, Atom, number, variable, parenthesized, absolute, called, rounded, fused, Prop, lies_in, relative_in, at_most, at_least, multiple, Stated, affirmed, denied, Formula, single, and, or, implies, Need, nonzero, below, not_above, above, not_below, NeedList, last_need, more_needs, Needs, always, provided, Names, last_name, more_names, Halving, halved_by, with_goal, Hint, rewrite, like, split, halving, Hints, no_hint, hint, Definition, names_operator, names_value, Script, formula, define}
-use Rattle.script_nodes.specs.Known.{Name, Known, PlacedNode, nothing_known, put, variables_with, variable_put, name_put, named, entry_of}
-use Rattle.script_nodes.specs.Values.{then_rounded, expr_value, term_value, factor_value, atom_value}
+use Rattle.script_shape.specs.Tree.{Expr, term, sum, difference, Term, factor, product, quotient}
+use Rattle.script_shape.specs.Tree.{Factor, negation, atom, Atom, number, variable, parenthesized}
+use Rattle.script_shape.specs.Tree.{absolute, called, rounded, fused, Prop, lies_in, relative_in}
+use Rattle.script_shape.specs.Tree.{at_most, at_least, multiple, Stated, affirmed, denied, Formula}
+use Rattle.script_shape.specs.Tree.{single, and, or, implies, Need, nonzero, below, not_above}
+use Rattle.script_shape.specs.Tree.{above, not_below, NeedList, last_need, more_needs, Needs}
+use Rattle.script_shape.specs.Tree.{always, provided, Names, last_name, more_names, Halving}
+use Rattle.script_shape.specs.Tree.{halved_by, with_goal, Hint, rewrite, like, split, halving}
+use Rattle.script_shape.specs.Tree.{Hints, no_hint, hint, Definition, names_operator, names_value}
+use Rattle.script_shape.specs.Tree.{Script, formula, define}
+use Rattle.script_nodes.specs.Known.{Name, Known, PlacedNode, nothing_known, put, variables_with}
+use Rattle.script_nodes.specs.Known.{variable_put, name_put, named, entry_of}
+use Rattle.script_nodes.specs.Values.{then_rounded, expr_value, term_value, factor_value}
+use Rattle.script_nodes.specs.Values.{atom_value}
 use Rattle.script_nodes.specs.Definitions.{name_text, rounding_by, definition_value}
 use Rattle.point_eval.specs.script_claims.Claims.{prop_claim, stated_claim, formula_claims}
-use Rattle.point_eval.specs.script_hints.Hints.{NeedsSoFar, with_need, with_need_list, needs_value, HintsSoFar, no_hints, with_names, with_halving, with_hint, with_hints}
+use Rattle.point_eval.specs.script_hints.Hints.{NeedsSoFar, with_need, with_need_list, needs_value}
+use Rattle.point_eval.specs.script_hints.Hints.{HintsSoFar, no_hints, with_names, with_halving}
+use Rattle.point_eval.specs.script_hints.Hints.{with_hint, with_hints}
 use Rattle.point_eval.specs.script_grammar.Meaning.{meaning_from}
 use Rattle.point_eval.specs.script_grammar.Spells.{View, Spells}
 use Rattle.point_text.proofs.Places.{push_cases, AreDistinct}
@@ -85,7 +99,8 @@ module _ (q : Option Rounding) where
   distinct_rounded None p h = h
   distinct_rounded (Some r) p h = distinct_put p.0 _ h
 
-  then_operation : (p : PlacedNode) (n : Node) → Distinct p.0 → Distinct (then_rounded q (put p.0 n)).0
+  then_operation : (p : PlacedNode) (n : Node) → Distinct p.0
+      → Distinct (then_rounded q (put p.0 n)).0
   then_operation p n h = distinct_rounded q (put p.0 n) (distinct_put p.0 n h)
 
   mutual

@@ -1,5 +1,6 @@
 -- What is taken of the tokens is an entry.
-use Rattle.std.specs.Prelude.{◌≡◌, ℕ, List, [], ◌∷◌, ◌++◌, Option, Some, None, Bool, true, false, refl}
+use Rattle.std.specs.Prelude.{◌≡◌, ℕ, List, [], ◌∷◌, ◌++◌, Option, Some, None, Bool, true, false}
+use Rattle.std.specs.Prelude.{refl}
 use Rattle.std.proofs.Common.{sym, ap, ◌∙◌, inl, inr, append_assoc, append-nil}
 use Rattle.fx_model.specs.declared.Literal.{Literal}
 use Rattle.literal.specs.Normal.{IsReading}
@@ -9,7 +10,10 @@ use Rattle.script_words.specs.declared.lex.TokenKind.{TokenKind}
 use Rattle.script_words.specs.declared.lex.TokenKind.TheVariants as kind
 use Rattle.script_words.specs.Named.{token_text}
 use Rattle.point_eval.specs.point_values.Rows.{Row}
-use Rattle.point_text.specs.Points.{Part, name, literal, equal, plus, minus, slash, semicolon, part_of, parts_of, Mark, unmarked, with_plus, with_minus, Entry, mark_parts, divisor_parts, entry_parts, entries_parts, is_minus, IsDivisorOf, IsRowOf}
+use Rattle.point_text.specs.Points.{Part, name, literal, equal, plus, minus, slash, semicolon}
+use Rattle.point_text.specs.Points.{part_of, parts_of, Mark, unmarked, with_plus, with_minus, Entry}
+use Rattle.point_text.specs.Points.{mark_parts, divisor_parts, entry_parts, entries_parts, is_minus}
+use Rattle.point_text.specs.Points.{IsDivisorOf, IsRowOf}
 use Rattle.point_text.specs.Taken.{IsTaken, IsLiteralTaken, IsSignTaken, IsDivisorTaken, IsRowTaken}
 
 sign_part : (text : List ℕ) (p : Part) (k : TokenKind) → ((bs : List ℕ) → part_of k bs ≡ p)

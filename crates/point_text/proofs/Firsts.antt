@@ -1,5 +1,6 @@
 -- The first fault of a text, where its reading stops.
-use Rattle.std.specs.Prelude.{◌≡◌, ◌≢◌, ◌⊎◌, ℕ, zero, suc, ◌+◌, ◌<◌, ◌≤◌, List, [], ◌∷◌, ◌++◌, length, take, slice_get, Option, Some, None, refl}
+use Rattle.std.specs.Prelude.{◌≡◌, ◌≢◌, ◌⊎◌, ℕ, zero, suc, ◌+◌, ◌<◌, ◌≤◌, List, [], ◌∷◌, ◌++◌}
+use Rattle.std.specs.Prelude.{length, take, slice_get, Option, Some, None, refl}
 use Rattle.std.proofs.Common.{sym, ap, ◌∙◌, subst, inl, inr, ⊎_elim, arith, append_assoc}
 use Rattle.std.proofs.lemmas.Option.{none-some, same_Some}
 use Rattle.std.proofs.lemmas.Bool.{cases_lt}
@@ -10,13 +11,18 @@ use Rattle.script_words.specs.Lex.{Lexes}
 use Rattle.script_nodes.specs.Known.{Name}
 use Rattle.point_text.specs.declared.fault.PointKind.{PointKind}
 use Rattle.point_text.specs.declared.fault.PointKind.TheVariants as kind
-use Rattle.point_text.specs.Points.{Part, name, literal, slash, parts_of, Entry, entries_parts, Begins, IsUnread}
-use Rattle.point_text.specs.PointFaults.{Reading, IsRead, HasFault, bad_token, unexpected, cut_short, unknown, twice, zero_divisor, literal_limit, missing, number, IsNotAfter}
+use Rattle.point_text.specs.Points.{Part, name, literal, slash, parts_of, Entry, entries_parts}
+use Rattle.point_text.specs.Points.{Begins, IsUnread}
+use Rattle.point_text.specs.PointFaults.{Reading, IsRead, HasFault, bad_token, unexpected}
+use Rattle.point_text.specs.PointFaults.{cut_short, unknown, twice, zero_divisor, literal_limit}
+use Rattle.point_text.specs.PointFaults.{missing, number, IsNotAfter}
 use Rattle.point_text.proofs.Parts.{Has}
 use Rattle.point_text.proofs.Clean.{IsClean}
-use Rattle.point_text.proofs.Machine.{State, at_name, step, step_of, run, run_append, begun_runs, runs_begun, farthest}
+use Rattle.point_text.proofs.Machine.{State, at_name, step, step_of, run, run_append, begun_runs}
+use Rattle.point_text.proofs.Machine.{runs_begun, farthest}
 use Rattle.point_text.proofs.Starts.{starts, start_within, starts_rise, starts_before}
-use Rattle.point_text.proofs.Standing.{part_at, length_parts, part_here, start_here, part_before, take_front, take_one_more, length_split}
+use Rattle.point_text.proofs.Standing.{part_at, length_parts, part_here, start_here, part_before}
+use Rattle.point_text.proofs.Standing.{take_front, take_one_more, length_split}
 
 -- ---- how far a text is read
 

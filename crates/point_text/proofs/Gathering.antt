@@ -1,8 +1,10 @@
 -- Entries are gathered one by one.
-use Rattle.std.specs.Prelude.{◌≡◌, ℕ, zero, suc, List, [], ◌∷◌, ◌++◌, length, map, slice_get, Option, Some, None, Bool, true, false, refl}
+use Rattle.std.specs.Prelude.{◌≡◌, ℕ, zero, suc, List, [], ◌∷◌, ◌++◌, length, map, slice_get}
+use Rattle.std.specs.Prelude.{Option, Some, None, Bool, true, false, refl}
 use Rattle.std.specs.List.{AllByRecursion}
 use Rattle.std.specs.Option.{option_map}
-use Rattle.std.proofs.Common.{arith, sym, ap, ◌∙◌, subst, inl, inr, append_assoc, append-nil, length-append}
+use Rattle.std.proofs.Common.{arith, sym, ap, ◌∙◌, subst, inl, inr, append_assoc, append-nil}
+use Rattle.std.proofs.Common.{length-append}
 use Rattle.std.proofs.Math.ListN.{set, length-set}
 use Rattle.fx_model.specs.declared.Literal.{Literal}
 use Rattle.script_words.specs.declared.class.Symbol.TheVariants as s
@@ -14,8 +16,10 @@ use Rattle.script_words.specs.Lex.{Lexes}
 use Rattle.script_words.specs.Named.{token_text}
 use Rattle.script_nodes.specs.Known.{Name}
 use Rattle.point_eval.specs.point_values.Rows.{Row}
-use Rattle.point_text.specs.Points.{parts_of, Entry, entry_parts, entries_parts, IsRowOf, IsShortText, SpellsPoint}
-use Rattle.point_text.specs.Taken.{IsFirst, IsNameTaken, IsRowTaken, IsTaken, IsLiteralTaken, IsSignTaken, IsDivisorTaken}
+use Rattle.point_text.specs.Points.{parts_of, Entry, entry_parts, entries_parts, IsRowOf}
+use Rattle.point_text.specs.Points.{IsShortText, SpellsPoint}
+use Rattle.point_text.specs.Taken.{IsFirst, IsNameTaken, IsRowTaken, IsTaken, IsLiteralTaken}
+use Rattle.point_text.specs.Taken.{IsSignTaken, IsDivisorTaken}
 use Rattle.point_text.proofs.Standing.{parts_append}
 use Rattle.point_text.specs.Gathered.{Gathering, Gathered, gathered, IsUnset, IsMissing}
 use Rattle.std.specs.declared.result.Result.{Result}
@@ -26,7 +30,8 @@ use Rattle.point_text.specs.declared.fault.PointStop.{PointStop}
 use Rattle.point_text.specs.declared.fault.PointStop.TheVariants.{Fault}
 use Rattle.point_text.proofs.Faults.{rose}
 use Rattle.point_text.proofs.Entries.{entry_taken, entries_push}
-use Rattle.point_text.proofs.Places.{push_cases, push_old, push_last, set_here, set_keeps, set_cases, unset_or_set, first_once}
+use Rattle.point_text.proofs.Places.{push_cases, push_old, push_last, set_here, set_keeps}
+use Rattle.point_text.proofs.Places.{set_cases, unset_or_set, first_once}
 
 unset_rows : (rows : List (Option Row)) → AllByRecursion IsUnset rows → (i : ℕ) (row : Row)
     → ¬ (slice_get rows i ≡ Some (Some row))

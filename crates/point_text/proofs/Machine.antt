@@ -1,9 +1,12 @@
 -- A machine that runs through the tokens of entries: a list of tokens begins a list of entries
 -- where it runs.
-use Rattle.std.specs.Prelude.{◌≡◌, ℕ, suc, ◌+◌, ◌<◌, ◌≤◌, List, [], ◌∷◌, ◌++◌, length, take, Option, Some, None, refl}
+use Rattle.std.specs.Prelude.{◌≡◌, ℕ, suc, ◌+◌, ◌<◌, ◌≤◌, List, [], ◌∷◌, ◌++◌, length, take, Option}
+use Rattle.std.specs.Prelude.{Some, None, refl}
 use Rattle.std.proofs.Common.{sym, ap, ◌∙◌, subst, arith, append_assoc, append-nil}
 use Rattle.std.proofs.lemmas.Option.{none-some, same_Some}
-use Rattle.point_text.specs.Points.{Part, name, literal, equal, plus, minus, slash, semicolon, other, Mark, unmarked, with_plus, with_minus, Entry, mark_parts, divisor_parts, entry_parts, entries_parts, Begins}
+use Rattle.point_text.specs.Points.{Part, name, literal, equal, plus, minus, slash, semicolon}
+use Rattle.point_text.specs.Points.{other, Mark, unmarked, with_plus, with_minus, Entry, mark_parts}
+use Rattle.point_text.specs.Points.{divisor_parts, entry_parts, entries_parts, Begins}
 use Rattle.point_text.proofs.Entries.{joined}
 
 -- what is due

@@ -1,5 +1,6 @@
 -- A text has one fault at most.
-use Rattle.std.specs.Prelude.{◌≡◌, ℕ, ◌+◌, ◌<◌, ◌≤◌, ◌++◌, List, [], ◌∷◌, length, take, slice_get, slice_index_or, map, Some, refl}
+use Rattle.std.specs.Prelude.{◌≡◌, ℕ, ◌+◌, ◌<◌, ◌≤◌, ◌++◌, List, [], ◌∷◌, length, take, slice_get}
+use Rattle.std.specs.Prelude.{slice_index_or, map, Some, refl}
 use Rattle.std.specs.Str.{IsUtf8, IsValidUpTo}
 use Rattle.std.proofs.Common.{sym, ap, ◌∙◌, subst, inl, inr, ⊎_elim, arith, append_assoc}
 use Rattle.std.proofs.Math.Seq.{take-length}
@@ -12,7 +13,10 @@ use Rattle.point_text.specs.declared.fault.PointKind.{PointKind}
 use Rattle.point_text.specs.declared.fault.PointKind.TheVariants as kind
 use Rattle.point_text.specs.declared.fault.PointFault.{PointFault}
 use Rattle.point_text.specs.Points.{Part, name, literal, slash, parts_of, Begins}
-use Rattle.point_text.specs.PointFaults.{Reading, IsRead, HasFault, bad_token, unexpected, cut_short, unknown, twice, zero_divisor, literal_limit, missing, number, IsNotAfter, IsPointFault, too_long, not_text, first}
+use Rattle.point_text.specs.PointFaults.{Reading, IsRead, HasFault, bad_token, unexpected}
+use Rattle.point_text.specs.PointFaults.{cut_short, unknown, twice, zero_divisor, literal_limit}
+use Rattle.point_text.specs.PointFaults.{missing, number, IsNotAfter, IsPointFault, too_long}
+use Rattle.point_text.specs.PointFaults.{not_text, first}
 use Rattle.point_text.proofs.Spelled.{front_split}
 
 -- ---- a text is read to one token

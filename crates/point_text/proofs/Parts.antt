@@ -1,9 +1,12 @@
 -- Names, literals and divisors among the tokens of entries.
-use Rattle.std.specs.Prelude.{◌≡◌, ◌⊎◌, ℕ, zero, suc, ◌<◌, List, [], ◌∷◌, ◌++◌, slice_get, Option, Some, None, refl}
+use Rattle.std.specs.Prelude.{◌≡◌, ◌⊎◌, ℕ, zero, suc, ◌<◌, List, [], ◌∷◌, ◌++◌, slice_get, Option}
+use Rattle.std.specs.Prelude.{Some, None, refl}
 use Rattle.std.specs.List.{AllByRecursion}
 use Rattle.std.proofs.Common.{sym, ap, ◌∙◌, subst, inl, inr, arith}
 use Rattle.std.proofs.lemmas.Option.{none-some, same_Some}
-use Rattle.point_text.specs.Points.{Part, name, literal, equal, slash, semicolon, Mark, unmarked, with_plus, with_minus, Entry, mark_parts, divisor_parts, entry_parts, entries_parts}
+use Rattle.point_text.specs.Points.{Part, name, literal, equal, slash, semicolon, Mark, unmarked}
+use Rattle.point_text.specs.Points.{with_plus, with_minus, Entry, mark_parts, divisor_parts}
+use Rattle.point_text.specs.Points.{entry_parts, entries_parts}
 
 -- ---- what stands somewhere in a list
 

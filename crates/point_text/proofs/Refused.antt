@@ -1,5 +1,6 @@
 -- What the reading refuses is the first fault.
-use Rattle.std.specs.Prelude.{◌≡◌, ◌≢◌, ℕ, zero, suc, ◌<◌, List, [], ◌∷◌, ◌++◌, length, slice_get, Option, Some, None, Bool, true, false, refl}
+use Rattle.std.specs.Prelude.{◌≡◌, ◌≢◌, ℕ, zero, suc, ◌<◌, List, [], ◌∷◌, ◌++◌, length, slice_get}
+use Rattle.std.specs.Prelude.{Option, Some, None, Bool, true, false, refl}
 use Rattle.std.proofs.Common.{sym, ap, ◌∙◌, subst, inl, inr, arith, append-nil}
 use Rattle.std.proofs.lemmas.Option.{same_Some, slice_get_within}
 use Rattle.fx_model.specs.declared.Literal.{Literal}
@@ -14,17 +15,26 @@ use Rattle.script_nodes.specs.Literals.{ReadsLiterals}
 use Rattle.point_eval.specs.point_values.Rows.{Row}
 use Rattle.point_text.specs.declared.fault.PointKind.TheVariants as kind
 use Rattle.point_text.specs.declared.fault.PointFault.{PointFault}
-use Rattle.point_text.specs.Points.{Part, name, literal, equal, plus, minus, slash, part_of, parts_of, Entry, entries_parts, IsRowOf, IsShortText}
+use Rattle.point_text.specs.Points.{Part, name, literal, equal, plus, minus, slash, part_of}
+use Rattle.point_text.specs.Points.{parts_of, Entry, entries_parts, IsRowOf, IsShortText}
 use Rattle.point_text.specs.PointFaults.{IsPointFault, end_of}
-use Rattle.point_text.specs.Taken.{IsTaken, IsNameTaken, IsLiteralTaken, HasKind, IsSignTaken, IsDivisorTaken, IsFirst, StartsAt, IsUnexpected, IsLimited, IsLiteralRefused, IsZero, IsDivisorRefused, IsRowRefused, no_equal, no_number, no_divisor, no_semicolon, IsPlaceRefused}
+use Rattle.point_text.specs.Taken.{IsTaken, IsNameTaken, IsLiteralTaken, HasKind, IsSignTaken}
+use Rattle.point_text.specs.Taken.{IsDivisorTaken, IsFirst, StartsAt, IsUnexpected, IsLimited}
+use Rattle.point_text.specs.Taken.{IsLiteralRefused, IsZero, IsDivisorRefused, IsRowRefused}
+use Rattle.point_text.specs.Taken.{no_equal, no_number, no_divisor, no_semicolon, IsPlaceRefused}
 use Rattle.point_text.specs.Gathered.{Gathering, gathered, RowsRefused, no_name, no_place, no_row}
 use Rattle.point_text.proofs.Places.{unset_or_set, first_once}
 use Rattle.point_text.proofs.Parts.{Has, name_of_entry, has_name}
-use Rattle.point_text.proofs.Clean.{IsClean, IsFine, AreSound, entries_clean, fine_sign, fine_name, fine_number, fine_divisor}
-use Rattle.point_text.proofs.Machine.{State, at_name, at_equal, at_number, behind_sign, behind_number, at_divisor, behind_divisor, step, run, run_entries}
+use Rattle.point_text.proofs.Clean.{IsClean, IsFine, AreSound, entries_clean, fine_sign, fine_name}
+use Rattle.point_text.proofs.Clean.{fine_number, fine_divisor}
+use Rattle.point_text.proofs.Machine.{State, at_name, at_equal, at_number, behind_sign}
+use Rattle.point_text.proofs.Machine.{behind_number, at_divisor, behind_divisor, step, run}
+use Rattle.point_text.proofs.Machine.{run_entries}
 use Rattle.point_text.proofs.Standing.{part_at, Stands, stands_next, part_here}
-use Rattle.point_text.proofs.Stops.{stuck_fault, end_fault, bad_fault, unknown_fault, twice_fault, limit_fault, zero_fault}
-use Rattle.point_text.proofs.Unmoved.{unnamed, unequal, unnumbered, unnumbered_behind_sign, unended_number, undivided, unended_divisor}
+use Rattle.point_text.proofs.Stops.{stuck_fault, end_fault, bad_fault, unknown_fault, twice_fault}
+use Rattle.point_text.proofs.Stops.{limit_fault, zero_fault}
+use Rattle.point_text.proofs.Unmoved.{unnamed, unequal, unnumbered, unnumbered_behind_sign}
+use Rattle.point_text.proofs.Unmoved.{unended_number, undivided, unended_divisor}
 
 -- ---- what has been gathered has no fault
 

@@ -5,7 +5,9 @@ use Rattle.script_words.specs.declared.class.Symbol.TheVariants as s
 use Rattle.script_words.specs.declared.lex.Token.{Token}
 use Rattle.script_words.specs.declared.lex.TokenKind.TheVariants as kind
 use Rattle.point_text.specs.declared.fault.PointFault.{PointFault}
-use Rattle.point_text.specs.Taken.{IsTaken, IsLiteralTaken, IsSignTaken, IsDivisorTaken, HasKind, IsUnexpected, IsLiteralRefused, IsDivisorRefused, IsRowRefused, no_equal, no_number, no_divisor, no_semicolon}
+use Rattle.point_text.specs.Taken.{IsTaken, IsLiteralTaken, IsSignTaken, IsDivisorTaken, HasKind}
+use Rattle.point_text.specs.Taken.{IsUnexpected, IsLiteralRefused, IsDivisorRefused, IsRowRefused}
+use Rattle.point_text.specs.Taken.{no_equal, no_number, no_divisor, no_semicolon}
 
 pub equal_refused : (text : List ℕ) (rest : List Token) (end f : PointFault)
     → IsUnexpected rest end f → ¬ HasKind (kind.Sign s.Equal) rest → IsRowRefused text rest end f

@@ -1,5 +1,6 @@
 -- A text that spells a point has no fault, and spells one point.
-use Rattle.std.specs.Prelude.{◌≡◌, ℕ, zero, suc, ◌+◌, ◌<◌, List, [], ◌∷◌, ◌++◌, length, take, drop, slice_get, Option, Some, None, Bool, refl}
+use Rattle.std.specs.Prelude.{◌≡◌, ℕ, zero, suc, ◌+◌, ◌<◌, List, [], ◌∷◌, ◌++◌, length, take, drop}
+use Rattle.std.specs.Prelude.{slice_get, Option, Some, None, Bool, refl}
 use Rattle.std.specs.Str.{IsUtf8}
 use Rattle.std.proofs.Common.{sym, ap, ◌∙◌, subst, ⊎_elim, arith}
 use Rattle.std.proofs.Math.Seq.{take-length}
@@ -12,8 +13,12 @@ use Rattle.script_nodes.specs.Literals.{ReadsLiterals}
 use Rattle.point_eval.specs.point_values.Rows.{Row}
 use Rattle.point_text.specs.declared.fault.PointKind.{PointKind}
 use Rattle.point_text.specs.declared.fault.PointFault.{PointFault}
-use Rattle.point_text.specs.Points.{Part, name, literal, plus, minus, slash, parts_of, Mark, unmarked, with_plus, with_minus, Entry, entry_parts, entries_parts, Begins, IsDivisorOf, IsRowOf, SpellsPoint}
-use Rattle.point_text.specs.PointFaults.{Reading, HasFault, bad_token, unexpected, cut_short, unknown, twice, zero_divisor, literal_limit, missing, IsPointFault, too_long, not_text, first}
+use Rattle.point_text.specs.Points.{Part, name, literal, plus, minus, slash, parts_of, Mark}
+use Rattle.point_text.specs.Points.{unmarked, with_plus, with_minus, Entry, entry_parts}
+use Rattle.point_text.specs.Points.{entries_parts, Begins, IsDivisorOf, IsRowOf, SpellsPoint}
+use Rattle.point_text.specs.PointFaults.{Reading, HasFault, bad_token, unexpected, cut_short}
+use Rattle.point_text.specs.PointFaults.{unknown, twice, zero_divisor, literal_limit, missing}
+use Rattle.point_text.specs.PointFaults.{IsPointFault, too_long, not_text, first}
 use Rattle.point_text.proofs.Parts.{has_name}
 use Rattle.point_text.proofs.Clean.{IsClean, AreSound, entries_clean}
 use Rattle.point_text.proofs.Starts.{starts}

@@ -1,5 +1,6 @@
 -- Where the reading stops, the text has its first fault.
-use Rattle.std.specs.Prelude.{◌≡◌, ◌≢◌, ℕ, suc, ◌+◌, List, [], ◌∷◌, ◌++◌, length, slice_get, Option, Some, None, refl}
+use Rattle.std.specs.Prelude.{◌≡◌, ◌≢◌, ℕ, suc, ◌+◌, List, [], ◌∷◌, ◌++◌, length, slice_get, Option}
+use Rattle.std.specs.Prelude.{Some, None, refl}
 use Rattle.std.proofs.Common.{sym, ap, ◌∙◌, subst, inl, inr, arith, append-nil}
 use Rattle.std.proofs.lemmas.Option.{none-some, same_Some, slice_get_within}
 use Rattle.fx_model.specs.declared.Literal.{Literal}
@@ -9,13 +10,18 @@ use Rattle.script_words.specs.Lex.{Lexes}
 use Rattle.script_nodes.specs.Known.{Name}
 use Rattle.point_text.specs.declared.fault.PointKind.{PointKind}
 use Rattle.point_text.specs.declared.fault.PointKind.TheVariants as kind
-use Rattle.point_text.specs.Points.{Part, name, literal, slash, parts_of, Entry, entries_parts, IsUnread, IsShortText}
-use Rattle.point_text.specs.PointFaults.{Reading, IsRead, HasFault, bad_token, unexpected, cut_short, unknown, twice, zero_divisor, literal_limit, missing, IsPointFault, first}
+use Rattle.point_text.specs.Points.{Part, name, literal, slash, parts_of, Entry, entries_parts}
+use Rattle.point_text.specs.Points.{IsUnread, IsShortText}
+use Rattle.point_text.specs.PointFaults.{Reading, IsRead, HasFault, bad_token, unexpected}
+use Rattle.point_text.specs.PointFaults.{cut_short, unknown, twice, zero_divisor, literal_limit}
+use Rattle.point_text.specs.PointFaults.{missing, IsPointFault, first}
 use Rattle.point_text.proofs.Parts.{Has}
 use Rattle.point_text.proofs.Machine.{State, at_name, step, run, run_entries}
 use Rattle.point_text.proofs.Starts.{starts, start_within, bad_within}
-use Rattle.point_text.proofs.Standing.{part_at, Stands, length_parts, part_here, start_here, part_in_front, length_split, start_of, no_start_past}
-use Rattle.point_text.proofs.Firsts.{IsPast, IsStuck, stopped, gone_past, stopped_first, past_first, IsLeast}
+use Rattle.point_text.proofs.Standing.{part_at, Stands, length_parts, part_here, start_here}
+use Rattle.point_text.proofs.Standing.{part_in_front, length_split, start_of, no_start_past}
+use Rattle.point_text.proofs.Firsts.{IsPast, IsStuck, stopped, gone_past, stopped_first, past_first}
+use Rattle.point_text.proofs.Firsts.{IsLeast}
 
 -- a lexing with the tokens split
 lexed_split : (text : List ℕ) (bad : Option ℕ) (tokens us : List Token) → tokens ≡ us

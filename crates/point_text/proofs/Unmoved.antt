@@ -4,7 +4,8 @@ use Rattle.script_words.specs.declared.class.Symbol.TheVariants as s
 use Rattle.script_words.specs.declared.lex.TokenKind.{TokenKind}
 use Rattle.script_words.specs.declared.lex.TokenKind.TheVariants as kind
 use Rattle.point_text.specs.Points.{part_of}
-use Rattle.point_text.proofs.Machine.{at_name, at_equal, at_number, behind_sign, behind_number, at_divisor, behind_divisor, step}
+use Rattle.point_text.proofs.Machine.{at_name, at_equal, at_number, behind_sign, behind_number}
+use Rattle.point_text.proofs.Machine.{at_divisor, behind_divisor, step}
 
 pub unnamed : (k : TokenKind) (bs : List ℕ) → ¬ (k ≡ kind.Name)
     → step at_name (part_of k bs) ≡ None

@@ -4,7 +4,8 @@ use Rattle.script_words.specs.declared.lex.Token.{Token}
 use Rattle.script_nodes.specs.Known.{Name}
 use Rattle.point_eval.specs.point_values.Rows.{Row}
 use Rattle.point_text.specs.Points.{parts_of, Entry, entries_parts, IsRowOf}
-use Rattle.point_text.specs.Taken.{IsFirst, IsNameTaken, StartsAt, HasKind, IsUnexpected, IsPlaceRefused, IsRowRefused}
+use Rattle.point_text.specs.Taken.{IsFirst, IsNameTaken, StartsAt, HasKind, IsUnexpected}
+use Rattle.point_text.specs.Taken.{IsPlaceRefused, IsRowRefused}
 use Rattle.point_text.specs.declared.fault.PointFault.{PointFault}
 use Rattle.point_text.specs.declared.fault.PointKind.TheVariants as fault
 use Rattle.script_words.specs.declared.lex.TokenKind.TheVariants as kind

@@ -1,5 +1,6 @@
 -- Why a text is no point of a script: its first fault.
-use Rattle.std.specs.Prelude.{◌≡◌, ◌≢◌, ◌⊎◌, ℕ, ◌+◌, ◌≤◌, ◌<◌, ◌^◌, List, length, map, take, slice_get, Option, Some, None}
+use Rattle.std.specs.Prelude.{◌≡◌, ◌≢◌, ◌⊎◌, ℕ, ◌+◌, ◌≤◌, ◌<◌, ◌^◌, List, length, map, take}
+use Rattle.std.specs.Prelude.{slice_get, Option, Some, None}
 use Rattle.std.specs.Str.{IsValidUpTo}
 use Rattle.fx_model.specs.declared.Literal.{Literal}
 use Rattle.literal.specs.Normal.{IsReading}
@@ -9,7 +10,8 @@ use Rattle.script_nodes.specs.Known.{Name}
 use Rattle.point_text.specs.declared.fault.PointKind.{PointKind}
 use Rattle.point_text.specs.declared.fault.PointKind.TheVariants as kind
 use Rattle.point_text.specs.declared.fault.PointFault.{PointFault}
-use Rattle.point_text.specs.Points.{Part, name, literal, slash, parts_of, Entry, entries_parts, Begins, IsUnread, IsShortText}
+use Rattle.point_text.specs.Points.{Part, name, literal, slash, parts_of, Entry, entries_parts}
+use Rattle.point_text.specs.Points.{Begins, IsUnread, IsShortText}
 
 -- How far a text is read: its tokens up to the first byte that begins none, and how many of these
 -- begin a list of entries.

@@ -1,12 +1,16 @@
 //! The reading of points.
 
-ghost use Rattle.std.specs.Prelude.{◌≡◌, ◌<◌, ◌≤◌, ◌⊎◌, ◌^◌, List, [], All, drop, length, map, slice_get, Some, None, Err, IfOk, IfErr, IsNone, IfSome};
+ghost use Rattle.std.specs.Prelude.{◌≡◌, ◌<◌, ◌≤◌, ◌⊎◌, ◌^◌, List, [], All, drop, length, map};
+ghost use Rattle.std.specs.Prelude.{slice_get, Some, None, Err, IfOk, IfErr, IsNone, IfSome};
 ghost use Rattle.std.specs.List.{AllByRecursion};
 ghost use Rattle.literal.specs.Normal.{IsNormal};
 ghost use Rattle.script_words.specs.declared.lex.TokenKind.TheVariants as kind;
 ghost use Rattle.script_words.specs.Lex.{IsWithin, Lexes};
 ghost use Rattle.script_words.specs.Named.{token_text};
-ghost use Rattle.point_text.specs.Taken.{IsTaken, IsNameTaken, IsLiteralTaken, IsSignTaken, IsDivisorTaken, IsRowTaken, IsFirst, StartsAt, HasKind, IsUnexpected, IsLiteralRefused, IsDivisorRefused, IsRowRefused, IsNoName, IsPlaceRefused};
+ghost use Rattle.point_text.specs.Taken.{IsTaken, IsNameTaken, IsLiteralTaken, IsSignTaken};
+ghost use Rattle.point_text.specs.Taken.{IsDivisorTaken, IsRowTaken, IsFirst, StartsAt, HasKind};
+ghost use Rattle.point_text.specs.Taken.{IsUnexpected, IsLiteralRefused, IsDivisorRefused};
+ghost use Rattle.point_text.specs.Taken.{IsRowRefused, IsNoName, IsPlaceRefused};
 ghost use Rattle.point_eval.specs.point_values.Rows.{Row, IsRow};
 ghost use Rattle.point_text.specs.Gathered.{Gathered, IsUnset, RowsRefused, IsMissing};
 ghost use Rattle.point_text.specs.Points.{SpellsPoint, IsShortText, IsDivisor, IsSetRow};

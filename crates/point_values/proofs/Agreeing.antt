@@ -1,5 +1,6 @@
 -- Where two agree on the values of expressions, they agree on claims and hints over these.
-use Rattle.std.specs.Prelude.{◌≡◌, ◌&&◌, ◌||◌, ◌++◌, ◌+◌, ◌<◌, not, codes, ℕ, ℤ, List, [], ◌∷◌, Bool, true, Option, Some, if◌then◌else◌, refl}
+use Rattle.std.specs.Prelude.{◌≡◌, ◌&&◌, ◌||◌, ◌++◌, ◌+◌, ◌<◌, not, codes, ℕ, ℤ, List, [], ◌∷◌}
+use Rattle.std.specs.Prelude.{Bool, true, Option, Some, if◌then◌else◌, refl}
 use Rattle.std.specs.Fmt.{decimal}
 use Rattle.std.specs.List.{AllByRecursion, list_all, list_any, flat_map}
 use Rattle.std.proofs.Common.{ap, ◌∙◌}
@@ -13,9 +14,15 @@ use Rattle.script_hints.specs.declared.hint.Constraint.{Constraint}
 use Rattle.script_hints.specs.declared.hint.Constraint.TheVariants as constraint
 use Rattle.script_hints.specs.declared.hint.Hint.{Hint}
 use Rattle.exact_fractions.specs.Wide.{are_narrow, multiple_numbers}
-use Rattle.point_values.specs.Numbers.{of_value, side_numbers, bound_numbers, error_of, error_numbers, claim_numbers, constraint_numbers, hint_numbers, marked_numbers, wide_from, or_else}
-use Rattle.point_values.specs.Truth.{with_value, is_below, is_above, lies_within, are_zero, is_multiple, claim_holds, constraint_holds, agree, hint_holds, marked_holds}
-use Rattle.point_values.specs.Text.{Bytes, value_text, relative_text, goal_text, is_asked, truth_text, goal_truth, hypothesis_line, goal_line, hint_line, point_line, lines_from}
+use Rattle.point_values.specs.Numbers.{of_value, side_numbers, bound_numbers, error_of}
+use Rattle.point_values.specs.Numbers.{error_numbers, claim_numbers, constraint_numbers}
+use Rattle.point_values.specs.Numbers.{hint_numbers, marked_numbers, wide_from, or_else}
+use Rattle.point_values.specs.Truth.{with_value, is_below, is_above, lies_within, are_zero}
+use Rattle.point_values.specs.Truth.{is_multiple, claim_holds, constraint_holds, agree, hint_holds}
+use Rattle.point_values.specs.Truth.{marked_holds}
+use Rattle.point_values.specs.Text.{Bytes, value_text, relative_text, goal_text, is_asked}
+use Rattle.point_values.specs.Text.{truth_text, goal_truth, hypothesis_line, goal_line, hint_line}
+use Rattle.point_values.specs.Text.{point_line, lines_from}
 use Rattle.point_values.specs.Evaluation.{pairs, meets_with, lines_with, wide_with}
 use Rattle.point_values.specs.Among.{AreAmong}
 use Rattle.point_values.proofs.CaseClaims.{has_cases}

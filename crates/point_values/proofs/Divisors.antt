@@ -1,5 +1,6 @@
 -- Entries of points.
-use Rattle.std.specs.Prelude.{◌≡◌, ◌≢◌, ℕ, ℤ, pos, ◌≤◌, ◌*◌, ◌^◌, List, map, length, slice_index_or, Some, None, refl}
+use Rattle.std.specs.Prelude.{◌≡◌, ◌≢◌, ℕ, ℤ, pos, ◌≤◌, ◌*◌, ◌^◌, List, map, length, slice_index_or}
+use Rattle.std.specs.Prelude.{Some, None, refl}
 use Rattle.std.specs.Int.RustNames.{unsigned_abs}
 use Rattle.std.proofs.Common.{arith, sym, ap, ◌∙◌, subst, zero, suc}
 use Rattle.std.proofs.lemmas.Int.{ints, by_lt_z}

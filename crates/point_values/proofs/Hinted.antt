@@ -1,5 +1,6 @@
 -- From hint to hint.
-use Rattle.std.specs.Prelude.{◌≡◌, ◌&&◌, ◌++◌, ◌+◌, ◌<◌, ℕ, List, [], ◌∷◌, drop, length, Bool, true, false, Option, Some, None, if◌then◌else◌, slice_index_or, refl}
+use Rattle.std.specs.Prelude.{◌≡◌, ◌&&◌, ◌++◌, ◌+◌, ◌<◌, ℕ, List, [], ◌∷◌, drop, length, Bool, true}
+use Rattle.std.specs.Prelude.{false, Option, Some, None, if◌then◌else◌, slice_index_or, refl}
 use Rattle.std.specs.List.{list_all}
 use Rattle.std.proofs.Common.{arith, sym, ap, ◌∙◌, suc, append_assoc, append-nil}
 use Rattle.std.proofs.lemmas.List.{drop_all}

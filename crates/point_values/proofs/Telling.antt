@@ -1,5 +1,6 @@
 -- The tests of an evaluation tell what the definitions say.
-use Rattle.std.specs.Prelude.{◌≡◌, ◌≢◌, ◌==◌, ◌&&◌, ◌||◌, not, ℕ, ℤ, List, [], ◌∷◌, Option, Some, None, Bool, true, false, if◌then◌else◌, refl}
+use Rattle.std.specs.Prelude.{◌≡◌, ◌≢◌, ◌==◌, ◌&&◌, ◌||◌, not, ℕ, ℤ, List, [], ◌∷◌, Option, Some}
+use Rattle.std.specs.Prelude.{None, Bool, true, false, if◌then◌else◌, refl}
 use Rattle.std.specs.Option.{IsSomeAnd}
 use Rattle.std.specs.List.{list_all, AllByRecursion}
 use Rattle.std.specs.Int.RustNames.{unsigned_abs}
@@ -8,7 +9,9 @@ use Rattle.std.proofs.lemmas.Bool.{eqb-true}
 use Rattle.std.proofs.lemmas.Nat.Gcd.{dvd_refl}
 use Rattle.std.proofs.Math.Nat.{one-dvd}
 use lib.IntN.{neg_ℤ}
-use Rattle.fx_model.specs.Fraction.{Fraction, ◌-ℚ◌, ◌*ℚ◌, ◌/ℚ◌, le_ℚ, ◌≤ℚ◌, ◌<ℚ◌, is_zero_ℚ, is_zero-zero, is_zero_out, is_zero_not, zero_ℚ, one_ℚ, le_refl, le_antisymm}
+use Rattle.fx_model.specs.Fraction.{Fraction, ◌-ℚ◌, ◌*ℚ◌, ◌/ℚ◌, le_ℚ, ◌≤ℚ◌, ◌<ℚ◌, is_zero_ℚ}
+use Rattle.fx_model.specs.Fraction.{is_zero-zero, is_zero_out, is_zero_not, zero_ℚ, one_ℚ, le_refl}
+use Rattle.fx_model.specs.Fraction.{le_antisymm}
 use Rattle.fx_model.specs.Powers.{whole, two_to, whole-mk, IsMultiple}
 use Rattle.fx_model.specs.Enclosure.{Lies}
 use Rattle.fx_model.specs.Expression.{Assignment, value}
@@ -30,7 +33,9 @@ use Rattle.exact_fractions.specs.Reduced.{numerator, denominator, over}
 use Rattle.exact_fractions.specs.Lowest.{over-mk, over_parts, denominator-over}
 use Rattle.exact_fractions.specs.Exact.{are_equal}
 use Rattle.point_values.specs.Numbers.{error_of}
-use Rattle.point_values.specs.Truth.{with_value, is_from, is_to, lies_within, are_zero, is_multiple, claim_holds, is_below, is_above, constraint_holds, agree, hint_holds}
+use Rattle.point_values.specs.Truth.{with_value, is_from, is_to, lies_within, are_zero, is_multiple}
+use Rattle.point_values.specs.Truth.{claim_holds, is_below, is_above, constraint_holds, agree}
+use Rattle.point_values.specs.Truth.{hint_holds}
 use Rattle.point_values.specs.Told.{ClaimsAreTold, HintsAreTold}
 
 -- the test is true exactly where P holds

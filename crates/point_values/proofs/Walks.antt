@@ -1,18 +1,22 @@
 -- From node to node.
-use Rattle.std.specs.Prelude.{◌≡◌, ℕ, ◌+◌, ◌<◌, List, [], ◌∷◌, ◌++◌, drop, length, map, Option, Some, None, Bool, true, false, if◌then◌else◌, slice_index_or, refl}
+use Rattle.std.specs.Prelude.{◌≡◌, ℕ, ◌+◌, ◌<◌, List, [], ◌∷◌, ◌++◌, drop, length, map, Option}
+use Rattle.std.specs.Prelude.{Some, None, Bool, true, false, if◌then◌else◌, slice_index_or, refl}
 use Rattle.std.proofs.Common.{arith, sym, ap, ◌∙◌, subst, length-append, suc, ⊎_elim}
 use Rattle.std.proofs.lemmas.List.{get_or_append_left, length-map, drop_all, map-append}
 use Rattle.std.proofs.Math.Seq.{drop-cons, get_or-append_seam}
 use Rattle.std.proofs.lemmas.Bool.{cases_lt}
 use Rattle.fx_model.specs.Fraction.{Fraction}
-use Rattle.fx_model.specs.Expression.{Assignment, IsOrdered, ChildrenBelow, node_value, value, same_children, value_step}
+use Rattle.fx_model.specs.Expression.{Assignment, IsOrdered, ChildrenBelow, node_value, value}
+use Rattle.fx_model.specs.Expression.{same_children, value_step}
 use Rattle.fx_model.specs.declared.ExprId.{ExprId}
 use Rattle.fx_model.specs.declared.Node.{Node}
 use Rattle.fx_model.specs.declared.Node.TheVariants.{Var, Lit, Neg, Add, Sub, Mul, Div, Abs, Round}
 use Rattle.exact_fractions.specs.declared.exact.Exact.{Exact}
-use Rattle.exact_fractions.specs.Wide.{are_narrow, sum_numbers, difference_numbers, rounding_numbers}
+use Rattle.exact_fractions.specs.Wide.{are_narrow, sum_numbers, difference_numbers}
+use Rattle.exact_fractions.specs.Wide.{rounding_numbers}
 use Rattle.point_values.specs.Known.{fraction_of, values_of}
-use Rattle.point_values.specs.Numbers.{of_value, of_values, product_numbers, quotient_numbers, node_numbers, wide_from}
+use Rattle.point_values.specs.Numbers.{of_value, of_values, product_numbers, quotient_numbers}
+use Rattle.point_values.specs.Numbers.{node_numbers, wide_from}
 use Rattle.point_values.specs.declared.place.Place.TheVariants as place
 use Rattle.point_values.specs.Walk.{IsWalked, AreKnown}
 

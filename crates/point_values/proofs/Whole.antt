@@ -12,7 +12,8 @@ use Rattle.point_values.specs.Known.{values_of}
 use Rattle.point_values.specs.Rows.{Row, assignment_of}
 use Rattle.point_values.specs.Numbers.{entry_numbers, node_numbers, wide_from, or_else}
 use Rattle.point_values.specs.Walk.{AreKnown}
-use Rattle.point_values.specs.Evaluation.{pairs, lines_with, wide_with, subject_of, evaluation_of, wide_place}
+use Rattle.point_values.specs.Evaluation.{pairs, lines_with, wide_with, subject_of, evaluation_of}
+use Rattle.point_values.specs.Evaluation.{wide_place}
 use Rattle.point_values.specs.Among.{AreAmong}
 use Rattle.point_values.specs.Within.{AreWithin}
 use Rattle.point_values.specs.declared.place.Place.TheVariants as place

@@ -11,9 +11,11 @@ use Rattle.script_hints.specs.declared.hint.Hint.{Hint}
 use Rattle.point_values.specs.declared.place.Place.{Place}
 use Rattle.point_values.specs.declared.place.Place.TheVariants as place
 use Rattle.point_values.specs.Rows.{Row, assignment_of}
-use Rattle.point_values.specs.Numbers.{entry_numbers, node_numbers, claim_numbers, marked_numbers, wide_from, or_else}
+use Rattle.point_values.specs.Numbers.{entry_numbers, node_numbers, claim_numbers, marked_numbers}
+use Rattle.point_values.specs.Numbers.{wide_from, or_else}
 use Rattle.point_values.specs.Truth.{claim_holds, marked_holds}
-use Rattle.point_values.specs.Text.{Bytes, hypothesis_line, goal_line, hint_line, point_line, lines_from}
+use Rattle.point_values.specs.Text.{Bytes, hypothesis_line, goal_line, hint_line, point_line}
+use Rattle.point_values.specs.Text.{lines_from}
 
 -- What is judged at a point: claims and hints over nodes, with a mark for each hint. The cases say
 -- which hypotheses are

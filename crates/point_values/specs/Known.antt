@@ -1,5 +1,6 @@
 -- The values that are known, as the code has them, and what a call answers that finds one.
-use Rattle.std.specs.Prelude.{◌≡◌, ℤ, List, map, Option, Some, None, MatchOption, true, false, slice_index_or}
+use Rattle.std.specs.Prelude.{◌≡◌, ℤ, List, map, Option, Some, None, MatchOption, true, false}
+use Rattle.std.specs.Prelude.{slice_index_or}
 use Rattle.fx_model.specs.Fraction.{Fraction}
 use Rattle.fx_model.specs.declared.ExprId.{ExprId}
 use Rattle.exact_fractions.specs.declared.exact.Exact.{Exact}

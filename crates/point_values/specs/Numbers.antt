@@ -15,7 +15,8 @@ use Rattle.script_claims.specs.declared.claim.Claim.TheVariants as claim
 use Rattle.script_hints.specs.declared.hint.Constraint.{Constraint}
 use Rattle.script_hints.specs.declared.hint.Constraint.TheVariants as constraint
 use Rattle.script_hints.specs.declared.hint.Hint.{Hint}
-use Rattle.exact_fractions.specs.Wide.{are_narrow, numbers_of, sum_numbers, difference_numbers, comparison_numbers, rounding_numbers, multiple_numbers}
+use Rattle.exact_fractions.specs.Wide.{are_narrow, numbers_of, sum_numbers, difference_numbers}
+use Rattle.exact_fractions.specs.Wide.{comparison_numbers, rounding_numbers, multiple_numbers}
 use Rattle.point_values.specs.declared.place.Place.{Place}
 use Rattle.point_values.specs.Rows.{Row}
 

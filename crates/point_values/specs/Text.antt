@@ -1,5 +1,6 @@
 -- The lines of an evaluation. What is counted from 0 prints from 1.
-use Rattle.std.specs.Prelude.{ℕ, ◌+◌, ◌==◌, List, [], ◌∷◌, ◌++◌, codes, Option, Some, None, Bool, true, false, if◌then◌else◌}
+use Rattle.std.specs.Prelude.{ℕ, ◌+◌, ◌==◌, List, [], ◌∷◌, ◌++◌, codes, Option, Some, None, Bool}
+use Rattle.std.specs.Prelude.{true, false, if◌then◌else◌}
 use Rattle.std.specs.Fmt.{decimal, signed_decimal}
 use Rattle.fx_model.specs.Fraction.{Fraction}
 use Rattle.fx_model.specs.declared.ExprId.{ExprId}

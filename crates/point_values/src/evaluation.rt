@@ -7,7 +7,8 @@ ghost use Rattle.script_hints.specs.Needs.{HasNormalBounds as HasNormalHintBound
 ghost use Rattle.point_values.specs.Known.{values_of};
 ghost use Rattle.point_values.specs.Rows.{IsRow, assignment_of};
 ghost use Rattle.point_values.specs.Text as spec;
-ghost use Rattle.point_values.specs.Evaluation.{pairs, lines_with, wide_with, subject_of, evaluation_of, IsNarrow, IsTooWide};
+ghost use Rattle.point_values.specs.Evaluation.{pairs, lines_with, wide_with, subject_of};
+ghost use Rattle.point_values.specs.Evaluation.{evaluation_of, IsNarrow, IsTooWide};
 ghost use Rattle.point_values.specs.Among.{AreAmong};
 ghost use Rattle.point_values.specs.Within.{AreWithin};
 

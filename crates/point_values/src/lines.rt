@@ -1,6 +1,7 @@
 //! The lines of an evaluation.
 
-ghost use Rattle.std.specs.Prelude.{◌≡◌, ◌&&◌, ◌++◌, ◌+◌, ◌<◌, ◌^◌, length, All, Err, IfOk, OnOk, None, Some, true, false, codes, [], if◌then◌else◌};
+ghost use Rattle.std.specs.Prelude.{◌≡◌, ◌&&◌, ◌++◌, ◌+◌, ◌<◌, ◌^◌, length, All, Err, IfOk, OnOk};
+ghost use Rattle.std.specs.Prelude.{None, Some, true, false, codes, [], if◌then◌else◌};
 ghost use Rattle.std.specs.Fmt.{decimal};
 ghost use Rattle.std.specs.List.{list_all};
 ghost use Rattle.script_claims.specs.Facts.{HasNormalBounds};

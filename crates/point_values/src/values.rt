@@ -9,9 +9,11 @@ ghost use Rattle.fx_model.specs.Expression.{lift₁, lift₂, literal_value};
 ghost use Rattle.literal.specs.Normal.{IsNormal};
 ghost use Rattle.expr_dag.specs.Nodes.{IsInLimits};
 ghost use Rattle.exact_fractions.specs.Exact.{value_of};
-ghost use Rattle.exact_fractions.specs.Wide.{numbers_of, sum_numbers, difference_numbers, rounding_numbers};
+ghost use Rattle.exact_fractions.specs.Wide.{numbers_of, sum_numbers, difference_numbers};
+ghost use Rattle.exact_fractions.specs.Wide.{rounding_numbers};
 ghost use Rattle.point_values.specs.Known.{fraction_of, values_of, GivesValue};
-ghost use Rattle.point_values.specs.Numbers.{of_value, of_values, product_numbers, quotient_numbers, node_numbers};
+ghost use Rattle.point_values.specs.Numbers.{of_value, of_values, product_numbers};
+ghost use Rattle.point_values.specs.Numbers.{quotient_numbers, node_numbers};
 
 use exact_fractions::Exact;
 use fx_model::{ExprId, Literal, Node, Rounding};

@@ -1,5 +1,6 @@
 -- What the code's polynomials and quotients stand for, and when they are within the limits.
-use Rattle.std.specs.Prelude.{◌≡◌, ◌+◌, ◌≤◌, ◌<◌, ◌^◌, ℕ, pos, Bool, Option, Some, None, List, [], ◌∷◌, length}
+use Rattle.std.specs.Prelude.{◌≡◌, ◌+◌, ◌≤◌, ◌<◌, ◌^◌, ℕ, pos, Bool, Option, Some, None, List, []}
+use Rattle.std.specs.Prelude.{◌∷◌, length}
 use Rattle.poly_normal.specs.Polynomial.{Polynomial, IsEqual}
 use Rattle.poly_normal.specs.Rows.{IsRising, IsJoined}
 use Rattle.poly_normal.specs.Form.{Side, Form}

@@ -1,10 +1,12 @@
 -- When two expressions are the same rational function.
-use Rattle.std.specs.Prelude.{◌≡◌, ◌⊎◌, ℕ, ◌+◌, ◌<◌, ◌≤◌, ◌^◌, List, slice_index_or, length, Option, Some}
+use Rattle.std.specs.Prelude.{◌≡◌, ◌⊎◌, ℕ, ◌+◌, ◌<◌, ◌≤◌, ◌^◌, List, slice_index_or, length, Option}
+use Rattle.std.specs.Prelude.{Some}
 use Rattle.expr_dag.specs.fx_model.Fraction.{Fraction}
 use Rattle.expr_dag.specs.fx_model.Expression.{Assignment, value, IsOrdered}
 use Rattle.expr_dag.specs.fx_model.declared.ExprId.{ExprId}
 use Rattle.expr_dag.specs.fx_model.declared.Node.{Node}
-use Rattle.expr_dag.specs.fx_model.declared.Node.TheVariants.{Var, Lit, Neg, Add, Sub, Mul, Div, Abs, Round}
+use Rattle.expr_dag.specs.fx_model.declared.Node.TheVariants.{Var, Lit, Neg, Add, Sub, Mul, Div}
+use Rattle.expr_dag.specs.fx_model.declared.Node.TheVariants.{Abs, Round}
 use Rattle.poly_normal.specs.Polynomial.{IsEqual, term_count}
 use Rattle.poly_normal.specs.Form.{Side, Form, form, product}
 use Rattle.poly_normal.specs.declared.sameness.Sameness.{Sameness}

@@ -1,5 +1,7 @@
 -- Polynomials with whole coefficients.
-use Rattle.std.specs.Prelude.{◌≡◌, ℕ, ℤ, pos, neg_ℤ, ◌+ℤ◌, ◌*ℤ◌, ◌+◌, ◌<◌, Bool, true, false, ◌==◌, ◌&&◌, not, if◌then◌else◌, List, [], ◌∷◌, ◌++◌, map, filter, replicate, unsigned_abs}
+use Rattle.std.specs.Prelude.{◌≡◌, ℕ, ℤ, pos, neg_ℤ, ◌+ℤ◌, ◌*ℤ◌, ◌+◌, ◌<◌, Bool, true, false, ◌==◌}
+use Rattle.std.specs.Prelude.{◌&&◌, not, if◌then◌else◌, List, [], ◌∷◌, ◌++◌, map, filter, replicate}
+use Rattle.std.specs.Prelude.{unsigned_abs}
 use Rattle.std.specs.Set.{distinct_count}
 
 -- A product of powers of atoms: at place i the power of the atom with number i, up to the last one

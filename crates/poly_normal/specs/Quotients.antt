@@ -2,8 +2,10 @@
 use Rattle.std.specs.Prelude.{◌≡◌, ℕ, pos, Option, Some, None, List, slice_index_or}
 use Rattle.expr_dag.specs.fx_model.declared.ExprId.{ExprId}
 use Rattle.expr_dag.specs.fx_model.declared.Node.{Node}
-use Rattle.expr_dag.specs.fx_model.declared.Node.TheVariants.{Var, Lit, Neg, Add, Sub, Mul, Div, Abs, Round}
-use Rattle.poly_normal.specs.Form.{Form, negation_form, sum_form, difference_form, product_form, quotient_form}
+use Rattle.expr_dag.specs.fx_model.declared.Node.TheVariants.{Var, Lit, Neg, Add, Sub, Mul, Div}
+use Rattle.expr_dag.specs.fx_model.declared.Node.TheVariants.{Abs, Round}
+use Rattle.poly_normal.specs.Form.{Form, negation_form, sum_form, difference_form, product_form}
+use Rattle.poly_normal.specs.Form.{quotient_form}
 use Rattle.poly_normal.specs.Mark.{HasTooLarge}
 use Rattle.poly_normal.specs.Ratio.{reduced_top, reduced_bottom}
 use Rattle.poly_normal.specs.Limited.{IsLike, side_of, constant_side, atom_side}

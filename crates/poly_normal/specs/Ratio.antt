@@ -1,5 +1,6 @@
 -- Literals as reduced fractions.
-use Rattle.std.specs.Prelude.{◌≡◌, ◌≢◌, ◌⊎◌, ℕ, pos, negsuc, ◌≤ℤ◌, ◌/◌, ◌%◌, ◌^◌, ◌<◌, ◌≤◌, Option, Some, None, List, slice_index_or, length, ⊤}
+use Rattle.std.specs.Prelude.{◌≡◌, ◌≢◌, ◌⊎◌, ℕ, pos, negsuc, ◌≤ℤ◌, ◌/◌, ◌%◌, ◌^◌, ◌<◌, ◌≤◌, Option}
+use Rattle.std.specs.Prelude.{Some, None, List, slice_index_or, length, ⊤}
 use Rattle.expr_dag.specs.fx_model.declared.Literal.{Literal}
 use Rattle.expr_dag.specs.fx_model.declared.Node.{Node}
 use Rattle.expr_dag.specs.fx_model.declared.Node.TheVariants.{Lit}

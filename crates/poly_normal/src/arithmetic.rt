@@ -1,4 +1,5 @@
-ghost use Rattle.std.specs.Prelude.{◌≡◌, ◌+◌, ◌*◌, ◌≤◌, ◌<◌, ◌^◌, ◌↔◌, IsTrue, IfOk, OnOk, length, map, slice_index_or, slice_range};
+ghost use Rattle.std.specs.Prelude.{◌≡◌, ◌+◌, ◌*◌, ◌≤◌, ◌<◌, ◌^◌, ◌↔◌, IsTrue, IfOk, OnOk, length};
+ghost use Rattle.std.specs.Prelude.{map, slice_index_or, slice_range};
 ghost use Rattle.std.specs.List.{AllByRecursion};
 ghost use Rattle.poly_normal.specs.Polynomial as polynomial;
 ghost use Rattle.poly_normal.specs.Polynomial.{IsEqual, monomial_product, term_product};

@@ -1,7 +1,8 @@
 ghost use Rattle.std.specs.Prelude.{◌≡◌, ◌*◌, ◌/◌, ◌^◌, ◌≤◌, ◌<◌};
 ghost use Rattle.std.specs.Int.{IsGcd};
 ghost use Rattle.poly_normal.specs.Form.{common_divisor_to};
-ghost use Rattle.poly_normal.specs.Ratio.{IsBelowLimit, IsPlain, IsRatio, reduced_bottom, reduced_top};
+ghost use Rattle.poly_normal.specs.Ratio.{IsBelowLimit, IsPlain, IsRatio, reduced_bottom};
+ghost use Rattle.poly_normal.specs.Ratio.{reduced_top};
 
 use expr_dag::Literal;
 

@@ -1,6 +1,7 @@
 ghost use Rattle.std.specs.Prelude.{◌≡◌, ◌+◌, ◌*◌, ◌≤◌, ◌<◌, ◌^◌, IfOk, length};
 ghost use Rattle.poly_normal.specs.Form as form;
-ghost use Rattle.poly_normal.specs.Limited.{IsLike, IsLimited, IsWithin, atom_side, constant_side, side_of};
+ghost use Rattle.poly_normal.specs.Limited.{IsLike, IsLimited, IsWithin, atom_side, constant_side};
+ghost use Rattle.poly_normal.specs.Limited.{side_of};
 ghost use Rattle.poly_normal.specs.Ratio.{IsBelowLimit};
 ghost use Rattle.poly_normal.specs.Rows.{IsJoined};
 ghost use Rattle.poly_normal.specs.TermsOf.{polynomial_of};

@@ -1,13 +1,17 @@
 -- Texts that are read as words wherever they stand, and how they are joined.
-use Rattle.std.proofs.Common.{◌≡◌, ℕ, suc, ◌+◌, arith, false, List, [], ◌∷◌, ◌++◌, length, map, Some, refl, sym, ap, ◌∙◌, subst, append_assoc}
+use Rattle.std.proofs.Common.{◌≡◌, ℕ, suc, ◌+◌, arith, false, List, [], ◌∷◌, ◌++◌, length, map}
+use Rattle.std.proofs.Common.{Some, refl, sym, ap, ◌∙◌, subst, append_assoc}
 use Rattle.script_words.specs.declared.class.Symbol.{Symbol}
 use Rattle.script_words.specs.declared.lex.TokenKind.{TokenKind}
 use Rattle.script_words.specs.declared.lex.TokenKind.TheVariants as kind
 use Rattle.script_words.specs.Lex.{blank_len, front}
 use Rattle.script_words.specs.Quiet.{IsQuiet, EndsBeforeQuiet}
 use Rattle.script_words.specs.Words.{Word, name, literal, sign}
-use Rattle.script_words.specs.Named.{Naming, nothing, naming_after, spelled_of, number_of, IsWordsOf}
-use Rattle.program_truths.proofs.Pieces.{Piece, printed, AreApart, printed-append, apart-append, piece_word, DefineNone, tokens_at, reads_tokens, reads_words}
+use Rattle.script_words.specs.Named.{Naming, nothing, naming_after, spelled_of, number_of}
+use Rattle.script_words.specs.Named.{IsWordsOf}
+use Rattle.program_truths.proofs.Pieces.{Piece, printed, AreApart, printed-append, apart-append}
+use Rattle.program_truths.proofs.Pieces.{piece_word, DefineNone, tokens_at, reads_tokens}
+use Rattle.program_truths.proofs.Pieces.{reads_words}
 use Rattle.program_truths.proofs.Lines.{IsWordText, word_alone, front_of_word, piece}
 
 -- ---- definitions of operators

@@ -1,5 +1,6 @@
 -- The value of what a step does.
-use Rattle.std.proofs.Common.{◌≡◌, ℕ, codes, List, [], ◌++◌, map, Option, Some, None, sym, ap, ◌∙◌, subst, append_assoc, append-nil}
+use Rattle.std.proofs.Common.{◌≡◌, ℕ, codes, List, [], ◌++◌, map, Option, Some, None, sym, ap, ◌∙◌}
+use Rattle.std.proofs.Common.{subst, append_assoc, append-nil}
 use Rattle.std.specs.List.{list_any}
 use Rattle.std.specs.Str.{bytes_eq}
 use Rattle.std.specs.Str.Parse.{digits_value}
@@ -11,15 +12,19 @@ use Rattle.fx_model.specs.declared.Node.TheVariants.{Lit}
 use Rattle.fx_model.specs.Expression.{IsOrdered}
 use Rattle.expr_dag.specs.Extended.{ValuesStay}
 use Rattle.script_nodes.specs.Literals.{literal_of}
-use Rattle.script_nodes.specs.Known.{Name, Known, PlacedNode, put, variable_put, name_put, entry_of, named as name_placed}
+use Rattle.script_nodes.specs.Known.{Name, Known, PlacedNode, put, variable_put, name_put, entry_of}
+use Rattle.script_nodes.specs.Known.{named as name_placed}
 use Rattle.script_nodes.specs.Values.{atom_value, expr_value}
-use Rattle.fixprog.specs.Grammar.{Operand, named, given, Operation, copy, negation, sum, difference, product, shift_right, shift_left}
+use Rattle.fixprog.specs.Grammar.{Operand, named, given, Operation, copy, negation, sum, difference}
+use Rattle.fixprog.specs.Grammar.{product, shift_right, shift_left}
 use Rattle.fixprog.specs.Execution.{Values, operand_value, exact_value}
 use Rattle.fixprog.specs.Printed.{IsShort}
 use Rattle.program_truths.proofs.Trees.{operand_atom, operation_expr}
-use Rattle.program_truths.proofs.Given.{Gives, negation_gives, sum_gives, difference_gives, product_gives, variables_more}
+use Rattle.program_truths.proofs.Given.{Gives, negation_gives, sum_gives, difference_gives}
+use Rattle.program_truths.proofs.Given.{product_gives, variables_more}
 use Rattle.program_truths.proofs.Shifts.{right_value, left_value}
-use Rattle.program_truths.proofs.Knowing.{IsFront, Knows, HasValue, knows_behind, operand_gives, put_variables}
+use Rattle.program_truths.proofs.Knowing.{IsFront, Knows, HasValue, knows_behind, operand_gives}
+use Rattle.program_truths.proofs.Knowing.{put_variables}
 
 -- ---- variables of an operand
 

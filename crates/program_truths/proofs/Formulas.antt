@@ -1,5 +1,7 @@
 -- The formula of a program's script, as propositions.
-use Rattle.std.proofs.Common.{◌≡◌, ◌<◌, true, ℕ, ℤ, pos, negsuc, suc, codes, arith, List, [], ◌∷◌, ◌++◌, length, map, Some, refl, sym, ap, ◌∙◌, subst, append_assoc, append-nil}
+use Rattle.std.proofs.Common.{◌≡◌, ◌<◌, true, ℕ, ℤ, pos, negsuc, suc, codes, arith, List, [], ◌∷◌}
+use Rattle.std.proofs.Common.{◌++◌, length, map, Some, refl, sym, ap, ◌∙◌, subst, append_assoc}
+use Rattle.std.proofs.Common.{append-nil}
 use Rattle.std.specs.List.{AllByRecursion, flat_map}
 use Rattle.script_words.specs.declared.class.Symbol.TheVariants as s
 use Rattle.script_words.specs.declared.class.Spelled.TheVariants as spelled
@@ -9,17 +11,24 @@ use Rattle.script_words.specs.Literals.{is_word}
 use Rattle.script_words.specs.Lex.{front}
 use Rattle.script_words.specs.Quiet.{IsQuiet, EndsBeforeQuiet}
 use Rattle.script_words.specs.Words.{Word, name, sign}
-use Rattle.script_shape.specs.Tree.{Bound, bound_words, between, Prop, lies_in, prop_words, Formula, formula_words}
+use Rattle.script_shape.specs.Tree.{Bound, bound_words, between, Prop, lies_in, prop_words, Formula}
+use Rattle.script_shape.specs.Tree.{formula_words}
 use Rattle.fixprog.specs.declared.format.Format.{Format}
 use Rattle.fixprog.specs.declared.program.Mark.{Mark}
 use Rattle.fixprog.specs.declared.program.Mark.TheVariants as mark
 use Rattle.fixprog.specs.Words.{Name}
 use Rattle.fixprog.specs.Grammar.{Input, Step}
 use Rattle.fixprog.specs.Formats.{format_of, least, greatest}
-use Rattle.fixprog.specs.Turned.{mark_text, bound_text, range_text, input_text, word_text, format_goal, output_goal, last_place_text, joined}
-use Rattle.program_truths.proofs.Lines.{IsWordText, quiet_blank, quiet_close, quiet_comma, comma_alone, open_alone, front_of_word}
-use Rattle.program_truths.proofs.Chunks.{Chunk, Any, Quiet, Before, seq, retold, behind_blank, name_chunk, literal_chunk, sign_chunk}
-use Rattle.program_truths.proofs.Trees.{alone, also, so, name_expr, marked, end_bound, range_prop, place_prop, word_literal, word_bound, format_prop, output_prop, input_props, and_all, goals_behind, goals_alone}
+use Rattle.fixprog.specs.Turned.{mark_text, bound_text, range_text, input_text, word_text}
+use Rattle.fixprog.specs.Turned.{format_goal, output_goal, last_place_text, joined}
+use Rattle.program_truths.proofs.Lines.{IsWordText, quiet_blank, quiet_close, quiet_comma}
+use Rattle.program_truths.proofs.Lines.{comma_alone, open_alone, front_of_word}
+use Rattle.program_truths.proofs.Chunks.{Chunk, Any, Quiet, Before, seq, retold, behind_blank}
+use Rattle.program_truths.proofs.Chunks.{name_chunk, literal_chunk, sign_chunk}
+use Rattle.program_truths.proofs.Trees.{alone, also, so, name_expr, marked, end_bound, range_prop}
+use Rattle.program_truths.proofs.Trees.{place_prop, word_literal, word_bound, format_prop}
+use Rattle.program_truths.proofs.Trees.{output_prop, input_props, and_all, goals_behind}
+use Rattle.program_truths.proofs.Trees.{goals_alone}
 use Rattle.program_truths.proofs.Operations.{minus_word}
 use Rattle.program_truths.proofs.StepLines.{IsPlaceText, place_chunk, close_alone}
 use Rattle.program_truths.proofs.Lines.{piece}

@@ -1,5 +1,7 @@
 -- What an expression adds to what is known, and its value.
-use Rattle.std.proofs.Common.{◌≡◌, ◌<◌, ◌≤◌, List, [], ◌∷◌, ◌++◌, length, Option, Some, Bool, true, false, refl, sym, ap, ◌∙◌, arith, slice_index_or, append_assoc, append-nil, if◌then◌else◌}
+use Rattle.std.proofs.Common.{◌≡◌, ◌<◌, ◌≤◌, List, [], ◌∷◌, ◌++◌, length, Option, Some, Bool, true}
+use Rattle.std.proofs.Common.{false, refl, sym, ap, ◌∙◌, arith, slice_index_or, append_assoc}
+use Rattle.std.proofs.Common.{append-nil, if◌then◌else◌}
 use Rattle.std.specs.List.{list_any, position_or_len}
 use Rattle.std.specs.Str.{bytes_eq}
 use Rattle.fx_model.specs.Fraction.{Fraction, zero_ℚ, ◌+ℚ◌, ◌-ℚ◌, ◌*ℚ◌, neg_ℚ}
@@ -9,7 +11,8 @@ use Rattle.fx_model.specs.declared.Literal.{Literal}
 use Rattle.fx_model.specs.declared.ExprId.{ExprId}
 use Rattle.fx_model.specs.declared.Node.{Node}
 use Rattle.fx_model.specs.declared.Node.TheVariants.{Var, Lit, Neg, Add, Sub, Mul, Round}
-use Rattle.fx_model.specs.Expression.{Assignment, ChildrenBelow, IsOrdered, node_value, value, literal_value, lift₁, lift₂}
+use Rattle.fx_model.specs.Expression.{Assignment, ChildrenBelow, IsOrdered, node_value, value}
+use Rattle.fx_model.specs.Expression.{literal_value, lift₁, lift₂}
 use Rattle.expr_dag.specs.Extended.{ValuesStay}
 use Rattle.script_nodes.specs.Known.{Name, Known, PlacedNode, put, variable_put, variables_with}
 use Rattle.program_truths.proofs.Nodes.{put_is}
@@ -85,7 +88,8 @@ module _ (stay : ValuesStay) (a : Assignment) where
   negation_gives k q v g = put_behind k q v (lift₁ neg_ℚ v) (Neg q.1) g g.within
       (ap (lift₁ neg_ℚ) g.is)
 
-  pub rounded_gives : (r : Rounding) (k : Known) (q : PlacedNode) (v : Option Fraction) → Gives a k q v
+  pub rounded_gives : (r : Rounding) (k : Known) (q : PlacedNode) (v : Option Fraction)
+      → Gives a k q v
       → Gives a k (put q.0 (Round r q.1)) (lift₁ (rounded r.dir r.lsb) v)
   rounded_gives r k q v g = put_behind k q v (lift₁ (rounded r.dir r.lsb) v) (Round r q.1) g
       g.within (ap (lift₁ (rounded r.dir r.lsb)) g.is)
@@ -95,7 +99,8 @@ module _ (stay : ValuesStay) (a : Assignment) where
       → Gives a p.0 q w → p.1.0 < length q.0.nodes
   first_within k p q v w g h = let x = g.within in let y = h.longer in omega (arith, x, y)
 
-  first_is : (k : Known) (p q : PlacedNode) (v w : Option Fraction) → Gives a k p v → Gives a p.0 q w
+  first_is : (k : Known) (p q : PlacedNode) (v w : Option Fraction)
+      → Gives a k p v → Gives a p.0 q w
       → value q.0.nodes a p.1 ≡ v
   first_is k p q v w g h = h.kept p.1 g.within ∙ g.is
 

@@ -1,5 +1,7 @@
 -- What a program in which nothing is wrong gives the judge of scripts.
-use Rattle.std.proofs.Common.{◌≡◌, ◌<◌, ◌≤◌, ◌≤ℤ◌, ◌^◌, ◌-◌, ◌+◌, ◌&&◌, ◌||◌, not, ℕ, pos, zero, suc, Bool, true, false, List, [], ◌∷◌, refl, sym, ap, ◌∙◌, subst, arith, lit≤, if◌then◌else◌}
+use Rattle.std.proofs.Common.{◌≡◌, ◌<◌, ◌≤◌, ◌≤ℤ◌, ◌^◌, ◌-◌, ◌+◌, ◌&&◌, ◌||◌, not, ℕ, pos, zero}
+use Rattle.std.proofs.Common.{suc, Bool, true, false, List, [], ◌∷◌, refl, sym, ap, ◌∙◌, subst}
+use Rattle.std.proofs.Common.{arith, lit≤, if◌then◌else◌}
 use Rattle.std.specs.Prelude.{neg_ℤ}
 use Rattle.std.specs.Str.{bytes_eq}
 use Rattle.std.specs.Str.Parse.{digits_value}
@@ -18,15 +20,20 @@ use Rattle.fixprog.specs.declared.format.Format.{Format}
 use Rattle.fixprog.specs.declared.program.Mark.{Mark}
 use Rattle.fixprog.specs.declared.program.Mark.TheVariants as mark
 use Rattle.fixprog.specs.Words.{Name}
-use Rattle.fixprog.specs.Grammar.{Operand, named, given, Operation, copy, negation, sum, difference, product, shift_right, shift_left, Input, Step, input, step}
+use Rattle.fixprog.specs.Grammar.{Operand, named, given, Operation, copy, negation, sum, difference}
+use Rattle.fixprog.specs.Grammar.{product, shift_right, shift_left, Input, Step, input, step}
 use Rattle.fixprog.specs.Formats.{format_of, is_format, least, greatest, last_place, word_value}
-use Rattle.fixprog.specs.Faults.{Before, is_among, is_literal, is_outside, is_crossed, bound_value, fault_if, new_name_faults, weight_faults, format_faults, bound_faults, operand_faults, operation_faults, statement_faults, is_way}
+use Rattle.fixprog.specs.Faults.{Before, is_among, is_literal, is_outside, is_crossed, bound_value}
+use Rattle.fixprog.specs.Faults.{fault_if, new_name_faults, weight_faults, format_faults}
+use Rattle.fixprog.specs.Faults.{bound_faults, operand_faults, operation_faults, statement_faults}
+use Rattle.fixprog.specs.Faults.{is_way}
 use Rattle.program_truths.proofs.Trees.{end_bound, word_bound}
 use Rattle.program_truths.proofs.Spelled.{none_front, none_behind, not_if, no_if, short_by, narrow}
 use Rattle.program_truths.proofs.BoundValues.{text_with, word_reading, least_is, greatest_is}
 use Rattle.program_truths.proofs.Own.{apart}
 use Rattle.program_truths.proofs.Rows.{bound_fine, bound_number}
-use Rattle.program_truths.proofs.StepRows.{OperandFine, OperationFine, OperandApart, OperationApart, operand_known, operation_known}
+use Rattle.program_truths.proofs.StepRows.{OperandFine, OperationFine, OperandApart, OperationApart}
+use Rattle.program_truths.proofs.StepRows.{operand_known, operation_known}
 
 number_is : (b : Bound) → bound_number b ≡ written_value (bound_written b)
 number_is (unsigned k t) = refl

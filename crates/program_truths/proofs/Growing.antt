@@ -1,5 +1,6 @@
 -- The names of variables only join.
-use Rattle.std.proofs.Common.{◌≡◌, List, [], ◌∷◌, ◌++◌, Option, Some, None, Bool, true, false, refl, sym, ap, ◌∙◌, append_assoc, append-nil, codes, if◌then◌else◌}
+use Rattle.std.proofs.Common.{◌≡◌, List, [], ◌∷◌, ◌++◌, Option, Some, None, Bool, true, false, refl}
+use Rattle.std.proofs.Common.{sym, ap, ◌∙◌, append_assoc, append-nil, codes, if◌then◌else◌}
 use Rattle.std.specs.List.{list_any}
 use Rattle.std.specs.Str.{bytes_eq}
 use Rattle.std.specs.Str.Parse.{digits_value}
@@ -8,10 +9,12 @@ use Rattle.fx_model.specs.declared.ExprId.{ExprId}
 use Rattle.fx_model.specs.declared.Node.{Node}
 use Rattle.fx_model.specs.declared.Node.TheVariants.{Lit}
 use Rattle.script_nodes.specs.Literals.{literal_of}
-use Rattle.script_nodes.specs.Known.{Name, Known, PlacedNode, put, variable_put, name_put, entry_of, named as name_placed}
+use Rattle.script_nodes.specs.Known.{Name, Known, PlacedNode, put, variable_put, name_put, entry_of}
+use Rattle.script_nodes.specs.Known.{named as name_placed}
 use Rattle.script_nodes.specs.Definitions.{with_value}
 use Rattle.script_nodes.specs.Values.{atom_value, expr_value}
-use Rattle.fixprog.specs.Grammar.{Operand, named, given, Operation, copy, negation, sum, difference, product, shift_right, shift_left, Step}
+use Rattle.fixprog.specs.Grammar.{Operand, named, given, Operation, copy, negation, sum, difference}
+use Rattle.fixprog.specs.Grammar.{product, shift_right, shift_left, Step}
 use Rattle.program_truths.proofs.Trees.{operand_atom, operation_expr, step_expr}
 use Rattle.program_truths.proofs.Knowing.{IsFront}
 

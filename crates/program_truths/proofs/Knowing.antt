@@ -1,5 +1,6 @@
 -- The names of a run and their nodes.
-use Rattle.std.proofs.Common.{◌≡◌, ◌<◌, ◌⊎◌, inl, inr, List, [], ◌++◌, length, map, Option, Some, None, refl, sym, ap, ◌∙◌, subst, arith, append-nil, slice_index_or}
+use Rattle.std.proofs.Common.{◌≡◌, ◌<◌, ◌⊎◌, inl, inr, List, [], ◌++◌, length, map, Option, Some}
+use Rattle.std.proofs.Common.{None, refl, sym, ap, ◌∙◌, subst, arith, append-nil, slice_index_or}
 use Rattle.std.specs.List.{position_or_len}
 use Rattle.std.specs.Str.{bytes_eq}
 use Rattle.fx_model.specs.Fraction.{Fraction, zero_ℚ}
@@ -7,7 +8,8 @@ use Rattle.fx_model.specs.declared.ExprId.{ExprId}
 use Rattle.fx_model.specs.Expression.{Assignment, IsOrdered, value}
 use Rattle.expr_dag.specs.Extended.{ValuesStay}
 use Rattle.script_nodes.specs.Literals.{literal_of}
-use Rattle.script_nodes.specs.Known.{Name, Known, PlacedNode, entry_of, put, variable_put, variables_with, name_put, named as name_placed}
+use Rattle.script_nodes.specs.Known.{Name, Known, PlacedNode, entry_of, put, variable_put}
+use Rattle.script_nodes.specs.Known.{variables_with, name_put, named as name_placed}
 use Rattle.script_nodes.specs.Values.{atom_value}
 use Rattle.fixprog.specs.Grammar.{Operand, named, given}
 use Rattle.fixprog.specs.Execution.{Values, value_or_zero, operand_value}

@@ -1,5 +1,6 @@
 -- The line of a step, as tokens with blanks between.
-use Rattle.std.proofs.Common.{◌≡◌, ℕ, ◌+◌, ◌==◌, ◌||◌, Bool, true, false, cond, List, [], ◌∷◌, ◌++◌, length, map, Some, None, refl, sym, ap, ◌∙◌, subst, arith}
+use Rattle.std.proofs.Common.{◌≡◌, ℕ, ◌+◌, ◌==◌, ◌||◌, Bool, true, false, cond, List, [], ◌∷◌, ◌++◌}
+use Rattle.std.proofs.Common.{length, map, Some, None, refl, sym, ap, ◌∙◌, subst, arith}
 use Rattle.std.specs.Prelude.{codes}
 use Rattle.std.proofs.lemmas.Bool.{eqb-true}
 use Rattle.script_words.specs.declared.class.Symbol.{Symbol}
@@ -13,8 +14,11 @@ use Rattle.script_words.specs.Quiet.{IsQuiet, EndsBeforeQuiet}
 use Rattle.script_words.specs.declared.class.Spelled.TheVariants as spelled
 use Rattle.script_words.specs.declared.class.Number.TheVariants as digits_kind
 use Rattle.script_words.specs.Named.{nothing, spelled_of, number_of, IsWordsOf}
-use Rattle.script_shape.specs.Tree.{plain, free, digits, opposite, fixed, term, factor, product, atom, Atom, variable, rounded, exactly, Definition, names_value, definition_words}
-use Rattle.program_truths.proofs.Pieces.{Piece, printed, AreApart, piece_word, DefineNone, tokens_at, reads_tokens, reads_words}
+use Rattle.script_shape.specs.Tree.{plain, free, digits, opposite, fixed, term, factor, product}
+use Rattle.script_shape.specs.Tree.{atom, Atom, variable, rounded, exactly, Definition, names_value}
+use Rattle.script_shape.specs.Tree.{definition_words}
+use Rattle.program_truths.proofs.Pieces.{Piece, printed, AreApart, piece_word, DefineNone}
+use Rattle.program_truths.proofs.Pieces.{tokens_at, reads_tokens, reads_words}
 
 -- ---- pieces
 

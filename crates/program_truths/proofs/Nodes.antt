@@ -1,5 +1,7 @@
 -- The values of nodes that are put behind others.
-use Rattle.std.proofs.Common.{◌≡◌, ◌<◌, ◌≤◌, ℕ, ◌+◌, List, [], ◌∷◌, ◌++◌, length, Option, Some, None, inl, inr, refl, sym, ap, ◌∙◌, subst, arith, slice_index_or, length-append}
+use Rattle.std.proofs.Common.{◌≡◌, ◌<◌, ◌≤◌, ℕ, ◌+◌, List, [], ◌∷◌, ◌++◌, length, Option, Some}
+use Rattle.std.proofs.Common.{None, inl, inr, refl, sym, ap, ◌∙◌, subst, arith, slice_index_or}
+use Rattle.std.proofs.Common.{length-append}
 use Rattle.std.specs.Prelude.{position}
 use Rattle.std.proofs.lemmas.Bool.{cases_lt}
 use Rattle.std.proofs.lemmas.List.{get_or_append_left}
@@ -7,7 +9,8 @@ use Rattle.std.proofs.Math.Seq.{get_or-append_seam}
 use Rattle.std.proofs.lemmas.List.Quantifiers.{position-Some}
 use Rattle.fx_model.specs.declared.ExprId.{ExprId}
 use Rattle.fx_model.specs.declared.Node.{Node}
-use Rattle.fx_model.specs.Expression.{Assignment, ChildrenBelow, IsOrdered, node_value, value, value_step, same_children}
+use Rattle.fx_model.specs.Expression.{Assignment, ChildrenBelow, IsOrdered, node_value, value}
+use Rattle.fx_model.specs.Expression.{value_step, same_children}
 use Rattle.expr_dag.specs.Nodes.{same_node, numbered, placed, with_node}
 use Rattle.expr_dag.specs.Same.{same}
 use Rattle.expr_dag.specs.Extended.{ValuesStay}

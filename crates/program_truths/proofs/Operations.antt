@@ -8,10 +8,12 @@ use Rattle.script_words.specs.declared.lex.TokenKind.TheVariants as kind
 use Rattle.script_words.specs.Lex.{front}
 use Rattle.script_words.specs.Quiet.{EndsBeforeQuiet}
 use Rattle.script_shape.specs.Tree.{atom_words, expr_words}
-use Rattle.fixprog.specs.Grammar.{Operand, named, given, Operation, copy, negation, sum, difference, product, shift_right, shift_left}
+use Rattle.fixprog.specs.Grammar.{Operand, named, given, Operation, copy, negation, sum, difference}
+use Rattle.fixprog.specs.Grammar.{product, shift_right, shift_left}
 use Rattle.fixprog.specs.Turned.{operand_text, operation_text}
 use Rattle.program_truths.proofs.Lines.{IsWordText, quiet_blank, minus_before}
-use Rattle.program_truths.proofs.Chunks.{Chunk, Quiet, Before, seq, behind_blank, name_chunk, literal_chunk, sign_chunk}
+use Rattle.program_truths.proofs.Chunks.{Chunk, Quiet, Before, seq, behind_blank, name_chunk}
+use Rattle.program_truths.proofs.Chunks.{literal_chunk, sign_chunk}
 use Rattle.program_truths.proofs.Trees.{operand_atom, operation_expr}
 
 abbrev pub IsOperandText : Operand → Type 0

@@ -1,5 +1,6 @@
 -- Values lie in the lines of their goals.
-use Rattle.std.proofs.Common.{◌≡◌, ℕ, List, [], ◌∷◌, ◌++◌, map, Option, Some, None, refl, sym, ap, ◌∙◌}
+use Rattle.std.proofs.Common.{◌≡◌, ℕ, List, [], ◌∷◌, ◌++◌, map, Option, Some, None, refl, sym, ap}
+use Rattle.std.proofs.Common.{◌∙◌}
 use Rattle.std.specs.Prelude.{slice_get}
 use Rattle.std.specs.List.{AllByRecursion}
 use Rattle.std.specs.Option.{IsSomeAnd, option_map}
@@ -14,7 +15,9 @@ use Rattle.goals.specs.declared.line.Line.TheVariants as line
 use Rattle.goals.specs.Holds.{LineHolds}
 use Rattle.script_nodes.specs.Known.{Known, named, entry_of}
 use Rattle.script_claims.specs.declared.claim.Claim.{Claim}
-use Rattle.script_claims.specs.declared.claim.Claim.TheVariants.{Bounded, Asked, Relative, RelativeAsked, Multiple, Above, Below}
+use Rattle.script_claims.specs.declared.claim.Claim.TheVariants.{Bounded, Asked, Relative}
+use Rattle.script_claims.specs.declared.claim.Claim.TheVariants.{RelativeAsked, Multiple, Above}
+use Rattle.script_claims.specs.declared.claim.Claim.TheVariants.{Below}
 use Rattle.script_claims.specs.Facts.{slot_of}
 use Rattle.script_meets.specs.script_grammar.Spells.{View}
 use Rattle.fixprog.specs.Words.{Name}

@@ -1,5 +1,6 @@
 -- The names of a program in which nothing is wrong are apart, and its operands are known.
-use Rattle.std.proofs.Common.{◌≡◌, ◌⊎◌, inl, inr, ◌||◌, not, ℕ, ℤ, ◌+◌, Bool, true, false, List, [], ◌∷◌, ◌++◌, length, map, Some, refl, sym, ap, ◌∙◌, if◌then◌else◌}
+use Rattle.std.proofs.Common.{◌≡◌, ◌⊎◌, inl, inr, ◌||◌, not, ℕ, ℤ, ◌+◌, Bool, true, false, List, []}
+use Rattle.std.proofs.Common.{◌∷◌, ◌++◌, length, map, Some, refl, sym, ap, ◌∙◌, if◌then◌else◌}
 use Rattle.std.specs.List.{AllByRecursion}
 use Rattle.std.specs.Str.{bytes_eq}
 use Rattle.std.specs.Str.Parse.{digits_value}
@@ -8,9 +9,14 @@ use Rattle.std.proofs.lemmas.Slice.Eq.{bytes_eq-Decides}
 use Rattle.fx_model.specs.Fraction.{Fraction, ◌≤ℚ◌}
 use Rattle.expr_dag.specs.Extended.{ValuesStay}
 use Rattle.script_nodes.specs.Known.{Name, entry_of}
-use Rattle.fixprog.specs.Grammar.{Operand, named, given, Operation, copy, negation, sum, difference, product, shift_right, shift_left, Input, Step, Statement, input, step, output, statement_words}
+use Rattle.fixprog.specs.Grammar.{Operand, named, given, Operation, copy, negation, sum, difference}
+use Rattle.fixprog.specs.Grammar.{product, shift_right, shift_left, Input, Step, Statement, input}
+use Rattle.fixprog.specs.Grammar.{step, output, statement_words}
 use Rattle.fixprog.specs.Formats.{format_of, is_format, word_value}
-use Rattle.fixprog.specs.Faults.{Before, after, is_among, fault_if, new_name_faults, known_name_faults, weight_faults, format_faults, operand_faults, operation_faults, statement_faults, faults_from, is_way, bound_value}
+use Rattle.fixprog.specs.Faults.{Before, after, is_among, fault_if, new_name_faults}
+use Rattle.fixprog.specs.Faults.{known_name_faults, weight_faults, format_faults, operand_faults}
+use Rattle.fixprog.specs.Faults.{operation_faults, statement_faults, faults_from, is_way}
+use Rattle.fixprog.specs.Faults.{bound_value}
 use Rattle.fixprog.specs.Execution.{Values, step_value, input_values, AreInRange}
 use Rattle.fixprog.specs.Printed.{IsShort}
 use Rattle.program_truths.proofs.Spelled.{none_front, none_behind, not_if, no_if, short_by, narrow}

@@ -1,5 +1,7 @@
 -- All words of a program's script pass the judge of scripts.
-use Rattle.std.proofs.Common.{◌≡◌, ◌≤◌, ◌+◌, ◌*◌, ◌||◌, not, nat_lt, ℕ, Bool, true, false, List, [], ◌∷◌, ◌++◌, length, map, None, refl, sym, ap, ◌∙◌, subst, arith, append_assoc}
+use Rattle.std.proofs.Common.{◌≡◌, ◌≤◌, ◌+◌, ◌*◌, ◌||◌, not, nat_lt, ℕ, Bool, true, false, List, []}
+use Rattle.std.proofs.Common.{◌∷◌, ◌++◌, length, map, None, refl, sym, ap, ◌∙◌, subst, arith}
+use Rattle.std.proofs.Common.{append_assoc}
 use Rattle.std.specs.List.{AllByRecursion}
 use Rattle.std.specs.Str.{bytes_eq}
 use Rattle.script_words.specs.declared.class.Symbol.TheVariants as s
@@ -15,16 +17,27 @@ use Rattle.script_judge.specs.Counts.{one_if}
 use Rattle.script_judge.specs.Sides.{has_arrow}
 use Rattle.script_judge.specs.Judge.{nothing_seen, Judged}
 use Rattle.fixprog.specs.Words.{Name}
-use Rattle.fixprog.specs.Grammar.{Operand, named, given, Operation, copy, negation, sum, difference, product, shift_right, shift_left, Input, Step, Statement, input, step, output, statement_words, Program, outputs, statements}
+use Rattle.fixprog.specs.Grammar.{Operand, named, given, Operation, copy, negation, sum, difference}
+use Rattle.fixprog.specs.Grammar.{product, shift_right, shift_left, Input, Step, Statement, input}
+use Rattle.fixprog.specs.Grammar.{step, output, statement_words, Program, outputs, statements}
 use Rattle.fixprog.specs.Formats.{format_of, least, greatest}
-use Rattle.fixprog.specs.Faults.{Before, after, new_name_faults, known_name_faults, weight_faults, statement_faults, faults_from, program_faults}
-use Rattle.program_truths.proofs.Trees.{end_bound, word_bound, range_prop, place_prop, format_prop, output_prop, input_props, alone, also, so, and_all, goals_behind, goals_alone, formula_of, program_formula, script_from, tree_of}
+use Rattle.fixprog.specs.Faults.{Before, after, new_name_faults, known_name_faults, weight_faults}
+use Rattle.fixprog.specs.Faults.{statement_faults, faults_from, program_faults}
+use Rattle.program_truths.proofs.Trees.{end_bound, word_bound, range_prop, place_prop, format_prop}
+use Rattle.program_truths.proofs.Trees.{output_prop, input_props, alone, also, so, and_all}
+use Rattle.program_truths.proofs.Trees.{goals_behind, goals_alone, formula_of, program_formula}
+use Rattle.program_truths.proofs.Trees.{script_from, tree_of}
 use Rattle.program_truths.proofs.Spelled.{none_front, none_behind, no_if, narrow}
 use Rattle.program_truths.proofs.Own.{itself, among_front, among_last}
 use Rattle.program_truths.proofs.Passing.{Stands, passes}
-use Rattle.program_truths.proofs.Rows.{Passes, with_known, range_row, range_is, range_passes, range_arrow, asked_row, asked_passes, place_row, place_passes, place_arrow, and_passes, arrow_passes, end_passes, allowed, brace_passes}
-use Rattle.program_truths.proofs.StepRows.{operand_known, operation_known, step_row, step_is, names_behind, step_passes}
-use Rattle.program_truths.proofs.GoalRows.{IsGoalFine, goal_fine, IsInputFine, input_fine, Within, within_cons, not_within, step_fine}
+use Rattle.program_truths.proofs.Rows.{Passes, with_known, range_row, range_is, range_passes}
+use Rattle.program_truths.proofs.Rows.{range_arrow, asked_row, asked_passes, place_row}
+use Rattle.program_truths.proofs.Rows.{place_passes, place_arrow, and_passes, arrow_passes}
+use Rattle.program_truths.proofs.Rows.{end_passes, allowed, brace_passes}
+use Rattle.program_truths.proofs.StepRows.{operand_known, operation_known, step_row, step_is}
+use Rattle.program_truths.proofs.StepRows.{names_behind, step_passes}
+use Rattle.program_truths.proofs.GoalRows.{IsGoalFine, goal_fine, IsInputFine, input_fine, Within}
+use Rattle.program_truths.proofs.GoalRows.{within_cons, not_within, step_fine}
 
 -- ---- the leaves, from the last to the first
 

@@ -1,5 +1,6 @@
 -- Words that the judge of scripts lets pass, by tests of each kind apart.
-use Rattle.std.proofs.Common.{◌≡◌, ◌↔◌, ℕ, ◌+◌, ◌≤◌, ◌&&◌, not, nat_lt, Bool, true, false, List, [], ◌∷◌, length, Option, Some, None, refl, sym, ap, ◌∙◌, subst, arith}
+use Rattle.std.proofs.Common.{◌≡◌, ◌↔◌, ℕ, ◌+◌, ◌≤◌, ◌&&◌, not, nat_lt, Bool, true, false, List, []}
+use Rattle.std.proofs.Common.{◌∷◌, length, Option, Some, None, refl, sym, ap, ◌∙◌, subst, arith}
 use Rattle.fx_model.specs.Fraction.{Fraction}
 use Rattle.fx_model.specs.Grid.{signed}
 use Rattle.fx_model.specs.Expression.{literal_value}
@@ -15,13 +16,20 @@ use Rattle.script_nodes.specs.Literals.{literal_of, LiteralsAreTested, SpelledOn
 use Rattle.script_judge.specs.declared.counts.Counts.{Counts}
 use Rattle.script_judge.specs.declared.counts.ScriptPart.{ScriptPart}
 use Rattle.script_judge.specs.declared.nesting.Open.{Open}
-use Rattle.script_judge.specs.Names.{NamesSeen, names_after, halved_after, is_new, is_used, is_some_among, defines, split_name}
+use Rattle.script_judge.specs.Names.{NamesSeen, names_after, halved_after, is_new, is_used}
+use Rattle.script_judge.specs.Names.{is_some_among, defines, split_name}
 use Rattle.script_judge.specs.Nesting.{opened_after}
-use Rattle.script_judge.specs.Counts.{one_if, is_equal_sign, place_after, begins_definition, begins_proposition, begins_hint, nodes_at, splits_at, pieces_after, rounds_after, halves_after}
-use Rattle.script_judge.specs.Bounds.{IsBoundOf, IsBoundText, IsWordNumber, BoundsSeen, bounds_after, is_bad_bound}
+use Rattle.script_judge.specs.Counts.{one_if, is_equal_sign, place_after, begins_definition}
+use Rattle.script_judge.specs.Counts.{begins_proposition, begins_hint, nodes_at, splits_at}
+use Rattle.script_judge.specs.Counts.{pieces_after, rounds_after, halves_after}
+use Rattle.script_judge.specs.Bounds.{IsBoundOf, IsBoundText, IsWordNumber, BoundsSeen}
+use Rattle.script_judge.specs.Bounds.{bounds_after, is_bad_bound}
 use Rattle.script_judge.specs.Splits.{is_rangeless, is_bad_point}
-use Rattle.script_judge.specs.Numbers.{digits_of, has_no_pieces, is_past_lsb, is_past_pieces, Notes, is_number, IsPastWord, IsPast, Tells}
-use Rattle.script_judge.specs.Judge.{Seen, seen_after, is_ask, is_or, has_arrow, is_empty, is_on_wrong_side, form_kind, limit_kind, is_past_cases, refusal_at, Judged, none_refused, passed}
+use Rattle.script_judge.specs.Numbers.{digits_of, has_no_pieces, is_past_lsb, is_past_pieces, Notes}
+use Rattle.script_judge.specs.Numbers.{is_number, IsPastWord, IsPast, Tells}
+use Rattle.script_judge.specs.Judge.{Seen, seen_after, is_ask, is_or, has_arrow, is_empty}
+use Rattle.script_judge.specs.Judge.{is_on_wrong_side, form_kind, limit_kind, is_past_cases}
+use Rattle.script_judge.specs.Judge.{refusal_at, Judged, none_refused, passed}
 use Rattle.script_cases.specs.Parts.{begun_cases}
 use Rattle.fixprog.specs.Faults.{is_literal}
 

@@ -1,11 +1,14 @@
 -- Printing tokens and reading them back.
-use Rattle.std.proofs.Common.{◌≡◌, ℕ, ◌+◌, ◌-◌, false, List, [], ◌∷◌, ◌++◌, length, drop, take, map, Some, None, option_to_list, refl, sym, ap, ◌∙◌, subst, arith, append_assoc, length-append}
+use Rattle.std.proofs.Common.{◌≡◌, ℕ, ◌+◌, ◌-◌, false, List, [], ◌∷◌, ◌++◌, length, drop, take, map}
+use Rattle.std.proofs.Common.{Some, None, option_to_list, refl, sym, ap, ◌∙◌, subst, arith}
+use Rattle.std.proofs.Common.{append_assoc, length-append}
 use Rattle.std.proofs.Math.Seq.{drop-append_seam, take-append_seam, drop-append-add}
 use Rattle.script_words.specs.declared.lex.TokenKind.{TokenKind}
 use Rattle.script_words.specs.declared.lex.Token.{Token}
 use Rattle.script_words.specs.Lex.{blank_len, front, Lexes, ends, token}
 use Rattle.script_words.specs.Words.{Word}
-use Rattle.script_words.specs.Named.{Naming, kind_word, token_text, token_word, naming_after, defined_by, words_from}
+use Rattle.script_words.specs.Named.{Naming, kind_word, token_text, token_word, naming_after}
+use Rattle.script_words.specs.Named.{defined_by, words_from}
 
 -- a token's text with the blanks before it
 pub record Piece : Type 0 where

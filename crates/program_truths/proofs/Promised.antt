@@ -1,5 +1,6 @@
 -- A program's script tells its runs.
-use Rattle.std.proofs.Common.{◌≡◌, inl, inr, ℕ, ℤ, List, [], ◌∷◌, ◌++◌, map, None, refl, sym, ap, ◌∙◌, subst, arith, append-nil}
+use Rattle.std.proofs.Common.{◌≡◌, inl, inr, ℕ, ℤ, List, [], ◌∷◌, ◌++◌, map, None, refl, sym, ap}
+use Rattle.std.proofs.Common.{◌∙◌, subst, arith, append-nil}
 use Rattle.std.specs.List.{AllByRecursion}
 use Rattle.expr_dag.specs.Extended.{ValuesStay}
 use Rattle.facts.specs.CommonParts.{all_from}
@@ -19,26 +20,34 @@ use Rattle.script_hints.specs.Hints.{no_hints}
 use Rattle.goal_spans.specs.declared.span.Span.{Span}
 use Rattle.goal_spans.specs.Spans.{goal_spans}
 use Rattle.script_meets.specs.script_grammar.Meaning.{meaning_of, meaning_from, body_meaning}
-use Rattle.script_meets.specs.script_grammar.Spells.{View, view_of, Spells as SpellsScript, SpellsOnce}
+use Rattle.script_meets.specs.script_grammar.Spells.{View, view_of, Spells as SpellsScript}
+use Rattle.script_meets.specs.script_grammar.Spells.{SpellsOnce}
 use Rattle.fixprog.specs.Grammar.{Input, Step, Program, outputs, step, output}
 use Rattle.fixprog.specs.Faults.{program_faults}
 use Rattle.fixprog.specs.Formats.{format_of, word_value}
-use Rattle.fixprog.specs.Execution.{Values, value_or_zero, name_value, step_value, input_values, AreInRange}
+use Rattle.fixprog.specs.Execution.{Values, value_or_zero, name_value, step_value, input_values}
+use Rattle.fixprog.specs.Execution.{AreInRange}
 use Rattle.fixprog.specs.Turned.{script_of}
 use Rattle.fixprog.specs.First.{SpelledAreFaultless, WordsAreAlone}
 use Rattle.fixprog.specs.Answer.{ScriptsAreText, ScriptsAreShort}
-use Rattle.program_truths.specs.Promise.{goal_names, assignment_of, Tells, TellsRuns, ScriptsTellRuns, ScriptsAreScripts, NoRunWraps}
+use Rattle.program_truths.specs.Promise.{goal_names, assignment_of, Tells, TellsRuns}
+use Rattle.program_truths.specs.Promise.{ScriptsTellRuns, ScriptsAreScripts, NoRunWraps}
 use Rattle.program_truths.specs.Outputs.{OutputsLie}
 use Rattle.program_truths.proofs.Trees.{step_expr, script_from, program_formula, tree_of}
 use Rattle.program_truths.proofs.Spelled.{faultless_is_read}
 use Rattle.program_truths.proofs.Knowing.{IsFront, Knows}
 use Rattle.program_truths.proofs.Growing.{front_of, steps_known}
 use Rattle.program_truths.proofs.Running.{all_values, steps_ready}
-use Rattle.program_truths.proofs.Saying.{Saying, said_known, said_claims, input_sayings, format_saying, output_saying, goal_sayings, parts_before, program_claims}
-use Rattle.program_truths.proofs.Own.{HasEntry, Covers, Keeps, AreOwn, AreGiven, steps_run, outputs_have, inputs_run}
+use Rattle.program_truths.proofs.Saying.{Saying, said_known, said_claims, input_sayings}
+use Rattle.program_truths.proofs.Saying.{format_saying, output_saying, goal_sayings, parts_before}
+use Rattle.program_truths.proofs.Saying.{program_claims}
+use Rattle.program_truths.proofs.Own.{HasEntry, Covers, Keeps, AreOwn, AreGiven, steps_run}
+use Rattle.program_truths.proofs.Own.{outputs_have, inputs_run}
 use Rattle.program_truths.proofs.Passed.{program_judged}
 use Rattle.program_truths.proofs.Refused.{refused_nowhere}
-use Rattle.program_truths.proofs.Telling.{HaveEntries, AreTold, told_kept, said_grow, said, hypothesis_values, goal_values, run_ends, run_within, hypotheses_true, goals_true, goals_within}
+use Rattle.program_truths.proofs.Telling.{HaveEntries, AreTold, told_kept, said_grow, said}
+use Rattle.program_truths.proofs.Telling.{hypothesis_values, goal_values, run_ends, run_within}
+use Rattle.program_truths.proofs.Telling.{hypotheses_true, goals_true, goals_within}
 use Rattle.program_truths.proofs.Outputs.{goals_plain, lies_in_line}
 
 -- ---- the meaning of the tree

@@ -1,5 +1,7 @@
 -- Words of a program's script that pass, from the last to the first.
-use Rattle.std.proofs.Common.{◌≡◌, ◌<◌, ◌≤◌, ◌+◌, ◌&&◌, ◌||◌, not, nat_lt, ℕ, zero, suc, Bool, true, false, codes, List, [], ◌∷◌, ◌++◌, length, Some, None, refl, ap, ◌∙◌, arith, append_assoc}
+use Rattle.std.proofs.Common.{◌≡◌, ◌<◌, ◌≤◌, ◌+◌, ◌&&◌, ◌||◌, not, nat_lt, ℕ, zero, suc, Bool, true}
+use Rattle.std.proofs.Common.{false, codes, List, [], ◌∷◌, ◌++◌, length, Some, None, refl, ap, ◌∙◌}
+use Rattle.std.proofs.Common.{arith, append_assoc}
 use Rattle.std.specs.Str.Parse.{digits_value}
 use Rattle.std.specs.Fmt.{decimal, digits}
 use Rattle.fx_model.specs.Fraction.{Fraction}
@@ -23,7 +25,9 @@ use Rattle.fixprog.specs.Words.{Name}
 use Rattle.fixprog.specs.Faults.{is_literal}
 use Rattle.program_truths.proofs.Trees.{place_whole, name_expr}
 use Rattle.program_truths.proofs.Texts.{all_below, below}
-use Rattle.program_truths.proofs.Passing.{form_ok, names_ok, opened_ok, places_ok, node_weight, definition_weight, proposition_weight, literal_number, bounds_ok}
+use Rattle.program_truths.proofs.Passing.{form_ok, names_ok, opened_ok, places_ok, node_weight}
+use Rattle.program_truths.proofs.Passing.{definition_weight, proposition_weight, literal_number}
+use Rattle.program_truths.proofs.Passing.{bounds_ok}
 
 -- These words pass all tests, with so many nodes, definitions and propositions at most.
 pub record Passes (n : NamesSeen) (p : ScriptPart) (os : List Open) (ns ds ps : ℕ) (ls : List Leaf)

@@ -1,15 +1,21 @@
 -- What the formula of a program's script claims.
-use Rattle.std.proofs.Common.{◌≡◌, ◌<◌, suc, subst, List, [], ◌∷◌, ◌++◌, length, map, refl, sym, ap, ◌∙◌, arith, length-append, append_assoc, append-nil}
+use Rattle.std.proofs.Common.{◌≡◌, ◌<◌, suc, subst, List, [], ◌∷◌, ◌++◌, length, map, refl, sym, ap}
+use Rattle.std.proofs.Common.{◌∙◌, arith, length-append, append_assoc, append-nil}
 use Rattle.fx_model.specs.declared.ExprId.{ExprId}
 use Rattle.script_shape.specs.Tree.{between, Prop, Formula}
 use Rattle.script_cases.specs.Parts.{Parts}
 use Rattle.script_nodes.specs.Known.{Name, Known, named}
 use Rattle.script_claims.specs.declared.claim.Claim.{Claim}
 use Rattle.script_claims.specs.declared.claim.Claim.TheVariants.{Asked, Multiple}
-use Rattle.script_claims.specs.Claims.{ranged, exponent_of, prop_claim, of_value, Sides, no_sides, with_goal, Claims, then_goal, then_arrow, no_claims, formula_claims}
+use Rattle.script_claims.specs.Claims.{ranged, exponent_of, prop_claim, of_value, Sides, no_sides}
+use Rattle.script_claims.specs.Claims.{with_goal, Claims, then_goal, then_arrow, no_claims}
+use Rattle.script_claims.specs.Claims.{formula_claims}
 use Rattle.fixprog.specs.Grammar.{Input, Step, Program, outputs}
 use Rattle.fixprog.specs.Formats.{format_of, least, greatest}
-use Rattle.program_truths.proofs.Trees.{place_whole, end_bound, word_bound, range_prop, place_prop, format_prop, output_prop, input_props, goal_props, alone, also, so, and_all, goals_behind, goals_alone, formula_of, program_formula}
+use Rattle.program_truths.proofs.Trees.{place_whole, end_bound, word_bound, range_prop, place_prop}
+use Rattle.program_truths.proofs.Trees.{format_prop, output_prop, input_props, goal_props, alone}
+use Rattle.program_truths.proofs.Trees.{also, so, and_all, goals_behind, goals_alone, formula_of}
+use Rattle.program_truths.proofs.Trees.{program_formula}
 
 -- ---- propositions about names
 

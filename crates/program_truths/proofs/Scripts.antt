@@ -1,5 +1,6 @@
 -- The script of a program is read as the words of its tree.
-use Rattle.std.proofs.Common.{◌≡◌, ◌<◌, ℕ, suc, codes, arith, List, [], ◌∷◌, ◌++◌, length, map, refl, sym, ap, ◌∙◌, subst, append_assoc, length-append}
+use Rattle.std.proofs.Common.{◌≡◌, ◌<◌, ℕ, suc, codes, arith, List, [], ◌∷◌, ◌++◌, length, map}
+use Rattle.std.proofs.Common.{refl, sym, ap, ◌∙◌, subst, append_assoc, length-append}
 use Rattle.std.specs.List.{AllByRecursion}
 use Rattle.script_words.specs.declared.class.Symbol.TheVariants as s
 use Rattle.script_words.specs.declared.lex.TokenKind.TheVariants as kind
@@ -8,12 +9,18 @@ use Rattle.script_words.specs.Quiet.{EndsBeforeQuiet}
 use Rattle.script_words.specs.Named.{IsWordsOf}
 use Rattle.script_shape.specs.Tree.{formula_words, script_words}
 use Rattle.fixprog.specs.Grammar.{Input, Program, outputs}
-use Rattle.fixprog.specs.Turned.{format_goal, output_goal, hypotheses_text, goals_text, input_text, joined, lines_of, script_of}
+use Rattle.fixprog.specs.Turned.{format_goal, output_goal, hypotheses_text, goals_text, input_text}
+use Rattle.fixprog.specs.Turned.{joined, lines_of, script_of}
 use Rattle.program_truths.proofs.Lines.{IsWordText}
-use Rattle.program_truths.proofs.Chunks.{Chunk, Any, Before, seq, retold, behind_blank, sign_chunk, chunk_is_read}
-use Rattle.program_truths.proofs.Trees.{alone, range_prop, place_prop, format_prop, output_prop, input_props, goal_props, and_all, formula_of, program_formula, script_from, tree_of}
+use Rattle.program_truths.proofs.Chunks.{Chunk, Any, Before, seq, retold, behind_blank, sign_chunk}
+use Rattle.program_truths.proofs.Chunks.{chunk_is_read}
+use Rattle.program_truths.proofs.Trees.{alone, range_prop, place_prop, format_prop, output_prop}
+use Rattle.program_truths.proofs.Trees.{input_props, goal_props, and_all, formula_of}
+use Rattle.program_truths.proofs.Trees.{program_formula, script_from, tree_of}
 use Rattle.program_truths.proofs.StepLines.{IsStepText, lines_chunk}
-use Rattle.program_truths.proofs.Formulas.{IsInputText, IsGoalText, AreProps, props-append, goals_behind_chunk, goals_alone_chunk, hypotheses_chunk, format_goals, output_goals}
+use Rattle.program_truths.proofs.Formulas.{IsInputText, IsGoalText, AreProps, props-append}
+use Rattle.program_truths.proofs.Formulas.{goals_behind_chunk, goals_alone_chunk, hypotheses_chunk}
+use Rattle.program_truths.proofs.Formulas.{format_goals, output_goals}
 
 -- The names and literals of a program's script are tokens by themselves.
 pub record HasTexts (p : Program) : Type 0 where

@@ -1,5 +1,6 @@
 -- The literals of shifts are powers of two.
-use Rattle.std.proofs.Common.{◌≡◌, ◌<◌, ◌==◌, ◌&&◌, Bool, true, false, ℕ, ℤ, pos, negsuc, codes, arith, ◌++◌, refl, sym, ap, ◌∙◌}
+use Rattle.std.proofs.Common.{◌≡◌, ◌<◌, ◌==◌, ◌&&◌, Bool, true, false, ℕ, ℤ, pos, negsuc, codes}
+use Rattle.std.proofs.Common.{arith, ◌++◌, refl, sym, ap, ◌∙◌}
 use Rattle.std.specs.Prelude.{neg_ℤ}
 use Rattle.std.specs.Fmt.{decimal, digits}
 use Rattle.fx_model.specs.Fraction.{◌*ℚ◌, mul-one, one-mul}

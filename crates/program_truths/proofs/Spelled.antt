@@ -1,5 +1,7 @@
 -- The script of a program in which nothing is wrong is read as its tree.
-use Rattle.std.proofs.Common.{◌≡◌, ◌<◌, ◌≤◌, ◌&&◌, ◌^◌, ◌-◌, ◌+◌, not, nat_lt, Bool, true, false, ℕ, pos, zero, suc, codes, arith, List, [], ◌∷◌, ◌++◌, length, map, refl, sym, ap, ◌∙◌, lit≤, if◌then◌else◌}
+use Rattle.std.proofs.Common.{◌≡◌, ◌<◌, ◌≤◌, ◌&&◌, ◌^◌, ◌-◌, ◌+◌, not, nat_lt, Bool, true, false, ℕ}
+use Rattle.std.proofs.Common.{pos, zero, suc, codes, arith, List, [], ◌∷◌, ◌++◌, length, map, refl}
+use Rattle.std.proofs.Common.{sym, ap, ◌∙◌, lit≤, if◌then◌else◌}
 use Rattle.std.specs.Prelude.{neg_ℤ}
 use Rattle.std.specs.List.{AllByRecursion}
 use Rattle.std.specs.Str.{bytes_eq}
@@ -16,9 +18,15 @@ use Rattle.fixprog.specs.declared.format.Format.{Format}
 use Rattle.fixprog.specs.declared.program.Mark.{Mark}
 use Rattle.fixprog.specs.declared.program.Mark.TheVariants as mark
 use Rattle.fixprog.specs.Words.{Word, Name}
-use Rattle.fixprog.specs.Grammar.{Operand, named, given, operand_words, Operation, copy, negation, sum, difference, product, shift_right, shift_left, operation_words, bound_words, Way, called, reserved, reserved_out, way_words, Statement, input, step, output, statement_words, words_from, Program, outputs, statements, program_words}
+use Rattle.fixprog.specs.Grammar.{Operand, named, given, operand_words, Operation, copy, negation}
+use Rattle.fixprog.specs.Grammar.{sum, difference, product, shift_right, shift_left}
+use Rattle.fixprog.specs.Grammar.{operation_words, bound_words, Way, called, reserved, reserved_out}
+use Rattle.fixprog.specs.Grammar.{way_words, Statement, input, step, output, statement_words}
+use Rattle.fixprog.specs.Grammar.{words_from, Program, outputs, statements, program_words}
 use Rattle.fixprog.specs.Formats.{format_of, is_format, least, greatest}
-use Rattle.fixprog.specs.Faults.{Before, after, fault_if, new_name_faults, weight_faults, format_faults, operand_faults, operation_faults, statement_faults, faults_from, program_faults, is_way}
+use Rattle.fixprog.specs.Faults.{Before, after, fault_if, new_name_faults, weight_faults}
+use Rattle.fixprog.specs.Faults.{format_faults, operand_faults, operation_faults, statement_faults}
+use Rattle.fixprog.specs.Faults.{faults_from, program_faults, is_way}
 use Rattle.fixprog.specs.Execution.{way_text}
 use Rattle.fixprog.specs.First.{IsAlone, IsAloneWord}
 use Rattle.fixprog.specs.Turned.{script_of}
@@ -27,7 +35,8 @@ use Rattle.program_truths.proofs.Trees.{tree_of}
 use Rattle.program_truths.proofs.Operations.{IsOperandText, IsOperationText}
 use Rattle.program_truths.proofs.StepLines.{IsStepText}
 use Rattle.program_truths.proofs.Formulas.{IsInputText, IsGoalText, IsWordBoundText}
-use Rattle.program_truths.proofs.Texts.{both, alone_word, place_is_text, right_is_text, left_is_text, word_is_text}
+use Rattle.program_truths.proofs.Texts.{both, alone_word, place_is_text, right_is_text}
+use Rattle.program_truths.proofs.Texts.{left_is_text, word_is_text}
 use Rattle.program_truths.proofs.Scripts.{HasTexts, script_is_read}
 
 -- ---- no faults

@@ -1,5 +1,6 @@
 -- The lines of steps, as definitions.
-use Rattle.std.proofs.Common.{◌≡◌, ℕ, pos, zero, suc, codes, List, [], ◌∷◌, ◌++◌, Some, refl, sym, ap, ◌∙◌, subst, append_assoc}
+use Rattle.std.proofs.Common.{◌≡◌, ℕ, pos, zero, suc, codes, List, [], ◌∷◌, ◌++◌, Some, refl, sym}
+use Rattle.std.proofs.Common.{ap, ◌∙◌, subst, append_assoc}
 use Rattle.std.specs.Prelude.{neg_ℤ}
 use Rattle.std.specs.Fmt.{decimal, signed_decimal, digits}
 use Rattle.std.specs.List.{AllByRecursion}
@@ -12,13 +13,17 @@ use Rattle.script_words.specs.Lex.{front}
 use Rattle.script_words.specs.Quiet.{EndsBeforeQuiet}
 use Rattle.script_words.specs.Words.{Word, name, literal, sign}
 use Rattle.script_words.specs.Named.{spelled_of, number_of}
-use Rattle.script_shape.specs.Tree.{whole_words, expr_words, definition_words, Formula, script_words}
+use Rattle.script_shape.specs.Tree.{whole_words, expr_words, definition_words, Formula}
+use Rattle.script_shape.specs.Tree.{script_words}
 use Rattle.fixprog.specs.Grammar.{Step}
 use Rattle.fixprog.specs.Formats.{format_of}
 use Rattle.fixprog.specs.Execution.{way_text}
 use Rattle.fixprog.specs.Turned.{last_place_text, operation_text, step_line, lines_of}
-use Rattle.program_truths.proofs.Lines.{IsWordText, quiet_blank, quiet_close, quiet_comma, quiet_greater, quiet_less, fixed_is_fixed, comma_alone, open_alone, semicolon_alone, front_of_word}
-use Rattle.program_truths.proofs.Chunks.{Chunk, Quiet, Before, seq, retold, behind_blank, behind_line, name_chunk, literal_chunk, sign_chunk}
+use Rattle.program_truths.proofs.Lines.{IsWordText, quiet_blank, quiet_close, quiet_comma}
+use Rattle.program_truths.proofs.Lines.{quiet_greater, quiet_less, fixed_is_fixed, comma_alone}
+use Rattle.program_truths.proofs.Lines.{open_alone, semicolon_alone, front_of_word}
+use Rattle.program_truths.proofs.Chunks.{Chunk, Quiet, Before, seq, retold, behind_blank}
+use Rattle.program_truths.proofs.Chunks.{behind_line, name_chunk, literal_chunk, sign_chunk}
 use Rattle.program_truths.proofs.Trees.{place_whole, operation_expr, step_definition, script_from}
 use Rattle.program_truths.proofs.Operations.{IsOperationText, operation_chunk, minus_word}
 

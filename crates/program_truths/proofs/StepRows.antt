@@ -1,5 +1,7 @@
 -- The definition of a step passes the judge of scripts.
-use Rattle.std.proofs.Common.{◌≡◌, ◌<◌, ◌≤◌, ◌+◌, ◌&&◌, ◌||◌, not, nat_lt, ℕ, zero, suc, Bool, true, false, codes, List, [], ◌∷◌, ◌++◌, length, Some, None, refl, ap, ◌∙◌, arith, append_assoc}
+use Rattle.std.proofs.Common.{◌≡◌, ◌<◌, ◌≤◌, ◌+◌, ◌&&◌, ◌||◌, not, nat_lt, ℕ, zero, suc, Bool, true}
+use Rattle.std.proofs.Common.{false, codes, List, [], ◌∷◌, ◌++◌, length, Some, None, refl, ap, ◌∙◌}
+use Rattle.std.proofs.Common.{arith, append_assoc}
 use Rattle.std.specs.Str.{bytes_eq}
 use Rattle.std.specs.Str.Parse.{digits_value}
 use Rattle.std.specs.Fmt.{decimal, digits}
@@ -9,7 +11,8 @@ use Rattle.script_words.specs.declared.class.Spelled.TheVariants as spelled
 use Rattle.script_words.specs.Words.{name, literal, sign}
 use Rattle.script_words.specs.Named.{spelled_of, number_of}
 use Rattle.script_shape.specs.declared.due.Due.TheVariants as d
-use Rattle.script_shape.specs.Roles.{Leaf, at, whole_leaves, atom_leaves, expr_leaves, definition_leaves}
+use Rattle.script_shape.specs.Roles.{Leaf, at, whole_leaves, atom_leaves, expr_leaves}
+use Rattle.script_shape.specs.Roles.{definition_leaves}
 use Rattle.script_nodes.specs.Literals.{parts_of}
 use Rattle.script_judge.specs.declared.counts.ScriptPart.TheVariants as place
 use Rattle.script_judge.specs.declared.nesting.Open.{Open}
@@ -18,14 +21,17 @@ use Rattle.script_judge.specs.Names.{NamesSeen, is_new, is_among, is_used_before
 use Rattle.script_judge.specs.Nesting.{without_minus}
 use Rattle.script_judge.specs.Counts.{one_if}
 use Rattle.fixprog.specs.Words.{Name}
-use Rattle.fixprog.specs.Grammar.{Operand, named, given, Operation, copy, negation, sum, difference, product, shift_right, shift_left, Step}
+use Rattle.fixprog.specs.Grammar.{Operand, named, given, Operation, copy, negation, sum, difference}
+use Rattle.fixprog.specs.Grammar.{product, shift_right, shift_left, Step}
 use Rattle.fixprog.specs.Formats.{format_of}
 use Rattle.fixprog.specs.Faults.{is_literal}
 use Rattle.fixprog.specs.Execution.{way_text}
 use Rattle.program_truths.proofs.Trees.{place_whole, operand_atom, operation_expr, step_definition}
 use Rattle.program_truths.proofs.Texts.{all_below, below}
 use Rattle.program_truths.proofs.Passing.{form_ok, names_ok, opened_ok}
-use Rattle.program_truths.proofs.Rows.{Passes, whole_form, whole_names, whole_opened, whole_bounds, whole_defining, whole_nodes, whole_definitions, whole_defined}
+use Rattle.program_truths.proofs.Rows.{Passes, whole_form, whole_names, whole_opened, whole_bounds}
+use Rattle.program_truths.proofs.Rows.{whole_defining, whole_nodes, whole_definitions}
+use Rattle.program_truths.proofs.Rows.{whole_defined}
 
 -- ---- operands
 

@@ -1,5 +1,7 @@
 -- What the claims of a program's script are about, and when they are true.
-use Rattle.std.proofs.Common.{◌≡◌, ◌↔◌, ◌<◌, ◌≤◌, ◌&&◌, ◌==◌, ℕ, ℤ, pos, zero, suc, Bool, true, false, List, [], ◌∷◌, ◌++◌, length, map, Some, refl, sym, ap, ◌∙◌, subst, arith, if◌then◌else◌}
+use Rattle.std.proofs.Common.{◌≡◌, ◌↔◌, ◌<◌, ◌≤◌, ◌&&◌, ◌==◌, ℕ, ℤ, pos, zero, suc, Bool, true}
+use Rattle.std.proofs.Common.{false, List, [], ◌∷◌, ◌++◌, length, map, Some, refl, sym, ap, ◌∙◌}
+use Rattle.std.proofs.Common.{subst, arith, if◌then◌else◌}
 use Rattle.std.specs.Prelude.{neg_ℤ}
 use Rattle.std.specs.List.{AllByRecursion}
 use Rattle.std.specs.Option.{IsSomeAnd}
@@ -32,7 +34,9 @@ use Rattle.program_truths.proofs.Spelled.{narrow}
 use Rattle.program_truths.proofs.Knowing.{IsFront, knows_behind, name_gives}
 use Rattle.program_truths.proofs.Growing.{Grows, grows_still, grows_both, grows_named, front_of}
 use Rattle.program_truths.proofs.Running.{Ready, all_values}
-use Rattle.program_truths.proofs.Saying.{Saying, said_known, said_claims, range_saying, place_saying, input_sayings, format_saying, output_saying, goal_sayings}
+use Rattle.program_truths.proofs.Saying.{Saying, said_known, said_claims, range_saying}
+use Rattle.program_truths.proofs.Saying.{place_saying, input_sayings, format_saying, output_saying}
+use Rattle.program_truths.proofs.Saying.{goal_sayings}
 use Rattle.program_truths.proofs.BoundValues.{least_is, greatest_is}
 use Rattle.program_truths.proofs.Own.{HasEntry, Keeps, AreOwn, AreGiven}
 

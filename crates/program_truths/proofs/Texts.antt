@@ -1,5 +1,7 @@
 -- The names and literals of a program are tokens of its script.
-use Rattle.std.proofs.Common.{◌≡◌, ◌<◌, ◌==◌, ◌&&◌, ◌+◌, ◌^◌, nat_lt, cond, Bool, true, false, ℕ, zero, suc, codes, arith, List, [], ◌∷◌, ◌++◌, length, drop, Option, Some, None, refl, sym, ap, ◌∙◌, length-append, if◌then◌else◌}
+use Rattle.std.proofs.Common.{◌≡◌, ◌<◌, ◌==◌, ◌&&◌, ◌+◌, ◌^◌, nat_lt, cond, Bool, true, false, ℕ}
+use Rattle.std.proofs.Common.{zero, suc, codes, arith, List, [], ◌∷◌, ◌++◌, length, drop, Option}
+use Rattle.std.proofs.Common.{Some, None, refl, sym, ap, ◌∙◌, length-append, if◌then◌else◌}
 use Rattle.std.specs.Fmt.{decimal, digits}
 use Rattle.std.specs.Char.{is_ascii_digit, digit_value}
 use Rattle.std.specs.Str.Parse.{AllDigits}
@@ -12,7 +14,8 @@ use Rattle.script_words.specs.declared.lex.Run.{Run}
 use Rattle.script_words.specs.declared.lex.Run.TheVariants.{Word as WordRun, Digit, HexDigit}
 use Rattle.script_words.specs.declared.lex.TokenKind.{TokenKind}
 use Rattle.script_words.specs.declared.lex.TokenKind.TheVariants as kind
-use Rattle.script_words.specs.Literals.{is_word, is_in, run_len, is_hex, signed_len, exponent_len, literal_len, scaled_len}
+use Rattle.script_words.specs.Literals.{is_word, is_in, run_len, is_hex, signed_len, exponent_len}
+use Rattle.script_words.specs.Literals.{literal_len, scaled_len}
 use Rattle.script_words.specs.Signs.{sign_at}
 use Rattle.script_words.specs.Lex.{front, sign_token}
 use Rattle.script_words.specs.Named.{number_of}

@@ -3,11 +3,19 @@ use Rattle.std.proofs.Common.{ℕ, ℤ, pos, negsuc, zero, suc, codes, List, [],
 use Rattle.std.specs.Fmt.{decimal}
 use Rattle.std.specs.Str.Parse.{digits_value}
 use Rattle.script_words.specs.Named.{spelled_of, number_of}
-use Rattle.script_shape.specs.Tree.{plain, free, zero_alone, digits, Whole, natural, opposite, Bound, unsigned, positive, negative, fixed, Expr, term, sum, difference, factor, product, negation, atom, Atom, number, variable, rounded, exactly, Definition, names_value, asked, between, Prop, lies_in, multiple, affirmed, Formula, single, and, implies, no_hint, Script, formula, define}
+use Rattle.script_shape.specs.Tree.{plain, free, zero_alone, digits, Whole, natural, opposite}
+use Rattle.script_shape.specs.Tree.{Bound, unsigned, positive, negative, fixed, Expr, term, sum}
+use Rattle.script_shape.specs.Tree.{difference, factor, product, negation, atom, Atom, number}
+use Rattle.script_shape.specs.Tree.{variable, rounded, exactly, Definition, names_value, asked}
+use Rattle.script_shape.specs.Tree.{between, Prop, lies_in, multiple, affirmed, Formula, single}
+use Rattle.script_shape.specs.Tree.{and, implies, no_hint, Script, formula, define}
 use Rattle.fixprog.specs.declared.program.Mark.{Mark}
 use Rattle.fixprog.specs.declared.program.Mark.TheVariants as mark
 use Rattle.fixprog.specs.Words.{Name}
-use Rattle.fixprog.specs.Grammar.{Operand, named, given, Operation, copy, negation as minus, sum as added, difference as subtracted, product as multiplied, shift_right, shift_left, Bound as End, Input, Step, Program, outputs}
+use Rattle.fixprog.specs.Grammar.{Operand, named, given, Operation, copy, negation as minus}
+use Rattle.fixprog.specs.Grammar.{sum as added, difference as subtracted, product as multiplied}
+use Rattle.fixprog.specs.Grammar.{shift_right, shift_left, Bound as End, Input, Step, Program}
+use Rattle.fixprog.specs.Grammar.{outputs}
 use Rattle.fixprog.specs.declared.format.Format.{Format}
 use Rattle.fixprog.specs.Formats.{format_of, least, greatest}
 use Rattle.fixprog.specs.Execution.{way_text}

@@ -6,14 +6,17 @@ use Rattle.fx_model.specs.Expression.{Assignment, value}
 use Rattle.script_nodes.specs.Known.{entry_of}
 use Rattle.fx_model.specs.declared.ExprId.{ExprId}
 use Rattle.script_claims.specs.declared.claim.Claim.{Claim}
-use Rattle.script_claims.specs.declared.claim.Claim.TheVariants.{Bounded, Asked, Relative, RelativeAsked, Multiple, Above, Below}
+use Rattle.script_claims.specs.declared.claim.Claim.TheVariants.{Bounded, Asked, Relative}
+use Rattle.script_claims.specs.declared.claim.Claim.TheVariants.{RelativeAsked, Multiple, Above}
+use Rattle.script_claims.specs.declared.claim.Claim.TheVariants.{Below}
 use Rattle.script_claims.specs.Meets.{IsTrueAt}
 use Rattle.script_meets.specs.script_grammar.Spells.{View, Spells as SpellsScript}
 use Rattle.script_hints.specs.Hints.{no_hints}
 use Rattle.script_meets.specs.Meets.{Meets}
 use Rattle.fixprog.specs.Words.{Name}
 use Rattle.fixprog.specs.Grammar.{Input, Program, outputs}
-use Rattle.fixprog.specs.Execution.{Values, values, name_value, input_values, AreInRange, execution_of}
+use Rattle.fixprog.specs.Execution.{Values, values, name_value, input_values, AreInRange}
+use Rattle.fixprog.specs.Execution.{execution_of}
 use Rattle.fixprog.specs.Turned.{script_of}
 use Rattle.fixprog.specs.First.{Spells}
 

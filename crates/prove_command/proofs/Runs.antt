@@ -10,9 +10,12 @@ use Rattle.whole_texts.specs.Texts.{IsText}
 use Rattle.whole_texts.specs.declared.read.ReadStop.{ReadStop}
 use Rattle.whole_texts.specs.declared.read.ReadStop.TheVariants as stop
 use Rattle.command_runs.specs.Runs.{Bytes, Told, Run, IsKept, ReadFailed}
-use Rattle.command_runs.specs.Fates.{Left, Leaves, IsTold, Written, Runs, AreTold, IsKeptFile, IsUntouched, MayWrite}
+use Rattle.command_runs.specs.Fates.{Left, Leaves, IsTold, Written, Runs, AreTold, IsKeptFile}
+use Rattle.command_runs.specs.Fates.{IsUntouched, MayWrite}
 use Rattle.command_runs.specs.Fates.Left.{Kept}
-use Rattle.command_runs.specs.Ends.{IsOnce, IsStopPutBy, exhausted_runs, or_unread, put_runs, run_by, starved_runs, stop_runs, unread_kept, unread_once, unwritten_runs}
+use Rattle.command_runs.specs.Ends.{IsOnce, IsStopPutBy, exhausted_runs, or_unread, put_runs}
+use Rattle.command_runs.specs.Ends.{run_by, starved_runs, stop_runs, unread_kept, unread_once}
+use Rattle.command_runs.specs.Ends.{unwritten_runs}
 use Rattle.command_runs.specs.declared.status.Status.{Status}
 use Rattle.command_runs.specs.declared.status.Status.TheVariants as status
 use Rattle.script_answers.specs.Answers.{ProvePrints, options_of}

@@ -6,7 +6,8 @@ use Rattle.script_answers.specs.settler.Answers.{Options}
 use Rattle.cert_writer.specs.Written.{AreWrittenFor}
 use Rattle.command_line.specs.Reading.{Asked}
 use Rattle.command_runs.specs.Runs.{Bytes, Run, IsSilent, WriteFailed}
-use Rattle.command_runs.specs.Fates.{Left, Fate, Makes, OfText, OrUnread, IsKeptFile, MayWrite, IsRunOf}
+use Rattle.command_runs.specs.Fates.{Left, Fate, Makes, OfText, OrUnread, IsKeptFile, MayWrite}
+use Rattle.command_runs.specs.Fates.{IsRunOf}
 use Rattle.command_runs.specs.Fates.Left.{Kept}
 use Rattle.command_runs.specs.declared.status.Status.TheVariants as status
 use Rattle.script_answers.specs.Answers.{IsAnswered, ProvePrints, options_of}

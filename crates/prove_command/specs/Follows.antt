@@ -6,8 +6,10 @@ use Rattle.script_answers.specs.script_grammar.Spells.{View}
 use Rattle.cert_writer.specs.Written.{HoldsCertificate, HoldsFront}
 use Rattle.command_line.specs.Reading.{Asked}
 use Rattle.whole_texts.specs.Pieces.{IsFront}
-use Rattle.command_runs.specs.Runs.{Bytes, Run, IsKept, IsSilent, Puts, PutsFront, ReadFailed, WriteFailed}
-use Rattle.command_runs.specs.Fates.{Left, Leaves, Makes, Written, OfText, Ending, IsUntouched, BreaksOff, EndsBy, EndsIn, begun, ending}
+use Rattle.command_runs.specs.Runs.{Bytes, Run, IsKept, IsSilent, Puts, PutsFront, ReadFailed}
+use Rattle.command_runs.specs.Runs.{WriteFailed}
+use Rattle.command_runs.specs.Fates.{Left, Leaves, Makes, Written, OfText, Ending, IsUntouched}
+use Rattle.command_runs.specs.Fates.{BreaksOff, EndsBy, EndsIn, begun, ending}
 use Rattle.command_runs.specs.Fates.Ending.{Done, Cut, Starved}
 use Rattle.command_runs.specs.Fates.Left.{Kept}
 use Rattle.command_runs.specs.Statuses.{read_fault_line}

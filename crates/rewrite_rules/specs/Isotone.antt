@@ -13,7 +13,8 @@ use Rattle.facts.specs.dyadic.Compared.{BoundLe_out}
 use Rattle.facts.specs.interval.declared.interval.Interval.{Interval}
 use Rattle.facts.specs.interval.Intervals.{range_of}
 use Rattle.facts.specs.interval.Results.{negation_of, sum_of, difference_of, product_of}
-use Rattle.facts.specs.interval.Monotone.{negation_of-within, sum_of-within, difference_of-within, product_of-within}
+use Rattle.facts.specs.interval.Monotone.{negation_of-within, sum_of-within, difference_of-within}
+use Rattle.facts.specs.interval.Monotone.{product_of-within}
 use Rattle.expr_dag.specs.Shapes.{is_at, is_known, are_known}
 use Rattle.facts.specs.declared.relative.RelativeError.{RelativeError}
 use Rattle.facts.specs.declared.fact.Fact.TheVariants as fact
@@ -25,7 +26,13 @@ use Rattle.facts.specs.Promises.{IsIsotone}
 use Rattle.facts.specs.Premises.{Gives, one_bnd, two_bnd, four_bnd, bnd_then_nzr}
 use Rattle.facts.specs.Conclusions.{IsRising, Improves, improves_given, improves_if, improves_only}
 use Rattle.facts.specs.RelativePremises.{rel_then_nzr}
-use Rattle.rewrite_rules.specs.Differences.{sides_at, are_made, by_sides_rule, difference_of_sums_rule, difference_of_differences_rule, are_products, difference_of_products_rule, are_negations, difference_of_negations_rule, is_through, difference_through_rule, is_against, difference_against_rule, first_by_difference_rule, second_by_difference_rule}
+use Rattle.rewrite_rules.specs.Differences.{sides_at, are_made, by_sides_rule}
+use Rattle.rewrite_rules.specs.Differences.{difference_of_sums_rule, difference_of_differences_rule}
+use Rattle.rewrite_rules.specs.Differences.{are_products, difference_of_products_rule}
+use Rattle.rewrite_rules.specs.Differences.{are_negations, difference_of_negations_rule, is_through}
+use Rattle.rewrite_rules.specs.Differences.{difference_through_rule, is_against}
+use Rattle.rewrite_rules.specs.Differences.{difference_against_rule, first_by_difference_rule}
+use Rattle.rewrite_rules.specs.Differences.{second_by_difference_rule}
 use Rattle.rewrite_rules.specs.Nothing.{is_zero, zero_and_not_rule, void_of, both_zero_and_not_rule}
 
 by_sides_rule-isotone : (make : ExprId → ExprId → Node) (op : Interval → Interval → Interval)

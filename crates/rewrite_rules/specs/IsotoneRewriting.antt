@@ -1,5 +1,6 @@
 -- The rule of rewriting hints: from stronger premises it gives a fact as strong, or stronger.
-use Rattle.std.specs.Prelude.{◌≡◌, ◌&&◌, not, nat_lt, length, Bool, true, false, List, [], ◌∷◌, refl}
+use Rattle.std.specs.Prelude.{◌≡◌, ◌&&◌, not, nat_lt, length, Bool, true, false, List, [], ◌∷◌}
+use Rattle.std.specs.Prelude.{refl}
 use Rattle.std.proofs.Common.{sym, ap, subst, suc}
 use Rattle.std.proofs.lemmas.Bool.{and_parts, and_from}
 use Rattle.expr_dag.specs.fx_model.Grid.{Bound}
@@ -21,9 +22,11 @@ use Rattle.facts.specs.declared.fact.Fact.TheVariants as fact
 use Rattle.facts.specs.declared.fact.Slot.TheVariants as slot
 use Rattle.facts.specs.Order.{IsStronger, is_same}
 use Rattle.facts.specs.Promises.{EachStronger, IsIsotone}
-use Rattle.facts.specs.Premises.{Gives, first_premise, strong_bnd, strong_abs, strong_fix, strong_nzr}
+use Rattle.facts.specs.Premises.{Gives, first_premise, strong_bnd, strong_abs, strong_fix}
+use Rattle.facts.specs.Premises.{strong_nzr}
 use Rattle.facts.specs.Conclusions.{Improves, given, given_if, improves_only}
-use Rattle.rewrite_rules.specs.Rewriting.{is_under, shows, show_needs, show_row, rewritten, rewriting_rule}
+use Rattle.rewrite_rules.specs.Rewriting.{is_under, shows, show_needs, show_row, rewritten}
+use Rattle.rewrite_rules.specs.Rewriting.{rewriting_rule}
 
 -- ---- tests
 -- further apart than what is under is under

@@ -17,7 +17,13 @@ use Rattle.facts.specs.declared.fact.Slot.TheVariants as slot
 use Rattle.facts.specs.Order.{is_same}
 use Rattle.facts.specs.Promises.{IsOnTarget}
 use Rattle.facts.specs.Conclusions.{StandsOn, fact_stands, given_stands, only_stands}
-use Rattle.rewrite_rules.specs.Differences.{sides_at, are_made, by_sides_rule, difference_of_sums_rule, difference_of_differences_rule, are_products, difference_of_products_rule, are_negations, difference_of_negations_rule, is_through, difference_through_rule, is_against, difference_against_rule, first_by_difference_rule, second_by_difference_rule}
+use Rattle.rewrite_rules.specs.Differences.{sides_at, are_made, by_sides_rule}
+use Rattle.rewrite_rules.specs.Differences.{difference_of_sums_rule, difference_of_differences_rule}
+use Rattle.rewrite_rules.specs.Differences.{are_products, difference_of_products_rule}
+use Rattle.rewrite_rules.specs.Differences.{are_negations, difference_of_negations_rule, is_through}
+use Rattle.rewrite_rules.specs.Differences.{difference_through_rule, is_against}
+use Rattle.rewrite_rules.specs.Differences.{difference_against_rule, first_by_difference_rule}
+use Rattle.rewrite_rules.specs.Differences.{second_by_difference_rule}
 use Rattle.rewrite_rules.specs.Nothing.{is_zero, zero_and_not_rule, void_of, both_zero_and_not_rule}
 use Rattle.rewrite_rules.specs.Rewriting.{show_row, rewritten, rewriting_rule}
 

@@ -1,6 +1,7 @@
 -- The rule of rewriting hints, number 80 of the list, as a function from a hint's row, premises and
 -- a target to its conclusion. What doesn't fit gives nothing.
-use Rattle.std.specs.Prelude.{◌&&◌, not, nat_lt, length, Bool, true, false, List, [], ◌∷◌, Option, None}
+use Rattle.std.specs.Prelude.{◌&&◌, not, nat_lt, length, Bool, true, false, List, [], ◌∷◌, Option}
+use Rattle.std.specs.Prelude.{None}
 use Rattle.expr_dag.specs.fx_model.Grid.{Bound}
 use Rattle.expr_dag.specs.fx_model.declared.ExprId.{ExprId}
 use Rattle.expr_dag.specs.fx_model.declared.Node.{Node}

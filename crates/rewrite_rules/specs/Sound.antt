@@ -3,9 +3,11 @@
 use Rattle.std.specs.Prelude.{◌≡◌, ◌&&◌, true, List, [], ◌∷◌, Option, Some, None, slice_get, refl}
 use Rattle.std.proofs.Common.{sym, ap, subst, ◌∙◌}
 use Rattle.std.proofs.lemmas.Bool.{and_parts}
-use Rattle.expr_dag.specs.fx_model.Fraction.{Fraction, ◌+ℚ◌, ◌-ℚ◌, ◌*ℚ◌, ◌≤ℚ◌, neg_ℚ, zero_ℚ, le_trans, le_antisymm}
+use Rattle.expr_dag.specs.fx_model.Fraction.{Fraction, ◌+ℚ◌, ◌-ℚ◌, ◌*ℚ◌, ◌≤ℚ◌, neg_ℚ, zero_ℚ}
+use Rattle.expr_dag.specs.fx_model.Fraction.{le_trans, le_antisymm}
 use Rattle.expr_dag.specs.fx_model.Grid.{Bound, Below, At, Above}
-use Rattle.expr_dag.specs.fx_model.Enclosure.{IsFrom, IsUpTo, Lies, BoundLe, Negations, Sums, Differences, in_enclosure, product_holds}
+use Rattle.expr_dag.specs.fx_model.Enclosure.{IsFrom, IsUpTo, Lies, BoundLe, Negations, Sums}
+use Rattle.expr_dag.specs.fx_model.Enclosure.{Differences, in_enclosure, product_holds}
 use Rattle.expr_dag.specs.fx_model.Expression.{Assignment, IsOrdered, value, node_value, lift₂}
 use Rattle.expr_dag.specs.fx_model.declared.ExprId.{ExprId}
 use Rattle.expr_dag.specs.fx_model.declared.Node.{Node}
@@ -14,7 +16,8 @@ use Rattle.facts.specs.dyadic.Order.{le_bound}
 use Rattle.facts.specs.dyadic.Compared.{BoundLe_in}
 use Rattle.facts.specs.interval.declared.interval.Interval.{Interval}
 use Rattle.facts.specs.interval.Intervals.{range_of}
-use Rattle.facts.specs.interval.Results.{negation_of, negation_of-is, sum_of, sum_of-is, difference_of, difference_of-is, product_of, product_of-is}
+use Rattle.facts.specs.interval.Results.{negation_of, negation_of-is, sum_of, sum_of-is}
+use Rattle.facts.specs.interval.Results.{difference_of, difference_of-is, product_of, product_of-is}
 use Rattle.expr_dag.specs.Shapes.{is_at, is_known, node_at-value, are_known}
 use Rattle.facts.specs.declared.relative.RelativeError.{RelativeError}
 use Rattle.facts.specs.declared.fact.Fact.{Fact}
@@ -28,8 +31,15 @@ use Rattle.facts.specs.Conclusions.{given}
 use Rattle.facts.specs.grid_words.FractionLaws.{more-less}
 use Rattle.expr_dag.specs.Operands.{at_value, lifted_out, lifted_in, lifted_one}
 use Rattle.facts.specs.Known.{HasValue, one_value, bnd_out, bnd_in, nzr_out, rel_out}
-use Rattle.rewrite_rules.specs.Numbers.{through, against, less_difference, of_sums, of_differences, of_products, of_negations}
-use Rattle.rewrite_rules.specs.Differences.{sides_of, sides_at, are_made, by_sides_rule, difference_of_sums_rule, difference_of_differences_rule, are_products, difference_of_products_rule, are_negations, difference_of_negations_rule, is_through, difference_through_rule, is_against, difference_against_rule, first_by_difference_rule, second_by_difference_rule}
+use Rattle.rewrite_rules.specs.Numbers.{through, against, less_difference, of_sums, of_differences}
+use Rattle.rewrite_rules.specs.Numbers.{of_products, of_negations}
+use Rattle.rewrite_rules.specs.Differences.{sides_of, sides_at, are_made, by_sides_rule}
+use Rattle.rewrite_rules.specs.Differences.{difference_of_sums_rule, difference_of_differences_rule}
+use Rattle.rewrite_rules.specs.Differences.{are_products, difference_of_products_rule}
+use Rattle.rewrite_rules.specs.Differences.{are_negations, difference_of_negations_rule, is_through}
+use Rattle.rewrite_rules.specs.Differences.{difference_through_rule, is_against}
+use Rattle.rewrite_rules.specs.Differences.{difference_against_rule, first_by_difference_rule}
+use Rattle.rewrite_rules.specs.Differences.{second_by_difference_rule}
 use Rattle.rewrite_rules.specs.Nothing.{is_zero, zero_and_not_rule, void_of, both_zero_and_not_rule}
 
 -- ---- differences

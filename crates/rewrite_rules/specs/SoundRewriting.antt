@@ -1,5 +1,6 @@
 -- The rule of rewriting hints is sound where the hint's row is true.
-use Rattle.std.specs.Prelude.{◌≡◌, ◌≢◌, ◌&&◌, not, nat_lt, length, Bool, true, false, List, [], ◌∷◌, Option, Some, None, refl}
+use Rattle.std.specs.Prelude.{◌≡◌, ◌≢◌, ◌&&◌, not, nat_lt, length, Bool, true, false, List, [], ◌∷◌}
+use Rattle.std.specs.Prelude.{Option, Some, None, refl}
 use Rattle.std.specs.List.{AllByRecursion}
 use Rattle.std.specs.Option.{IsSomeAnd}
 use Rattle.std.proofs.Common.{sym, subst}
@@ -29,7 +30,8 @@ use Rattle.facts.specs.Order.{is_same}
 use Rattle.facts.specs.CommonParts.{if-some, expr_same}
 use Rattle.facts.specs.Held.{some-and}
 use Rattle.facts.specs.Conclusions.{given}
-use Rattle.rewrite_rules.specs.Rewriting.{is_under, shows, show_needs, show_row, rewritten, rewriting_rule}
+use Rattle.rewrite_rules.specs.Rewriting.{is_under, shows, show_needs, show_row, rewritten}
+use Rattle.rewrite_rules.specs.Rewriting.{rewriting_rule}
 use Rattle.facts.specs.Rows.{IsUnder, IsOver, IsMet}
 use Rattle.rewrite_rules.specs.WithRow.{IsSoundWithRow}
 

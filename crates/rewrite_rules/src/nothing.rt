@@ -1,7 +1,8 @@
 // Premises that contradict each other.
 ghost use Rattle.std.specs.Prelude.{◌≡◌};
 ghost use Rattle.facts.specs.interval.Intervals.{range_of};
-ghost use Rattle.rewrite_rules.specs.Nothing.{is_zero, zero_and_not_rule, void_of, both_zero_and_not_rule};
+ghost use Rattle.rewrite_rules.specs.Nothing.{is_zero, zero_and_not_rule, void_of};
+ghost use Rattle.rewrite_rules.specs.Nothing.{both_zero_and_not_rule};
 
 use expr_dag::Dag;
 use facts::{Fact, Interval, RelativeError, Slot};

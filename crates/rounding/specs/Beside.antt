@@ -2,14 +2,20 @@
 use Rattle.std.specs.Prelude.{◌≡◌, ℤ, pos, Bool, true, false, if◌then◌else◌, refl}
 use Rattle.std.proofs.Common.{arith, sym, subst}
 use Rattle.std.proofs.lemmas.Int.{ints}
-use Rattle.interval.specs.fx_model.Fraction.{Fraction, ◌+ℚ◌, ◌≤ℚ◌, ◌<ℚ◌, zero_ℚ, le_trans, lt_le, le_lt_trans}
-use Rattle.interval.specs.fx_model.Powers.{whole, whole-add, whole-le, whole-lt, zero-whole, floor_low, floor_high, two_to-positive}
-use Rattle.interval.specs.fx_model.Rounded.{floor, ceiling, half, near_low, near_high, is_even, is_positive_or_zero}
+use Rattle.interval.specs.fx_model.Fraction.{Fraction, ◌+ℚ◌, ◌≤ℚ◌, ◌<ℚ◌, zero_ℚ, le_trans, lt_le}
+use Rattle.interval.specs.fx_model.Fraction.{le_lt_trans}
+use Rattle.interval.specs.fx_model.Powers.{whole, whole-add, whole-le, whole-lt, zero-whole}
+use Rattle.interval.specs.fx_model.Powers.{floor_low, floor_high, two_to-positive}
+use Rattle.interval.specs.fx_model.Rounded.{floor, ceiling, half, near_low, near_high, is_even}
+use Rattle.interval.specs.fx_model.Rounded.{is_positive_or_zero}
 use Rattle.interval.specs.fx_model.declared.Direction.{Direction}
-use Rattle.interval.specs.fx_model.declared.Direction.TheVariants.{Zr, Aw, Dn, Up, Od, Ne, No, Nz, Na, Nd, Nu}
+use Rattle.interval.specs.fx_model.declared.Direction.TheVariants.{Zr, Aw, Dn, Up, Od, Ne, No, Nz}
+use Rattle.interval.specs.fx_model.declared.Direction.TheVariants.{Na, Nd, Nu}
 use Rattle.rounding.specs.Sums.{add-zero, add-lt}
-use Rattle.rounding.specs.Floor.{floor-whole, ceiling-whole, ceiling_high, ceiling_low, floor_from_zero, ceiling_to_zero}
-use Rattle.rounding.specs.Nearest.{halves, near_low-whole, near_high-whole, near_low_low, near_low_below, near_high_high, near_high_above}
+use Rattle.rounding.specs.Floor.{floor-whole, ceiling-whole, ceiling_high, ceiling_low}
+use Rattle.rounding.specs.Floor.{floor_from_zero, ceiling_to_zero}
+use Rattle.rounding.specs.Nearest.{halves, near_low-whole, near_high-whole, near_low_low}
+use Rattle.rounding.specs.Nearest.{near_low_below, near_high_high, near_high_above}
 use Rattle.interval.specs.fx_model.Rounded.{whole_for}
 
 -- ---- what holds of both holds of the one that a test takes

@@ -5,9 +5,11 @@ use Rattle.std.specs.Prelude.{not}
 use Rattle.std.proofs.Common.{arith, sym, ap, ◌∙◌, subst}
 use Rattle.std.proofs.lemmas.Int.{ints}
 use Rattle.interval.specs.fx_model.Fraction.{Fraction}
-use Rattle.interval.specs.fx_model.Rounded.{floor, ceiling, near_low, near_high, is_even, is_positive_or_zero}
+use Rattle.interval.specs.fx_model.Rounded.{floor, ceiling, near_low, near_high, is_even}
+use Rattle.interval.specs.fx_model.Rounded.{is_positive_or_zero}
 use Rattle.interval.specs.fx_model.declared.Direction.{Direction}
-use Rattle.interval.specs.fx_model.declared.Direction.TheVariants.{Zr, Aw, Dn, Up, Od, Ne, No, Nz, Na, Nd, Nu}
+use Rattle.interval.specs.fx_model.declared.Direction.TheVariants.{Zr, Aw, Dn, Up, Od, Ne, No, Nz}
+use Rattle.interval.specs.fx_model.declared.Direction.TheVariants.{Na, Nd, Nu}
 use Rattle.rounding.specs.declared.neighbours.Neighbours.{Neighbours}
 use Rattle.interval.specs.fx_model.Fraction.{◌<ℚ◌, le_lt_trans}
 use Rattle.interval.specs.fx_model.Powers.{whole, zero-whole, floor_low}

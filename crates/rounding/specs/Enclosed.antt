@@ -1,20 +1,24 @@
 -- The best intervals of the possible errors.
-use Rattle.std.specs.Prelude.{◌≡◌, ℤ, ◌<ℤ◌, Option, Some, None, Bool, true, false, not, if◌then◌else◌, refl}
+use Rattle.std.specs.Prelude.{◌≡◌, ℤ, ◌<ℤ◌, Option, Some, None, Bool, true, false, not}
+use Rattle.std.specs.Prelude.{if◌then◌else◌, refl}
 use Rattle.std.specs.Int.RustNames.{int_lt}
 use Rattle.std.proofs.Common.{arith, sym, ap, ◌∙◌, subst}
 use Rattle.std.proofs.lemmas.Int.{ints}
 use Rattle.std.proofs.lemmas.Bool.{not-true, not-false}
-use Rattle.interval.specs.fx_model.Fraction.{Fraction, ◌-ℚ◌, ◌≤ℚ◌, neg_ℚ, zero_ℚ, lt_le, le_refl, le_trans, neg_down}
+use Rattle.interval.specs.fx_model.Fraction.{Fraction, ◌-ℚ◌, ◌≤ℚ◌, neg_ℚ, zero_ℚ, lt_le, le_refl}
+use Rattle.interval.specs.fx_model.Fraction.{le_trans, neg_down}
 use Rattle.interval.specs.fx_model.Powers.{two_to, two_to-positive}
 use Rattle.interval.specs.fx_model.Grid.{At, IsUp, IsDown-neg}
 use Rattle.interval.specs.fx_model.Enclosure.{Range, Lies, IsEnclosure}
 use Rattle.interval.specs.fx_model.declared.Direction.{Direction}
 use Rattle.rounding.specs.declared.sign.Sign.{Sign}
 use Rattle.rounding.specs.declared.bounds.Span.{Span}
-use Rattle.rounding.specs.declared.bounds.Span.TheVariants.{Nowhere, Leftward, Rightward, Sideward, Near}
+use Rattle.rounding.specs.declared.bounds.Span.TheVariants.{Nowhere, Leftward, Rightward, Sideward}
+use Rattle.rounding.specs.declared.bounds.Span.TheVariants.{Near}
 use Rattle.rounding.specs.Sums.{sub-from}
 use Rattle.rounding.specs.Places.{two_to-le, less}
-use Rattle.rounding.specs.Errors.{half_of, largest_error, keeps, error_range, signed_errors, nowhere, IsPossible}
+use Rattle.rounding.specs.Errors.{half_of, largest_error, keeps, error_range, signed_errors}
+use Rattle.rounding.specs.Errors.{nowhere, IsPossible}
 use Rattle.rounding.specs.Spans.{spanned}
 use Rattle.rounding.specs.Outward.{closed, closed_is, down_grid, up_grid, same_members}
 use Rattle.rounding.specs.Largest.{zero_on_grid}

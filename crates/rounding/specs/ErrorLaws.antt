@@ -3,19 +3,23 @@ use Rattle.std.specs.Prelude.{◌≡◌, ℤ, Option, Some, None, Bool, true, fa
 use Rattle.std.specs.Int.RustNames.{int_lt}
 use Rattle.std.proofs.Common.{sym, ap, ◌∙◌, subst}
 use lib.IntN.{neg_ℤ}
-use Rattle.interval.specs.fx_model.Fraction.{Fraction, ◌-ℚ◌, ◌≤ℚ◌, neg_ℚ, zero_ℚ, le_refl, lt_le, zero-mul, add-neg}
+use Rattle.interval.specs.fx_model.Fraction.{Fraction, ◌-ℚ◌, ◌≤ℚ◌, neg_ℚ, zero_ℚ, le_refl, lt_le}
+use Rattle.interval.specs.fx_model.Fraction.{zero-mul, add-neg}
 use Rattle.interval.specs.fx_model.Powers.{two_to, two_to-positive}
 use Rattle.interval.specs.fx_model.Enclosure.{Lies}
 use Rattle.interval.specs.fx_model.declared.Direction.{Direction}
-use Rattle.interval.specs.fx_model.declared.Direction.TheVariants.{Zr, Aw, Dn, Up, Od, Ne, No, Nz, Na, Nd, Nu}
+use Rattle.interval.specs.fx_model.declared.Direction.TheVariants.{Zr, Aw, Dn, Up, Od, Ne, No, Nz}
+use Rattle.interval.specs.fx_model.declared.Direction.TheVariants.{Na, Nd, Nu}
 use Rattle.rounding.specs.declared.sign.Sign.{Sign}
 use Rattle.rounding.specs.declared.sign.Sign.TheVariants.{Unknown, NotNegative, NotPositive, Zero}
 use Rattle.rounding.specs.Sums.{times-le}
 use Rattle.rounding.specs.Beside.{dn_below, up_above, zr_below, zr_above, aw_below, aw_above}
 use Rattle.rounding.specs.Rounded.{units, rounded-finer}
-use Rattle.rounding.specs.Scale.{error_of, error_below, error_above, near_at_most, near_at_least, left, right}
+use Rattle.rounding.specs.Scale.{error_of, error_below, error_above, near_at_most, near_at_least}
+use Rattle.rounding.specs.Scale.{left, right}
 use Rattle.rounding.specs.Places.{place_at_most, place_at_least, less, not_less}
-use Rattle.rounding.specs.Errors.{errors, signed_errors, half_of, HasSign, HasPlace, error_range, nowhere}
+use Rattle.rounding.specs.Errors.{errors, signed_errors, half_of, HasSign, HasPlace, error_range}
+use Rattle.rounding.specs.Errors.{nowhere}
 
 -- ---- by direction
 errors_lie : (d : Direction) (l : ℤ) (x u : Fraction) → neg_ℚ u ≤ℚ error_of d l x

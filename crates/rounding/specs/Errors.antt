@@ -1,13 +1,15 @@
 -- How far a rounding moves a number: by direction, by what is known of the number's sign, and of
 -- which power of two it is a multiple (Gappa User's Guide, "Theorems about rounding operators").
-use Rattle.std.specs.Prelude.{◌≡◌, ℤ, negsuc, ◌+ℤ◌, Option, Some, None, ⊤, if◌then◌else◌, Bool, false, not}
+use Rattle.std.specs.Prelude.{◌≡◌, ℤ, negsuc, ◌+ℤ◌, Option, Some, None, ⊤, if◌then◌else◌, Bool}
+use Rattle.std.specs.Prelude.{false, not}
 use Rattle.std.specs.Int.RustNames.{int_lt}
 use Rattle.interval.specs.fx_model.Fraction.{Fraction, ◌-ℚ◌, ◌≤ℚ◌, neg_ℚ, zero_ℚ}
 use Rattle.interval.specs.fx_model.Powers.{two_to, IsMultiple}
 use Rattle.interval.specs.fx_model.Grid.{At}
 use Rattle.interval.specs.fx_model.Enclosure.{Range, Lies}
 use Rattle.interval.specs.fx_model.declared.Direction.{Direction}
-use Rattle.interval.specs.fx_model.declared.Direction.TheVariants.{Zr, Aw, Dn, Up, Od, Ne, No, Nz, Na, Nd, Nu}
+use Rattle.interval.specs.fx_model.declared.Direction.TheVariants.{Zr, Aw, Dn, Up, Od, Ne, No, Nz}
+use Rattle.interval.specs.fx_model.declared.Direction.TheVariants.{Na, Nd, Nu}
 use Rattle.rounding.specs.declared.sign.Sign.{Sign}
 use Rattle.rounding.specs.declared.sign.Sign.TheVariants.{Unknown, NotNegative, NotPositive, Zero}
 

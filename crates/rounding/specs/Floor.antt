@@ -3,8 +3,12 @@ use Rattle.std.specs.Prelude.{◌≡◌, ℤ, pos, negsuc, ◌+ℤ◌, ◌≤ℤ
 use Rattle.std.proofs.Common.{arith, sym, ap, ◌∙◌, subst}
 use Rattle.std.proofs.lemmas.Int.{ints, by_lt_z}
 use lib.IntN.{neg_ℤ}
-use Rattle.interval.specs.fx_model.Fraction.{Fraction, ◌+ℚ◌, neg_ℚ, ◌≤ℚ◌, ◌<ℚ◌, zero_ℚ, le_refl, le_trans, lt_not, lt_le, lt_le_trans, le_lt_trans, neg-le, neg-neg, neg-add}
-use Rattle.interval.specs.fx_model.Powers.{whole, whole-add, whole-neg, whole-le, whole-le_out, whole-lt, zero-whole, floor_low, floor_high, floor_unique}
+use Rattle.interval.specs.fx_model.Fraction.{Fraction, ◌+ℚ◌, neg_ℚ, ◌≤ℚ◌, ◌<ℚ◌, zero_ℚ, le_refl}
+use Rattle.interval.specs.fx_model.Fraction.{le_trans, lt_not, lt_le, lt_le_trans, le_lt_trans}
+use Rattle.interval.specs.fx_model.Fraction.{neg-le, neg-neg, neg-add}
+use Rattle.interval.specs.fx_model.Powers.{whole, whole-add, whole-neg, whole-le, whole-le_out}
+use Rattle.interval.specs.fx_model.Powers.{whole-lt, zero-whole, floor_low, floor_high}
+use Rattle.interval.specs.fx_model.Powers.{floor_unique}
 use Rattle.interval.specs.fx_model.Rounded.{floor, ceiling}
 use Rattle.rounding.specs.Sums.{neg-lt, plus-le, plus-lt}
 use Rattle.interval.specs.fx_model.Grid.{neg_over}

@@ -1,16 +1,20 @@
 -- The possible errors by cases are those that are possible by direction, by sign and by place.
-use Rattle.std.specs.Prelude.{◌≡◌, ◌↔◌, ℤ, refl, Option, Some, None, Bool, true, false, if◌then◌else◌}
+use Rattle.std.specs.Prelude.{◌≡◌, ◌↔◌, ℤ, refl, Option, Some, None, Bool, true, false}
+use Rattle.std.specs.Prelude.{if◌then◌else◌}
 use Rattle.std.specs.Int.RustNames.{int_lt}
-use Rattle.interval.specs.fx_model.Fraction.{Fraction, ◌-ℚ◌, ◌≤ℚ◌, neg_ℚ, zero_ℚ, le_trans, lt_le, neg-le, neg_down}
+use Rattle.interval.specs.fx_model.Fraction.{Fraction, ◌-ℚ◌, ◌≤ℚ◌, neg_ℚ, zero_ℚ, le_trans, lt_le}
+use Rattle.interval.specs.fx_model.Fraction.{neg-le, neg_down}
 use Rattle.interval.specs.fx_model.Powers.{two_to, two_to-positive}
 use Rattle.interval.specs.fx_model.Enclosure.{Lies}
 use Rattle.interval.specs.fx_model.declared.Direction.{Direction}
-use Rattle.interval.specs.fx_model.declared.Direction.TheVariants.{Zr, Aw, Dn, Up, Od, Ne, No, Nz, Na, Nd, Nu}
+use Rattle.interval.specs.fx_model.declared.Direction.TheVariants.{Zr, Aw, Dn, Up, Od, Ne, No, Nz}
+use Rattle.interval.specs.fx_model.declared.Direction.TheVariants.{Na, Nd, Nu}
 use Rattle.rounding.specs.declared.sign.Sign.{Sign}
 use Rattle.rounding.specs.declared.sign.Sign.TheVariants.{Unknown, NotNegative, NotPositive, Zero}
 use Rattle.rounding.specs.Sums.{sub-le, sub-from}
 use Rattle.rounding.specs.Places.{two_to-le, less}
-use Rattle.rounding.specs.Errors.{leftward, rightward, sideward, errors, signed_errors, half_of, IsPossible, error_range, nowhere}
+use Rattle.rounding.specs.Errors.{leftward, rightward, sideward, errors, signed_errors, half_of}
+use Rattle.rounding.specs.Errors.{IsPossible, error_range, nowhere}
 
 -- ---- spans within spans
 module _ (e u v : Fraction) (h : u ≤ℚ v) where

@@ -3,11 +3,15 @@ use Rattle.std.specs.Prelude.{◌≡◌, ℤ, pos, ◌+ℤ◌, ◌≤ℤ◌, Boo
 use Rattle.std.proofs.Common.{arith, sym, ap, ◌∙◌}
 use Rattle.std.proofs.lemmas.Int.{ints, by_lt_z}
 use Rattle.interval.specs.fx_model.Fraction.{Fraction, ◌≤ℚ◌, zero_ℚ, le_total, le_trans}
-use Rattle.interval.specs.fx_model.Rounded.{floor, ceiling, near_low, near_high, is_even, is_positive_or_zero}
+use Rattle.interval.specs.fx_model.Rounded.{floor, ceiling, near_low, near_high, is_even}
+use Rattle.interval.specs.fx_model.Rounded.{is_positive_or_zero}
 use Rattle.interval.specs.fx_model.declared.Direction.{Direction}
-use Rattle.interval.specs.fx_model.declared.Direction.TheVariants.{Zr, Aw, Dn, Up, Od, Ne, No, Nz, Na, Nd, Nu}
-use Rattle.rounding.specs.Floor.{floor-le, ceiling-le, floor_ceiling, ceiling_floor, floor_from_zero, ceiling_to_zero}
-use Rattle.rounding.specs.Nearest.{near_low_high, near_high_low, near_low-le, near_high-le, near_low_from_zero, near_high_to_zero}
+use Rattle.interval.specs.fx_model.declared.Direction.TheVariants.{Zr, Aw, Dn, Up, Od, Ne, No, Nz}
+use Rattle.interval.specs.fx_model.declared.Direction.TheVariants.{Na, Nd, Nu}
+use Rattle.rounding.specs.Floor.{floor-le, ceiling-le, floor_ceiling, ceiling_floor}
+use Rattle.rounding.specs.Floor.{floor_from_zero, ceiling_to_zero}
+use Rattle.rounding.specs.Nearest.{near_low_high, near_high_low, near_low-le, near_high-le}
+use Rattle.rounding.specs.Nearest.{near_low_from_zero, near_high_to_zero}
 use Rattle.interval.specs.fx_model.Rounded.{whole_for}
 
 -- ---- two whole numbers next to each other, of which a test takes one

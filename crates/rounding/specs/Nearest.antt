@@ -3,11 +3,15 @@ use Rattle.std.specs.Prelude.{◌≡◌, ℤ, pos, negsuc, ◌+ℤ◌, ◌≤ℤ
 use Rattle.std.proofs.Common.{arith, sym, ap, ◌∙◌, subst, lit<}
 use Rattle.std.proofs.lemmas.Int.{ints}
 use mathlib.Core.Quot.{sound}
-use Rattle.interval.specs.fx_model.Fraction.{Same, Fraction, ◌+ℚ◌, ◌-ℚ◌, neg_ℚ, ◌≤ℚ◌, ◌<ℚ◌, zero_ℚ, one_ℚ, add_ratio, add-mk, floor-mk, add_assoc, add_comm, neg-neg, sub-add}
-use Rattle.interval.specs.fx_model.Powers.{whole, whole-add, two_to-mk, two_to_ratio, zero-whole, one-whole, floor_low, floor_high}
+use Rattle.interval.specs.fx_model.Fraction.{Same, Fraction, ◌+ℚ◌, ◌-ℚ◌, neg_ℚ, ◌≤ℚ◌, ◌<ℚ◌, zero_ℚ}
+use Rattle.interval.specs.fx_model.Fraction.{one_ℚ, add_ratio, add-mk, floor-mk, add_assoc}
+use Rattle.interval.specs.fx_model.Fraction.{add_comm, neg-neg, sub-add}
+use Rattle.interval.specs.fx_model.Powers.{whole, whole-add, two_to-mk, two_to_ratio, zero-whole}
+use Rattle.interval.specs.fx_model.Powers.{one-whole, floor_low, floor_high}
 use Rattle.interval.specs.fx_model.Rounded.{floor, ceiling, half, near_low, near_high}
 use Rattle.rounding.specs.Sums.{plus-le, plus-lt_out}
-use Rattle.rounding.specs.Floor.{floor-le, floor-plus, ceiling-le, ceiling-plus, floor_ceiling, ceiling_floor, ceiling_high, ceiling_low}
+use Rattle.rounding.specs.Floor.{floor-le, floor-plus, ceiling-le, ceiling-plus, floor_ceiling}
+use Rattle.rounding.specs.Floor.{ceiling_floor, ceiling_high, ceiling_low}
 
 -- half and half is 1
 pub halves : half +ℚ half ≡ whole (pos 1)

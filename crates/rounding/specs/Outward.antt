@@ -3,7 +3,8 @@
 use Rattle.std.specs.Prelude.{◌↔◌}
 use Rattle.interval.specs.fx_model.Fraction.{Fraction, ◌≤ℚ◌, le_refl}
 use Rattle.interval.specs.fx_model.Grid.{Bound, Below, At, Above, IsOnGrid, IsDown, IsUp}
-use Rattle.interval.specs.fx_model.Enclosure.{Range, Lies, IsInfimum, IsSupremum, IsEnclosure, infimum_at, supremum_at}
+use Rattle.interval.specs.fx_model.Enclosure.{Range, Lies, IsInfimum, IsSupremum, IsEnclosure}
+use Rattle.interval.specs.fx_model.Enclosure.{infimum_at, supremum_at}
 
 -- From a to b.
 abbrev pub closed : Fraction → Fraction → Range

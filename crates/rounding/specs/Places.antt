@@ -5,8 +5,10 @@ use Rattle.std.specs.Int.RustNames.{int_lt}
 use Rattle.std.proofs.Common.{arith, sym, ap, ◌∙◌, subst}
 use Rattle.std.proofs.lemmas.Int.{ints}
 use lib.IntN.{neg_ℤ}
-use Rattle.interval.specs.fx_model.Fraction.{Fraction, ◌+ℚ◌, ◌-ℚ◌, ◌*ℚ◌, ◌≤ℚ◌, ◌<ℚ◌, neg_ℚ, neg-mul, neg-neg}
-use Rattle.interval.specs.fx_model.Powers.{whole, two_to, scaled, IsMultiple, whole-add, whole-neg, scaled-le, scaled-lt_out}
+use Rattle.interval.specs.fx_model.Fraction.{Fraction, ◌+ℚ◌, ◌-ℚ◌, ◌*ℚ◌, ◌≤ℚ◌, ◌<ℚ◌, neg_ℚ, neg-mul}
+use Rattle.interval.specs.fx_model.Fraction.{neg-neg}
+use Rattle.interval.specs.fx_model.Powers.{whole, two_to, scaled, IsMultiple, whole-add, whole-neg}
+use Rattle.interval.specs.fx_model.Powers.{scaled-le, scaled-lt_out}
 use Rattle.std.proofs.lemmas.Nat.{pow_pos}
 use Rattle.interval.specs.fx_model.Cut.{gap_le}
 use Rattle.interval.specs.fx_model.Powers.{scaled-shift}

@@ -4,7 +4,9 @@ use Rattle.std.proofs.Common.{arith, sym, ap, ◌∙◌}
 use Rattle.std.proofs.lemmas.Int.{ints}
 use lib.IntN.{neg_ℤ}
 use Rattle.interval.specs.fx_model.Fraction.{Fraction, ◌*ℚ◌, ◌≤ℚ◌, mul_assoc, mul_comm, one-mul}
-use Rattle.interval.specs.fx_model.Powers.{whole, two_to, scaled, IsMultiple, two_to-add, two_to-pos, two_to-positive, one-whole, scaled-le, scaled-shift}
+use Rattle.interval.specs.fx_model.Powers.{whole, two_to, scaled, IsMultiple, two_to-add}
+use Rattle.interval.specs.fx_model.Powers.{two_to-pos, two_to-positive, one-whole, scaled-le}
+use Rattle.interval.specs.fx_model.Powers.{scaled-shift}
 use Rattle.interval.specs.fx_model.Cut.{gap_le}
 use Rattle.interval.specs.fx_model.declared.Direction.{Direction}
 use Rattle.rounding.specs.Sums.{times-le}

@@ -1,5 +1,6 @@
 -- Shifts to the right are floors, and the nearest whole number is a floor of a floor.
-use Rattle.std.specs.Prelude.{◌≡◌, ℕ, ℤ, pos, negsuc, ◌+ℤ◌, ◌*ℤ◌, ◌≤ℤ◌, ◌<ℤ◌, ◌<◌, ◌≤◌, ◌^◌, ◌*◌, ◌+◌, ◌/◌}
+use Rattle.std.specs.Prelude.{◌≡◌, ℕ, ℤ, pos, negsuc, ◌+ℤ◌, ◌*ℤ◌, ◌≤ℤ◌, ◌<ℤ◌, ◌<◌, ◌≤◌, ◌^◌, ◌*◌}
+use Rattle.std.specs.Prelude.{◌+◌, ◌/◌}
 use Rattle.std.specs.Int.Signed.{shr_z}
 use Rattle.std.specs.Int.RustNames.{unsigned_abs}
 use Rattle.std.proofs.Common.{arith, sym, ap, ◌∙◌, subst, ⊎_elim, lit≤, min, zero, suc}
@@ -8,8 +9,12 @@ use Rattle.std.proofs.lemmas.Nat.{div-add-mod', mod_below, pow_pos}
 use Rattle.std.proofs.lemmas.Bool.{cases_lt}
 use Rattle.std.proofs.Math.Nat.{mul-le-mul_left, pow-le-pow_right}
 use lib.IntN.{neg_ℤ}
-use Rattle.interval.specs.fx_model.Fraction.{Fraction, ◌+ℚ◌, ◌*ℚ◌, neg_ℚ, ◌≤ℚ◌, ◌<ℚ◌, le_or_lt, lt_not, le_trans, lt_le_trans, le_lt_trans, lt_le, add_assoc, add_comm, neg-add, neg-neg, middle_sums}
-use Rattle.interval.specs.fx_model.Powers.{whole, whole-add, whole-le, scaled, scaled-le, scaled-lt, scaled-shift, two_to, floor_low, floor_high, floor_unique}
+use Rattle.interval.specs.fx_model.Fraction.{Fraction, ◌+ℚ◌, ◌*ℚ◌, neg_ℚ, ◌≤ℚ◌, ◌<ℚ◌, le_or_lt}
+use Rattle.interval.specs.fx_model.Fraction.{lt_not, le_trans, lt_le_trans, le_lt_trans, lt_le}
+use Rattle.interval.specs.fx_model.Fraction.{add_assoc, add_comm, neg-add, neg-neg, middle_sums}
+use Rattle.interval.specs.fx_model.Powers.{whole, whole-add, whole-le, scaled, scaled-le, scaled-lt}
+use Rattle.interval.specs.fx_model.Powers.{scaled-shift, two_to, floor_low, floor_high}
+use Rattle.interval.specs.fx_model.Powers.{floor_unique}
 use Rattle.interval.specs.fx_model.Grid.{scaled-neg}
 use Rattle.interval.specs.fx_model.Rounded.{floor, ceiling, half, near_low, near_high}
 use Rattle.rounding.specs.Sums.{plus-le, plus-lt, add-lt, add-mul}

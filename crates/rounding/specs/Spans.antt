@@ -2,7 +2,8 @@
 use Rattle.interval.specs.fx_model.Fraction.{Fraction}
 use Rattle.interval.specs.fx_model.Enclosure.{Range}
 use Rattle.rounding.specs.declared.bounds.Span.{Span}
-use Rattle.rounding.specs.declared.bounds.Span.TheVariants.{Nowhere, Leftward, Rightward, Sideward, Near}
+use Rattle.rounding.specs.declared.bounds.Span.TheVariants.{Nowhere, Leftward, Rightward, Sideward}
+use Rattle.rounding.specs.declared.bounds.Span.TheVariants.{Near}
 use Rattle.rounding.specs.Errors.{leftward, rightward, sideward, nowhere}
 
 -- The errors that a side stands for, where u is the unit and h half of it.

@@ -1,6 +1,7 @@
 -- All instances, in their order: those of each expression, of each difference, of each pair, of
 -- each hint.
-use Rattle.std.specs.Prelude.{◌==◌, ◌&&◌, ◌+◌, ℕ, Bool, not, if◌then◌else◌, List, [], ◌∷◌, ◌++◌, slice_index_or}
+use Rattle.std.specs.Prelude.{◌==◌, ◌&&◌, ◌+◌, ℕ, Bool, not, if◌then◌else◌, List, [], ◌∷◌, ◌++◌}
+use Rattle.std.specs.Prelude.{slice_index_or}
 use Rattle.fx_model.specs.declared.ExprId.{ExprId}
 use Rattle.fx_model.specs.declared.Node.{Node}
 use Rattle.fx_model.specs.declared.Node.TheVariants as node
@@ -11,7 +12,8 @@ use Rattle.pair_closure.specs.Rows.{seconds}
 use Rattle.facts.specs.declared.instance.Instance.{Instance}
 use Rattle.rule_instances.specs.Slots.{rewriting}
 use Rattle.rule_instances.specs.Lists.{at_any, at_operation}
-use Rattle.rule_instances.specs.Found.{at_error, at_terms, past_left, past_right, at_pair, past_pair}
+use Rattle.rule_instances.specs.Found.{at_error, at_terms, past_left, past_right, at_pair}
+use Rattle.rule_instances.specs.Found.{past_pair}
 
 -- what the members of a list give, whose first has number k
 abbrev pub each_at : {A : Type 0} → (ℕ → A → List Instance) → ℕ → List A → List Instance

@@ -6,7 +6,9 @@ ghost use Rattle.pair_closure.specs.Reached.{Has, IsListOf};
 ghost use Rattle.pair_closure.specs.Closure.{AreKnown};
 ghost use Rattle.rule_instances.specs.Instances.{IsInstance};
 ghost use Rattle.rule_instances.specs.Lists.{at_any, at_operation};
-ghost use Rattle.rule_instances.specs.InOrder.{each_at, apart, of_node, one_left, one_right, of_sides, of_difference, past_of, of_pair, of_hint, instance_list};
+ghost use Rattle.rule_instances.specs.InOrder.{each_at, apart, of_node, one_left, one_right};
+ghost use Rattle.rule_instances.specs.InOrder.{of_sides, of_difference, past_of, of_pair, of_hint};
+ghost use Rattle.rule_instances.specs.InOrder.{instance_list};
 
 use crate::differences::{add_at_error, add_at_terms, add_past_left, add_past_right};
 use crate::hints::add_hint;

@@ -1,5 +1,6 @@
 -- Rows that stand one behind another: one more row, and the row with a number.
-use Rattle.std.specs.Prelude.{◌≡◌, ◌<◌, ◌≤◌, ◌+◌, ◌-◌, ℕ, zero, suc, List, [], ◌∷◌, ◌++◌, Some, length, take, drop, slice_get, refl}
+use Rattle.std.specs.Prelude.{◌≡◌, ◌<◌, ◌≤◌, ◌+◌, ◌-◌, ℕ, zero, suc, List, [], ◌∷◌, ◌++◌, Some}
+use Rattle.std.specs.Prelude.{length, take, drop, slice_get, refl}
 use Rattle.std.proofs.Common.{inl, inr, arith, ap, sym, ◌∙◌, length-append, get_or}
 use Rattle.std.proofs.lemmas.List.{take-append-le, drop-append-le}
 use Rattle.std.proofs.Math.Seq.{drop-append_seam}
@@ -17,7 +18,8 @@ pub full_none : IsFull 0 (0 ∷ [])
 full_none = record {
   flat = record {
     some = omega arith;
-    rising = λ k a b e f. absurd (let h = slice_get_within (0 ∷ []) (suc k) b f in omega (arith, h));
+    rising =
+        λ k a b e f. absurd (let h = slice_get_within (0 ∷ []) (suc k) b f in omega (arith, h));
     most = one_most;
   };
   last = refl;
@@ -36,13 +38,15 @@ full_more n m starts full l = record {
           | inl g ↦
               elim (ends_with starts m k a e) [
                 | inl h ↦ full.flat.rising k a b h g
-                | inr h ↦ absurd (let w = slice_get_within starts (suc k) b g in let q : k ≡ length starts = h.0 in omega (arith, w, q))
+                | inr h ↦ absurd (let w = slice_get_within starts (suc k) b g in
+                    let q : k ≡ length starts = h.0 in omega (arith, w, q))
               ]
           | inr g ↦
               let same : b ≡ m = g.1 in
               elim (ends_with starts m k a e) [
                 | inl h ↦ (let w = full.flat.most k a h in omega (arith, w, same))
-                | inr h ↦ absurd (let q : k ≡ length starts = h.0 in let r : suc k ≡ length starts = g.0 in omega (arith, q, r))
+                | inr h ↦ absurd (let q : k ≡ length starts = h.0 in
+                    let r : suc k ≡ length starts = g.0 in omega (arith, q, r))
               ]
         ];
     most = λ k a e.
@@ -52,45 +56,59 @@ full_more n m starts full l = record {
         ];
   };
   last =
-      (let e : length (starts ++ m ∷ []) - 1 ≡ length starts = omega (arith, length-append starts (m ∷ [])) in
+      (let e : length (starts ++ m ∷ []) - 1 ≡ length starts =
+      omega (arith, length-append starts (m ∷ [])) in
       ap (slice_get (starts ++ m ∷ [])) e ∙ last_at starts m);
 }
 
 module _ {T : Type 0} where
   -- ---- one row more
-  cut_more : (items row : List T) (start : ℕ) (ends : List ℕ) (n : ℕ) → n ≡ length items + length row → ((k a : ℕ) → slice_get (start ∷ ends) k ≡ Some a → a ≤ length items) →
-      slice_get (start ∷ ends) (length ends) ≡ Some (length items) → cut_from (items ++ row) start (ends ++ n ∷ []) ≡ cut_from items start ends ++ row ∷ []
+  cut_more : (items row : List T) (start : ℕ) (ends : List ℕ) (n : ℕ)
+      → n ≡ length items + length row
+      → ((k a : ℕ) → slice_get (start ∷ ends) k ≡ Some a → a ≤ length items)
+      → slice_get (start ∷ ends) (length ends) ≡ Some (length items)
+      → cut_from (items ++ row) start (ends ++ n ∷ []) ≡ cut_from items start ends ++ row ∷ []
   cut_more items row start [] n e most last =
       let s : start ≡ length items = some-inj start (length items) last in
-      let d : drop start (items ++ row) ≡ row = ap (λ k. drop k (items ++ row)) s ∙ drop-append_seam items row in
+      let d : drop start (items ++ row) ≡ row =
+      ap (λ k. drop k (items ++ row)) s ∙ drop-append_seam items row in
       ap (λ l. l ∷ []) (ap (take (n - start)) d ∙ take_all (n - start) row (omega (arith, e, s)))
   cut_more items row start (end ∷ ends) n e most last =
       let low : start ≤ length items = most zero start refl in
       let high : end ≤ length items = most (suc zero) end refl in
-      let d : drop start (items ++ row) ≡ drop start items ++ row = drop-append-le start items row low in
-      let t : take (end - start) (drop start (items ++ row)) ≡ take (end - start) (drop start items) =
-      ap (take (end - start)) d ∙ take-append-le (end - start) (drop start items) row (omega (arith, low, high, length-drop start items)) in
+      let d : drop start (items ++ row) ≡ drop start items ++ row =
+      drop-append-le start items row low in
+      let t : take (end - start) (drop start (items ++ row))
+      ≡ take (end - start) (drop start items) =
+      ap (take (end - start)) d ∙ take-append-le (end - start)
+      (drop start items) row (omega (arith, low, high, length-drop start items)) in
       ap (λ l. l ∷ cut_from (items ++ row) end (ends ++ n ∷ [])) t
-      ∙ ap (λ ls. take (end - start) (drop start items) ∷ ls) (cut_more items row end ends n e (λ k a h. most (suc k) a h) last)
+      ∙ ap (λ ls. take (end - start) (drop start items) ∷ ls)
+      (cut_more items row end ends n e (λ k a h. most (suc k) a h) last)
 
-  pub rows_more : (items row : List T) (starts : List ℕ) (n : ℕ) → n ≡ length items + length row → IsFull (length items) starts →
-      rows_in (items ++ row) (starts ++ n ∷ []) ≡ rows_in items starts ++ row ∷ []
+  pub rows_more : (items row : List T) (starts : List ℕ) (n : ℕ) → n ≡ length items + length row
+      → IsFull (length items) starts
+      → rows_in (items ++ row) (starts ++ n ∷ []) ≡ rows_in items starts ++ row ∷ []
   rows_more items row [] n e full = absurd (let h = full.flat.some in omega (arith, h))
   rows_more items row (start ∷ ends) n e full =
       let l : length (start ∷ ends) - 1 ≡ length ends = omega arith in
-      cut_more items row start ends n e full.flat.most (ap (slice_get (start ∷ ends)) (sym l) ∙ full.last)
+      cut_more items row start ends n e full.flat.most
+      (ap (slice_get (start ∷ ends)) (sym l) ∙ full.last)
 
   -- ---- the row with a number
-  cut_count : (items : List T) (start : ℕ) (ends : List ℕ) → length (cut_from items start ends) ≡ length ends
+  cut_count : (items : List T) (start : ℕ) (ends : List ℕ)
+      → length (cut_from items start ends) ≡ length ends
   cut_count items start [] = refl
   cut_count items start (end ∷ ends) = ap suc (cut_count items end ends)
 
-  pub rows_count : (items : List T) (starts : List ℕ) → 0 < length starts → length (rows_in items starts) + 1 ≡ length starts
+  pub rows_count : (items : List T) (starts : List ℕ) → 0 < length starts
+      → length (rows_in items starts) + 1 ≡ length starts
   rows_count items [] h = absurd (omega arith)
   rows_count items (start ∷ ends) h = let e = cut_count items start ends in omega (arith, e)
 
-  cut_row : (items : List T) (start : ℕ) (ends : List ℕ) (k a b : ℕ) → slice_get (start ∷ ends) k ≡ Some a → slice_get (start ∷ ends) (suc k) ≡ Some b →
-      slice_get (cut_from items start ends) k ≡ Some (take (b - a) (drop a items))
+  cut_row : (items : List T) (start : ℕ) (ends : List ℕ) (k a b : ℕ)
+      → slice_get (start ∷ ends) k ≡ Some a → slice_get (start ∷ ends) (suc k) ≡ Some b
+      → slice_get (cut_from items start ends) k ≡ Some (take (b - a) (drop a items))
   cut_row items start [] k a b e f = absurd (none_behind k f)
     where
       none_behind : (k : ℕ) → slice_get (start ∷ []) (suc k) ≡ Some b → ⊥
@@ -98,13 +116,17 @@ module _ {T : Type 0} where
   cut_row items start (end ∷ ends) zero a b e f =
       let s : start ≡ a = some-inj start a e in
       let t : end ≡ b = some-inj end b f in
-      ap (λ n. Some (take (n - start) (drop start items))) t ∙ ap (λ n. Some (take (b - n) (drop n items))) s
+      ap (λ n. Some (take (n - start) (drop start items))) t
+      ∙ ap (λ n. Some (take (b - n) (drop n items))) s
   cut_row items start (end ∷ ends) (suc k) a b e f = cut_row items end ends k a b e f
 
-  pub row_at : (items : List T) (starts : List ℕ) (k a b : ℕ) → slice_get starts k ≡ Some a → slice_get starts (suc k) ≡ Some b → slice_get (rows_in items starts) k ≡ Some (take (b - a) (drop a items))
+  pub row_at : (items : List T) (starts : List ℕ) (k a b : ℕ)
+      → slice_get starts k ≡ Some a → slice_get starts (suc k) ≡ Some b
+      → slice_get (rows_in items starts) k ≡ Some (take (b - a) (drop a items))
   row_at items [] k a b e f = absurd (none_at a e)
   row_at items (start ∷ ends) k a b e f = cut_row items start ends k a b e f
 
 -- ---- an element that was read
-pub read_at : {X : Type 0} (xs : List X) (k : ℕ) (x d : X) → k < length xs → x ≡ get_or xs k d → slice_get xs k ≡ Some x
+pub read_at : {X : Type 0} (xs : List X) (k : ℕ) (x d : X) → k < length xs → x ≡ get_or xs k d
+    → slice_get xs k ≡ Some x
 read_at xs k x d l e = slice_get-get_or xs k d l ∙ ap Some (sym e)

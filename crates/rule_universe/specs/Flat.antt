@@ -1,5 +1,6 @@
 -- Rows that stand one behind another in one list.
-use Rattle.std.specs.Prelude.{◌≡◌, ◌<◌, ◌≤◌, ◌-◌, ℕ, suc, List, [], ◌∷◌, Some, length, take, drop, slice_get}
+use Rattle.std.specs.Prelude.{◌≡◌, ◌<◌, ◌≤◌, ◌-◌, ℕ, suc, List, [], ◌∷◌, Some, length, take, drop}
+use Rattle.std.specs.Prelude.{slice_get}
 
 -- The first row begins at the start, each ends at the next of the ends, and the row behind it
 -- begins there.

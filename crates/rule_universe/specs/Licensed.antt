@@ -17,15 +17,28 @@ use Rattle.rule_instances.specs.pair_closure.Reached.{Has}
 use Rattle.rule_instances.specs.pair_closure.Closure.{Pair, AreKnown}
 use Rattle.derivation.specs.facts.declared.instance.Instance.{Instance}
 use Rattle.rule_instances.specs.Slots.{need_slot, conditions}
-use Rattle.rule_instances.specs.Instances.{OfAny, OfOperation, OfError, OfTerms, OfChain, OfPair, OfHint, IsInstance}
-use Rattle.rule_instances.specs.Instances.IsInstance.{of_any, of_operation, of_error, of_terms, of_chain, of_pair, of_hint}
-use Rattle.rule_instances.specs.Instances.OfAny.{rule_11, rule_12, rule_13, rule_27, rule_28, rule_31, rule_32, rule_90, rule_91}
-use Rattle.rule_instances.specs.Instances.OfOperation.{rule_1, rule_21, rule_2, rule_16, rule_22, rule_35, rule_3, rule_19_sum, rule_23_sum, rule_4, rule_19_difference, rule_23_difference, rule_5, rule_6, rule_17, rule_24, rule_33, rule_7, rule_8, rule_9, rule_18, rule_34, rule_10, rule_14, rule_15, rule_25, rule_26, rule_41}
+use Rattle.rule_instances.specs.Instances.{OfAny, OfOperation, OfError, OfTerms, OfChain, OfPair}
+use Rattle.rule_instances.specs.Instances.{OfHint, IsInstance}
+use Rattle.rule_instances.specs.Instances.IsInstance.{of_any, of_operation, of_error, of_terms}
+use Rattle.rule_instances.specs.Instances.IsInstance.{of_chain, of_pair, of_hint}
+use Rattle.rule_instances.specs.Instances.OfAny.{rule_11, rule_12, rule_13, rule_27, rule_28}
+use Rattle.rule_instances.specs.Instances.OfAny.{rule_31, rule_32, rule_90, rule_91}
+use Rattle.rule_instances.specs.Instances.OfOperation.{rule_1, rule_21, rule_2, rule_16, rule_22}
+use Rattle.rule_instances.specs.Instances.OfOperation.{rule_35, rule_3, rule_19_sum, rule_23_sum}
+use Rattle.rule_instances.specs.Instances.OfOperation.{rule_4, rule_19_difference}
+use Rattle.rule_instances.specs.Instances.OfOperation.{rule_23_difference, rule_5, rule_6, rule_17}
+use Rattle.rule_instances.specs.Instances.OfOperation.{rule_24, rule_33, rule_7, rule_8, rule_9}
+use Rattle.rule_instances.specs.Instances.OfOperation.{rule_18, rule_34, rule_10, rule_14, rule_15}
+use Rattle.rule_instances.specs.Instances.OfOperation.{rule_25, rule_26, rule_41}
 use Rattle.rule_instances.specs.Instances.OfError.{rule_42, rule_43, rule_44}
 use Rattle.rule_instances.specs.Instances.OfTerms.{rule_71, rule_72, rule_73, rule_74}
 use Rattle.rule_instances.specs.Instances.OfChain.{rule_75, rule_76}
-use Rattle.rule_instances.specs.Instances.OfPair.{rule_36_second, rule_36_first, rule_51, rule_52, rule_53, rule_54, rule_55, rule_56, rule_57, rule_58, rule_59, rule_60, rule_61, rule_77, rule_78, rule_92}
-use Rattle.rule_instances.specs.Instances.OfHint.{rule_80_bound, rule_80_size, rule_80_multiple, rule_80_nonzero}
+use Rattle.rule_instances.specs.Instances.OfPair.{rule_36_second, rule_36_first, rule_51, rule_52}
+use Rattle.rule_instances.specs.Instances.OfPair.{rule_53, rule_54, rule_55, rule_56, rule_57}
+use Rattle.rule_instances.specs.Instances.OfPair.{rule_58, rule_59, rule_60, rule_61, rule_77}
+use Rattle.rule_instances.specs.Instances.OfPair.{rule_78, rule_92}
+use Rattle.rule_instances.specs.Instances.OfHint.{rule_80_bound, rule_80_size, rule_80_multiple}
+use Rattle.rule_instances.specs.Instances.OfHint.{rule_80_nonzero}
 use Rattle.rule_universe.specs.Worlds.{IsSlot}
 
 -- the expression of a constraint is one of the first n

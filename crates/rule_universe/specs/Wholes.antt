@@ -1,5 +1,6 @@
 -- Why the lists that a script gives make a universe.
-use Rattle.std.specs.Prelude.{◌≡◌, ◌<◌, ◌≤◌, ℕ, zero, suc, List, [], ◌∷◌, Some, length, slice_get, slice_index_or, Contains, refl}
+use Rattle.std.specs.Prelude.{◌≡◌, ◌<◌, ◌≤◌, ℕ, zero, suc, List, [], ◌∷◌, Some, length, slice_get}
+use Rattle.std.specs.Prelude.{slice_index_or, Contains, refl}
 use Rattle.std.specs.List.{AllByRecursion}
 use Rattle.std.proofs.Common.{arith, subst}
 use Rattle.fx_model.specs.Expression.{IsOrdered}

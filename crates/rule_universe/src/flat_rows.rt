@@ -1,5 +1,6 @@
 //! Rows one behind another in one list.
-ghost use Rattle.std.specs.Prelude.{◌≡◌, ◌<◌, ◌≤◌, ◌-◌, ◌++◌, ◌∷◌, [], Some, length, take, drop, slice_get, map, IfOk, OnOk};
+ghost use Rattle.std.specs.Prelude.{◌≡◌, ◌<◌, ◌≤◌, ◌-◌, ◌++◌, ◌∷◌, [], Some, length, take, drop};
+ghost use Rattle.std.specs.Prelude.{slice_get, map, IfOk, OnOk};
 ghost use Rattle.rule_universe.specs.Flat.{rows_in, IsFlat};
 
 use std::alloc::{AllocError, Global};

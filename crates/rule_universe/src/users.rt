@@ -1,9 +1,11 @@
 //! Which instances take a slot.
 
-ghost use Rattle.std.specs.Prelude.{◌≡◌, ◌↔◌, ◌⊎◌, ◌<◌, ◌≤◌, ◌-◌, ℕ, List, [], IsTrue, length, map, IfOk, OnOk, slice_get, Some};
+ghost use Rattle.std.specs.Prelude.{◌≡◌, ◌↔◌, ◌⊎◌, ◌<◌, ◌≤◌, ◌-◌, ℕ, List, [], IsTrue, length, map};
+ghost use Rattle.std.specs.Prelude.{IfOk, OnOk, slice_get, Some};
 ghost use Rattle.rule_instances.specs.pair_closure.Reached.{Has};
 ghost use Rattle.rule_universe.specs.Places.{IsPlace, place_count};
-ghost use Rattle.rule_universe.specs.Rows.{InRow, AreUpTo, RowsUpTo, IsAdded, IsPlaceOfOne, AreRows};
+ghost use Rattle.rule_universe.specs.Rows.{InRow, AreUpTo, RowsUpTo, IsAdded, IsPlaceOfOne};
+ghost use Rattle.rule_universe.specs.Rows.{AreRows};
 
 use crate::places::{place_count, place_of};
 use derivation::{Dag, Instance, Slot};

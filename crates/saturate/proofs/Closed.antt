@@ -1,5 +1,6 @@
 -- Tables from which the instances conclude nothing more, and those that differ from one on a slot.
-use Rattle.std.specs.Prelude.{◌≡◌, ◌≢◌, ◌⊎◌, ◌<◌, ℕ, Bool, true, false, List, Option, Some, None, IfNone, IfSome, slice_get, Contains, refl}
+use Rattle.std.specs.Prelude.{◌≡◌, ◌≢◌, ◌⊎◌, ◌<◌, ℕ, Bool, true, false, List, Option, Some, None}
+use Rattle.std.specs.Prelude.{IfNone, IfSome, slice_get, Contains, refl}
 use Rattle.std.proofs.Common.{sym, ◌∙◌, ap, subst, inl, inr, arith}
 use Rattle.fx_model.specs.declared.ExprId.{ExprId}
 use Rattle.rule_universe.specs.facts.declared.fact.Fact.TheVariants as fact
@@ -9,7 +10,8 @@ use Rattle.rule_universe.specs.facts.Order.{slot_of}
 use Rattle.rule_universe.specs.facts.Laws.{IsStronger-trans}
 use Rattle.rule_universe.specs.pair_closure.Closure.{Pair}
 use Rattle.rule_universe.specs.derivation.Derivations.{Setting, At}
-use Rattle.rule_universe.specs.derivation.Rounds.{concluded, IsSame, IsAhead, AllSeen, Grows, InTable, IsBestFrom}
+use Rattle.rule_universe.specs.derivation.Rounds.{concluded, IsSame, IsAhead, AllSeen, Grows}
+use Rattle.rule_universe.specs.derivation.Rounds.{InTable, IsBestFrom}
 use Rattle.rule_universe.specs.derivation.Heights.{best_start, best_void}
 use Rattle.rule_universe.specs.derivation.Changes.{agrees_all, true_false}
 use Rattle.rule_universe.specs.derivation.Counts.{IsRisen}
@@ -34,7 +36,8 @@ pub said_at : (t : Table) (b : Bool) → fact_at t ≡ fact_at (record t { close
 said_at t b = λ k s. sym (said_same t b s) k
 
 pub said_shaped : (t : Table) (b : Bool) → IsShaped t (record t { closed = b })
-said_shaped t b = record { bnd = refl; abs = refl; pairs = refl; rel = refl; fix = refl; nzr = refl }
+said_shaped t b =
+    record { bnd = refl; abs = refl; pairs = refl; rel = refl; fix = refl; nzr = refl }
 
 -- ---- a whole round that changes nothing
 pub closed_same : (u : Setting) (at new : At) → IsAhead u at new AllSeen → IsSame at new →

@@ -1,5 +1,6 @@
 -- The least goal that isn't met, found one after another.
-use Rattle.std.specs.Prelude.{◌≡◌, ◌<◌, ◌≤◌, ◌+◌, ℕ, zero, true, false, List, Option, Some, None, length, if◌then◌else◌, refl}
+use Rattle.std.specs.Prelude.{◌≡◌, ◌<◌, ◌≤◌, ◌+◌, ℕ, zero, true, false, List, Option, Some, None}
+use Rattle.std.specs.Prelude.{length, if◌then◌else◌, refl}
 use Rattle.std.proofs.Common.{sym, ◌∙◌, ap, arith, drop, get_or, add-one}
 use Rattle.std.proofs.Math.Seq.{drop-cons}
 use Rattle.std.proofs.lemmas.List.{drop_all}
@@ -21,15 +22,28 @@ later_by_one : (n : ℕ) (o : Option ℕ) → later_by n (one_later o) ≡ later
 later_by_one n None = refl
 later_by_one n (Some k) = ap Some (omega arith)
 
-module _ (at : Slot → Option Fact) (goals : List Goal) (n : ℕ) (d : Goal) (h : n < length goals) where
-  rest : first_unmet at (drop n goals) ≡ (if is_met at (get_or goals n d) then one_later (first_unmet at (drop (n + 1) goals)) else Some zero)
-  rest = ap (first_unmet at) (drop-cons goals n d h) ∙ ap (λ k. if is_met at (get_or goals n d) then one_later (first_unmet at (drop k goals)) else Some zero) (sym (add-one n))
+module _ (at : Slot → Option Fact) (goals : List Goal) (n : ℕ) (d : Goal)
+    (h : n < length goals) where
+  rest : first_unmet at (drop n goals) ≡ (if is_met at (get_or goals n d)
+      then one_later (first_unmet at (drop (n + 1) goals)) else Some zero)
+  rest = ap (first_unmet at) (drop-cons goals n d h) ∙ ap (λ k. if is_met at (get_or goals n d)
+      then one_later (first_unmet at (drop k goals)) else Some zero) (sym (add-one n))
 
-  pub met_next : is_met at (get_or goals n d) ≡ true → first_unmet at goals ≡ later_by n (first_unmet at (drop n goals)) → first_unmet at goals ≡ later_by (n + 1) (first_unmet at (drop (n + 1) goals))
-  met_next m e = e ∙ ap (later_by n) (rest ∙ ap (λ b. if b then one_later (first_unmet at (drop (n + 1) goals)) else Some zero) m) ∙ later_by_one n (first_unmet at (drop (n + 1) goals))
+  pub met_next : is_met at (get_or goals n d) ≡ true
+      → first_unmet at goals ≡ later_by n (first_unmet at (drop n goals))
+      → first_unmet at goals ≡ later_by (n + 1) (first_unmet at (drop (n + 1) goals))
+  met_next m e = e ∙ ap (later_by n) (rest
+      ∙ ap (λ b. if b then one_later (first_unmet at (drop (n + 1) goals)) else Some zero) m)
+      ∙ later_by_one n (first_unmet at (drop (n + 1) goals))
 
-  pub unmet_here : is_met at (get_or goals n d) ≡ false → first_unmet at goals ≡ later_by n (first_unmet at (drop n goals)) → Some n ≡ first_unmet at goals
-  unmet_here m e = sym (e ∙ ap (later_by n) (rest ∙ ap (λ b. if b then one_later (first_unmet at (drop (n + 1) goals)) else Some zero) m) ∙ ap Some (omega arith))
+  pub unmet_here : is_met at (get_or goals n d) ≡ false
+      → first_unmet at goals ≡ later_by n (first_unmet at (drop n goals))
+      → Some n ≡ first_unmet at goals
+  unmet_here m e = sym (e ∙ ap (later_by n) (rest
+      ∙ ap (λ b. if b then one_later (first_unmet at (drop (n + 1) goals)) else Some zero) m)
+      ∙ ap Some (omega arith))
 
-pub met_all : (at : Slot → Option Fact) (goals : List Goal) (n : ℕ) → length goals ≤ n → first_unmet at goals ≡ later_by n (first_unmet at (drop n goals)) → None ≡ first_unmet at goals
+pub met_all : (at : Slot → Option Fact) (goals : List Goal) (n : ℕ)
+    → length goals ≤ n → first_unmet at goals ≡ later_by n (first_unmet at (drop n goals))
+    → None ≡ first_unmet at goals
 met_all at goals n h e = sym (e ∙ ap (λ l. later_by n (first_unmet at l)) (drop_all n goals h))

@@ -1,10 +1,13 @@
 -- One more instance of a round.
-use Rattle.std.specs.Prelude.{◌≡◌, ◌≢◌, ◌⊎◌, ◌<◌, ◌+◌, ℕ, Bool, true, false, List, [], ◌∷◌, ◌++◌, length, Some, None, slice_get, slice_set, Contains, refl}
-use Rattle.std.proofs.Common.{sym, ◌∙◌, ap, subst, inl, inr, arith, rules, get_or, take, drop, add-one, zero, suc}
+use Rattle.std.specs.Prelude.{◌≡◌, ◌≢◌, ◌⊎◌, ◌<◌, ◌+◌, ℕ, Bool, true, false, List, [], ◌∷◌, ◌++◌}
+use Rattle.std.specs.Prelude.{length, Some, None, slice_get, slice_set, Contains, refl}
+use Rattle.std.proofs.Common.{sym, ◌∙◌, ap, subst, inl, inr, arith, rules, get_or, take, drop}
+use Rattle.std.proofs.Common.{add-one, zero, suc}
 use lib.ListN.{replicate}
 use Rattle.std.proofs.lemmas.List.{drop_all, take_all, append-nil, map-append}
 use Rattle.std.proofs.Math.Seq.{take-suc}
-use Rattle.std.proofs.lemmas.List.Elements.{Contains-push, Contains-push_cases, Contains-append_left}
+use Rattle.std.proofs.lemmas.List.Elements.{Contains-push, Contains-push_cases}
+use Rattle.std.proofs.lemmas.List.Elements.{Contains-append_left}
 use Rattle.std.proofs.lemmas.Option.{slice_get_read}
 use Rattle.rule_universe.specs.facts.declared.fact.Fact.{Fact}
 use Rattle.rule_universe.specs.facts.declared.fact.Slot.{Slot}
@@ -30,75 +33,109 @@ use Rattle.rule_universe.specs.facts.CommonParts.{void_cases}
 
 -- ---- places
 -- what a fact on another's slot, or VOID, finds
-place_for : (t : Table) (k : Fact) (s : Slot) → (slot_of k ≡ s) ⊎ (k ≡ fact.Void) → HasPlace t s → HasPlace t (slot_of k)
-place_for t k s w h = elim w [ inl e ↦ subst (HasPlace t) (sym e) h | inr v ↦ subst (λ f. HasPlace t (slot_of f)) (sym v) tt ]
+place_for : (t : Table) (k : Fact) (s : Slot) → (slot_of k ≡ s) ⊎ (k ≡ fact.Void) → HasPlace t s
+    → HasPlace t (slot_of k)
+place_for t k s w h = elim w [
+  | inl e ↦ subst (HasPlace t) (sym e) h
+  | inr v ↦ subst (λ f. HasPlace t (slot_of f)) (sym v) tt
+]
 
-pub meet_place : (t : Table) (g c k : Fact) → meet_of g c ≡ Some k → HasPlace t (slot_of c) → HasPlace t (slot_of k)
-meet_place t g c k e h = place_for t k (slot_of c) (elim (IsStronger-slot k c (meet-IsMeet g c k e).right) [ inl v ↦ inr v | inr s ↦ inl s ]) h
+pub meet_place : (t : Table) (g c k : Fact) → meet_of g c ≡ Some k → HasPlace t (slot_of c)
+    → HasPlace t (slot_of k)
+meet_place t g c k e h = place_for t k (slot_of c)
+    (elim (IsStronger-slot k c (meet-IsMeet g c k e).right) [ inl v ↦ inr v | inr s ↦ inl s ]) h
 
 -- where what a fact on another's slot, or VOID, finds its place
-found_for : (t : Table) (k : Fact) (s : Slot) (p : ℕ) → (slot_of k ≡ s) ⊎ (k ≡ fact.Void) → IsFoundAt t s p → IsFoundAt t (slot_of k) p
-found_for t k s p w h = elim w [ inl e ↦ subst (λ q. IsFoundAt t q p) (sym e) h | inr v ↦ subst (λ f. IsFoundAt t (slot_of f) p) (sym v) tt ]
+found_for : (t : Table) (k : Fact) (s : Slot) (p : ℕ) → (slot_of k ≡ s) ⊎ (k ≡ fact.Void)
+    → IsFoundAt t s p → IsFoundAt t (slot_of k) p
+found_for t k s p w h = elim w [
+  | inl e ↦ subst (λ q. IsFoundAt t q p) (sym e) h
+  | inr v ↦ subst (λ f. IsFoundAt t (slot_of f) p) (sym v) tt
+]
 
-pub meet_found : (t : Table) (g c k : Fact) (p : ℕ) → meet_of g c ≡ Some k → IsFoundAt t (slot_of c) p → IsFoundAt t (slot_of k) p
-meet_found t g c k p e h = found_for t k (slot_of c) p (elim (IsStronger-slot k c (meet-IsMeet g c k e).right) [ inl v ↦ inr v | inr s ↦ inl s ]) h
+pub meet_found : (t : Table) (g c k : Fact) (p : ℕ) → meet_of g c ≡ Some k
+    → IsFoundAt t (slot_of c) p → IsFoundAt t (slot_of k) p
+meet_found t g c k p e h = found_for t k (slot_of c) p
+    (elim (IsStronger-slot k c (meet-IsMeet g c k e).right) [ inl v ↦ inr v | inr s ↦ inl s ]) h
 
 -- the slot of what is kept
-pub meet_slot : (g c k : Fact) → meet_of g c ≡ Some k → (slot_of k ≡ slot_of c) ⊎ (slot_of k ≡ slot.Void)
-meet_slot g c k e = elim (IsStronger-slot k c (meet-IsMeet g c k e).right) [ inl v ↦ inr (ap slot_of v) | inr s ↦ inl s ]
+pub meet_slot : (g c k : Fact) → meet_of g c ≡ Some k
+    → (slot_of k ≡ slot_of c) ⊎ (slot_of k ≡ slot.Void)
+meet_slot g c k e = elim (IsStronger-slot k c (meet-IsMeet g c k e).right)
+    [ inl v ↦ inr (ap slot_of v) | inr s ↦ inl s ]
 
 -- the slot that an instance changes
-pub changed_slot : (rules : RuleList) → IsOnTargetList rules → (at : At) (i : Instance) (c : Fact) (s : Slot) → conclusion rules at i ≡ Some c → (s ≡ slot_of c) ⊎ (s ≡ slot.Void) → (s ≡ i.target) ⊎ (s ≡ slot.Void)
+pub changed_slot : (rules : RuleList) → IsOnTargetList rules
+    → (at : At) (i : Instance) (c : Fact) (s : Slot) → conclusion rules at i ≡ Some c
+    → (s ≡ slot_of c) ⊎ (s ≡ slot.Void) → (s ≡ i.target) ⊎ (s ≡ slot.Void)
 changed_slot rules on_target at i c s e w =
     let r = conclusion_reads rules at i c e in
     elim w [
       | inr v ↦ inr v
-      | inl q ↦ elim (on_target i.rule i.arg r.0 i.target c r.2) [ inl t ↦ inl (q ∙ t) | inr v ↦ inr (q ∙ ap slot_of v) ]
+      | inl q ↦ elim (on_target i.rule i.arg r.0 i.target c r.2)
+          [ inl t ↦ inl (q ∙ t) | inr v ↦ inr (q ∙ ap slot_of v) ]
     ]
 
 -- what is kept where what was there isn't as strong as what came
-pub risen_kept : (t : Table) (g c k : Fact) → fact_at t (slot_of c) ≡ Some g → ¬ IsStronger g c → meet_of g c ≡ Some k → fact_at t slot.Void ≡ None → IsRisen (fact_at t (slot_of k)) (Some k)
+pub risen_kept : (t : Table) (g c k : Fact) → fact_at t (slot_of c) ≡ Some g → ¬ IsStronger g c
+    → meet_of g c ≡ Some k → fact_at t slot.Void ≡ None → IsRisen (fact_at t (slot_of k)) (Some k)
 risen_kept t g c k e n m no_void =
     let w = meet-IsMeet g c k m in
     elim (void_cases k) [
       | inl v ↦ subst (λ o. IsRisen o (Some k)) (sym (ap (fact_at t) (ap slot_of v) ∙ no_void)) tt
-      | inr d ↦ subst (λ o. IsRisen o (Some k)) (sym (ap (fact_at t) (stronger_slot k c w.right d) ∙ e)) (w.left, λ s. n (IsStronger-trans g k c s w.right))
+      | inr d ↦ subst (λ o. IsRisen o (Some k)) (sym (ap (fact_at t) (stronger_slot k c w.right d)
+          ∙ e)) (w.left, λ s. n (IsStronger-trans g k c s w.right))
     ]
 
-pub conclusion_place : (rules : RuleList) → IsOnTargetList rules → (at : At) (i : Instance) (c : Fact) (t : Table) → conclusion rules at i ≡ Some c → HasPlace t i.target → HasPlace t (slot_of c)
+pub conclusion_place : (rules : RuleList) → IsOnTargetList rules
+    → (at : At) (i : Instance) (c : Fact) (t : Table) → conclusion rules at i ≡ Some c
+    → HasPlace t i.target → HasPlace t (slot_of c)
 conclusion_place rules on_target at i c t e h =
     let r = conclusion_reads rules at i c e in
     place_for t c i.target (on_target i.rule i.arg r.0 i.target c r.2) h
 
-pub conclusion_found : (rules : RuleList) → IsOnTargetList rules → (at : At) (i : Instance) (c : Fact) (t : Table) (p : ℕ) → conclusion rules at i ≡ Some c → IsFoundAt t i.target p → IsFoundAt t (slot_of c) p
+pub conclusion_found : (rules : RuleList) → IsOnTargetList rules
+    → (at : At) (i : Instance) (c : Fact) (t : Table) (p : ℕ) → conclusion rules at i ≡ Some c
+    → IsFoundAt t i.target p → IsFoundAt t (slot_of c) p
 conclusion_found rules on_target at i c t p e h =
     let r = conclusion_reads rules at i c e in
     found_for t c i.target p (on_target i.rule i.arg r.0 i.target c r.2) h
 
 -- ---- the instance with number n
-pub visited_ahead : (u : Setting) (at : At) (next new : Table) (n : ℕ) (i : Instance) → IsAhead u at (fact_at next) (λ j. j < n) → slice_get u.instances n ≡ Some i → IsVisit u.rules at next new i →
-    IsAhead u at (fact_at new) (λ j. j < n + 1)
+pub visited_ahead : (u : Setting) (at : At) (next new : Table) (n : ℕ) (i : Instance)
+    → IsAhead u at (fact_at next) (λ j. j < n) → slice_get u.instances n ≡ Some i
+    → IsVisit u.rules at next new i
+    → IsAhead u at (fact_at new) (λ j. j < n + 1)
 visited_ahead u at next new n i a e w =
     ahead_next u at (fact_at new) n
     (elim w [
-      | inl y ↦ subst (λ t. IsAhead u at (fact_at t) (λ k. (k < n) ⊎ (n ≡ k))) (sym y.1) (ahead_skip u at (fact_at next) (λ j. j < n) n i a e y.0)
+      | inl y ↦ subst (λ t. IsAhead u at (fact_at t) (λ k. (k < n) ⊎ (n ≡ k))) (sym y.1)
+          (ahead_skip u at (fact_at next) (λ j. j < n) n i a e y.0)
       | inr y ↦ ahead_step u at (fact_at next) (λ j. j < n) n i a e y.0 y.2 (fact_at new) y.1 y.3
     ])
 
 -- it isn't due
-pub quiet_ahead : (u : Setting) (at new : At) (due : List Bool) (n : ℕ) (i : Instance) → IsAhead u at new (λ j. j < n) → slice_get u.instances n ≡ Some i → IsQuiet u due at → slice_get due n ≡ Some false →
-    IsAhead u at new (λ j. j < n + 1)
-quiet_ahead u at new due n i a e q d = ahead_next u at new n (ahead_quiet u at new (λ j. j < n) n i a e (λ c x. q n i c e d x))
+pub quiet_ahead : (u : Setting) (at new : At) (due : List Bool) (n : ℕ) (i : Instance)
+    → IsAhead u at new (λ j. j < n) → slice_get u.instances n ≡ Some i → IsQuiet u due at
+    → slice_get due n ≡ Some false
+    → IsAhead u at new (λ j. j < n + 1)
+quiet_ahead u at new due n i a e q d =
+    ahead_next u at new n (ahead_quiet u at new (λ j. j < n) n i a e (λ c x. q n i c e d x))
 
 -- what is pushed last is contained
 pub pushed : (old new : List Slot) (t s : Slot) → new ≡ old ++ t ∷ [] → s ≡ t → Contains new s
-pushed old new t s e d = subst (λ l. Contains l s) (sym e) (subst (λ r. Contains (old ++ t ∷ []) r) (sym d) (Contains-push old t))
+pushed old new t s e d = subst (λ l. Contains l s) (sym e)
+    (subst (λ r. Contains (old ++ t ∷ []) r) (sym d) (Contains-push old t))
 
-pub pushed_cases : (old new : List Slot) (t s : Slot) → new ≡ old ++ t ∷ [] → Contains new s → Contains old s ⊎ (s ≡ t)
-pushed_cases old new t s e w = elim (Contains-push_cases old t s (subst (λ l. Contains l s) e w)) [ inl h ↦ inl h | inr d ↦ inr (sym d) ]
+pub pushed_cases : (old new : List Slot) (t s : Slot) → new ≡ old ++ t ∷ [] → Contains new s
+    → Contains old s ⊎ (s ≡ t)
+pushed_cases old new t s e w = elim (Contains-push_cases old t s (subst (λ l. Contains l s) e w))
+    [ inl h ↦ inl h | inr d ↦ inr (sym d) ]
 
 -- what changed before and now
-pub listed_more : (before changed : List Slot) (at next new : At) → IsListed before at next → ((s : Slot) → Contains before s → Contains changed s) → IsListed changed next new → IsListed changed at new
+pub listed_more : (before changed : List Slot) (at next new : At) → IsListed before at next
+    → ((s : Slot) → Contains before s → Contains changed s) → IsListed changed next new
+    → IsListed changed at new
 listed_more before changed at next new l more m s =
     elim (m s) [
       | inl h ↦ inl h
@@ -106,8 +143,10 @@ listed_more before changed at next new l more m s =
     ]
 
 -- what changed so far is stronger than at the start of the round
-pub risen_more : (before changed : List Slot) (at next new : At) → Grows at next → ((s : Slot) → Contains before s → IsRisen (at s) (next s)) →
-    ((s : Slot) → Contains changed s → (Contains before s × (new s ≡ next s)) ⊎ IsRisen (next s) (new s)) → (s : Slot) → Contains changed s → IsRisen (at s) (new s)
+pub risen_more : (before changed : List Slot) (at next new : At) → Grows at next
+    → ((s : Slot) → Contains before s → IsRisen (at s) (next s))
+    → ((s : Slot) → Contains changed s → (Contains before s × (new s ≡ next s))
+    ⊎ IsRisen (next s) (new s)) → (s : Slot) → Contains changed s → IsRisen (at s) (new s)
 risen_more before changed at next new grows old more s w =
     elim (more s w) [
       | inl y ↦ subst (IsRisen (at s)) (sym y.1) (old s y.0)
@@ -115,14 +154,18 @@ risen_more before changed at next new grows old more s w =
     ]
 
 -- the slot that was pushed rose, and the others are as they were
-pub risen_pushed : (before changed : List Slot) (t : Slot) (next new : At) → changed ≡ before ++ t ∷ [] → ((s : Slot) → s ≢ t → new s ≡ next s) → IsRisen (next t) (new t) →
-    (s : Slot) → Contains changed s → (Contains before s × (new s ≡ next s)) ⊎ IsRisen (next s) (new s)
+pub risen_pushed : (before changed : List Slot) (t : Slot) (next new : At)
+    → changed ≡ before ++ t ∷ [] → ((s : Slot) → s ≢ t → new s ≡ next s) → IsRisen (next t) (new t)
+    → (s : Slot) → Contains changed s
+    → (Contains before s × (new s ≡ next s)) ⊎ IsRisen (next s) (new s)
 risen_pushed before changed t next new e others r s w =
     elim (slot_cases s t) [
       | inl q ↦ inr (subst (λ v. IsRisen (next v) (new v)) (sym q) r)
-      | inr d ↦ elim (pushed_cases before changed t s e w) [ inl h ↦ inl (h, others s d) | inr q ↦ absurd (d q) ]
+      | inr d ↦ elim (pushed_cases before changed t s e w)
+          [ inl h ↦ inl (h, others s d) | inr q ↦ absurd (d q) ]
     ]
 
 -- ---- changes, by their slots
-pub slots_pushed : (old new : List Placed) (p : Placed) → new ≡ old ++ p ∷ [] → slots_of new ≡ slots_of old ++ p.slot ∷ []
+pub slots_pushed : (old new : List Placed) (p : Placed) → new ≡ old ++ p ∷ []
+    → slots_of new ≡ slots_of old ++ p.slot ∷ []
 slots_pushed old new p e = ap slots_of e ∙ map-append (λ (q : Placed). q.slot) old (p ∷ [])

@@ -1,5 +1,6 @@
 //! One round: each instance that is due is applied once to the table of the round before.
-ghost use Rattle.std.specs.Prelude.{◌≡◌, Some, None, IfOk, length, slice_get, Contains, count_by, ◌<◌, ◌≤◌, ◌+◌};
+ghost use Rattle.std.specs.Prelude.{◌≡◌, Some, None, IfOk, length, slice_get, Contains, count_by};
+ghost use Rattle.std.specs.Prelude.{◌<◌, ◌≤◌, ◌+◌};
 ghost use Rattle.rule_universe.specs.facts.declared.fact.Slot.{Slot};
 ghost use Rattle.rule_universe.specs.facts.declared.fact.Slot.TheVariants as slot;
 ghost use Rattle.rule_universe.specs.facts.declared.instance.Instance.{Instance as Applied};

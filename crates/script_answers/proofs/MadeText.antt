@@ -7,7 +7,8 @@ use Rattle.command_runs.specs.declared.status.Status.{Status}
 use Rattle.command_runs.specs.declared.status.Status.TheVariants.{Answered}
 use Rattle.made_script.specs.Script.{script_text}
 use Rattle.report.specs.Proved.{made_text}
-use Rattle.script_answers.specs.Answers.{IsProvedText, ProvePrints, MadePrints, made_options, first_line}
+use Rattle.script_answers.specs.Answers.{IsProvedText, ProvePrints, MadePrints, made_options}
+use Rattle.script_answers.specs.Answers.{first_line}
 
 -- another answer than that it is proved is the same of `prove` and `gen`
 made_other : (n : ℕ) (s : Status) (lines : Bytes) → s ≢ Answered

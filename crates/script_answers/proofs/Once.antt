@@ -12,7 +12,9 @@ use Rattle.settler.specs.bisect.declared.outcome.Leaf.{Leaf}
 use Rattle.settler.specs.case_trees.declared.outcome.OpenLeaf.{OpenLeaf}
 use Rattle.settler.specs.case_trees.declared.outcome.CaseOutcome.TheVariants as outcome
 use Rattle.settler.specs.bisect.Gathered.{lines_of}
-use Rattle.settler.specs.Answers.{Options, Answer, expr_limit, box_limit, unproved, proved, ComesTo, IsScriptAnswer, AnswersAreOne, OutcomesAreOne, HasTooManyExpressions, HasTooManyBoxes, plan_of}
+use Rattle.settler.specs.Answers.{Options, Answer, expr_limit, box_limit, unproved, proved, ComesTo}
+use Rattle.settler.specs.Answers.{IsScriptAnswer, AnswersAreOne, OutcomesAreOne}
+use Rattle.settler.specs.Answers.{HasTooManyExpressions, HasTooManyBoxes, plan_of}
 use Rattle.report.specs.Lines.{refusal_line, expressions_text, boxes_text}
 use Rattle.report.specs.Proved.{answer_text, made_text}
 use Rattle.made_script.specs.Script.{script_text}
@@ -21,7 +23,8 @@ use Rattle.command_runs.specs.Runs.{Bytes}
 use Rattle.command_runs.specs.declared.status.Status.{Status}
 use Rattle.command_runs.specs.declared.status.Status.TheVariants.{Answered, Unproved, Limit}
 use Rattle.command_runs.specs.declared.status.Status.TheVariants as status
-use Rattle.script_answers.specs.Answers.{ProvePrints, IsAnswered, IsProvedText, IsMadeAnswered, MadePrints, made_options, first_line}
+use Rattle.script_answers.specs.Answers.{ProvePrints, IsAnswered, IsProvedText, IsMadeAnswered}
+use Rattle.script_answers.specs.Answers.{MadePrints, made_options, first_line}
 use Rattle.script_answers.specs.Laws.{TextAnswersAreOne, MadeAnswersAreOne}
 
 abbrev Twice : Status → Status → Bytes → Bytes → Type 0

@@ -11,7 +11,8 @@ use Rattle.settler.specs.script_meets.Meets.{Meets}
 use Rattle.settler.specs.rewrite_hints.Marks.{AreMarks}
 use Rattle.report.specs.script_grammar.Cases.{cases_of}
 use Rattle.settler.specs.case_trees.declared.outcome.OpenLeaf.{OpenLeaf}
-use Rattle.settler.specs.Answers.{Options, HasTooManyExpressions, HasTooManyBoxes, IsUnproved, IsProvedIn, plan_of}
+use Rattle.settler.specs.Answers.{Options, HasTooManyExpressions, HasTooManyBoxes, IsUnproved}
+use Rattle.settler.specs.Answers.{IsProvedIn, plan_of}
 use Rattle.settler.specs.Tight.{AreTight}
 use Rattle.settler.specs.Held.{AreHeld}
 use Rattle.command_line.specs.Reading.{Asked}

@@ -1,9 +1,13 @@
 -- An interval lies between written bounds exactly where it lies in the one rounded inward.
 use Rattle.std.specs.Prelude.{◌≡◌, Some}
 use Rattle.std.proofs.Common.{subst, ⊎_elim}
-use Rattle.literal_order.specs.fx_model.Fraction.{Fraction, ◌≤ℚ◌, ◌+ℚ◌, ◌-ℚ◌, one_ℚ, le_refl, le_trans, lt_le, lt_not, le_or_lt, minus_one, plus_one}
+use Rattle.literal_order.specs.fx_model.Fraction.{Fraction, ◌≤ℚ◌, ◌+ℚ◌, ◌-ℚ◌, one_ℚ, le_refl}
+use Rattle.literal_order.specs.fx_model.Fraction.{le_trans, lt_le, lt_not, le_or_lt, minus_one}
+use Rattle.literal_order.specs.fx_model.Fraction.{plus_one}
 use Rattle.literal_order.specs.fx_model.Grid.{Bound, Below, At, Above, IsOnGrid, IsDown, IsUp}
-use Rattle.literal_order.specs.fx_model.Enclosure.{Range, IsFrom, IsUpTo, Lies, IsOrdered, BoundLe, Within, within_in, member_of, ordered_by, lower_up_to, higher_from, end_up_to, end_from}
+use Rattle.literal_order.specs.fx_model.Enclosure.{Range, IsFrom, IsUpTo, Lies, IsOrdered, BoundLe}
+use Rattle.literal_order.specs.fx_model.Enclosure.{Within, within_in, member_of, ordered_by}
+use Rattle.literal_order.specs.fx_model.Enclosure.{lower_up_to, higher_from, end_up_to, end_from}
 use Rattle.literal_order.specs.dyadic.declared.number.End.{End}
 use Rattle.literal_order.specs.dyadic.declared.number.End.TheVariants as end
 use Rattle.literal_order.specs.dyadic.Ends.{bound_of}
@@ -37,42 +41,59 @@ up_to_end Below x l = l
 up_to_end (At y) x l = up_to_number y (bound_of (point_of y).lo) (down_at y) x l
 up_to_end Above x l = tt
 
-pub inward-within : (r : Range) (i : Interval) → inward_of r ≡ Some i → (x : Fraction) → Lies (range_of i) x → Lies r x
-inward-within r i e x l = let q = interval_from_out (up_end r.low) (down_end r.high) i e in
-    (from_end r.low x (subst (λ n. IsFrom (bound_of n) x) q.0 l.0), up_to_end r.high x (subst (λ n. IsUpTo (bound_of n) x) q.1 l.1))
+pub inward-within : (r : Range) (i : Interval) → inward_of r ≡ Some i → (x : Fraction)
+    → Lies (range_of i) x → Lies r x
+inward-within r i e x l = let q = interval_from_out (up_end r.low) (down_end r.high) i e in (
+  from_end r.low x (subst (λ n. IsFrom (bound_of n) x) q.0 l.0),
+  up_to_end r.high x (subst (λ n. IsUpTo (bound_of n) x) q.1 l.1),
+)
 
 -- ---- an interval between the bounds has its ends there
-above_number : (p : Fraction) (c : Bound) (g : Fraction) → IsUp p c → IsOnGrid g → p ≤ℚ g → BoundLe c (At g)
+above_number : (p : Fraction) (c : Bound) (g : Fraction) → IsUp p c → IsOnGrid g
+    → p ≤ℚ g → BoundLe c (At g)
 above_number p Below g u o l = absurd u
 above_number p (At a) g u o l = u.2 g o l
 above_number p Above g u o l = absurd (u g o l)
 
-below_number : (p : Fraction) (c : Bound) (g : Fraction) → IsDown p c → IsOnGrid g → g ≤ℚ p → BoundLe (At g) c
+below_number : (p : Fraction) (c : Bound) (g : Fraction) → IsDown p c → IsOnGrid g
+    → g ≤ℚ p → BoundLe (At g) c
 below_number p Below g u o l = absurd (u g o l)
 below_number p (At a) g u o l = u.2 g o l
 below_number p Above g u o l = absurd u
 
-low_end : (p : Fraction) (lo : End) (c : Bound) → IsOrdered (bound_of lo) c → ((x : Fraction) → IsFrom (bound_of lo) x → IsUpTo c x → p ≤ℚ x) → BoundLe (bound_of (point_of p).hi) (bound_of lo)
+low_end : (p : Fraction) (lo : End) (c : Bound)
+    → IsOrdered (bound_of lo) c → ((x : Fraction) → IsFrom (bound_of lo) x → IsUpTo c x → p ≤ℚ x)
+    → BoundLe (bound_of (point_of p).hi) (bound_of lo)
 low_end p end.Low c o f = let m = member_of Below c o in
-    absurd (⊎_elim (λ l. lt_not (p -ℚ one_ℚ) p (minus_one p) (f (p -ℚ one_ℚ) tt (lower_up_to c (p -ℚ one_ℚ) m.0 (le_trans (p -ℚ one_ℚ) p m.0 (lt_le (p -ℚ one_ℚ) p (minus_one p)) l) m.2)))
+    absurd (⊎_elim (λ l. lt_not (p -ℚ one_ℚ) p (minus_one p) (f (p -ℚ one_ℚ) tt (lower_up_to c
+    (p -ℚ one_ℚ) m.0 (le_trans (p -ℚ one_ℚ) p m.0 (lt_le (p -ℚ one_ℚ) p (minus_one p)) l) m.2)))
     (λ l. lt_not m.0 p l (f m.0 m.1 m.2)) (le_or_lt p m.0))
-low_end p (end.At d) c o f = above_number p (bound_of (point_of p).hi) (value_of d) (up_at p) (on_grid d) (f (value_of d) (le_refl (value_of d)) (end_up_to (value_of d) c o))
+low_end p (end.At d) c o f = above_number p (bound_of (point_of p).hi) (value_of d) (up_at p)
+    (on_grid d) (f (value_of d) (le_refl (value_of d)) (end_up_to (value_of d) c o))
 low_end p end.High c o f = absurd o
 
-high_end : (p : Fraction) (c : Bound) (hi : End) → IsOrdered c (bound_of hi) → ((x : Fraction) → IsFrom c x → IsUpTo (bound_of hi) x → x ≤ℚ p) → BoundLe (bound_of hi) (bound_of (point_of p).lo)
+high_end : (p : Fraction) (c : Bound) (hi : End)
+    → IsOrdered c (bound_of hi) → ((x : Fraction) → IsFrom c x → IsUpTo (bound_of hi) x → x ≤ℚ p)
+    → BoundLe (bound_of hi) (bound_of (point_of p).lo)
 high_end p c end.Low o f = tt
-high_end p c (end.At d) o f = below_number p (bound_of (point_of p).lo) (value_of d) (down_at p) (on_grid d) (f (value_of d) (end_from c (value_of d) o) (le_refl (value_of d)))
+high_end p c (end.At d) o f = below_number p (bound_of (point_of p).lo) (value_of d) (down_at p)
+    (on_grid d) (f (value_of d) (end_from c (value_of d) o) (le_refl (value_of d)))
 high_end p c end.High o f = let m = member_of c Above o in
-    absurd (⊎_elim (λ l. lt_not p (p +ℚ one_ℚ) (plus_one p) (f (p +ℚ one_ℚ) (higher_from c (p +ℚ one_ℚ) m.0 (le_trans m.0 p (p +ℚ one_ℚ) l (lt_le p (p +ℚ one_ℚ) (plus_one p))) m.1) tt))
+    absurd (⊎_elim (λ l. lt_not p (p +ℚ one_ℚ) (plus_one p) (f (p +ℚ one_ℚ) (higher_from c
+    (p +ℚ one_ℚ) m.0 (le_trans m.0 p (p +ℚ one_ℚ) l (lt_le p (p +ℚ one_ℚ) (plus_one p))) m.1) tt))
     (λ l. lt_not p m.0 l (f m.0 m.1 m.2)) (le_or_lt m.0 p))
 
-low_within : (b : Bound) (k : Interval) → ((x : Fraction) → Lies (range_of k) x → IsFrom b x) → BoundLe (bound_of (up_end b)) (bound_of k.lo)
+low_within : (b : Bound) (k : Interval) → ((x : Fraction) → Lies (range_of k) x → IsFrom b x)
+    → BoundLe (bound_of (up_end b)) (bound_of k.lo)
 low_within Below k f = tt
 low_within (At p) k f = low_end p k.lo (bound_of k.hi) k.ordered (λ x l u. f x (l, u))
-low_within Above k f = let m = member_of (bound_of k.lo) (bound_of k.hi) k.ordered in absurd (f m.0 (m.1, m.2))
+low_within Above k f = let m = member_of (bound_of k.lo) (bound_of k.hi) k.ordered in
+    absurd (f m.0 (m.1, m.2))
 
-high_within : (b : Bound) (k : Interval) → ((x : Fraction) → Lies (range_of k) x → IsUpTo b x) → BoundLe (bound_of k.hi) (bound_of (down_end b))
-high_within Below k f = let m = member_of (bound_of k.lo) (bound_of k.hi) k.ordered in absurd (f m.0 (m.1, m.2))
+high_within : (b : Bound) (k : Interval) → ((x : Fraction) → Lies (range_of k) x → IsUpTo b x)
+    → BoundLe (bound_of k.hi) (bound_of (down_end b))
+high_within Below k f = let m = member_of (bound_of k.lo) (bound_of k.hi) k.ordered in
+    absurd (f m.0 (m.1, m.2))
 high_within (At p) k f = high_end p (bound_of k.lo) k.hi k.ordered (λ x l u. f x (l, u))
 high_within Above k f = most (bound_of k.hi)
   where
@@ -81,10 +102,18 @@ high_within Above k f = most (bound_of k.hi)
     most (At g) = tt
     most Above = tt
 
-pub inward-greatest : (r : Range) (k : Interval) → ((x : Fraction) → Lies (range_of k) x → Lies r x) → (i : Interval) × (inward_of r ≡ Some i) × Within (range_of k) (range_of i)
+pub inward-greatest : (r : Range) (k : Interval) → ((x : Fraction) → Lies (range_of k) x → Lies r x)
+    → (i : Interval) × (inward_of r ≡ Some i) × Within (range_of k) (range_of i)
 inward-greatest r k f =
-    let w : Within (range_of k) (range_from (up_end r.low) (down_end r.high)) = (low_within r.low k (λ x l. let q = f x l in q.0), high_within r.high k (λ x l. let q = f x l in q.1)) in
+    let w : Within (range_of k) (range_from (up_end r.low) (down_end r.high)) = (
+      low_within r.low k (λ x l. let q = f x l in q.0),
+      high_within r.high k (λ x l. let q = f x l in q.1),
+    ) in
     let m = member_of (bound_of k.lo) (bound_of k.hi) k.ordered in
     let l = within_in (range_of k) (range_from (up_end r.low) (down_end r.high)) m.0 w (m.1, m.2) in
-    let o : AreEnds (up_end r.low) (down_end r.high) = ordered_by (bound_of (up_end r.low)) (bound_of (down_end r.high)) m.0 l.0 l.1 in
-    (record { lo = up_end r.low; hi = down_end r.high; ordered = o }, interval_from-some (up_end r.low) (down_end r.high) o, w)
+    let o : AreEnds (up_end r.low) (down_end r.high) =
+    ordered_by (bound_of (up_end r.low)) (bound_of (down_end r.high)) m.0 l.0 l.1 in (
+      record { lo = up_end r.low; hi = down_end r.high; ordered = o },
+      interval_from-some (up_end r.low) (down_end r.high) o,
+      w,
+    )

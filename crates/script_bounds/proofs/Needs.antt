@@ -1,7 +1,8 @@
 -- A number of the grid is below the end exactly where it is below the written bound.
 use Rattle.std.specs.Prelude.{◌≡◌, ◌↔◌, Bool, true, false, refl}
 use Rattle.std.proofs.Common.{sym, subst}
-use Rattle.literal_order.specs.fx_model.Fraction.{Fraction, ◌≤ℚ◌, ◌<ℚ◌, le_refl, le_trans, le_antisymm, lt_by, lt_le}
+use Rattle.literal_order.specs.fx_model.Fraction.{Fraction, ◌≤ℚ◌, ◌<ℚ◌, le_refl, le_trans}
+use Rattle.literal_order.specs.fx_model.Fraction.{le_antisymm, lt_by, lt_le}
 use Rattle.literal_order.specs.fx_model.Grid.{Bound, Below, At, Above, IsOnGrid, IsDown, IsUp}
 use Rattle.literal_order.specs.fx_model.Enclosure.{BoundLe}
 use Rattle.literal_order.specs.dyadic.Ends.{bound_of}
@@ -27,7 +28,8 @@ module _ (v : Fraction) where
   not_below Above g u o = (λ l. absurd l, λ l. u g o l)
 
   -- where the ends are apart, v isn't of the grid
-  pub apart : (b c : Bound) (g : Fraction) → IsDown v b → IsUp v c → le_bound c b ≡ false → IsOnGrid g → ¬ (g ≡ v)
+  pub apart : (b c : Bound) (g : Fraction) → IsDown v b → IsUp v c → le_bound c b ≡ false
+      → IsOnGrid g → ¬ (g ≡ v)
   apart b c g d u t o e = not_both (le_bound c b) t (BoundLe_out c b (order b c d u))
     where
       not_both : (x : Bool) → x ≡ false → x ≡ true → ⊥
@@ -56,16 +58,22 @@ module _ (v : Fraction) where
   pub strictly : (x y : Fraction) → x ≤ℚ y → ¬ (x ≡ y) → x <ℚ y
   strictly x y l n = lt_by x y (λ k. n (le_antisymm x y l k))
 
-  below : (b c : Bound) (g : Fraction) → IsDown v b → IsUp v c → IsOnGrid g → IsUnder b (le_bound c b) g ↔ (g <ℚ v)
+  below : (b c : Bound) (g : Fraction) → IsDown v b → IsUp v c → IsOnGrid g
+      → IsUnder b (le_bound c b) g ↔ (g <ℚ v)
   below Below c g d u o = (λ l. absurd l, λ l. d g o (lt_le g v l))
   below (At a) c g d u o = by_test (le_bound c (At a)) refl
     where
       by_test : (t : Bool) → le_bound c (At a) ≡ t → IsUnder (At a) t g ↔ (g <ℚ v)
-      by_test true t = let e : v ≡ a = together a c d.1 u t in (λ l. subst (λ z. g <ℚ z) (sym e) l, λ l. subst (λ z. g <ℚ z) e l)
-      by_test false t = (λ l. strictly g v (le_trans g a v l d.1) (apart (At a) c g d u t o), λ l. d.2 g o (lt_le g v l))
+      by_test true t = let e : v ≡ a = together a c d.1 u t in
+          (λ l. subst (λ z. g <ℚ z) (sym e) l, λ l. subst (λ z. g <ℚ z) e l)
+      by_test false t = (
+        λ l. strictly g v (le_trans g a v l d.1) (apart (At a) c g d u t o),
+        λ l. d.2 g o (lt_le g v l),
+      )
   below Above c g d u o = absurd d
 
-  above : (b c : Bound) (g : Fraction) → IsDown v b → IsUp v c → IsOnGrid g → IsOver c (le_bound c b) g ↔ (v <ℚ g)
+  above : (b c : Bound) (g : Fraction) → IsDown v b → IsUp v c → IsOnGrid g
+      → IsOver c (le_bound c b) g ↔ (v <ℚ g)
   above b Below g d u o = absurd u
   above b (At k) g d u o = by_test b d (le_bound (At k) b) refl
     where
@@ -74,20 +82,33 @@ module _ (v : Fraction) where
       at_low (At a) d t = le_antisymm v k u.1 (le_trans k a v (record { le = t }) d.1)
       at_low Above d t = absurd d
 
-      by_test : (b : Bound) → IsDown v b → (t : Bool) → le_bound (At k) b ≡ t → IsOver (At k) t g ↔ (v <ℚ g)
-      by_test b d true t = let e : v ≡ k = at_low b d t in (λ l. subst (λ z. z <ℚ g) (sym e) l, λ l. subst (λ z. z <ℚ g) e l)
-      by_test b d false t = (λ l. strictly v g (le_trans v k g u.1 l) (λ e. apart b (At k) g d u t o (sym e)), λ l. u.2 g o (lt_le v g l))
+      by_test : (b : Bound) → IsDown v b → (t : Bool) → le_bound (At k) b ≡ t
+          → IsOver (At k) t g ↔ (v <ℚ g)
+      by_test b d true t = let e : v ≡ k = at_low b d t in
+          (λ l. subst (λ z. z <ℚ g) (sym e) l, λ l. subst (λ z. z <ℚ g) e l)
+      by_test b d false t = (
+        λ l. strictly v g (le_trans v k g u.1 l) (λ e. apart b (At k) g d u t o (sym e)),
+        λ l. u.2 g o (lt_le v g l),
+      )
   above b Above g d u o = (λ l. absurd l, λ l. u g o (lt_le v g l))
 
 -- ---- the clauses
-pub below-exact : (w : Written) (g : Fraction) → IsOnGrid g → IsUnder (bound_of (below_of w true).0) (below_of w true).1 g ↔ (g <ℚ written_value w)
-below-exact w g o = let i = point_of (written_value w) in below (written_value w) (bound_of i.lo) (bound_of i.hi) g (down_at (written_value w)) (up_at (written_value w)) o
+pub below-exact : (w : Written) (g : Fraction) → IsOnGrid g
+    → IsUnder (bound_of (below_of w true).0) (below_of w true).1 g ↔ (g <ℚ written_value w)
+below-exact w g o = let i = point_of (written_value w) in below (written_value w) (bound_of i.lo)
+    (bound_of i.hi) g (down_at (written_value w)) (up_at (written_value w)) o
 
-pub not_above-exact : (w : Written) (g : Fraction) → IsOnGrid g → IsUnder (bound_of (below_of w false).0) (below_of w false).1 g ↔ (g ≤ℚ written_value w)
-not_above-exact w g o = not_above (written_value w) (bound_of (point_of (written_value w)).lo) g (down_at (written_value w)) o
+pub not_above-exact : (w : Written) (g : Fraction) → IsOnGrid g
+    → IsUnder (bound_of (below_of w false).0) (below_of w false).1 g ↔ (g ≤ℚ written_value w)
+not_above-exact w g o = not_above (written_value w)
+    (bound_of (point_of (written_value w)).lo) g (down_at (written_value w)) o
 
-pub above-exact : (w : Written) (g : Fraction) → IsOnGrid g → IsOver (bound_of (above_of w true).0) (above_of w true).1 g ↔ (written_value w <ℚ g)
-above-exact w g o = let i = point_of (written_value w) in above (written_value w) (bound_of i.lo) (bound_of i.hi) g (down_at (written_value w)) (up_at (written_value w)) o
+pub above-exact : (w : Written) (g : Fraction) → IsOnGrid g
+    → IsOver (bound_of (above_of w true).0) (above_of w true).1 g ↔ (written_value w <ℚ g)
+above-exact w g o = let i = point_of (written_value w) in above (written_value w) (bound_of i.lo)
+    (bound_of i.hi) g (down_at (written_value w)) (up_at (written_value w)) o
 
-pub not_below-exact : (w : Written) (g : Fraction) → IsOnGrid g → IsOver (bound_of (above_of w false).0) (above_of w false).1 g ↔ (written_value w ≤ℚ g)
-not_below-exact w g o = not_below (written_value w) (bound_of (point_of (written_value w)).hi) g (up_at (written_value w)) o
+pub not_below-exact : (w : Written) (g : Fraction) → IsOnGrid g
+    → IsOver (bound_of (above_of w false).0) (above_of w false).1 g ↔ (written_value w ≤ℚ g)
+not_below-exact w g o = not_below (written_value w)
+    (bound_of (point_of (written_value w)).hi) g (up_at (written_value w)) o

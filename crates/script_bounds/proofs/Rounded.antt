@@ -3,7 +3,9 @@ use Rattle.std.specs.Prelude.{◌≡◌, Some, refl}
 use Rattle.std.proofs.Common.{sym, subst, ap, ◌∙◌}
 use Rattle.literal_order.specs.fx_model.Fraction.{Fraction, ◌≤ℚ◌, le_refl, le_antisymm}
 use Rattle.literal_order.specs.fx_model.Grid.{Bound, Below, At, Above, IsDown, IsUp}
-use Rattle.literal_order.specs.fx_model.Enclosure.{Range, Lies, IsEnclosure, IsInfimum, IsSupremum, IsOrdered, enclosure_unique, member_of, enclosure_ordered}
+use Rattle.literal_order.specs.fx_model.Enclosure.{Range, Lies, IsEnclosure, IsInfimum, IsSupremum}
+use Rattle.literal_order.specs.fx_model.Enclosure.{IsOrdered, enclosure_unique, member_of}
+use Rattle.literal_order.specs.fx_model.Enclosure.{enclosure_ordered}
 use Rattle.literal_order.specs.grid_words.Nearest.{down, up}
 use Rattle.literal_order.specs.grid_words.Outward as grid
 use Rattle.literal_order.specs.grid_words.Outward.{outward, outward_is, outward_exact}
@@ -28,8 +30,10 @@ pub up_at : (x : Fraction) → IsUp x (bound_of (point_of x).hi)
 up_at x = let e = point_of-is x in alone_up x (bound_of (point_of x).hi) e.high
 
 point_range : (x : Fraction) → range_of (point_of x) ≡ between (down x) (up x)
-point_range x = enclosure_unique (Alone x) (range_of (point_of x)) (between (down x) (up x)) (point_of-is x)
-    (outward_exact (Alone x) (between (At x) (At x)) (le_refl x) (λ y l. le_antisymm y x l.1 l.0) (λ y e. (subst (λ z. x ≤ℚ z) (sym e) (le_refl x), subst (λ z. z ≤ℚ x) (sym e) (le_refl x))))
+point_range x =
+    enclosure_unique (Alone x) (range_of (point_of x)) (between (down x) (up x)) (point_of-is x)
+    (outward_exact (Alone x) (between (At x) (At x)) (le_refl x) (λ y l. le_antisymm y x l.1 l.0)
+    (λ y e. (subst (λ z. x ≤ℚ z) (sym e) (le_refl x), subst (λ z. z ≤ℚ x) (sym e) (le_refl x))))
 
 down_end-bound : (b : Bound) → bound_of (down_end b) ≡ grid.down_end b
 down_end-bound Below = refl
@@ -42,12 +46,20 @@ up_end-bound (At x) = ap (λ (r : Range). r.high) (point_range x)
 up_end-bound Above = refl
 
 -- ---- bounds in order
-outward-range : (r : Range) → between (bound_of (down_end r.low)) (bound_of (up_end r.high)) ≡ outward r
-outward-range r = ap (λ b. between b (bound_of (up_end r.high))) (down_end-bound r.low) ∙ ap (between (grid.down_end r.low)) (up_end-bound r.high)
+outward-range : (r : Range)
+    → between (bound_of (down_end r.low)) (bound_of (up_end r.high)) ≡ outward r
+outward-range r = ap (λ b. between b (bound_of (up_end r.high))) (down_end-bound r.low)
+    ∙ ap (between (grid.down_end r.low)) (up_end-bound r.high)
 
-pub outward-least : (r : Range) → IsOrdered r.low r.high → (i : Interval) × (outward_of r ≡ Some i) × IsEnclosure (Lies r) (range_of i)
+pub outward-least : (r : Range) → IsOrdered r.low r.high
+    → (i : Interval) × (outward_of r ≡ Some i) × IsEnclosure (Lies r) (range_of i)
 outward-least r o =
-    let e : IsEnclosure (Lies r) (between (bound_of (down_end r.low)) (bound_of (up_end r.high))) = subst (IsEnclosure (Lies r)) (sym (outward-range r)) (outward_is r o) in
+    let e : IsEnclosure (Lies r) (between (bound_of (down_end r.low)) (bound_of (up_end r.high))) =
+    subst (IsEnclosure (Lies r)) (sym (outward-range r)) (outward_is r o) in
     let m = member_of r.low r.high o in
-    let w : AreEnds (down_end r.low) (up_end r.high) = enclosure_ordered (Lies r) (between (bound_of (down_end r.low)) (bound_of (up_end r.high))) m.0 (m.1, m.2) e in
-    (record { lo = down_end r.low; hi = up_end r.high; ordered = w }, interval_from-some (down_end r.low) (up_end r.high) w, e)
+    let w : AreEnds (down_end r.low) (up_end r.high) = enclosure_ordered (Lies r)
+    (between (bound_of (down_end r.low)) (bound_of (up_end r.high))) m.0 (m.1, m.2) e in (
+      record { lo = down_end r.low; hi = up_end r.high; ordered = w },
+      interval_from-some (down_end r.low) (up_end r.high) w,
+      e,
+    )

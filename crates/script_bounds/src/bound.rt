@@ -1,7 +1,8 @@
 // Written bounds, rounded outward and inward.
 ghost use Rattle.std.specs.Prelude.{◌≡◌};
 ghost use Rattle.literal_order.specs.Values.{IsWritten};
-ghost use Rattle.script_bounds.specs.Bounds.{low_of, high_of, written_range, down_end, up_end, outward_of, inward_of};
+ghost use Rattle.script_bounds.specs.Bounds.{low_of, high_of, written_range, down_end, up_end};
+ghost use Rattle.script_bounds.specs.Bounds.{outward_of, inward_of};
 
 use literal_order::{End, Interval, Written};
 

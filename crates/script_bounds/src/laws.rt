@@ -2,7 +2,8 @@
 ghost use Rattle.std.specs.Prelude.{◌≡◌, ◌↔◌, true, false, Some};
 ghost use Rattle.literal_order.specs.fx_model.Fraction.{Fraction, ◌≤ℚ◌, ◌<ℚ◌};
 ghost use Rattle.literal_order.specs.fx_model.Grid.{IsOnGrid};
-ghost use Rattle.literal_order.specs.fx_model.Enclosure.{Range, IsOrdered, Lies, IsEnclosure, Within};
+ghost use Rattle.literal_order.specs.fx_model.Enclosure.{Range, IsOrdered, Lies, IsEnclosure};
+ghost use Rattle.literal_order.specs.fx_model.Enclosure.{Within};
 ghost use Rattle.literal_order.specs.dyadic.Ends.{bound_of};
 ghost use Rattle.literal_order.specs.interval.declared.interval.Interval.{Interval as View};
 ghost use Rattle.literal_order.specs.interval.Intervals.{range_of};

@@ -1,5 +1,6 @@
 -- The case that chosen conjunctions make, and what is left behind the first of them.
-use Rattle.std.specs.Prelude.{◌≡◌, ℕ, zero, suc, ◌+◌, ◌*◌, ◌/◌, ◌%◌, ◌<◌, ◌≤◌, ◌-◌, List, [], ◌∷◌, ◌++◌, length, take, drop, slice_get, get_or, Some, refl}
+use Rattle.std.specs.Prelude.{◌≡◌, ℕ, zero, suc, ◌+◌, ◌*◌, ◌/◌, ◌%◌, ◌<◌, ◌≤◌, ◌-◌, List, [], ◌∷◌}
+use Rattle.std.specs.Prelude.{◌++◌, length, take, drop, slice_get, get_or, Some, refl}
 use Rattle.std.specs.List.{AllByRecursion, flat_map}
 use Rattle.std.proofs.Common.{ap, sym, ◌∙◌, arith, subst}
 use Rattle.std.proofs.Math.Nat.{mul-div_cancel_left, mod-lt, div-lt_iff_lt-mul}
@@ -20,7 +21,8 @@ positive : (a b n : ℕ) → n < a * b → 0 < b
 positive a zero n h = absurd (omega (h, Rattle.std.proofs.Math.Nat.mul-zero a, arith))
 positive a (suc b) n h = omega arith
 
-pub makes_case : {X : Type 0} (parts : List (List (List X))) (number : ℕ) → number < case_count parts
+pub makes_case : {X : Type 0} (parts : List (List (List X))) (number : ℕ)
+    → number < case_count parts
     → slice_get (cases parts) number ≡ Some (flat_map (λ c. c) (choice parts number))
 makes_case [] zero h = refl
 makes_case [] (suc n) h = absurd (omega (h, arith))

@@ -10,7 +10,8 @@ use Rattle.script_cases.proofs.Lengths.{count_of_gaps, filled_rising, gaps_posit
 
 module _ {X : Type 0} (items : List X) (ends parts : List ℕ) (m : AreMarks items ends parts) where
   within : AllByRecursion (λ e. e ≤ length (pieces 0 items ends)) parts
-  within = subst (λ n. AllByRecursion (λ e. e ≤ n) parts) (sym (length_pieces 0 items ends)) m.parts_within
+  within = subst (λ n. AllByRecursion (λ e. e ≤ n) parts)
+      (sym (length_pieces 0 items ends)) m.parts_within
 
   pub counted : case_count (pieces 0 (pieces 0 items ends) parts) ≡ gaps 0 parts
   counted = count_of_gaps 0 (pieces 0 items ends) parts within

@@ -1,5 +1,6 @@
 // Conjunctions and parts over one list of items.
-ghost use Rattle.std.specs.Prelude.{◌≡◌, ℕ, nat_lt, ◌<◌, ◌≤◌, ◌++◌, [], Some, length, slice_get, get_or, IfOk, OnOk, OnErr};
+ghost use Rattle.std.specs.Prelude.{◌≡◌, ℕ, nat_lt, ◌<◌, ◌≤◌, ◌++◌, [], Some, length, slice_get};
+ghost use Rattle.std.specs.Prelude.{get_or, IfOk, OnOk, OnErr};
 ghost use Rattle.std.specs.List.{AllByRecursion, flat_map};
 ghost use Rattle.script_cases.specs.Cases.{cases, case_count};
 ghost use Rattle.script_cases.specs.Gaps.{gaps, AreRising};

@@ -1,5 +1,6 @@
 //! What an accepted certificate of a script says. Nothing here is done at run time.
-ghost use Rattle.script_checker.specs.Checking.{AcceptedHoldsOfScripts, CheckedHoldsOfScripts, ChecksAreOne};
+ghost use Rattle.script_checker.specs.Checking.{AcceptedHoldsOfScripts, CheckedHoldsOfScripts};
+ghost use Rattle.script_checker.specs.Checking.{ChecksAreOne};
 
 use cert_checker::{accepted_lines_hold, items_are_judged_once};
 use rewrite_hints::rows_are_true;

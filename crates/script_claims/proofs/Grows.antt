@@ -12,7 +12,8 @@ use Rattle.script_nodes.specs.Growth.{node_count, EndsGrow, WordsGrow}
 use Rattle.script_claims.specs.declared.part.Part.{Part}
 use Rattle.script_claims.specs.declared.part.Part.TheVariants.{Nothing, Made}
 use Rattle.script_claims.specs.Parts.{relation_behind, in_behind}
-use Rattle.script_claims.specs.Reads.{State, taken, expr_taken, ended_with, ended, connected, at_role, read_claim, ClaimsGrow}
+use Rattle.script_claims.specs.Reads.{State, taken, expr_taken, ended_with, ended, connected}
+use Rattle.script_claims.specs.Reads.{at_role, read_claim, ClaimsGrow}
 
 abbrev count : State → ℕ
 count st = node_count st.reading.known
@@ -20,11 +21,13 @@ count st = node_count st.reading.known
 abbrev IsMore : State → Option Complete → Type 0
 IsMore st o = IfSome o (λ c. count st ≤ node_count c.0.0)
 
-taken_grows : (f : ExprId → Part → Part) (st : State) (o : Option Complete) → IsMore st o → count st ≤ count (taken f st o)
+taken_grows : (f : ExprId → Part → Part) (st : State) (o : Option Complete) → IsMore st o
+    → count st ≤ count (taken f st o)
 taken_grows f st None h = le_refl (count st)
 taken_grows f st (Some c) h = h
 
-ended_with_grows : (st : State) (p : Part) (o : Option Complete) → IsMore st o → count st ≤ count (ended_with st p o)
+ended_with_grows : (st : State) (p : Part) (o : Option Complete) → IsMore st o
+    → count st ≤ count (ended_with st p o)
 ended_with_grows st (Made c) o h = le_refl (count st)
 ended_with_grows st Nothing (Some c) h = h
 ended_with_grows st _ o h = le_refl (count st)
@@ -42,10 +45,12 @@ connected_grows (literal k text) st = le_refl (count st)
 
 module _ (ends : EndsGrow) where
   expr_taken_grows : (f : ExprId → Part → Part) (st : State) → count st ≤ count (expr_taken f st)
-  expr_taken_grows f st = taken_grows f st (expr_done None st.reading st.reading.waits) (ends None st.reading st.reading.waits)
+  expr_taken_grows f st = taken_grows f st (expr_done None st.reading st.reading.waits)
+      (ends None st.reading st.reading.waits)
 
   ended_grows : (st : State) → count st ≤ count (ended st)
-  ended_grows st = ended_with_grows st st.proposition.part (expr_done None st.reading st.reading.waits) (ends None st.reading st.reading.waits)
+  ended_grows st = ended_with_grows st st.proposition.part
+      (expr_done None st.reading st.reading.waits) (ends None st.reading st.reading.waits)
 
   at_role_grows : (r : Due) (w : Word) (st : State) → count st ≤ count (at_role r w st)
   at_role_grows d.Relation w st = expr_taken_grows (relation_behind w) st
@@ -56,4 +61,5 @@ module _ (ends : EndsGrow) where
 
 pub claims_grow : EndsGrow → WordsGrow → ClaimsGrow
 unfolding read_claim
-claims_grow ends words r w st = le_trans (words None st.reading r w) (at_role_grows ends r w (record st { reading = read None r w st.reading }))
+claims_grow ends words r w st = le_trans (words None st.reading r w)
+    (at_role_grows ends r w (record st { reading = read None r w st.reading }))

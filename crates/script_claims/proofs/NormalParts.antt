@@ -3,10 +3,13 @@ use Rattle.std.specs.Prelude.{Some}
 use Rattle.script_nodes.specs.literal_order.declared.written.Written.{Written}
 use Rattle.script_nodes.specs.literal_order.Values.{IsWritten}
 use Rattle.script_claims.specs.declared.part.Part.{Part}
-use Rattle.script_claims.specs.declared.part.Part.TheVariants.{Nothing, Against, In, RelativeIn, AtMost, AtLeast, From, RelativeFrom, Made}
+use Rattle.script_claims.specs.declared.part.Part.TheVariants.{Nothing, Against, In, RelativeIn}
+use Rattle.script_claims.specs.declared.part.Part.TheVariants.{AtMost, AtLeast, From, RelativeFrom}
+use Rattle.script_claims.specs.declared.part.Part.TheVariants.{Made}
 use Rattle.script_claims.specs.Parts.{bounded, IsNormalPart}
 
-pub bounded_normal : (b : Written) (p : Part) → IsWritten (Some b) → IsNormalPart p → IsNormalPart (bounded b p)
+pub bounded_normal : (b : Written) (p : Part) → IsWritten (Some b) → IsNormalPart p
+    → IsNormalPart (bounded b p)
 bounded_normal b Nothing h n = tt
 bounded_normal b (Against x) h n = tt
 bounded_normal b (In x) h n = h

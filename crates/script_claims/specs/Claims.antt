@@ -1,16 +1,23 @@
 -- What a formula claims, by recursion on its tree.
-use Rattle.std.specs.Prelude.{◌≡◌, ℕ, ℤ, pos, neg_ℤ, List, [], ◌∷◌, ◌++◌, Some, None, Bool, true, false, nat_lt, if◌then◌else◌}
+use Rattle.std.specs.Prelude.{◌≡◌, ℕ, ℤ, pos, neg_ℤ, List, [], ◌∷◌, ◌++◌, Some, None, Bool, true}
+use Rattle.std.specs.Prelude.{false, nat_lt, if◌then◌else◌}
 use Rattle.std.specs.Str.Parse.{digits_value}
 use Rattle.goals.specs.fx_model.declared.ExprId.{ExprId}
-use Rattle.script_nodes.specs.script_shape.Tree.{Whole, natural, opposite, Range, asked, between, Prop, lies_in, relative_in, at_most, at_least, multiple, Stated, affirmed, denied, Formula, single, and, or, implies}
+use Rattle.script_nodes.specs.script_shape.Tree.{Whole, natural, opposite, Range, asked, between}
+use Rattle.script_nodes.specs.script_shape.Tree.{Prop, lies_in, relative_in, at_most, at_least}
+use Rattle.script_nodes.specs.script_shape.Tree.{multiple, Stated, affirmed, denied, Formula}
+use Rattle.script_nodes.specs.script_shape.Tree.{single, and, or, implies}
 use Rattle.script_cases.specs.Cases.{all_items}
-use Rattle.script_cases.specs.Parts.{Parts, nothing, with_item, behind_or, behind_arrow as parts_behind_arrow}
+use Rattle.script_cases.specs.Parts.{Parts, nothing, with_item, behind_or}
+use Rattle.script_cases.specs.Parts.{behind_arrow as parts_behind_arrow}
 use Rattle.script_nodes.specs.Written.{bound_written}
 use Rattle.script_nodes.specs.Operators.{digits_text}
 use Rattle.script_nodes.specs.Known.{Known, PlacedNode}
 use Rattle.script_nodes.specs.Values.{expr_value}
 use Rattle.script_claims.specs.declared.claim.Claim.{Claim}
-use Rattle.script_claims.specs.declared.claim.Claim.TheVariants.{Bounded, Asked, Relative, RelativeAsked, Above, Below, Multiple}
+use Rattle.script_claims.specs.declared.claim.Claim.TheVariants.{Bounded, Asked, Relative}
+use Rattle.script_claims.specs.declared.claim.Claim.TheVariants.{RelativeAsked, Above, Below}
+use Rattle.script_claims.specs.declared.claim.Claim.TheVariants.{Multiple}
 
 -- ---- numbers
 

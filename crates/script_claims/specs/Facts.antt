@@ -16,9 +16,12 @@ use Rattle.goals.specs.facts.Conclusions.{bnd_of, fix_of}
 use Rattle.goals.specs.facts.Ranges.{IsBelow}
 use Rattle.goals.specs.facts.Places.{IsPlace, place_from}
 use Rattle.script_nodes.specs.literal_order.Values.{IsWritten}
-use Rattle.script_bounds.specs.Bounds.{low_of, high_of, down_end, written_range, outward_of, inward_of}
+use Rattle.script_bounds.specs.Bounds.{low_of, high_of, down_end, written_range, outward_of}
+use Rattle.script_bounds.specs.Bounds.{inward_of}
 use Rattle.script_claims.specs.declared.claim.Claim.{Claim}
-use Rattle.script_claims.specs.declared.claim.Claim.TheVariants.{Bounded, Asked, Relative, RelativeAsked, Above, Below, Multiple}
+use Rattle.script_claims.specs.declared.claim.Claim.TheVariants.{Bounded, Asked, Relative}
+use Rattle.script_claims.specs.declared.claim.Claim.TheVariants.{RelativeAsked, Above, Below}
+use Rattle.script_claims.specs.declared.claim.Claim.TheVariants.{Multiple}
 use Rattle.goals.specs.declared.goal.Want.{Want}
 use Rattle.goals.specs.declared.goal.Want.TheVariants.{Ask, Inside}
 

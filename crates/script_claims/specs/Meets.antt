@@ -11,7 +11,9 @@ use Rattle.goals.specs.Lies.{OfBoth}
 use Rattle.script_nodes.specs.literal_order.Values.{written_value}
 use Rattle.script_bounds.specs.Bounds.{written_range}
 use Rattle.script_claims.specs.declared.claim.Claim.{Claim}
-use Rattle.script_claims.specs.declared.claim.Claim.TheVariants.{Bounded, Asked, Relative, RelativeAsked, Above, Below, Multiple}
+use Rattle.script_claims.specs.declared.claim.Claim.TheVariants.{Bounded, Asked, Relative}
+use Rattle.script_claims.specs.declared.claim.Claim.TheVariants.{RelativeAsked, Above, Below}
+use Rattle.script_claims.specs.declared.claim.Claim.TheVariants.{Multiple}
 
 -- Both are 0, or y isn't and x / y - 1 lies in the range.
 abbrev pub IsRelatedWithin : Range → Fraction → Fraction → Type 0

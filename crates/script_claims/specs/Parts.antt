@@ -14,7 +14,9 @@ use Rattle.script_claims.specs.Claims.{exponent_size}
 use Rattle.script_claims.specs.Facts.{HasNormalBounds}
 use Rattle.script_claims.specs.declared.proposition.Proposition.{Proposition}
 use Rattle.script_claims.specs.declared.part.Part.{Part}
-use Rattle.script_claims.specs.declared.part.Part.TheVariants.{Nothing, Against, In, RelativeIn, AtMost, AtLeast, From, RelativeFrom, Made}
+use Rattle.script_claims.specs.declared.part.Part.TheVariants.{Nothing, Against, In, RelativeIn}
+use Rattle.script_claims.specs.declared.part.Part.TheVariants.{AtMost, AtLeast, From, RelativeFrom}
+use Rattle.script_claims.specs.declared.part.Part.TheVariants.{Made}
 
 -- the sign behind the first expression
 abbrev pub sign_behind : Symbol → ExprId → Part → Part

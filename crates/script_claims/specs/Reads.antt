@@ -14,7 +14,8 @@ use Rattle.script_claims.specs.declared.claim.Claim.TheVariants.{Multiple}
 use Rattle.script_claims.specs.declared.proposition.Proposition.{Proposition}
 use Rattle.script_claims.specs.declared.part.Part.{Part}
 use Rattle.script_claims.specs.declared.part.Part.TheVariants.{Nothing, Made}
-use Rattle.script_claims.specs.Claims.{stated, Sides, with_goal, behind_or_sign, behind_arrow, Claims, no_claims, formula_claims}
+use Rattle.script_claims.specs.Claims.{stated, Sides, with_goal, behind_or_sign, behind_arrow}
+use Rattle.script_claims.specs.Claims.{Claims, no_claims, formula_claims}
 use Rattle.script_claims.specs.Parts.{nothing_read, relation_behind, in_behind, proposition_read}
 
 -- the expression in hand, the proposition in hand, and the claims so far

@@ -1,6 +1,7 @@
 ghost use Rattle.std.specs.Prelude.{◌≡◌};
 ghost use Rattle.script_claims.specs.Claims.{denial};
-ghost use Rattle.script_claims.specs.Facts.{HasNormalBounds, hypothesis_fact, want_of, slot_of, relative_fact};
+ghost use Rattle.script_claims.specs.Facts.{HasNormalBounds, hypothesis_fact, want_of, slot_of};
+ghost use Rattle.script_claims.specs.Facts.{relative_fact};
 
 use goals::{ExprId, Fact, FixPlace, Interval, RelativeError, Slot, Want};
 use script_bounds::{Written, inward, outward};

@@ -3,7 +3,8 @@
 ghost use Rattle.std.specs.Prelude.{◌≡◌, ◌<◌, All, length, None, Err, OnOk, IfErr};
 ghost use Rattle.script_nodes.specs.script_words.Named.{word_of};
 ghost use Rattle.script_claims.specs.Facts.{HasNormalBounds};
-ghost use Rattle.script_claims.specs.Claims.{stated, no_sides, with_goal, behind_or_sign, behind_arrow};
+ghost use Rattle.script_claims.specs.Claims.{stated, no_sides, with_goal, behind_or_sign};
+ghost use Rattle.script_claims.specs.Claims.{behind_arrow};
 ghost use Rattle.script_claims.specs.Parts as spec_parts;
 ghost use Rattle.script_claims.specs.Reads as spec;
 

@@ -1,5 +1,6 @@
 -- What is read of a text that isn't refused is the script that it spells.
-use Rattle.std.specs.Prelude.{◌≡◌, ℕ, List, length, take, None, Result, Ok, Err, IfOk, IfErr, Bool, true, false, refl}
+use Rattle.std.specs.Prelude.{◌≡◌, ℕ, List, length, take, None, Result, Ok, Err, IfOk, IfErr, Bool}
+use Rattle.std.specs.Prelude.{true, false, refl}
 use Rattle.std.proofs.Common.{sym, ap, ◌∙◌, subst}
 use Rattle.std.proofs.Math.Seq.{take-length}
 use Rattle.goal_spans.specs.script_words.Lex.{Lexes, LexesOnce}
@@ -21,7 +22,8 @@ use Rattle.script_grammar.specs.declared.reading.ParseStop.{ParseStop}
 use Rattle.script_grammar.specs.declared.reading.ParseStop.TheVariants as stop
 use Rattle.script_grammar.specs.Meaning.{Meaning, meaning_of}
 use Rattle.script_grammar.specs.Steps as steps
-use Rattle.script_grammar.specs.Steps.{Step, defining, claiming, hinting, read_leaves, all_read, ReadsScripts}
+use Rattle.script_grammar.specs.Steps.{Step, defining, claiming, hinting, read_leaves, all_read}
+use Rattle.script_grammar.specs.Steps.{ReadsScripts}
 use Rattle.script_grammar.specs.Spells.{View, view_of, Spells, IsSpelled, SpellsOnce, SpellsAll}
 use Rattle.script_grammar.specs.Views.{step_of}
 use Rattle.script_grammar.proofs.Once.{meaning_at}
@@ -32,7 +34,8 @@ all_taken ws n true s i = (s.whole refl).0
 all_taken ws n false s i = absurd (s.not_whole refl i)
 
 -- the reading of a text that spells a script has the leaves of its tree
-pub reading_leaves : LeavesAreOfTrees → (r : Reading) (text : List ℕ) (tree : Script) → IsReadingOf text r → script_words tree ≡ r.words → r.leaves ≡ script_leaves tree
+pub reading_leaves : LeavesAreOfTrees → (r : Reading) (text : List ℕ) (tree : Script)
+    → IsReadingOf text r → script_words tree ≡ r.words → r.leaves ≡ script_leaves tree
 reading_leaves are r text tree h e =
     let n : r.taken ≡ length r.words = all_taken r.words r.taken r.whole h.shape (tree, e) in
     let w : take r.taken r.words ≡ r.words = ap (λ k. take k r.words) n ∙ take-length r.words in
@@ -41,19 +44,28 @@ reading_leaves are r text tree h e =
 
 -- what was read behind the formula
 abbrev pub behind : Sides → HintReading → Meaning
-behind sides h = record { known = h.reading.known; hypotheses = sides.hypotheses; goals = sides.goals; parts = sides.parts; hints = h.draft.list }
+behind sides h = record {
+  known = h.reading.known;
+  hypotheses = sides.hypotheses;
+  goals = sides.goals;
+  parts = sides.parts;
+  hints = h.draft.list;
+}
 
 pub record IsAccepted (text : List ℕ) (r : Reading) (m : Meaning) : Type 0 where
   pub spells : Spells text (view_of text r.tokens m (spans_read r.leaves))
   pub read : read_leaves r.leaves steps.start ≡ all_read m
 
-pub accepted_reading : LexesOnce → LeavesAreOfTrees → ReadsScripts → ReadsSpans → SpellsAll → (text : List ℕ) (r : Reading) → IsFirstRefusal text None → IsReadingOf text r → (m : Meaning) × IsAccepted text r m
+pub accepted_reading : LexesOnce → LeavesAreOfTrees → ReadsScripts → ReadsSpans
+    → SpellsAll → (text : List ℕ) (r : Reading) → IsFirstRefusal text None → IsReadingOf text r
+    → (m : Meaning) × IsAccepted text r m
 accepted_reading lexes are reads spans all text r a h =
     let found = all text a in
     let s = found.0 in
     let p = found.1 in
     let same = lexes text r.tokens s.tokens r.bad None h.lexed p.lexed in
-    let e : script_words p.tree ≡ r.words = p.words ∙ ap (words_of text) (sym same.tokens) ∙ h.words in
+    let e : script_words p.tree ≡ r.words =
+    p.words ∙ ap (words_of text) (sym same.tokens) ∙ h.words in
     let leaves : r.leaves ≡ script_leaves p.tree = reading_leaves are r text p.tree h e in (
       meaning_of p.tree,
       record {
@@ -62,26 +74,36 @@ accepted_reading lexes are reads spans all text r a h =
           lexed = subst (λ ts. Lexes 0 text ts None) (sym same.tokens) p.lexed;
           tree = p.tree;
           words = e ∙ sym h.words;
-          says = ap (view_of text r.tokens (meaning_of p.tree)) (ap spans_read leaves ∙ spans p.tree);
+          says =
+              ap (view_of text r.tokens (meaning_of p.tree)) (ap spans_read leaves ∙ spans p.tree);
         };
         read = ap (λ ls. read_leaves ls steps.start) leaves ∙ reads p.tree;
       },
     )
 
 -- the reading ends behind the formula, with the script's parts
-pub spelled_behind : (text : List ℕ) (r : Reading) (m : Meaning) (sides : Sides) (h : HintReading) → IsAccepted text r m → hinting sides h ≡ read_leaves r.leaves steps.start
-    → (spans : List Span) → spans ≡ spans_read r.leaves → IsSpelled text r.tokens h.reading.known sides spans h.draft.list
+pub spelled_behind : (text : List ℕ) (r : Reading) (m : Meaning) (sides : Sides) (h : HintReading)
+    → IsAccepted text r m → hinting sides h ≡ read_leaves r.leaves steps.start
+    → (spans : List Span) → spans ≡ spans_read r.leaves
+    → IsSpelled text r.tokens h.reading.known sides spans h.draft.list
 spelled_behind text r m sides h a e spans f =
     let q : behind sides h ≡ m = ap meaning_at (e ∙ a.read) in
     subst (λ ss. Spells text (view_of text r.tokens (behind sides h) ss)) (sym f)
     (subst (λ n. Spells text (view_of text r.tokens n (spans_read r.leaves))) (sym q) a.spells)
 
-pub ends_in_hints : (st : Stage) (m : Meaning) → step_of st ≡ all_read m → ((x : Sides) (y : HintReading) → st ≡ stage.Hints x y → ⊥) → ⊥
+pub ends_in_hints : (st : Stage) (m : Meaning) → step_of st ≡ all_read m
+    → ((x : Sides) (y : HintReading) → st ≡ stage.Hints x y → ⊥) → ⊥
 ends_in_hints (stage.Definitions p) m e n = cc e
 ends_in_hints (stage.Formula st) m e n = cc e
 ends_in_hints (stage.Hints x y) m e n = n x y refl
 
 -- what is spelled is answered
-pub only_spelled : SpellsOnce → (text : List ℕ) (o : Result View ParseStop) → IfOk o (Spells text) → IfErr o (λ e. e ≡ stop.OutOfMemory) → (s : View) → Spells text s → IfOk o (λ t. t ≡ s) × ((r : Refusal) → o ≡ Err (stop.Refused r) → ⊥)
+pub only_spelled : SpellsOnce → (text : List ℕ) (o : Result View ParseStop)
+    → IfOk o (Spells text) → IfErr o (λ e. e ≡ stop.OutOfMemory) → (s : View) → Spells text s
+    → IfOk o (λ t. t ≡ s) × ((r : Refusal) → o ≡ Err (stop.Refused r) → ⊥)
 only_spelled once text (Ok t) h k s p = (once text t s h p, λ r e. cc e)
-only_spelled once text (Err x) h k s p = (tt, λ r e. let q : x ≡ stop.Refused r = cc e in let z : stop.OutOfMemory ≡ stop.Refused r = sym k ∙ q in cc z)
+only_spelled once text (Err x) h k s p = (
+  tt,
+  λ r e. let q : x ≡ stop.Refused r = cc e in
+      let z : stop.OutOfMemory ≡ stop.Refused r = sym k ∙ q in cc z,
+)

@@ -1,5 +1,6 @@
 -- Each constraint of a hint is written in four words at least.
-use Rattle.std.specs.Prelude.{◌≡◌, ◌≤◌, ◌+◌, ◌*◌, ◌^◌, ℕ, suc, List, [], ◌∷◌, ◌++◌, length, Option, Some, None, option_to_list, refl}
+use Rattle.std.specs.Prelude.{◌≡◌, ◌≤◌, ◌+◌, ◌*◌, ◌^◌, ℕ, suc, List, [], ◌∷◌, ◌++◌, length, Option}
+use Rattle.std.specs.Prelude.{Some, None, option_to_list, refl}
 use Rattle.std.proofs.Common.{arith, sym, ap, ◌∙◌, subst}
 use Rattle.std.proofs.lemmas.List.{length-append}
 use Rattle.node_counts.specs.fx_model.declared.ExprId.{ExprId}
@@ -7,10 +8,27 @@ use Rattle.goal_spans.specs.script_words.declared.class.Symbol.TheVariants as s
 use Rattle.goal_spans.specs.script_words.declared.class.Spelled.TheVariants as spelled
 use Rattle.goal_spans.specs.script_words.declared.lex.Token.{Token}
 use Rattle.goal_spans.specs.script_words.Lex.{TokensAreFew}
-use Rattle.goal_spans.specs.script_words.Named.{Naming, nothing, naming_after, defined_by, token_word, words_from, words_of}
+use Rattle.goal_spans.specs.script_words.Named.{Naming, nothing, naming_after, defined_by}
+use Rattle.goal_spans.specs.script_words.Named.{token_word, words_from, words_of}
 use Rattle.goal_spans.specs.script_words.declared.class.Number.TheVariants as digits_kind
 use Rattle.goal_spans.specs.script_words.Words.{Word, literal, sign}
-use Rattle.goal_spans.specs.script_shape.Tree.{AnyName, name_words, Special, Whole, natural, opposite, whole_words, digits_words, Bound, unsigned, positive, negative, bound_words, Operator, fixed, int, special_words, operator_words, Expr, term, sum, difference, expr_words, Term, factor, product, quotient, term_words, Factor, negation, atom, factor_words, Atom, number, variable, parenthesized, absolute, called, rounded, fused, atom_words, Need, nonzero, below, not_above, above, not_below, need_words, NeedList, last_need, more_needs, need_list_words, Needs, always, provided, needs_words, CutForm, cut_words, Names, last_name, more_names, Halving, halved_by, with_goal, halving_words, Hint, rewrite, like, split, halving, hint_words, Hints, no_hint, hint, hints_words, formula_words, Script, formula, define, definition_words, script_words}
+use Rattle.goal_spans.specs.script_shape.Tree.{AnyName, name_words, Special, Whole, natural}
+use Rattle.goal_spans.specs.script_shape.Tree.{opposite, whole_words, digits_words, Bound, unsigned}
+use Rattle.goal_spans.specs.script_shape.Tree.{positive, negative, bound_words, Operator, fixed}
+use Rattle.goal_spans.specs.script_shape.Tree.{int, special_words, operator_words, Expr, term, sum}
+use Rattle.goal_spans.specs.script_shape.Tree.{difference, expr_words, Term, factor, product}
+use Rattle.goal_spans.specs.script_shape.Tree.{quotient, term_words, Factor, negation, atom}
+use Rattle.goal_spans.specs.script_shape.Tree.{factor_words, Atom, number, variable, parenthesized}
+use Rattle.goal_spans.specs.script_shape.Tree.{absolute, called, rounded, fused, atom_words, Need}
+use Rattle.goal_spans.specs.script_shape.Tree.{nonzero, below, not_above, above, not_below}
+use Rattle.goal_spans.specs.script_shape.Tree.{need_words, NeedList, last_need, more_needs}
+use Rattle.goal_spans.specs.script_shape.Tree.{need_list_words, Needs, always, provided}
+use Rattle.goal_spans.specs.script_shape.Tree.{needs_words, CutForm, cut_words, Names, last_name}
+use Rattle.goal_spans.specs.script_shape.Tree.{more_names, Halving, halved_by, with_goal}
+use Rattle.goal_spans.specs.script_shape.Tree.{halving_words, Hint, rewrite, like, split, halving}
+use Rattle.goal_spans.specs.script_shape.Tree.{hint_words, Hints, no_hint, hint, hints_words}
+use Rattle.goal_spans.specs.script_shape.Tree.{formula_words, Script, formula, define}
+use Rattle.goal_spans.specs.script_shape.Tree.{definition_words, script_words}
 use Rattle.node_counts.specs.script_judge.declared.refusal.Refusal.{Refusal}
 use Rattle.node_counts.specs.script_judge.Reading.{IsReadable}
 use Rattle.node_counts.specs.script_judge.First.{IsFirstRefusal, unread, read}
@@ -20,7 +38,9 @@ use Rattle.node_counts.specs.script_nodes.Definitions.{name_text, definition_val
 use Rattle.node_counts.specs.script_claims.Claims.{formula_claims}
 use Rattle.node_counts.specs.script_hints.declared.hint.Hint.{Hint as Row}
 use Rattle.node_counts.specs.script_hints.declared.hint.HintList.{HintList}
-use Rattle.node_counts.specs.script_hints.Hints.{NeedsSoFar, with_need, with_need_list, needs_value, HintsSoFar, with_halved, with_names, with_halving, with_hint, with_hints, no_hints}
+use Rattle.node_counts.specs.script_hints.Hints.{NeedsSoFar, with_need, with_need_list, needs_value}
+use Rattle.node_counts.specs.script_hints.Hints.{HintsSoFar, with_halved, with_names, with_halving}
+use Rattle.node_counts.specs.script_hints.Hints.{with_hint, with_hints, no_hints}
 use Rattle.script_grammar.specs.Meaning.{meaning_from}
 use Rattle.script_grammar.specs.Spells.{View, Spells}
 use Rattle.script_grammar.specs.Few.{constraints_in, SpelledHaveFewConstraints}
@@ -33,7 +53,8 @@ between a b w = let l = length-append a (w ∷ b) in omega (arith, l)
 mutual
   expr_some : (e : Expr) → 1 ≤ length (expr_words e)
   expr_some (term t) = term_some t
-  expr_some (sum e t) = let l = between (expr_words e) (term_words t) (sign s.Plus) in omega (arith, l)
+  expr_some (sum e t) =
+      let l = between (expr_words e) (term_words t) (sign s.Plus) in omega (arith, l)
   expr_some (difference e t) =
       let l = between (expr_words e) (term_words t) (sign s.Minus) in omega (arith, l)
 

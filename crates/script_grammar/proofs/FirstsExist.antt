@@ -1,5 +1,7 @@
 -- Each text has a first refusal, or none.
-use Rattle.std.proofs.Common.{◌≡◌, ◌⊎◌, ℕ, zero, suc, ◌+◌, ◌^◌, ◌<◌, ◌≤◌, List, [], ◌∷◌, length, take, Option, Some, None, Bool, true, false, IsUtf8, inl, inr, ⊎_elim, refl, sym, ap, ◌∙◌, subst, arith, take_all, true≢false}
+use Rattle.std.proofs.Common.{◌≡◌, ◌⊎◌, ℕ, zero, suc, ◌+◌, ◌^◌, ◌<◌, ◌≤◌, List, [], ◌∷◌, length}
+use Rattle.std.proofs.Common.{take, Option, Some, None, Bool, true, false, IsUtf8, inl, inr, ⊎_elim}
+use Rattle.std.proofs.Common.{refl, sym, ap, ◌∙◌, subst, arith, take_all, true≢false}
 use Rattle.std.specs.Prelude.{IsTrue, ◌↔◌}
 use Rattle.std.specs.Str.{IsValidUpTo, is_utf8}
 use Rattle.std.proofs.lemmas.Bool.{cases_lt}
@@ -26,7 +28,8 @@ use Rattle.node_counts.specs.script_judge.First.{unread, read}
 use Rattle.node_counts.specs.script_judge.Bounds.{IsWordNumber, IsMagnitude, IsBoundText, IsBoundOf}
 use Rattle.node_counts.specs.script_judge.Numbers.{Notes, IsPastWord, IsPast, is_number, Tells}
 use Rattle.node_counts.specs.script_judge.Sides.{has_arrow}
-use Rattle.node_counts.specs.script_judge.Judge.{Seen, nothing_seen, seen_after, refusal_at, Judged, none_refused, refused, passed}
+use Rattle.node_counts.specs.script_judge.Judge.{Seen, nothing_seen, seen_after, refusal_at, Judged}
+use Rattle.node_counts.specs.script_judge.Judge.{none_refused, refused, passed}
 use Rattle.node_counts.specs.script_nodes.Literals.{literal_of, LiteralsAreTold, SpelledOnce}
 use Rattle.script_grammar.specs.Spells.{FirstsExist}
 
@@ -38,11 +41,22 @@ record IsFront (text : List ℕ) (most n : ℕ) : Type 0 where
   longest : (k : ℕ) → n < k → k ≤ most → ¬ IsUtf8 (take k text)
 
 front_below : (text : List ℕ) (most : ℕ) → (n : ℕ) × IsFront text most n
-front_below text zero = (0, record { within = omega arith; front = IsUtf8-nil; longest = λ k h w. absurd (omega arith) })
+front_below text zero = (
+  0,
+  record { within = omega arith; front = IsUtf8-nil; longest = λ k h w. absurd (omega arith) },
+)
 front_below text (suc most) = by_test (is_utf8 (take (suc most) text)) refl (front_below text most)
   where
-    by_test : (b : Bool) → is_utf8 (take (suc most) text) ≡ b → (n : ℕ) × IsFront text most n → (n : ℕ) × IsFront text (suc most) n
-    by_test true e f = (suc most, record { within = omega arith; front = IsUtf8-from_is_utf8 _ e; longest = λ k h w. absurd (omega arith) })
+    by_test : (b : Bool) → is_utf8 (take (suc most) text) ≡ b → (n : ℕ) × IsFront text most n
+        → (n : ℕ) × IsFront text (suc most) n
+    by_test true e f = (
+      suc most,
+      record {
+        within = omega arith;
+        front = IsUtf8-from_is_utf8 _ e;
+        longest = λ k h w. absurd (omega arith);
+      },
+    )
     by_test false e f = (
       f.0,
       record {
@@ -67,7 +81,8 @@ text_or_not text =
         short = short;
         front = f.1.front;
         longest = λ m above u. ⊎_elim
-            (λ (past : length text < m). f.1.longest (length text) short (omega arith) (subst IsUtf8 (take_all m text (omega arith) ∙ sym (take_all (length text) text (omega arith))) u))
+            (λ (past : length text < m). f.1.longest (length text) short (omega arith) (subst IsUtf8
+            (take_all m text (omega arith) ∙ sym (take_all (length text) text (omega arith))) u))
             (λ (in_reach : m ≤ length text). f.1.longest m above in_reach u)
             (cases_lt (length text) m);
       },
@@ -85,8 +100,10 @@ module _ (told : LiteralsAreTold) (once : SpelledOnce) where
   past_test : (text : List ℕ) → (b : Bool) × (IsTrue b ↔ IsPastLimits text)
   past_test text = by_cases (told text)
     where
-      by_cases : IsReading text (literal_of text) ⊎ (IsPastLimits text ⊎ ¬ IsLiteral text) → (b : Bool) × (IsTrue b ↔ IsPastLimits text)
-      by_cases (inl r) = no_test (IsPastLimits text) (λ p. p.beyond (subst IsWithin (once text r.spelling p.spelling r.spells p.spells) r.within))
+      by_cases : IsReading text (literal_of text) ⊎ (IsPastLimits text ⊎ ¬ IsLiteral text)
+          → (b : Bool) × (IsTrue b ↔ IsPastLimits text)
+      by_cases (inl r) = no_test (IsPastLimits text) (λ p.
+          p.beyond (subst IsWithin (once text r.spelling p.spelling r.spells p.spells) r.within))
       by_cases (inr (inl p)) = (true, (λ h. p, λ h. refl))
       by_cases (inr (inr n)) = no_test (IsPastLimits text) (λ p. n (p.spelling, p.spells))
 
@@ -110,22 +127,33 @@ module _ (told : LiteralsAreTold) (once : SpelledOnce) where
   number_found : (negative : Bool) (text : List ℕ) → Finds (IsNumber negative text)
   number_found negative text = by_cases (told text)
     where
-      by_cases : IsReading text (literal_of text) ⊎ (IsPastLimits text ⊎ ¬ IsLiteral text) → Finds (IsNumber negative text)
+      by_cases : IsReading text (literal_of text) ⊎ (IsPastLimits text ⊎ ¬ IsLiteral text)
+          → Finds (IsNumber negative text)
       by_cases (inl r) =
           let x = signed negative (literal_value (written r.spelling)) in (
             Some x,
             λ y. (
-              λ e. let same : x ≡ y = cc e in record { spelling = r.spelling; spells = r.spells; within = r.within; value = sym same },
-              λ n. ap (λ t. Some (signed negative (literal_value (written t)))) (once text r.spelling n.spelling r.spells n.spells) ∙ ap Some (sym n.value),
+              λ e. let same : x ≡ y = cc e in record {
+                spelling = r.spelling;
+                spells = r.spells;
+                within = r.within;
+                value = sym same;
+              },
+              λ n. ap (λ t. Some (signed negative (literal_value (written t))))
+                  (once text r.spelling n.spelling r.spells n.spells) ∙ ap Some (sym n.value),
             ),
           )
-      by_cases (inr (inl p)) = nothing_found (IsNumber negative text) (λ x n. p.beyond (subst IsWithin (once text n.spelling p.spelling n.spells p.spells) n.within))
-      by_cases (inr (inr n)) = nothing_found (IsNumber negative text) (λ x k. n (k.spelling, k.spells))
+      by_cases (inr (inl p)) = nothing_found (IsNumber negative text) (λ x n.
+          p.beyond (subst IsWithin (once text n.spelling p.spelling n.spells p.spells) n.within))
+      by_cases (inr (inr n)) =
+          nothing_found (IsNumber negative text) (λ x k. n (k.spelling, k.spells))
 
   word_number : (negative : Bool) (w : Word) → Finds (IsWordNumber negative w)
   word_number negative (literal k text) = number_found negative text
-  word_number negative (name k text) = nothing_found (IsWordNumber negative (name k text)) (λ x h. h)
-  word_number negative (rounding k text) = nothing_found (IsWordNumber negative (rounding k text)) (λ x h. h)
+  word_number negative (name k text) =
+      nothing_found (IsWordNumber negative (name k text)) (λ x h. h)
+  word_number negative (rounding k text) =
+      nothing_found (IsWordNumber negative (rounding k text)) (λ x h. h)
   word_number negative (sign g) = nothing_found (IsWordNumber negative (sign g)) (λ x h. h)
 
   magnitude : (negative : Bool) (behind : List Leaf) → Finds (IsMagnitude negative behind)
@@ -145,34 +173,44 @@ module _ (told : LiteralsAreTold) (once : SpelledOnce) where
   notes : (r : Due) (w : Word) (behind : List Leaf) → (v : Notes) × Tells v r w behind
   notes r w behind =
       let p = past (is_number r) w in
-      let n = bound r w behind in
-      (record { past = p.0; number = n.0; arrow_behind = has_arrow behind }, record { past = p.1; number = n.1; arrow = refl })
+      let n = bound r w behind in (
+        record { past = p.0; number = n.0; arrow_behind = has_arrow behind },
+        record { past = p.1; number = n.1; arrow = refl },
+      )
 
   -- ---- the first refused word
 
   judged : (i : ℕ) (seen : Seen) (ls : List Leaf) → (found : Option Fault) × Judged i seen ls found
   judged i seen [] = (None, none_refused)
-  judged i seen (l ∷ ls) = by_test (refusal_at v.0 seen l.role l.word ls) refl (judged (i + 1) (seen_after v.0 seen l.role l.word) ls)
+  judged i seen (l ∷ ls) = by_test (refusal_at v.0 seen l.role l.word ls) refl
+      (judged (i + 1) (seen_after v.0 seen l.role l.word) ls)
     where
       v : (t : Notes) × Tells t l.role l.word ls
       v = notes l.role l.word ls
 
-      by_test : (o : Option RefusalKind) → refusal_at v.0 seen l.role l.word ls ≡ o → (found : Option Fault) × Judged (i + 1) (seen_after v.0 seen l.role l.word) ls found → (found : Option Fault) × Judged i seen (l ∷ ls) found
+      by_test : (o : Option RefusalKind) → refusal_at v.0 seen l.role l.word ls ≡ o
+          → (found : Option Fault) × Judged (i + 1) (seen_after v.0 seen l.role l.word) ls found
+          → (found : Option Fault) × Judged i seen (l ∷ ls) found
       by_test (Some k) e rest = (Some _, refused {v = v.0} v.1 e)
       by_test None e rest = (rest.0, passed {v = v.0} v.1 e rest.1)
 
 -- ---- how far a text is read
 
 begun_roles : (ws : List Word) → BeginsScript ws → (leaves : List Leaf) × HasRoles ws leaves
-begun_roles ws b = (take (length ws) (script_leaves b.tree), record { tree = b.tree; words = (b.more, b.words); roles = refl })
+begun_roles ws b = (
+  take (length ws) (script_leaves b.tree),
+  record { tree = b.tree; words = (b.more, b.words); roles = refl },
+)
 
 reading_of : LexesAll → ShapesExist → (text : List ℕ) → (r : Reading) × IsReadingOf text r
 reading_of lexes shapes text =
     let l = lexes text in
     let ws = words_of text l.0 in
     let s = shapes ws in
-    let roles = begun_roles (take s.0 ws) s.2.begins in
-    (record { tokens = l.0; bad = l.1; words = ws; taken = s.0; whole = s.1; leaves = roles.0 }, record { lexed = l.2; words = refl; shape = s.2; roles = roles.1 })
+    let roles = begun_roles (take s.0 ws) s.2.begins in (
+      record { tokens = l.0; bad = l.1; words = ws; taken = s.0; whole = s.1; leaves = roles.0 },
+      record { lexed = l.2; words = refl; shape = s.2; roles = roles.1 },
+    )
 
 -- ---- the first refusal
 

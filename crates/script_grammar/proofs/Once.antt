@@ -1,5 +1,6 @@
 -- A text spells one script, or has one refusal.
-use Rattle.std.specs.Prelude.{◌≡◌, ℕ, List, [], length, take, Option, Some, None, Bool, true, false, if◌then◌else◌, refl}
+use Rattle.std.specs.Prelude.{◌≡◌, ℕ, List, [], length, take, Option, Some, None, Bool, true, false}
+use Rattle.std.specs.Prelude.{if◌then◌else◌, refl}
 use Rattle.std.proofs.Common.{sym, ap, ◌∙◌, subst, append-nil}
 use Rattle.goal_spans.specs.script_words.Lex.{LexesOnce}
 use Rattle.goal_spans.specs.script_words.Named.{words_of}
@@ -7,43 +8,72 @@ use Rattle.goal_spans.specs.script_shape.Tree.{Script, script_words}
 use Rattle.goal_spans.specs.script_shape.Roles.{script_leaves, HasRoles, LeavesAreOfTrees}
 use Rattle.node_counts.specs.script_judge.declared.refusal.Refusal.{Refusal}
 use Rattle.node_counts.specs.script_judge.Reading as reading
-use Rattle.node_counts.specs.script_judge.Reading.{Reading, IsReadable, IsReadingOf, IsFaultOf, IsScriptText, fault}
-use Rattle.node_counts.specs.script_judge.First.{IsFirstRefusal, unread, read, first_of, refusal_of, FirstsAreUnique}
+use Rattle.node_counts.specs.script_judge.Reading.{Reading, IsReadable, IsReadingOf, IsFaultOf}
+use Rattle.node_counts.specs.script_judge.Reading.{IsScriptText, fault}
+use Rattle.node_counts.specs.script_judge.First.{IsFirstRefusal, unread, read, first_of, refusal_of}
+use Rattle.node_counts.specs.script_judge.First.{FirstsAreUnique}
 use Rattle.node_counts.specs.script_cases.Parts.{nothing}
 use Rattle.goal_spans.specs.Spans.{goal_spans}
 use Rattle.goal_spans.specs.Reading.{spans_read, ReadsSpans}
 use Rattle.script_grammar.specs.Meaning.{Meaning, meaning_of}
 use Rattle.script_grammar.specs.Steps as steps
-use Rattle.script_grammar.specs.Steps.{Step, defining, claiming, hinting, read_leaves, all_read, ReadsScripts}
+use Rattle.script_grammar.specs.Steps.{Step, defining, claiming, hinting, read_leaves, all_read}
+use Rattle.script_grammar.specs.Steps.{ReadsScripts}
 use Rattle.script_grammar.specs.Spells.{view_of, SpellsOnce, NeverBoth, SpellsAll}
 
 -- what was read, behind all words
 abbrev pub meaning_at : Step → Meaning
-meaning_at (defining p) = record { known = p.reading.known; hypotheses = []; goals = []; parts = nothing; hints = record { rewrites = []; likes = []; cuts = []; halves = []; order = [] } }
-meaning_at (claiming st) = record { known = st.reading.known; hypotheses = st.sides.hypotheses; goals = st.sides.goals; parts = st.sides.parts; hints = record { rewrites = []; likes = []; cuts = []; halves = []; order = [] } }
-meaning_at (hinting sides h) = record { known = h.reading.known; hypotheses = sides.hypotheses; goals = sides.goals; parts = sides.parts; hints = h.draft.list }
+meaning_at (defining p) = record {
+  known = p.reading.known;
+  hypotheses = [];
+  goals = [];
+  parts = nothing;
+  hints = record { rewrites = []; likes = []; cuts = []; halves = []; order = [] };
+}
+meaning_at (claiming st) = record {
+  known = st.reading.known;
+  hypotheses = st.sides.hypotheses;
+  goals = st.sides.goals;
+  parts = st.sides.parts;
+  hints = record { rewrites = []; likes = []; cuts = []; halves = []; order = [] };
+}
+meaning_at (hinting sides h) = record {
+  known = h.reading.known;
+  hypotheses = sides.hypotheses;
+  goals = sides.goals;
+  parts = sides.parts;
+  hints = h.draft.list;
+}
 
 -- trees of the same words have the same leaves
-same_leaves : LeavesAreOfTrees → (a b : Script) → script_words a ≡ script_words b → script_leaves a ≡ script_leaves b
+same_leaves : LeavesAreOfTrees → (a b : Script) → script_words a ≡ script_words b
+    → script_leaves a ≡ script_leaves b
 same_leaves are a b e =
     let ws = script_words a in
     let leaves = take (length ws) (script_leaves a) in
-    let h : HasRoles ws leaves = record { tree = a; words = ([], sym (append-nil ws)); roles = refl } in
+    let h : HasRoles ws leaves =
+    record { tree = a; words = ([], sym (append-nil ws)); roles = refl } in
     sym (are a ws leaves refl h) ∙ are b ws leaves (sym e) h
 
-same_meaning : LeavesAreOfTrees → ReadsScripts → (a b : Script) → script_words a ≡ script_words b → meaning_of a ≡ meaning_of b
-same_meaning are reads a b e = ap meaning_at (sym (reads a) ∙ ap (λ ls. read_leaves ls steps.start) (same_leaves are a b e) ∙ reads b)
+same_meaning : LeavesAreOfTrees → ReadsScripts → (a b : Script) → script_words a ≡ script_words b
+    → meaning_of a ≡ meaning_of b
+same_meaning are reads a b e = ap meaning_at (sym (reads a)
+    ∙ ap (λ ls. read_leaves ls steps.start) (same_leaves are a b e) ∙ reads b)
 
-same_spans : LeavesAreOfTrees → ReadsSpans → (a b : Script) → script_words a ≡ script_words b → goal_spans a ≡ goal_spans b
+same_spans : LeavesAreOfTrees → ReadsSpans → (a b : Script) → script_words a ≡ script_words b
+    → goal_spans a ≡ goal_spans b
 same_spans are spans a b e = sym (spans a) ∙ ap spans_read (same_leaves are a b e) ∙ spans b
 
 pub spells_once : LexesOnce → LeavesAreOfTrees → ReadsScripts → ReadsSpans → SpellsOnce
 spells_once lexes are reads spans text s t p q =
-    let e : s.tokens ≡ t.tokens = let same = lexes text s.tokens t.tokens None None p.lexed q.lexed in same.tokens in
-    let w : script_words p.tree ≡ script_words q.tree = p.words ∙ ap (words_of text) e ∙ sym q.words in
+    let e : s.tokens ≡ t.tokens =
+    let same = lexes text s.tokens t.tokens None None p.lexed q.lexed in same.tokens in
+    let w : script_words p.tree ≡ script_words q.tree =
+    p.words ∙ ap (words_of text) e ∙ sym q.words in
     p.says ∙ ap (λ ts. view_of text ts (meaning_of p.tree) (goal_spans p.tree)) e
     ∙ ap (λ m. view_of text t.tokens m (goal_spans p.tree)) (same_meaning are reads p.tree q.tree w)
-    ∙ ap (view_of text t.tokens (meaning_of q.tree)) (same_spans are spans p.tree q.tree w) ∙ sym q.says
+    ∙ ap (view_of text t.tokens (meaning_of q.tree)) (same_spans are spans p.tree q.tree w)
+    ∙ sym q.says
 
 pub never_both : FirstsAreUnique → NeverBoth
 never_both firsts text s r p q = absurd (cc (firsts text None (Some r) p.accepted q))
@@ -58,12 +88,22 @@ first_none (Some x) (Some y) e = absurd (by_test _ e)
     by_test true e = cc e
     by_test false e = cc e
 
-reads_to_end : (text : List ℕ) (o : Option Refusal) → IsFirstRefusal text o → o ≡ None → IsFaultOf text None
+reads_to_end : (text : List ℕ) (o : Option Refusal) → IsFirstRefusal text o
+    → o ≡ None → IsFaultOf text None
 reads_to_end text o (unread h) e = absurd (cc e)
-reads_to_end text o (read {r = r} {found = found} k h j) e = subst (IsFaultOf text) (first_none (fault (length text) r) (refusal_of r found) e) (reading.read k h)
+reads_to_end text o (read {r = r} {found = found} k h j) e = subst (IsFaultOf text)
+    (first_none (fault (length text) r) (refusal_of r found) e) (reading.read k h)
 
 pub spells_all : reading.ReadsScripts → SpellsAll
 spells_all reads text a =
     let s : IsScriptText text = (reads text).0 (reads_to_end text None a refl) in
-    let tree = s.script.0 in
-    (view_of text s.words.tokens (meaning_of tree) (goal_spans tree), record { accepted = a; lexed = s.words.lexed; tree = tree; words = s.script.1 ∙ sym s.words.words; says = refl })
+    let tree = s.script.0 in (
+      view_of text s.words.tokens (meaning_of tree) (goal_spans tree),
+      record {
+        accepted = a;
+        lexed = s.words.lexed;
+        tree = tree;
+        words = s.script.1 ∙ sym s.words.words;
+        says = refl;
+      },
+    )

@@ -27,14 +27,17 @@ tree_names (formula f h) k fits =
     let r = hints_read h cs.known (cs.known, no_hints) (none_read cs.known c.grows.fits) in
     let j = (with_hints h (cs.known, no_hints)).0 in
     record {
-      hypotheses = claims_more (node_count cs.known) (node_count j) r.grows.more cs.sides.hypotheses c.hypotheses;
+      hypotheses = claims_more (node_count cs.known)
+          (node_count j) r.grows.more cs.sides.hypotheses c.hypotheses;
       goals = claims_more (node_count cs.known) (node_count j) r.grows.more cs.sides.goals c.goals;
       hints = r.hints;
     }
-tree_names (define x rest) k fits = let d = definition_grows x k fits in tree_names rest (definition_value x k) d.fits
+tree_names (define x rest) k fits = let d = definition_grows x k fits in
+    tree_names rest (definition_value x k) d.fits
 
 pub spelled_names_nodes : SpelledNamesNodes
 spelled_names_nodes text s p =
     let m = tree_names p.tree nothing_known tt in
-    let names : NamesNodes (view_of text s.tokens (meaning_of p.tree) (goal_spans p.tree)) = record { hypotheses = m.hypotheses; goals = m.goals; hints = m.hints } in
+    let names : NamesNodes (view_of text s.tokens (meaning_of p.tree) (goal_spans p.tree)) =
+    record { hypotheses = m.hypotheses; goals = m.goals; hints = m.hints } in
     subst NamesNodes (sym p.says) names

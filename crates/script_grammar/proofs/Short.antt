@@ -1,5 +1,6 @@
 -- A script that a text spells has few nodes, few hints and few goals, and its splits have ranges.
-use Rattle.std.specs.Prelude.{◌≡◌, ℕ, ◌≤◌, List, length, Option, Some, None, Bool, true, false, if◌then◌else◌, refl}
+use Rattle.std.specs.Prelude.{◌≡◌, ℕ, ◌≤◌, List, length, Option, Some, None, Bool, true, false}
+use Rattle.std.specs.Prelude.{if◌then◌else◌, refl}
 use Rattle.std.proofs.Common.{◌<◌, sym, ap, ◌∙◌, subst, arith}
 use Rattle.goal_spans.specs.script_words.Lex.{LexesOnce}
 use Rattle.goal_spans.specs.script_words.Named.{words_of}
@@ -8,7 +9,8 @@ use Rattle.goal_spans.specs.script_shape.Roles.{Leaf, script_leaves, LeavesAreOf
 use Rattle.node_counts.specs.script_judge.declared.refusal.Refusal.{Refusal}
 use Rattle.node_counts.specs.script_judge.declared.fault.Fault.{Fault}
 use Rattle.node_counts.specs.script_judge.Reading.{Reading, IsReadingOf, fault}
-use Rattle.node_counts.specs.script_judge.First.{IsFirstRefusal, unread, read, first_of, refusal_of, second_none, none_found}
+use Rattle.node_counts.specs.script_judge.First.{IsFirstRefusal, unread, read, first_of, refusal_of}
+use Rattle.node_counts.specs.script_judge.First.{second_none, none_found}
 use Rattle.node_counts.specs.script_judge.Judge.{Judged, nothing_seen}
 use Rattle.node_counts.specs.script_nodes.Known.{Known, nothing_known}
 use Rattle.node_counts.specs.script_nodes.Definitions.{definition_value}
@@ -26,7 +28,8 @@ use Rattle.node_counts.specs.script_claims.Claims.{PartsHaveHypotheses}
 use Rattle.script_grammar.specs.Ranges.{SpelledHaveRanges, SpelledHaveFewCases}
 use Rattle.script_grammar.proofs.Accepted.{reading_leaves, IsAccepted}
 
-known_of : (tree : Script) (k : Known) → length (meaning_from tree k).known.nodes ≡ length (known_behind tree k).nodes
+known_of : (tree : Script) (k : Known)
+    → length (meaning_from tree k).known.nodes ≡ length (known_behind tree k).nodes
 known_of (formula f h) k = refl
 known_of (define x rest) k = known_of rest (definition_value x k)
 
@@ -36,23 +39,35 @@ record IsPassed (text : List ℕ) (r : Reading) : Type 0 where
   reading : IsReadingOf text r
   judged : Judged 0 nothing_seen r.leaves None
 
-all_passed : (text : List ℕ) (o : Option Refusal) → IsFirstRefusal text o → o ≡ None → (r : Reading) × IsPassed text r
+all_passed : (text : List ℕ) (o : Option Refusal) → IsFirstRefusal text o → o ≡ None
+    → (r : Reading) × IsPassed text r
 all_passed text o (unread h) e = absurd (cc e)
-all_passed text o (read {r = r} {found = found} k h j) e = (r, record { reading = h; judged = subst (Judged 0 nothing_seen r.leaves) (none_found r found (second_none (fault (length text) r) (refusal_of r found) e)) j })
+all_passed text o (read {r = r} {found = found} k h j) e = (
+  r,
+  record {
+    reading = h;
+    judged = subst (Judged 0 nothing_seen r.leaves)
+        (none_found r found (second_none (fault (length text) r) (refusal_of r found) e)) j;
+  },
+)
 
-pub spelled_judged : LexesOnce → LeavesAreOfTrees → (text : List ℕ) (s : View) (p : Spells text s) → Judged 0 nothing_seen (script_leaves p.tree) None
+pub spelled_judged : LexesOnce → LeavesAreOfTrees → (text : List ℕ) (s : View) (p : Spells text s)
+    → Judged 0 nothing_seen (script_leaves p.tree) None
 spelled_judged lexes are text s p =
     let found = all_passed text None p.accepted refl in
     let r = found.0 in
     let passed = found.1 in
     let h = passed.reading in
     let same = lexes text s.tokens r.tokens None r.bad p.lexed h.lexed in
-    let words : script_words p.tree ≡ r.words = p.words ∙ ap (words_of text) same.tokens ∙ h.words in
-    subst (λ ls. Judged 0 nothing_seen ls None) (reading_leaves are r text p.tree h words) passed.judged
+    let words : script_words p.tree ≡ r.words =
+    p.words ∙ ap (words_of text) same.tokens ∙ h.words in
+    subst (λ ls. Judged 0 nothing_seen ls None)
+    (reading_leaves are r text p.tree h words) passed.judged
 
 pub spelled_short : NodesAreCounted → LexesOnce → LeavesAreOfTrees → SpelledAreShort
 spelled_short counted lexes are text s p =
-    subst (λ n. n ≤ 512) (sym (known_of p.tree nothing_known) ∙ ap (λ (v : View). length v.nodes) (sym p.says)) (counted text s.tokens p.tree (sym p.words) (spelled_judged lexes are text s p))
+    subst (λ n. n ≤ 512) (sym (known_of p.tree nothing_known) ∙ ap (λ (v : View). length v.nodes)
+    (sym p.says)) (counted text s.tokens p.tree (sym p.words) (spelled_judged lexes are text s p))
 
 -- ---- and few hints
 
@@ -62,7 +77,8 @@ hints_of (define x rest) k = hints_of rest (definition_value x k)
 
 pub spelled_few : HintsAreFew → LexesOnce → LeavesAreOfTrees → SpelledHaveFewHints
 spelled_few few lexes are text s p =
-    subst HasFewHints (sym (hints_of p.tree nothing_known) ∙ ap (λ (v : View). v.hints) (sym p.says)) (few p.tree nothing_known (spelled_judged lexes are text s p))
+    subst HasFewHints (sym (hints_of p.tree nothing_known) ∙ ap (λ (v : View). v.hints)
+    (sym p.says)) (few p.tree nothing_known (spelled_judged lexes are text s p))
 
 -- ---- and few goals
 
@@ -82,28 +98,41 @@ parts_of : (tree : Script) (k : Known) → (meaning_from tree k).parts.before �
 parts_of (formula f h) k = refl
 parts_of (define x rest) k = parts_of rest (definition_value x k)
 
-few_cases : SplitsHaveRanges → LexesOnce → LeavesAreOfTrees → (text : List ℕ) (s : View) → Spells text s → HaveFewCases s.parts s.hints
+few_cases : SplitsHaveRanges → LexesOnce → LeavesAreOfTrees → (text : List ℕ) (s : View)
+    → Spells text s → HaveFewCases s.parts s.hints
 few_cases ranged lexes are text s p =
     let m = meaning_from p.tree nothing_known in
-    let has : HaveFewCases m.parts.before m.hints = subst (λ cs. HaveFewCases cs m.hints) (sym (parts_of p.tree nothing_known)) (subst (HaveFewCases (parts_behind p.tree nothing_known)) (sym (hints_of p.tree nothing_known)) (ranged p.tree nothing_known (spelled_judged lexes are text s p))) in
+    let has : HaveFewCases m.parts.before m.hints =
+    subst (λ cs. HaveFewCases cs m.hints) (sym (parts_of p.tree nothing_known))
+    (subst (HaveFewCases (parts_behind p.tree nothing_known)) (sym (hints_of p.tree nothing_known))
+    (ranged p.tree nothing_known (spelled_judged lexes are text s p))) in
     subst (λ (v : View). HaveFewCases v.parts v.hints) (sym p.says) has
 
 pub spelled_ranged : SplitsHaveRanges → LexesOnce → LeavesAreOfTrees → SpelledHaveRanges
 spelled_ranged ranged lexes are text s p = (few_cases ranged lexes are text s p).ranges
 
-flat_of : PartsHaveHypotheses → (tree : Script) (k : Known) → (meaning_from tree k).hypotheses ≡ all_items (meaning_from tree k).parts.before
+flat_of : PartsHaveHypotheses → (tree : Script) (k : Known)
+    → (meaning_from tree k).hypotheses ≡ all_items (meaning_from tree k).parts.before
 flat_of flat (formula f h) k = flat f k
 flat_of flat (define x rest) k = flat_of flat rest (definition_value x k)
 
-pub spelled_cases : PartsHaveHypotheses → SplitsHaveRanges → LexesOnce → LeavesAreOfTrees → SpelledHaveFewCases
+pub spelled_cases : PartsHaveHypotheses → SplitsHaveRanges → LexesOnce
+    → LeavesAreOfTrees → SpelledHaveFewCases
 spelled_cases flat ranged lexes are text s p = record {
-  hypotheses = subst (λ (v : View). v.hypotheses ≡ all_items v.parts) (sym p.says) (flat_of flat p.tree nothing_known);
+  hypotheses = subst (λ (v : View). v.hypotheses ≡ all_items v.parts) (sym p.says)
+      (flat_of flat p.tree nothing_known);
   few = (few_cases ranged lexes are text s p).few;
 }
 
 -- ---- so the list is never full
 
-pub never_full : SpelledAreShort → (text : List ℕ) (r : Reading) (m : Meaning) → IsAccepted text r m → (leaves : List Leaf) → leaves ≡ r.leaves → 1024 < length (nodes_at (read_leaves leaves start)) → ⊥
+pub never_full : SpelledAreShort → (text : List ℕ) (r : Reading) (m : Meaning)
+    → IsAccepted text r m → (leaves : List Leaf) → leaves ≡ r.leaves
+    → 1024 < length (nodes_at (read_leaves leaves start)) → ⊥
 never_full short text r m a leaves e h =
     let n = short text (view_of text r.tokens m (spans_read r.leaves)) a.spells in
-    omega (arith, ap (λ ls. length (nodes_at (read_leaves ls start))) e, ap (λ st. length (nodes_at st)) a.read)
+    omega (
+      arith,
+      ap (λ ls. length (nodes_at (read_leaves ls start))) e,
+      ap (λ st. length (nodes_at st)) a.read,
+    )

@@ -1,5 +1,8 @@
--- In a script that a text spells each literal is read, and digits stand for the number that they write.
-use Rattle.std.proofs.Common.{◌≡◌, ◌⊎◌, ℕ, ◌≤◌, ◌<◌, ◌||◌, nat_lt, List, [], ◌∷◌, map, length, Option, Some, None, Bool, true, false, inl, inr, ⊎_elim, refl, sym, ap, ◌∙◌, subst, arith, true≢false, if◌then◌else◌}
+-- In a script that a text spells each literal is read, and digits stand for the number that they
+-- write.
+use Rattle.std.proofs.Common.{◌≡◌, ◌⊎◌, ℕ, ◌≤◌, ◌<◌, ◌||◌, nat_lt, List, [], ◌∷◌, map, length}
+use Rattle.std.proofs.Common.{Option, Some, None, Bool, true, false, inl, inr, ⊎_elim, refl, sym}
+use Rattle.std.proofs.Common.{ap, ◌∙◌, subst, arith, true≢false, if◌then◌else◌}
 use Rattle.std.specs.Prelude.{IsTrue}
 use Rattle.std.specs.List.{AllByRecursion}
 use Rattle.std.specs.Str.Parse.{digits_value}
@@ -18,9 +21,13 @@ use Rattle.node_counts.specs.script_judge.Names.{is_used, defines, is_some_among
 use Rattle.node_counts.specs.script_judge.Bounds.{is_bad_bound}
 use Rattle.node_counts.specs.script_cases.Parts.{begun_cases}
 use Rattle.node_counts.specs.script_judge.Splits.{is_rangeless, is_bad_point}
-use Rattle.node_counts.specs.script_judge.Numbers.{Notes, Tells, has_no_pieces, is_past_lsb, is_past_pieces}
+use Rattle.node_counts.specs.script_judge.Numbers.{Notes, Tells, has_no_pieces, is_past_lsb}
+use Rattle.node_counts.specs.script_judge.Numbers.{is_past_pieces}
 use Rattle.node_counts.specs.script_judge.declared.counts.Counts.{Counts}
-use Rattle.node_counts.specs.script_judge.Judge.{Seen, is_on_wrong_side, is_past_cases, or_else, form_kind, form_refusal, limit_kind, limit_refusal, seen_after, refusal_at, Judged, refused, passed, has_arrow}
+use Rattle.node_counts.specs.script_judge.Judge.{Seen, is_on_wrong_side, is_past_cases, or_else}
+use Rattle.node_counts.specs.script_judge.Judge.{form_kind, form_refusal, limit_kind, limit_refusal}
+use Rattle.node_counts.specs.script_judge.Judge.{seen_after, refusal_at, Judged, refused, passed}
+use Rattle.node_counts.specs.script_judge.Judge.{has_arrow}
 use Rattle.node_counts.specs.script_nodes.Literals.{literal_of, LiteralsAreTold}
 use Rattle.node_counts.specs.script_nodes.Operators.{number_of}
 use Rattle.node_counts.specs.script_claims.Claims.{exponent_size}
@@ -35,7 +42,8 @@ record NoneIs (b : Bool) (rest : Option RefusalKind) : Type 0 where
   first : b ≡ false
   more : rest ≡ None
 
-none_is : (b : Bool) (k : RefusalKind) (rest : Option RefusalKind) → (if b then Some k else rest) ≡ None → NoneIs b rest
+none_is : (b : Bool) (k : RefusalKind) (rest : Option RefusalKind)
+    → (if b then Some k else rest) ≡ None → NoneIs b rest
 none_is true k rest e = absurd (cc e)
 none_is false k rest e = record { first = refl; more = e }
 
@@ -56,7 +64,8 @@ record IsPassed (v : Notes) (r : Due) (w : Word) : Type 0 where
   lsb : is_past_lsb r w ≡ false
   pieces : is_past_pieces r w ≡ false
 
-form_past : (side used bad rangeless defined none point past : Bool) → form_kind side used bad rangeless defined none point past ≡ None → past ≡ false
+form_past : (side used bad rangeless defined none point past : Bool)
+    → form_kind side used bad rangeless defined none point past ≡ None → past ≡ false
 form_past side used bad rangeless defined none point past e =
     let a = none_is side _ _ e in
     let b = none_is used _ _ a.more in
@@ -65,7 +74,8 @@ form_past side used bad rangeless defined none point past e =
     let f = none_is (defined || none || point) _ _ d.more in
     let g = none_is past _ _ f.more in g.first
 
-limit_past : (opened halved : ℕ) (c : Counts) (lsb pieces cases : Bool) → limit_kind opened halved c lsb pieces cases ≡ None → (lsb ≡ false) × (pieces ≡ false)
+limit_past : (opened halved : ℕ) (c : Counts) (lsb pieces cases : Bool)
+    → limit_kind opened halved c lsb pieces cases ≡ None → (lsb ≡ false) × (pieces ≡ false)
 limit_past opened halved c lsb pieces cases e =
     let nesting = none_is (nat_lt 64 opened) _ _ e in
     let definitions = none_is (nat_lt 256 c.definitions) _ _ nesting.more in
@@ -77,55 +87,78 @@ limit_past opened halved c lsb pieces cases e =
     let more = none_is (nat_lt 64 c.pieces || pieces) _ _ splits.more in
     (low.first, second_is (nat_lt 64 c.pieces) pieces more.first)
 
-is_passed : (v : Notes) (seen : Seen) (r : Due) (w : Word) (behind : List Leaf) → refusal_at v seen r w behind ≡ None → IsPassed v r w
+is_passed : (v : Notes) (seen : Seen) (r : Due) (w : Word) (behind : List Leaf)
+    → refusal_at v seen r w behind ≡ None → IsPassed v r w
 is_passed v seen r w behind e =
     let after = seen_after v seen r w in
-    let form = first_none (form_refusal v seen r w (has_arrow behind) behind) (limit_refusal after r w) e in
-    let limit = second_none (form_refusal v seen r w (has_arrow behind) behind) (limit_refusal after r w) e in
-    let digits = limit_past (length after.opened) (length after.names.halved) after.counts (is_past_lsb r w) (is_past_pieces r w) (is_past_cases r w (begun_cases after.splits.ranges)) limit in
+    let form = first_none (form_refusal v seen r w (has_arrow behind) behind)
+    (limit_refusal after r w) e in
+    let limit = second_none (form_refusal v seen r w (has_arrow behind) behind)
+    (limit_refusal after r w) e in
+    let digits = limit_past (length after.opened)
+    (length after.names.halved) after.counts (is_past_lsb r w) (is_past_pieces r w)
+    (is_past_cases r w (begun_cases after.splits.ranges)) limit in
     let defined = is_some_among seen.names.defined (split_name r w) in
-    let past = form_past (is_on_wrong_side r w (has_arrow behind) behind) (is_used seen.names (defines r w) behind) (is_bad_bound seen.bounds v.number) (is_rangeless seen.splits.ranges defined (split_name r w)) defined (has_no_pieces r w) (is_bad_point seen.splits (nat_lt 0 seen.counts.pieces) v.number) v.past form in
+    let past = form_past (is_on_wrong_side r w (has_arrow behind) behind)
+    (is_used seen.names (defines r w) behind) (is_bad_bound seen.bounds v.number)
+    (is_rangeless seen.splits.ranges defined (split_name r w)) defined (has_no_pieces r w)
+    (is_bad_point seen.splits (nat_lt 0 seen.counts.pieces) v.number) v.past form in
     record { past = past; lsb = digits.0; pieces = digits.1 }
 
 -- ---- so it is read
 
 module _ (told : LiteralsAreTold) where
-  read_literal : (v : Notes) (text : List ℕ) → IsLiteral text → (IsPastLimits text → IsTrue v.past) → v.past ≡ false → IsReading text (literal_of text)
+  read_literal : (v : Notes) (text : List ℕ) → IsLiteral text → (IsPastLimits text → IsTrue v.past)
+      → v.past ≡ false → IsReading text (literal_of text)
   read_literal v text spelled past held = by_cases (told text)
     where
-      by_cases : IsReading text (literal_of text) ⊎ (IsPastLimits text ⊎ ¬ IsLiteral text) → IsReading text (literal_of text)
+      by_cases : IsReading text (literal_of text) ⊎ (IsPastLimits text ⊎ ¬ IsLiteral text)
+          → IsReading text (literal_of text)
       by_cases (inl r) = r
       by_cases (inr (inl p)) = absurd (true≢false (sym (past p) ∙ held))
       by_cases (inr (inr n)) = absurd (n spelled)
 
   -- a number that stops somewhere, where it doesn't come so far
   unstopped : (most n : ℕ) → n ≤ most → (if nat_lt n most then n else most) ≡ n
-  unstopped most n h = ⊎_elim (λ (l : n < most). ap (λ b. if b then n else most) (lt-ltb n most l)) (λ (m : most ≤ n). ap (λ b. if b then n else most) (le-ltb n most m) ∙ omega arith) (cases_lt n most)
+  unstopped most n h = ⊎_elim (λ (l : n < most). ap (λ b. if b then n else most) (lt-ltb n most l))
+      (λ (m : most ≤ n). ap (λ b. if b then n else most) (le-ltb n most m)
+      ∙ omega arith) (cases_lt n most)
 
   read_digits : (text : List ℕ) → digits_value 10 text ≤ 512 → AreDigits text
   unfolding number_of exponent_size
-  read_digits text h = (unstopped 512 (digits_value 10 text) h, unstopped 1025 (digits_value 10 text) (omega arith))
+  read_digits text h =
+      (unstopped 512 (digits_value 10 text) h, unstopped 1025 (digits_value 10 text) (omega arith))
 
-  read_word : (v : Notes) (r : Due) (w : Word) (behind : List Leaf) → Tells v r w behind → IsPassed v r w → IsSpelled w → IsRead r w
+  read_word : (v : Notes) (r : Due) (w : Word) (behind : List Leaf) → Tells v r w behind
+      → IsPassed v r w → IsSpelled w → IsRead r w
   read_word v d.Operand (literal k text) behind t p s = read_literal v text s t.past.1 p.past
   read_word v d.Bound (literal k text) behind t p s = read_literal v text s t.past.1 p.past
   read_word v d.Magnitude (literal k text) behind t p s = read_literal v text s t.past.1 p.past
   read_word v d.Whole (literal k text) behind t p s = read_digits text (ltb-false 512 _ p.lsb)
   read_word v d.WholeDigits (literal k text) behind t p s = read_digits text (ltb-false 512 _ p.lsb)
-  read_word v d.Cut (literal k text) behind t p s = let few = ltb-false 64 _ p.pieces in read_digits text (omega arith)
+  read_word v d.Cut (literal k text) behind t p s = let few = ltb-false 64 _ p.pieces in
+      read_digits text (omega arith)
   read_word v r w behind t p s = tt
 
-  words_read : (ls : List Leaf) {i : ℕ} {seen : Seen} {found : Option Fault} → Judged i seen ls found → found ≡ None → AllByRecursion (λ l. IsSpelled l.word) ls → AllByRecursion (λ l. IsRead l.role l.word) ls
+  words_read : (ls : List Leaf) {i : ℕ} {seen : Seen} {found : Option Fault}
+      → Judged i seen ls found → found ≡ None → AllByRecursion (λ l. IsSpelled l.word) ls
+      → AllByRecursion (λ l. IsRead l.role l.word) ls
   words_read [] j e s = tt
   words_read (l ∷ ls) (refused t r) e s = absurd (cc e)
-  words_read (l ∷ ls) (passed {seen = seen} {v = v} t r j) e s = (read_word v l.role l.word ls t (is_passed v seen l.role l.word ls r) s.0, words_read ls j e s.1)
+  words_read (l ∷ ls) (passed {seen = seen} {v = v} t r j) e s = (
+    read_word v l.role l.word ls t (is_passed v seen l.role l.word ls r) s.0,
+    words_read ls j e s.1,
+  )
 
-  all_mapped : (ls : List Leaf) → AllByRecursion IsSpelled (map (λ l. l.word) ls) → AllByRecursion (λ l. IsSpelled l.word) ls
+  all_mapped : (ls : List Leaf) → AllByRecursion IsSpelled (map (λ l. l.word) ls)
+      → AllByRecursion (λ l. IsSpelled l.word) ls
   all_mapped [] h = tt
   all_mapped (l ∷ ls) h = (h.0, all_mapped ls h.1)
 
   pub spelled_are_read : LexesOnce → LeavesAreOfTrees → LeavesSpell → SpelledAreRead
   spelled_are_read lexes are spell text s p =
-      let words : AllByRecursion IsSpelled (words_of text s.tokens) = words_spelled text nothing [] refl p.lexed in
+      let words : AllByRecursion IsSpelled (words_of text s.tokens) =
+      words_spelled text nothing [] refl p.lexed in
       let leaves = script_leaves p.tree in
-      words_read leaves (spelled_judged lexes are text s p) refl (all_mapped leaves (subst (AllByRecursion IsSpelled) (sym (spell p.tree ∙ p.words)) words))
+      words_read leaves (spelled_judged lexes are text s p) refl
+      (all_mapped leaves (subst (AllByRecursion IsSpelled) (sym (spell p.tree ∙ p.words)) words))

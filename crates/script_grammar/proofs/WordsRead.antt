@@ -6,19 +6,34 @@ use Rattle.goal_spans.specs.script_words.declared.class.Spelled.TheVariants as s
 use Rattle.goal_spans.specs.script_words.Words.{Word, sign}
 use Rattle.goal_spans.specs.script_shape.declared.due.Due.{Due}
 use Rattle.goal_spans.specs.script_shape.declared.due.Due.TheVariants as d
-use Rattle.goal_spans.specs.script_shape.Tree.{AnyName, plain, operator, Whole, Bound, Operator, Expr, Range, asked, between as range_between, Prop, lies_in, relative_in, at_most, at_least, multiple, Stated, affirmed, denied, Formula, single, and, or, implies, How, exactly, rounded_by, rounded_apart, rounded_joined, Definition, names_operator, names_value, Hints, Script, formula, define}
-use Rattle.goal_spans.specs.script_shape.Roles.{Leaf, at, name_leaves, special_leaves, whole_leaves, bound_leaves, operator_leaves, expr_leaves, range_leaves, prop_leaves, stated_leaves, formula_leaves, hints_leaves, how_leaves, definition_leaves, script_leaves}
-use Rattle.goal_spans.specs.script_shape.Inner.{EachRole, each_of_both, each_as, IsInner, name_roles, special_roles, bound_roles, whole_inner, operator_roles, expr_inner}
+use Rattle.goal_spans.specs.script_shape.Tree.{AnyName, plain, operator, Whole, Bound, Operator}
+use Rattle.goal_spans.specs.script_shape.Tree.{Expr, Range, asked, between as range_between, Prop}
+use Rattle.goal_spans.specs.script_shape.Tree.{lies_in, relative_in, at_most, at_least, multiple}
+use Rattle.goal_spans.specs.script_shape.Tree.{Stated, affirmed, denied, Formula, single, and, or}
+use Rattle.goal_spans.specs.script_shape.Tree.{implies, How, exactly, rounded_by, rounded_apart}
+use Rattle.goal_spans.specs.script_shape.Tree.{rounded_joined, Definition, names_operator}
+use Rattle.goal_spans.specs.script_shape.Tree.{names_value, Hints, Script, formula, define}
+use Rattle.goal_spans.specs.script_shape.Roles.{Leaf, at, name_leaves, special_leaves, whole_leaves}
+use Rattle.goal_spans.specs.script_shape.Roles.{bound_leaves, operator_leaves, expr_leaves}
+use Rattle.goal_spans.specs.script_shape.Roles.{range_leaves, prop_leaves, stated_leaves}
+use Rattle.goal_spans.specs.script_shape.Roles.{formula_leaves, hints_leaves, how_leaves}
+use Rattle.goal_spans.specs.script_shape.Roles.{definition_leaves, script_leaves}
+use Rattle.goal_spans.specs.script_shape.Inner.{EachRole, each_of_both, each_as, IsInner}
+use Rattle.goal_spans.specs.script_shape.Inner.{name_roles, special_roles, bound_roles, whole_inner}
+use Rattle.goal_spans.specs.script_shape.Inner.{operator_roles, expr_inner}
 use Rattle.node_counts.specs.script_nodes.Known.{Known, nothing_known}
 use Rattle.node_counts.specs.script_nodes.Definitions.{definition_value}
-use Rattle.node_counts.specs.script_nodes.Defining.{Defining, between, define_word, define_all, opens_formula, ReadsDefinition}
+use Rattle.node_counts.specs.script_nodes.Defining.{Defining, between, define_word, define_all}
+use Rattle.node_counts.specs.script_nodes.Defining.{opens_formula, ReadsDefinition}
 use Rattle.node_counts.specs.script_claims.Claims.{Sides, no_claims, formula_claims}
-use Rattle.node_counts.specs.script_claims.Reads.{State, from_claims, read_claim, read_claims, ReadsFormulas}
+use Rattle.node_counts.specs.script_claims.Reads.{State, from_claims, read_claim, read_claims}
+use Rattle.node_counts.specs.script_claims.Reads.{ReadsFormulas}
 use Rattle.node_counts.specs.script_hints.Hints.{no_hints}
 use Rattle.node_counts.specs.script_hints.Reading.{HintReading, hints_from, read_hint, read_hints}
 use Rattle.node_counts.specs.script_hints.ReadingLaw.{ReadsHints}
 use Rattle.script_grammar.specs.Meaning.{meaning_from, body_meaning}
-use Rattle.script_grammar.specs.Steps.{defining, claiming, hinting, hints_begun, read_word, read_leaves, all_read, ReadsScripts}
+use Rattle.script_grammar.specs.Steps.{defining, claiming, hinting, hints_begun, read_word}
+use Rattle.script_grammar.specs.Steps.{read_leaves, all_read, ReadsScripts}
 
 -- ---- words that neither begin a definition or the formula, nor close it
 
@@ -52,14 +67,24 @@ expr_stays e = each_as IsInner StaysAt inner_stays (expr_leaves e) (expr_inner e
 
 range_stays : (r : Range) → AllStay (range_leaves r)
 range_stays asked = (tt, tt)
-range_stays (range_between a b) = (tt, both (bound_leaves a) _ (bound_stays a) (tt, both (bound_leaves b) _ (bound_stays b) (tt, tt)))
+range_stays (range_between a b) = (
+  tt,
+  both (bound_leaves a) _ (bound_stays a) (tt, both (bound_leaves b) _ (bound_stays b) (tt, tt)),
+)
 
 prop_stays : (p : Prop) → AllStay (prop_leaves p)
 prop_stays (lies_in e r) = both (expr_leaves e) _ (expr_stays e) (tt, range_stays r)
-prop_stays (relative_in a b r) = both (expr_leaves a) _ (expr_stays a) (tt, both (expr_leaves b) _ (expr_stays b) (tt, range_stays r))
+prop_stays (relative_in a b r) = both (expr_leaves a) _ (expr_stays a)
+    (tt, both (expr_leaves b) _ (expr_stays b) (tt, range_stays r))
 prop_stays (at_most e b) = both (expr_leaves e) _ (expr_stays e) (tt, bound_stays b)
 prop_stays (at_least e b) = both (expr_leaves e) _ (expr_stays e) (tt, bound_stays b)
-prop_stays (multiple f e k) = (tt, both (special_leaves d.Fix spelled.Fix f) _ (special_roles StaysAt d.Fix spelled.Fix f tt) (tt, both (expr_leaves e) _ (expr_stays e) (tt, both (whole_leaves k) _ (whole_stays k) (tt, tt))))
+prop_stays (multiple f e k) = (
+  tt,
+  both (special_leaves d.Fix spelled.Fix f) _ (special_roles StaysAt d.Fix spelled.Fix f tt) (
+    tt,
+    both (expr_leaves e) _ (expr_stays e) (tt, both (whole_leaves k) _ (whole_stays k) (tt, tt)),
+  ),
+)
 
 stated_stays : (p : Stated) → AllStay (stated_leaves p)
 stated_stays (affirmed p) = prop_stays p
@@ -74,8 +99,10 @@ formula_stays (implies f p) = both (formula_leaves f) _ (formula_stays f) (tt, s
 how_stays : (h : How) → AllStay (how_leaves h)
 how_stays exactly = (tt, tt)
 how_stays (rounded_by k t) = (tt, (tt, tt))
-how_stays (rounded_apart o) = both (operator_leaves d.DefinedBy o) _ (operator_stays d.DefinedBy o tt) (tt, (tt, tt))
-how_stays (rounded_joined o) = both (operator_leaves d.DefinedBy o) _ (operator_stays d.DefinedBy o tt) (tt, tt)
+how_stays (rounded_apart o) =
+    both (operator_leaves d.DefinedBy o) _ (operator_stays d.DefinedBy o tt) (tt, (tt, tt))
+how_stays (rounded_joined o) =
+    both (operator_leaves d.DefinedBy o) _ (operator_stays d.DefinedBy o tt) (tt, tt)
 
 -- ---- definitions
 
@@ -98,44 +125,58 @@ value_name_shut (plain k t) ls h = (refl, h)
 value_name_shut (operator k t) ls h = (refl, h)
 
 definition_shut : (x : Definition) → Shut (definition_leaves x)
-definition_shut (names_operator n o) = (refl, all_shut _ (both (name_leaves d.NewName n) _ (name_roles StaysAt d.NewName n tt) (tt, both (operator_leaves d.Operator o) _ (operator_stays d.Operator o tt) (tt, (tt, tt)))))
-definition_shut (names_value n h e) = value_name_shut n _ (all_shut _ (both (how_leaves h) _ (how_stays h) (both (expr_leaves e) _ (expr_stays e) (tt, tt))))
+definition_shut (names_operator n o) = (
+  refl,
+  all_shut _ (both (name_leaves d.NewName n) _ (name_roles StaysAt d.NewName n tt)
+      (tt, both (operator_leaves d.Operator o) _ (operator_stays d.Operator o tt) (tt, (tt, tt)))),
+)
+definition_shut (names_value n h e) = value_name_shut n _ (all_shut _
+    (both (how_leaves h) _ (how_stays h) (both (expr_leaves e) _ (expr_stays e) (tt, tt))))
 
-defining_word : (r : Due) (w : Word) (p : Defining) → opens_formula r w ≡ false → read_word r w (defining p) ≡ defining (define_word r w p)
+defining_word : (r : Due) (w : Word) (p : Defining) → opens_formula r w ≡ false
+    → read_word r w (defining p) ≡ defining (define_word r w p)
 unfolding read_word
 defining_word r w p e = rw e refl
 
-define_first : (l : Leaf) (ls : List Leaf) (p : Defining) → opens_formula l.role l.word ≡ false → define_all (l ∷ ls) p ≡ define_all ls (define_word l.role l.word p)
+define_first : (l : Leaf) (ls : List Leaf) (p : Defining) → opens_formula l.role l.word ≡ false
+    → define_all (l ∷ ls) p ≡ define_all ls (define_word l.role l.word p)
 unfolding define_all
 define_first l ls p e = rw e refl
 
-define_words : (ls rest : List Leaf) (p : Defining) → Shut ls → read_leaves (ls ++ rest) (defining p) ≡ read_leaves rest (defining (define_all ls p))
+define_words : (ls rest : List Leaf) (p : Defining) → Shut ls
+    → read_leaves (ls ++ rest) (defining p) ≡ read_leaves rest (defining (define_all ls p))
 unfolding read_leaves define_all
 define_words [] rest p h = refl
-define_words (l ∷ ls) rest p h = ap (read_leaves (ls ++ rest)) (defining_word l.role l.word p h.0) ∙ define_words ls rest (define_word l.role l.word p) h.1
+define_words (l ∷ ls) rest p h = ap (read_leaves (ls ++ rest)) (defining_word l.role l.word p h.0)
+    ∙ define_words ls rest (define_word l.role l.word p) h.1
     ∙ ap (λ q. read_leaves rest (defining q)) (sym (define_first l ls p h.0))
 
 -- ---- the formula
 
-claiming_word : (r : Due) (w : Word) (st : State) → StaysAt r → read_word r w (claiming st) ≡ claiming (read_claim r w st)
+claiming_word : (r : Due) (w : Word) (st : State) → StaysAt r
+    → read_word r w (claiming st) ≡ claiming (read_claim r w st)
 unfolding read_word
 claiming_word d.Script w st h = absurd h
 claiming_word d.CloseBrace w st h = absurd h
 claiming_word _ w st h = refl
 
-claim_words : (ls rest : List Leaf) (st : State) → AllStay ls → read_leaves (ls ++ rest) (claiming st) ≡ read_leaves rest (claiming (read_claims ls st))
+claim_words : (ls rest : List Leaf) (st : State) → AllStay ls
+    → read_leaves (ls ++ rest) (claiming st) ≡ read_leaves rest (claiming (read_claims ls st))
 unfolding read_leaves read_claims
 claim_words [] rest st h = refl
-claim_words (l ∷ ls) rest st h = ap (read_leaves (ls ++ rest)) (claiming_word l.role l.word st h.0) ∙ claim_words ls rest (read_claim l.role l.word st) h.1
+claim_words (l ∷ ls) rest st h = ap (read_leaves (ls ++ rest)) (claiming_word l.role l.word st h.0)
+    ∙ claim_words ls rest (read_claim l.role l.word st) h.1
 
-claims_append : (a b : List Leaf) (st : State) → read_claims (a ++ b) st ≡ read_claims b (read_claims a st)
+claims_append : (a b : List Leaf) (st : State)
+    → read_claims (a ++ b) st ≡ read_claims b (read_claims a st)
 unfolding read_claims
 claims_append [] b st = refl
 claims_append (l ∷ a) b st = claims_append a b (read_claim l.role l.word st)
 
 -- ---- the hints
 
-hint_words : (ls : List Leaf) (sides : Sides) (h : HintReading) → read_leaves ls (hinting sides h) ≡ hinting sides (read_hints ls h)
+hint_words : (ls : List Leaf) (sides : Sides) (h : HintReading)
+    → read_leaves ls (hinting sides h) ≡ hinting sides (read_hints ls h)
 unfolding read_leaves read_word read_hints
 hint_words [] sides h = refl
 hint_words (l ∷ ls) sides h = hint_words ls sides (read_hint l.role l.word h)
@@ -143,39 +184,54 @@ hint_words (l ∷ ls) sides h = hint_words ls sides (read_hint l.role l.word h)
 -- ---- scripts
 
 module _ (one : ReadsDefinition) (formulas : ReadsFormulas) (hints : ReadsHints) where
-  definition_ends : (x : Definition) (k : Known) → define_all (definition_leaves x) (between k) ≡ between (definition_value x k)
+  definition_ends : (x : Definition) (k : Known)
+      → define_all (definition_leaves x) (between k) ≡ between (definition_value x k)
   unfolding define_all
-  definition_ends x k = ap (λ ls. define_all ls (between k)) (sym (append-nil (definition_leaves x))) ∙ one x [] k
+  definition_ends x k =
+      ap (λ ls. define_all ls (between k)) (sym (append-nil (definition_leaves x))) ∙ one x [] k
 
   brace : Leaf
   brace = at d.CloseBrace (sign s.CloseBrace)
 
-  claims_end : (f : Formula) (k : Known) → read_claim d.CloseBrace (sign s.CloseBrace) (read_claims (formula_leaves f) (from_claims (no_claims k))) ≡ from_claims (formula_claims f k)
+  claims_end : (f : Formula) (k : Known) → read_claim d.CloseBrace (sign s.CloseBrace) (read_claims
+      (formula_leaves f) (from_claims (no_claims k))) ≡ from_claims (formula_claims f k)
   unfolding read_claims
-  claims_end f k = sym (claims_append (formula_leaves f) (at d.CloseBrace (sign s.CloseBrace) ∷ []) (from_claims (no_claims k))) ∙ formulas f [] k
+  claims_end f k = sym (claims_append (formula_leaves f) (at d.CloseBrace (sign s.CloseBrace) ∷ [])
+      (from_claims (no_claims k))) ∙ formulas f [] k
 
-  closing_word : (st : State) → read_word d.CloseBrace (sign s.CloseBrace) (claiming st) ≡ hints_begun (read_claim d.CloseBrace (sign s.CloseBrace) st)
+  closing_word : (st : State) → read_word d.CloseBrace (sign s.CloseBrace) (claiming st)
+      ≡ hints_begun (read_claim d.CloseBrace (sign s.CloseBrace) st)
   unfolding read_word
   closing_word st = refl
 
-  body_read : (f : Formula) (h : Hints) (k : Known) → read_leaves (formula_leaves f ++ (at d.CloseBrace (sign s.CloseBrace) ∷ hints_leaves h)) (claiming (from_claims (no_claims k))) ≡ all_read (body_meaning (formula_claims f k) h)
+  body_read : (f : Formula) (h : Hints) (k : Known)
+      → read_leaves (formula_leaves f ++ (at d.CloseBrace (sign s.CloseBrace) ∷ hints_leaves h))
+      (claiming (from_claims (no_claims k))) ≡ all_read (body_meaning (formula_claims f k) h)
   unfolding read_leaves
   body_read f h k =
       let cs = formula_claims f k in
-      claim_words (formula_leaves f) (at d.CloseBrace (sign s.CloseBrace) ∷ hints_leaves h) (from_claims (no_claims k)) (formula_stays f)
-      ∙ ap (read_leaves (hints_leaves h)) (closing_word (read_claims (formula_leaves f) (from_claims (no_claims k))) ∙ ap hints_begun (claims_end f k))
+      claim_words (formula_leaves f) (at d.CloseBrace (sign s.CloseBrace) ∷ hints_leaves h)
+      (from_claims (no_claims k)) (formula_stays f)
+      ∙ ap (read_leaves (hints_leaves h)) (closing_word (read_claims (formula_leaves f)
+      (from_claims (no_claims k))) ∙ ap hints_begun (claims_end f k))
       ∙ hint_words (hints_leaves h) cs.sides (hints_from cs.known no_hints)
       ∙ ap (hinting cs.sides) (hints h cs.known no_hints)
 
-  opening : (w : Word) (k : Known) → read_word d.Script (sign s.OpenBrace) (defining (between k)) ≡ claiming (from_claims (no_claims k))
+  opening : (w : Word) (k : Known) → read_word d.Script (sign s.OpenBrace) (defining (between k))
+      ≡ claiming (from_claims (no_claims k))
   unfolding read_word
   opening w k = refl
 
-  script_read : (tree : Script) (k : Known) → read_leaves (script_leaves tree) (defining (between k)) ≡ all_read (meaning_from tree k)
+  script_read : (tree : Script) (k : Known)
+      → read_leaves (script_leaves tree) (defining (between k)) ≡ all_read (meaning_from tree k)
   unfolding read_leaves
-  script_read (formula f h) k = ap (read_leaves (formula_leaves f ++ (at d.CloseBrace (sign s.CloseBrace) ∷ hints_leaves h))) (opening (sign s.OpenBrace) k) ∙ body_read f h k
-  script_read (define x rest) k = define_words (definition_leaves x) (script_leaves rest) (between k) (definition_shut x)
-      ∙ ap (λ p. read_leaves (script_leaves rest) (defining p)) (definition_ends x k) ∙ script_read rest (definition_value x k)
+  script_read (formula f h) k =
+      ap (read_leaves (formula_leaves f ++ (at d.CloseBrace (sign s.CloseBrace) ∷ hints_leaves h)))
+      (opening (sign s.OpenBrace) k) ∙ body_read f h k
+  script_read (define x rest) k =
+      define_words (definition_leaves x) (script_leaves rest) (between k) (definition_shut x)
+      ∙ ap (λ p. read_leaves (script_leaves rest) (defining p)) (definition_ends x k)
+      ∙ script_read rest (definition_value x k)
 
   pub scripts_are_read : ReadsScripts
   scripts_are_read tree = script_read tree nothing_known

@@ -3,7 +3,10 @@ use Rattle.std.specs.Prelude.{ℕ, ◌<◌, List, length}
 use Rattle.std.specs.List.{AllByRecursion}
 use Rattle.node_counts.specs.fx_model.declared.ExprId.{ExprId}
 use Rattle.node_counts.specs.script_claims.declared.claim.Claim.{Claim}
-use Rattle.node_counts.specs.script_claims.declared.claim.Claim.TheVariants.{Bounded, Asked, Relative, RelativeAsked, Above, Below, Multiple}
+use Rattle.node_counts.specs.script_claims.declared.claim.Claim.TheVariants.{Bounded, Asked}
+use Rattle.node_counts.specs.script_claims.declared.claim.Claim.TheVariants.{Relative}
+use Rattle.node_counts.specs.script_claims.declared.claim.Claim.TheVariants.{RelativeAsked, Above}
+use Rattle.node_counts.specs.script_claims.declared.claim.Claim.TheVariants.{Below, Multiple}
 use Rattle.node_counts.specs.script_hints.declared.hint.Constraint.{Constraint}
 use Rattle.node_counts.specs.script_hints.declared.hint.Constraint.TheVariants as need
 use Rattle.node_counts.specs.script_hints.declared.hint.Hint.{Hint}

@@ -1,9 +1,11 @@
 // What the reading of scripts promises, for callers to cite. Nothing here is done at run time.
 ghost use Rattle.script_grammar.specs.Steps.{ReadsScripts};
 ghost use Rattle.script_grammar.specs.Names.{SpelledNamesNodes};
-ghost use Rattle.script_grammar.specs.Few.{SpelledHaveFewHints, SpelledHaveFewGoals, SpelledHaveFewConstraints};
+ghost use Rattle.script_grammar.specs.Few.{SpelledHaveFewHints, SpelledHaveFewGoals};
+ghost use Rattle.script_grammar.specs.Few.{SpelledHaveFewConstraints};
 ghost use Rattle.script_grammar.specs.Ranges.{SpelledHaveRanges, SpelledHaveFewCases};
-ghost use Rattle.script_grammar.specs.Spells.{SpellsOnce, NeverBoth, SpellsAll, FirstsExist, GoalsHaveSpans, SpelledAreShort};
+ghost use Rattle.script_grammar.specs.Spells.{SpellsOnce, NeverBoth, SpellsAll, FirstsExist};
+ghost use Rattle.script_grammar.specs.Spells.{GoalsHaveSpans, SpelledAreShort};
 ghost use Rattle.script_grammar.specs.Read.{SpelledAreRead};
 
 use goal_spans::{

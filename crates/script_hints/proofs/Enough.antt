@@ -11,7 +11,8 @@ use Rattle.script_hints.specs.Needs.{need_of}
 use Rattle.script_bounds.specs.facts.Rows.{IsMet}
 use Rattle.script_hints.specs.Meets.{HoldsAt, NeedsAreEnough, MetSidesAreEqual}
 
-some_and : {A : Type 0} (P Q : A → Type 0) (o : Option A) → ((x : A) → P x → Q x) → IsSomeAnd o P → IsSomeAnd o Q
+some_and : {A : Type 0} (P Q : A → Type 0) (o : Option A) → ((x : A) → P x → Q x)
+    → IsSomeAnd o P → IsSomeAnd o Q
 some_and P Q None f h = h
 some_and P Q (Some x) f h = f x h
 
@@ -21,7 +22,8 @@ module _ (under : UnderIsEnough) (over : OverIsEnough) where
   needs_are_enough nodes a (Below x w strict) h = some_and _ _ (value nodes a x) (under w strict) h
   needs_are_enough nodes a (Above x w strict) h = some_and _ _ (value nodes a x) (over w strict) h
 
-  all_hold : (nodes : List Node) (a : Assignment) (cs : List Constraint) → AllByRecursion (IsMet nodes a) (map need_of cs) → AllByRecursion (HoldsAt nodes a) cs
+  all_hold : (nodes : List Node) (a : Assignment) (cs : List Constraint)
+      → AllByRecursion (IsMet nodes a) (map need_of cs) → AllByRecursion (HoldsAt nodes a) cs
   all_hold nodes a [] h = tt
   all_hold nodes a (c ∷ cs) h = (needs_are_enough nodes a c h.0, all_hold nodes a cs h.1)
 

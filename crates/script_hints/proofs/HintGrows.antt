@@ -10,7 +10,8 @@ use Rattle.script_hints.specs.ReadingLaw.{HintsGrow}
 abbrev counted : HintReading → ℕ
 counted r = node_count r.reading.known
 
-more : (r : Reading) (o : Option Complete) → IfSome o (λ c. node_count r.known ≤ node_count c.0.0) → node_count r.known ≤ node_count (ended_as r o).0.known
+more : (r : Reading) (o : Option Complete) → IfSome o (λ c. node_count r.known ≤ node_count c.0.0)
+    → node_count r.known ≤ node_count (ended_as r o).0.known
 more r None h = le_refl (node_count r.known)
 more r (Some c) h = h
 

@@ -1,6 +1,7 @@
 -- What hints say, by recursion on their trees. Expressions are read from the left, in the order of
 -- writing.
-use Rattle.std.specs.Prelude.{ℕ, nat_lt, ◌==◌, List, [], ◌∷◌, ◌++◌, Bool, true, false, None, if◌then◌else◌}
+use Rattle.std.specs.Prelude.{ℕ, nat_lt, ◌==◌, List, [], ◌∷◌, ◌++◌, Bool, true, false, None}
+use Rattle.std.specs.Prelude.{if◌then◌else◌}
 use Rattle.std.specs.List.{list_any}
 use Rattle.script_nodes.specs.fx_model.declared.ExprId.{ExprId}
 use Rattle.script_nodes.specs.dyadic.declared.number.Dyadic.{Dyadic}
@@ -9,7 +10,13 @@ use Rattle.script_nodes.specs.dyadic.declared.number.End.TheVariants as end
 use Rattle.script_nodes.specs.interval.Results.{point_of}
 use Rattle.script_hints.specs.declared.hint.Constraint.{Constraint}
 use Rattle.script_hints.specs.declared.hint.Constraint.TheVariants as constraint
-use Rattle.script_nodes.specs.script_shape.Tree.{AnyName, Need, nonzero, below, not_above, above, not_below, NeedList, last_need, more_needs, Needs, always, provided, Points, last_point, more_points, CutForm, in_four, pieces, at_points, Names, last_name, more_names, Halving, halved_by, with_goal, Hint, rewrite, like, split, halving, Hints, no_hint, hint}
+use Rattle.script_nodes.specs.script_shape.Tree.{AnyName, Need, nonzero, below, not_above, above}
+use Rattle.script_nodes.specs.script_shape.Tree.{not_below, NeedList, last_need, more_needs, Needs}
+use Rattle.script_nodes.specs.script_shape.Tree.{always, provided, Points, last_point, more_points}
+use Rattle.script_nodes.specs.script_shape.Tree.{CutForm, in_four, pieces, at_points, Names}
+use Rattle.script_nodes.specs.script_shape.Tree.{last_name, more_names, Halving, halved_by}
+use Rattle.script_nodes.specs.script_shape.Tree.{with_goal, Hint, rewrite, like, split, halving}
+use Rattle.script_nodes.specs.script_shape.Tree.{Hints, no_hint, hint}
 use Rattle.script_nodes.specs.Written.{bound_written}
 use Rattle.script_nodes.specs.Definitions.{name_text}
 use Rattle.script_nodes.specs.Operators.{digits_text, number_of}

@@ -13,7 +13,9 @@ use Rattle.script_nodes.specs.Operators.{number_of}
 use Rattle.script_nodes.specs.Known.{Known, PlacedNode, named}
 use Rattle.script_nodes.specs.Waits.{Reading, Complete, expr_done, read}
 use Rattle.script_hints.specs.declared.hint.HintList.{HintList}
-use Rattle.script_hints.specs.Drafts.{Draft, fresh, side_ended, needs_opened, related, bound_signed, with_bound, cut_begun, with_split_variable, cut_into, points_begun, hint_ended}
+use Rattle.script_hints.specs.Drafts.{Draft, fresh, side_ended, needs_opened, related, bound_signed}
+use Rattle.script_hints.specs.Drafts.{with_bound, cut_begun, with_split_variable, cut_into}
+use Rattle.script_hints.specs.Drafts.{points_begun, hint_ended}
 
 -- the expression in hand, and the hint
 pub record HintReading : Type 0 where

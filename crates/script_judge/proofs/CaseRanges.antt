@@ -1,5 +1,6 @@
 -- The range of a variable in each case, case by case.
-use Rattle.std.specs.Prelude.{◌≡◌, ℕ, zero, suc, ◌+◌, List, [], ◌∷◌, ◌++◌, map, take, length, Option, Some, None, Bool, true, false, if◌then◌else◌, refl}
+use Rattle.std.specs.Prelude.{◌≡◌, ℕ, zero, suc, ◌+◌, List, [], ◌∷◌, ◌++◌, map, take, length}
+use Rattle.std.specs.Prelude.{Option, Some, None, Bool, true, false, if◌then◌else◌, refl}
 use Rattle.std.specs.List.{slice_get, flat_map}
 use Rattle.std.specs.Option.{option_map, is_some}
 use Rattle.std.specs.Str.{bytes_eq}
@@ -42,7 +43,8 @@ module _ (text : Name) where
   in_both : (a b : List CodeRange) → range_of (map range_seen (a ++ b)) text
       ≡ or_later (range_of (map range_seen a) text) (range_of (map range_seen b) text)
   in_both [] b = refl
-  in_both (r ∷ a) b = one_range (bytes_eq r.variable.now text) (ends_seen r.ends) _ _ _ (in_both a b)
+  in_both (r ∷ a) b =
+      one_range (bytes_eq r.variable.now text) (ends_seen r.ends) _ _ _ (in_both a b)
 
   abbrev pub range_among : List (List CodeRange) → Option Ends
   range_among conjunctions = range_of (map range_seen (flat_map (λ c. c) conjunctions)) text
@@ -64,11 +66,13 @@ module _ (text : Name) where
 
 -- ---- the ranges of all cases
 
-twice : {A B C : Type 0} (f : B → C) (g : A → B) (xs : List A) → map f (map g xs) ≡ map (λ x. f (g x)) xs
+twice : {A B C : Type 0} (f : B → C) (g : A → B) (xs : List A)
+    → map f (map g xs) ≡ map (λ x. f (g x)) xs
 twice f g [] = refl
 twice f g (x ∷ xs) = ap (λ l. f (g x) ∷ l) (twice f g xs)
 
-one_more : {A B : Type 0} (f : A → B) (xs : List A) (n : ℕ) (x : A) → slice_get xs n ≡ Some x → take (suc n) (map f xs) ≡ take n (map f xs) ++ (f x ∷ [])
+one_more : {A B : Type 0} (f : A → B) (xs : List A) (n : ℕ) (x : A) → slice_get xs n ≡ Some x
+    → take (suc n) (map f xs) ≡ take n (map f xs) ++ (f x ∷ [])
 one_more f [] n x e = absurd (cc e)
 one_more f (y ∷ xs) zero x e = let same : y ≡ x = cc e in ap (λ z. f z ∷ []) same
 one_more f (y ∷ xs) (suc n) x e = ap (λ l. f y ∷ l) (one_more f xs n x e)
@@ -78,19 +82,26 @@ module _ (p : Parts CodeRange) (text : Name) where
   in_case case = range_of (map range_seen case) text
 
   ranges_are : case_ranges (map_parts range_seen p) text ≡ map in_case (cases p.before)
-  ranges_are = ap (map (λ case. range_of case text)) (cases_mapped range_seen p.before) ∙ twice (λ case. range_of case text) (map range_seen) (cases p.before)
+  ranges_are = ap (map (λ case. range_of case text)) (cases_mapped range_seen p.before)
+      ∙ twice (λ case. range_of case text) (map range_seen) (cases p.before)
 
   -- one more case
-  pub next_range : (n : ℕ) (case : List CodeRange) → slice_get (cases p.before) n ≡ Some case → take (n + 1) (case_ranges (map_parts range_seen p) text) ≡ take n (case_ranges (map_parts range_seen p) text) ++ (range_of (map range_seen case) text ∷ [])
+  pub next_range : (n : ℕ) (case : List CodeRange) → slice_get (cases p.before) n ≡ Some case
+      → take (n + 1) (case_ranges (map_parts range_seen p) text) ≡ take n
+      (case_ranges (map_parts range_seen p) text) ++ (range_of (map range_seen case) text ∷ [])
   next_range n case e =
-      ap (take (n + 1)) ranges_are ∙ ap (λ k. take k (map in_case (cases p.before))) (later n) ∙ one_more in_case (cases p.before) n case e ∙ ap (λ l. take n l ++ (in_case case ∷ [])) (sym ranges_are)
+      ap (take (n + 1)) ranges_are ∙ ap (λ k. take k (map in_case (cases p.before))) (later n)
+      ∙ one_more in_case (cases p.before) n case e
+      ∙ ap (λ l. take n l ++ (in_case case ∷ [])) (sym ranges_are)
     where
       later : (n : ℕ) → n + 1 ≡ suc n
       later n = omega arith
 
   -- all cases
-  pub all_ranges : take (case_count p.before) (case_ranges (map_parts range_seen p) text) ≡ case_ranges (map_parts range_seen p) text
-  all_ranges = ap (λ n. take n (case_ranges (map_parts range_seen p) text)) (sym long) ∙ take-length (case_ranges (map_parts range_seen p) text)
+  pub all_ranges : take (case_count p.before) (case_ranges (map_parts range_seen p) text)
+      ≡ case_ranges (map_parts range_seen p) text
+  all_ranges = ap (λ n. take n (case_ranges (map_parts range_seen p) text)) (sym long)
+      ∙ take-length (case_ranges (map_parts range_seen p) text)
     where
       long : length (case_ranges (map_parts range_seen p) text) ≡ case_count p.before
       long = ap length ranges_are ∙ length-map (cases p.before) in_case ∙ cases_are_counted p.before

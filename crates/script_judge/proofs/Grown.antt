@@ -13,7 +13,9 @@ here_or_before true old = refl
 here_or_before false old = refl
 
 -- one name more
-pub one_more : (set new : BTreeSet (Bor Name)) (k : Bor Name) → Updates text_cmp set new k true → (names : List Name) → HasNames set names → HasNames new (k.now ∷ names)
+pub one_more : (set new : BTreeSet (Bor Name)) (k : Bor Name) → Updates text_cmp set new k true
+    → (names : List Name) → HasNames set names → HasNames new (k.now ∷ names)
 one_more set new k updates names has q =
-    updates.0 q ∙ ap (λ b. cond b true (contains text_cmp set q)) (is_eq-slice_cmp k.now q.now) ∙ here_or_before (bytes_eq k.now q.now) (contains text_cmp set q)
+    updates.0 q ∙ ap (λ b. cond b true (contains text_cmp set q)) (is_eq-slice_cmp k.now q.now)
+    ∙ here_or_before (bytes_eq k.now q.now) (contains text_cmp set q)
     ∙ ap (λ b. bytes_eq k.now q.now || b) (has q)

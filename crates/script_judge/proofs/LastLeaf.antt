@@ -5,7 +5,8 @@ use Rattle.script_shape.specs.declared.due.Due.{Due}
 use Rattle.script_shape.specs.Roles.{leaves_of}
 use Rattle.script_judge.specs.Judge.{is_empty}
 
-pub empty_leaves : (rs : List Due) (ws : List Word) → length rs ≤ length ws → is_empty (leaves_of rs ws) ≡ nat_eq (length rs) 0
+pub empty_leaves : (rs : List Due) (ws : List Word) → length rs ≤ length ws
+    → is_empty (leaves_of rs ws) ≡ nat_eq (length rs) 0
 empty_leaves [] ws h = refl
 empty_leaves (r ∷ rs) [] h = absurd (omega arith)
 empty_leaves (r ∷ rs) (w ∷ ws) h = some (length rs)

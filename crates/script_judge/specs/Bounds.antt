@@ -1,5 +1,6 @@
 -- The bounds of ranges: what they stand for, and which are refused.
-use Rattle.std.specs.Prelude.{◌&&◌, ◌||◌, List, [], ◌∷◌, Option, Some, None, Bool, true, false, if◌then◌else◌}
+use Rattle.std.specs.Prelude.{◌&&◌, ◌||◌, List, [], ◌∷◌, Option, Some, None, Bool, true, false}
+use Rattle.std.specs.Prelude.{if◌then◌else◌}
 use Rattle.bound_order.specs.fx_model.Fraction.{Fraction}
 use Rattle.script_shape.specs.script_words.declared.class.Symbol.TheVariants as s
 use Rattle.script_shape.specs.script_words.Words.{Word, literal, sign}

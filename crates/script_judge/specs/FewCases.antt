@@ -1,5 +1,6 @@
 -- The cases that have begun stay few where no token passes the limit.
-use Rattle.std.proofs.Common.{◌≡◌, suc, ◌*◌, ◌≤◌, Bool, true, false, length, Option, Some, None, refl, arith}
+use Rattle.std.proofs.Common.{◌≡◌, suc, ◌*◌, ◌≤◌, Bool, true, false, length, Option, Some, None}
+use Rattle.std.proofs.Common.{refl, arith}
 use Rattle.std.proofs.lemmas.Bool.{ltb-false}
 use Rattle.bound_order.specs.fx_model.Fraction.{Fraction}
 use Rattle.script_shape.specs.script_words.Words.{Word, sign}
@@ -11,7 +12,8 @@ use Rattle.script_cases.specs.Parts.{Parts, behind_or, behind_arrow, begun_cases
 use Rattle.script_cases.specs.Counted.{arrow_begins, few_before}
 use Rattle.script_judge.specs.Names.{Name}
 use Rattle.script_judge.specs.Subject.{Subject, nothing, node_of, other}
-use Rattle.script_judge.specs.Splits.{Ends, SplitRange, SplitsSeen, ranges_after, parts_after, splits_after}
+use Rattle.script_judge.specs.Splits.{Ends, SplitRange, SplitsSeen, ranges_after, parts_after}
+use Rattle.script_judge.specs.Splits.{splits_after}
 use Rattle.script_judge.specs.Judge.{is_past_cases}
 
 -- an item makes no cases

@@ -1,10 +1,12 @@
 -- The first refusal of a text.
-use Rattle.std.specs.Prelude.{◌≡◌, ℕ, ◌==◌, ◌&&◌, ◌||◌, nat_lt, List, length, Option, Some, None, Bool, if◌then◌else◌, true, false, refl}
+use Rattle.std.specs.Prelude.{◌≡◌, ℕ, ◌==◌, ◌&&◌, ◌||◌, nat_lt, List, length, Option, Some, None}
+use Rattle.std.specs.Prelude.{Bool, if◌then◌else◌, true, false, refl}
 use Rattle.script_judge.specs.declared.refusal.Refusal.{Refusal}
 use Rattle.script_judge.specs.declared.refusal.RefusalKind.{RefusalKind}
 use Rattle.script_judge.specs.declared.refusal.RefusalKind.TheVariants as kind
 use Rattle.script_judge.specs.declared.fault.Fault.{Fault}
-use Rattle.script_judge.specs.Reading.{Reading, IsReadable, IsReadingOf, IsTextRefusal, IsFaultOf, at_word, fault}
+use Rattle.script_judge.specs.Reading.{Reading, IsReadable, IsReadingOf, IsTextRefusal, IsFaultOf}
+use Rattle.script_judge.specs.Reading.{at_word, fault}
 use Rattle.script_judge.specs.Judge.{Judged, nothing_seen}
 
 -- the number of a kind in the table of refusals

@@ -1,5 +1,6 @@
 -- The refusals that are judged on the words before the reading ends, token by token.
-use Rattle.std.specs.Prelude.{◌≡◌, ℕ, ◌+◌, ◌&&◌, ◌||◌, not, nat_lt, List, [], ◌∷◌, length, Option, Some, None, Bool, true, false, if◌then◌else◌, refl}
+use Rattle.std.specs.Prelude.{◌≡◌, ℕ, ◌+◌, ◌&&◌, ◌||◌, not, nat_lt, List, [], ◌∷◌, length, Option}
+use Rattle.std.specs.Prelude.{Some, None, Bool, true, false, if◌then◌else◌, refl}
 use Rattle.script_shape.specs.script_words.declared.class.Symbol.TheVariants as s
 use Rattle.script_shape.specs.script_words.Words.{Word, sign}
 use Rattle.script_shape.specs.declared.due.Due.{Due}
@@ -17,9 +18,11 @@ use Rattle.script_judge.specs.Nesting.{opened_after}
 use Rattle.script_judge.specs.Bounds.{BoundsSeen, no_bounds, bounds_after, is_bad_bound}
 use Rattle.script_cases.specs.Parts.{begun_cases}
 pub use Rattle.script_judge.specs.Sides.{is_arrow, is_or, has_arrow, begins_bound}
-use Rattle.script_judge.specs.Splits.{SplitsSeen, no_splits, splits_after, ends_between, is_rangeless, is_bad_point}
+use Rattle.script_judge.specs.Splits.{SplitsSeen, no_splits, splits_after, ends_between}
+use Rattle.script_judge.specs.Splits.{is_rangeless, is_bad_point}
 use Rattle.script_judge.specs.Numbers.{Notes, Tells, has_no_pieces, is_past_lsb, is_past_pieces}
-use Rattle.script_judge.specs.Names.{NamesSeen, no_names, names_after, is_new, is_used, is_some_among, defines, ended, operand_name, split_name}
+use Rattle.script_judge.specs.Names.{NamesSeen, no_names, names_after, is_new, is_used}
+use Rattle.script_judge.specs.Names.{is_some_among, defines, ended, operand_name, split_name}
 
 -- what stands before a token
 pub record Seen : Type 0 where

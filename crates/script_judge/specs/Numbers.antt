@@ -1,5 +1,6 @@
 -- What the digits of a token tell.
-use Rattle.std.specs.Prelude.{◌≡◌, ℕ, ◌==◌, nat_lt, List, Option, Some, Bool, true, false, IsTrue, ◌↔◌}
+use Rattle.std.specs.Prelude.{◌≡◌, ℕ, ◌==◌, nat_lt, List, Option, Some, Bool, true, false, IsTrue}
+use Rattle.std.specs.Prelude.{◌↔◌}
 use Rattle.std.specs.Str.Parse.{digits_value}
 use Rattle.bound_order.specs.fx_model.Fraction.{Fraction}
 use Rattle.bound_order.specs.literal.Normal.{IsPastLimits}

@@ -1,5 +1,6 @@
 -- How far a text is read, and where its reading ends before its script does.
-use Rattle.std.specs.Prelude.{◌≡◌, ◌↔◌, ℕ, ◌+◌, ◌≤◌, ◌<◌, ◌^◌, List, length, take, map, get_or, slice_get, Option, Some, None, Bool, if◌then◌else◌}
+use Rattle.std.specs.Prelude.{◌≡◌, ◌↔◌, ℕ, ◌+◌, ◌≤◌, ◌<◌, ◌^◌, List, length, take, map, get_or}
+use Rattle.std.specs.Prelude.{slice_get, Option, Some, None, Bool, if◌then◌else◌}
 use Rattle.std.specs.Str.{IsUtf8, IsValidUpTo}
 use Rattle.script_shape.specs.script_words.declared.lex.Token.{Token}
 use Rattle.script_shape.specs.script_words.Lex.{Lexes}

@@ -1,5 +1,6 @@
 -- Split ranges of variables, and points that split them.
-use Rattle.std.specs.Prelude.{◌&&◌, not, List, [], ◌∷◌, map, Option, Some, None, Bool, true, false, if◌then◌else◌}
+use Rattle.std.specs.Prelude.{◌&&◌, not, List, [], ◌∷◌, map, Option, Some, None, Bool, true, false}
+use Rattle.std.specs.Prelude.{if◌then◌else◌}
 use Rattle.std.specs.List.{list_any}
 use Rattle.std.specs.Str.{bytes_eq}
 use Rattle.bound_order.specs.fx_model.Fraction.{Fraction}
@@ -11,7 +12,8 @@ use Rattle.script_cases.specs.Cases.{cases}
 use Rattle.script_cases.specs.Parts.{Parts, nothing as no_parts, with_item, behind_or, behind_arrow}
 use Rattle.bound_order.specs.Tests.{is_less, down_number, up_number}
 use Rattle.script_judge.specs.Names.{Name, split_name}
-use Rattle.script_judge.specs.Subject.{Subject, nothing, node_of, Alias, subject_after, aliases_after}
+use Rattle.script_judge.specs.Subject.{Subject, nothing, node_of, Alias, subject_after}
+use Rattle.script_judge.specs.Subject.{aliases_after}
 
 -- ---- split ranges
 

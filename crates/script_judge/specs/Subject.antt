@@ -1,5 +1,6 @@
 -- What expressions are: the node of a variable, or another one.
-use Rattle.std.specs.Prelude.{List, [], ◌∷◌, ◌++◌, Option, Some, None, Bool, true, false, if◌then◌else◌}
+use Rattle.std.specs.Prelude.{List, [], ◌∷◌, ◌++◌, Option, Some, None, Bool, true, false}
+use Rattle.std.specs.Prelude.{if◌then◌else◌}
 use Rattle.std.specs.Str.{bytes_eq}
 use Rattle.script_shape.specs.script_words.declared.class.Symbol.{Symbol}
 use Rattle.script_shape.specs.script_words.declared.class.Symbol.TheVariants as s

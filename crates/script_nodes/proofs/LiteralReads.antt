@@ -1,5 +1,6 @@
 -- The literal of a text is what the text is read as.
-use Rattle.std.proofs.Common.{◌≡◌, ℕ, List, Bool, true, false, Result, Err, ◌↔◌, refl, ap, sym, subst, ◌∙◌, if◌then◌else◌}
+use Rattle.std.proofs.Common.{◌≡◌, ℕ, List, Bool, true, false, Result, Err, ◌↔◌, refl, ap, sym}
+use Rattle.std.proofs.Common.{subst, ◌∙◌, if◌then◌else◌}
 use Rattle.expr_dag.specs.literal.declared.reading.LiteralFault.{LiteralFault}
 use Rattle.expr_dag.specs.literal.declared.reading.LiteralFault.TheVariants as fault
 use Rattle.expr_dag.specs.fx_model.declared.Literal.{Literal}
@@ -25,11 +26,13 @@ reads_literals text l r =
     ∙ ap (λ b. if b then number x else nought) ((read_test text x).1 (r.spells, r.within))
     ∙ normal_is x.form x.whole x.fraction x.exponent l r.spells.parts.whole r.within r.normal
 
-not_read : (text : List ℕ) → (Spells text (parts_of text) × IsWithin (parts_of text) → ⊥) → literal_of text ≡ nought
+not_read : (text : List ℕ) → (Spells text (parts_of text) × IsWithin (parts_of text) → ⊥)
+    → literal_of text ≡ nought
 unfolding literal_of
 not_read text n = by_test (is_read_as text (parts_of text)) (read_test text (parts_of text)).0
   where
-    by_test : (b : Bool) → (b ≡ true → Spells text (parts_of text) × IsWithin (parts_of text)) → (if b then number (parts_of text) else nought) ≡ nought
+    by_test : (b : Bool) → (b ≡ true → Spells text (parts_of text) × IsWithin (parts_of text))
+        → (if b then number (parts_of text) else nought) ≡ nought
     by_test true h = absurd (n (h refl))
     by_test false h = refl
 
@@ -37,9 +40,13 @@ none_is_zero : (text : List ℕ) → ¬ IsLiteral text → literal_of text ≡ n
 none_is_zero text n = not_read text (λ s. n (parts_of text, s.0))
 
 past_is_zero : (text : List ℕ) → IsPastLimits text → literal_of text ≡ nought
-past_is_zero text p = not_read text (λ s. p.beyond (subst IsWithin (parts_are text p.spelling p.spells) s.1))
+past_is_zero text p =
+    not_read text (λ s. p.beyond (subst IsWithin (parts_are text p.spelling p.spells) s.1))
 
 -- a text that isn't read
-pub fault_is_zero : (text : List ℕ) (f : LiteralFault) → ((◌≡◌ {A = Result Literal LiteralFault} (Err f) (Err fault.BadLiteral)) ↔ ¬ IsLiteral text) → ((◌≡◌ {A = Result Literal LiteralFault} (Err f) (Err fault.LiteralLimit)) ↔ IsPastLimits text) → literal_of text ≡ nought
+pub fault_is_zero : (text : List ℕ) (f : LiteralFault)
+    → ((◌≡◌ {A = Result Literal LiteralFault} (Err f) (Err fault.BadLiteral)) ↔ ¬ IsLiteral text)
+    → ((◌≡◌ {A = Result Literal LiteralFault} (Err f) (Err fault.LiteralLimit)) ↔ IsPastLimits text)
+    → literal_of text ≡ nought
 fault_is_zero text fault.BadLiteral bad past = none_is_zero text (bad.0 refl)
 fault_is_zero text fault.LiteralLimit bad past = past_is_zero text (past.0 refl)

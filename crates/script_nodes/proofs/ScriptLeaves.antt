@@ -9,7 +9,10 @@ use Rattle.script_nodes.specs.Definitions.{definitions_value}
 use Rattle.script_nodes.specs.Defining.{Defining, between, read_from_start}
 use Rattle.script_nodes.proofs.DefinitionReads.{reads_definitions}
 
-pub means_tree : (answer : Result Defining DagFault) (ws : List Word) (leaves : List Leaf) → LeavesAreOfTrees → IfOk answer (λ d. d ≡ read_from_start leaves)
-    → IfOk answer (λ d. (tree : Script) → script_words tree ≡ ws → HasRoles ws leaves → d ≡ between (definitions_value tree nothing_known))
-means_tree (Ok d) ws leaves are h = λ tree e r. h ∙ ap read_from_start (are tree ws leaves e r) ∙ reads_definitions tree
+pub means_tree : (answer : Result Defining DagFault) (ws : List Word) (leaves : List Leaf)
+    → LeavesAreOfTrees → IfOk answer (λ d. d ≡ read_from_start leaves)
+    → IfOk answer (λ d. (tree : Script) → script_words tree ≡ ws → HasRoles ws leaves
+    → d ≡ between (definitions_value tree nothing_known))
+means_tree (Ok d) ws leaves are h = λ tree e r. h ∙ ap read_from_start (are tree ws leaves e r)
+    ∙ reads_definitions tree
 means_tree (Err f) ws leaves are h = tt

@@ -1,5 +1,7 @@
 -- What every reading keeps, when a node joins.
-use Rattle.std.proofs.Common.{◌≡◌, ◌⊎◌, ℕ, zero, suc, ◌<◌, ◌≤◌, List, [], ◌∷◌, ◌++◌, length, slice_get, Some, Result, Ok, Err, IfOk, OnErr, sym, ap, subst, ◌∙◌, arith, inl, inr, ⊎_elim, length-append, le_trans}
+use Rattle.std.proofs.Common.{◌≡◌, ◌⊎◌, ℕ, zero, suc, ◌<◌, ◌≤◌, List, [], ◌∷◌, ◌++◌, length}
+use Rattle.std.proofs.Common.{slice_get, Some, Result, Ok, Err, IfOk, OnErr, sym, ap, subst, ◌∙◌}
+use Rattle.std.proofs.Common.{arith, inl, inr, ⊎_elim, length-append, le_trans}
 use Rattle.expr_dag.specs.fx_model.declared.ExprId.{ExprId}
 use Rattle.expr_dag.specs.fx_model.declared.Node.{Node}
 use Rattle.expr_dag.specs.fx_model.declared.Node.TheVariants.{Var}
@@ -36,7 +38,8 @@ all_fit_more n m (w ∷ ws) h f = (fits_more n m w h f.0, all_fit_more n m ws h 
 -- ---- one node more
 
 -- a node of the longer list is one of the list, or the last
-pub ends_with : (nodes : List Node) (n : Node) (i : ℕ) (m : Node) → slice_get (nodes ++ n ∷ []) i ≡ Some m → (slice_get nodes i ≡ Some m) ⊎ (n ≡ m)
+pub ends_with : (nodes : List Node) (n : Node) (i : ℕ) (m : Node)
+    → slice_get (nodes ++ n ∷ []) i ≡ Some m → (slice_get nodes i ≡ Some m) ⊎ (n ≡ m)
 ends_with [] n zero m h = inr (cc)
 ends_with [] n (suc i) m h = absurd (cc)
 ends_with (y ∷ ys) n zero m h = inl h
@@ -45,7 +48,8 @@ ends_with (y ∷ ys) n (suc i) m h = ends_with ys n i m h
 abbrev pub Joins : List Node → Node → List Node → Type 0
 Joins old n new = (new ≡ old) ⊎ (new ≡ old ++ n ∷ [])
 
-joins_by : (r : Result ExprId DagFault) (old new : List Node) (n : Node) → IfOk r (IsPlaced old n new) → OnErr r (new ≡ old) → Joins old n new
+joins_by : (r : Result ExprId DagFault) (old new : List Node) (n : Node)
+    → IfOk r (IsPlaced old n new) → OnErr r (new ≡ old) → Joins old n new
 joins_by (Ok x) old new n p e = ⊎_elim (λ f. inl f.same) (λ l. inr l.list) p.how
 joins_by (Err f) old new n p e = inl e
 
@@ -54,13 +58,27 @@ joins_longer old new n (inl e) = omega (arith, ap length e)
 joins_longer old new n (inr e) = omega (arith, ap length e, length-append old (n ∷ []))
 
 abbrev pub with_nodes : Reading → List Node → Reading
-with_nodes r nodes = record { known = record { nodes = nodes; variables = r.known.variables; values = r.known.values; operators = r.known.operators }; waits = r.waits }
+with_nodes r nodes = record {
+  known = record {
+    nodes = nodes;
+    variables = r.known.variables;
+    values = r.known.values;
+    operators = r.known.operators;
+  };
+  waits = r.waits;
+}
 
-made_numbered : (old new : List Node) (n : Node) (variables : ℕ) → IsMade n → Joins old n new → ((x : ExprId) (k : ℕ) → IsAt old x (Var k) → k < variables) → (x : ExprId) (k : ℕ) → IsAt new x (Var k) → k < variables
-made_numbered old new n variables m (inl e) h x k at = h x k (ap (λ l. slice_get l x.0) (sym e) ∙ at)
-made_numbered old new n variables m (inr e) h x k at = ⊎_elim (h x k) (λ is. absurd (subst IsMade is m)) (ends_with old n x.0 (Var k) (ap (λ l. slice_get l x.0) (sym e) ∙ at))
+made_numbered : (old new : List Node) (n : Node) (variables : ℕ) → IsMade n → Joins old n new
+    → ((x : ExprId) (k : ℕ) → IsAt old x (Var k) → k < variables) → (x : ExprId) (k : ℕ)
+    → IsAt new x (Var k) → k < variables
+made_numbered old new n variables m (inl e) h x k at =
+    h x k (ap (λ l. slice_get l x.0) (sym e) ∙ at)
+made_numbered old new n variables m (inr e) h x k at =
+    ⊎_elim (h x k) (λ is. absurd (subst IsMade is m))
+    (ends_with old n x.0 (Var k) (ap (λ l. slice_get l x.0) (sym e) ∙ at))
 
-joins_sound : (r : Reading) (n : Node) (new : List Node) → IsMade n → Joins r.known.nodes n new → IsSound r → IsSound (with_nodes r new)
+joins_sound : (r : Reading) (n : Node) (new : List Node) → IsMade n → Joins r.known.nodes n new
+    → IsSound r → IsSound (with_nodes r new)
 joins_sound r n new m j s =
     let h : length r.known.nodes ≤ length new = joins_longer r.known.nodes new n j in
     record {
@@ -71,11 +89,29 @@ joins_sound r n new m j s =
       numbered = made_numbered r.known.nodes new n (length r.known.variables) m j s.numbered;
     }
 
-pub added_sound : (r : Reading) (n : Node) (new : List Node) (answer : Result ExprId DagFault) → IsMade n → IfOk answer (IsPlaced r.known.nodes n new) → OnErr answer (new ≡ r.known.nodes) → IsSound r → IsSound (with_nodes r new)
-added_sound r n new answer m p e s = joins_sound r n new m (joins_by answer r.known.nodes new n p e) s
+pub added_sound : (r : Reading) (n : Node) (new : List Node) (answer : Result ExprId DagFault)
+    → IsMade n → IfOk answer (IsPlaced r.known.nodes n new) → OnErr answer (new ≡ r.known.nodes)
+    → IsSound r → IsSound (with_nodes r new)
+added_sound r n new answer m p e s =
+    joins_sound r n new m (joins_by answer r.known.nodes new n p e) s
 
 -- and the node's number
-pub added_put : (k : Known) (n : Node) (new : List Node) (known : Known) (answer : Result ExprId DagFault) → k ≡ known → IfOk answer (λ x. (new, x) ≡ with_node k.nodes n) → IfOk answer (λ x. ◌≡◌ {A = PlacedNode} (record { nodes = new; variables = k.variables; values = k.values; operators = k.operators }, x) (put known n))
+pub added_put : (k : Known)
+    (n : Node) (new : List Node) (known : Known) (answer : Result ExprId DagFault) → k ≡ known
+    → IfOk answer (λ x. (new, x) ≡ with_node k.nodes n) → IfOk answer (λ x. ◌≡◌ {A = PlacedNode}
+    (record { nodes = new; variables = k.variables; values = k.values; operators = k.operators }, x)
+    (put known n))
 unfolding put
-added_put k n new known (Ok x) e h = ap (λ (p : List Node × ExprId). (record { nodes = p.0; variables = k.variables; values = k.values; operators = k.operators }, p.1)) h ∙ ap (λ (j : Known). (record { nodes = (with_node j.nodes n).0; variables = j.variables; values = j.values; operators = j.operators }, (with_node j.nodes n).1)) e
+added_put k n new known (Ok x) e h = ap (λ (p : List Node × ExprId). (
+  record { nodes = p.0; variables = k.variables; values = k.values; operators = k.operators },
+  p.1,
+)) h ∙ ap (λ (j : Known). (
+  record {
+    nodes = (with_node j.nodes n).0;
+    variables = j.variables;
+    values = j.values;
+    operators = j.operators;
+  },
+  (with_node j.nodes n).1,
+)) e
 added_put k n new known (Err f) e h = h

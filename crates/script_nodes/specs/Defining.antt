@@ -1,5 +1,6 @@
 -- What definitions add to what is known, word by word.
-use Rattle.std.specs.Prelude.{◌≡◌, List, [], ◌∷◌, ◌++◌, Option, Some, None, Bool, true, false, if◌then◌else◌}
+use Rattle.std.specs.Prelude.{◌≡◌, List, [], ◌∷◌, ◌++◌, Option, Some, None, Bool, true, false}
+use Rattle.std.specs.Prelude.{if◌then◌else◌}
 use Rattle.expr_dag.specs.fx_model.declared.Rounding.{Rounding}
 use Rattle.script_shape.specs.script_words.declared.class.Symbol.TheVariants as s
 use Rattle.script_shape.specs.script_words.Words.{Word, name, rounding, sign}
@@ -11,7 +12,8 @@ use Rattle.script_nodes.specs.Known.{Name, Known, nothing_known, no_rounding, op
 use Rattle.script_nodes.specs.declared.waits.Waits.{Waits}
 use Rattle.script_nodes.specs.declared.waits.Waits.TheVariants as wait
 use Rattle.script_nodes.specs.Waits.{Reading, Complete, expr_done, then_waits, read}
-use Rattle.script_nodes.specs.Definitions.{with_value, with_operator, definition_value, definitions_value}
+use Rattle.script_nodes.specs.Definitions.{with_value, with_operator, definition_value}
+use Rattle.script_nodes.specs.Definitions.{definitions_value}
 
 -- the name whose definition is being read, what rounds its operations, and how far its expression
 -- is read

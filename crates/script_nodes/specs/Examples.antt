@@ -4,10 +4,14 @@ use Rattle.expr_dag.specs.fx_model.declared.Direction.TheVariants.{Dn}
 use Rattle.expr_dag.specs.fx_model.declared.Rounding.{Rounding}
 use Rattle.expr_dag.specs.fx_model.declared.ExprId.{ExprId}
 use Rattle.expr_dag.specs.fx_model.declared.Node.{Node}
-use Rattle.expr_dag.specs.fx_model.declared.Node.TheVariants.{Var, Lit, Neg, Add, Sub, Mul, Div, Abs, Round}
+use Rattle.expr_dag.specs.fx_model.declared.Node.TheVariants.{Var, Lit, Neg, Add, Sub, Mul, Div}
+use Rattle.expr_dag.specs.fx_model.declared.Node.TheVariants.{Abs, Round}
 use Rattle.script_shape.specs.script_words.declared.class.Spelled.TheVariants.{Plain}
 use Rattle.script_shape.specs.script_words.declared.class.Number.TheVariants.{Digits, Other}
-use Rattle.script_shape.specs.Tree.{Expr, term, sum, difference, Term, factor, product, quotient, negation, atom, Atom, number, variable, absolute, rounded, fused, free, digits, opposite, fixed, int, plain, exactly, rounded_joined, names_value}
+use Rattle.script_shape.specs.Tree.{Expr, term, sum, difference, Term, factor, product, quotient}
+use Rattle.script_shape.specs.Tree.{negation, atom, Atom, number, variable, absolute, rounded}
+use Rattle.script_shape.specs.Tree.{fused, free, digits, opposite, fixed, int, plain, exactly}
+use Rattle.script_shape.specs.Tree.{rounded_joined, names_value}
 use Rattle.script_nodes.specs.Literals.{parts_of, tens_out, twos_out, literal_of}
 use Rattle.script_nodes.specs.Operators.{direction_of, number_of}
 use Rattle.script_nodes.specs.Known.{nothing_known, put, variable_put, named}

@@ -1,5 +1,6 @@
 -- Nodes never go where one is put, and entries keep standing for nodes that there are.
-use Rattle.std.proofs.Common.{ℕ, ◌<◌, ◌≤◌, List, [], ◌∷◌, length, Option, Some, None, IfSome, Bool, true, false, if◌then◌else◌, arith, length-append, le_refl}
+use Rattle.std.proofs.Common.{ℕ, ◌<◌, ◌≤◌, List, [], ◌∷◌, length, Option, Some, None, IfSome, Bool}
+use Rattle.std.proofs.Common.{true, false, if◌then◌else◌, arith, length-append, le_refl}
 use Rattle.std.specs.Str.{bytes_eq}
 use Rattle.expr_dag.specs.fx_model.declared.ExprId.{ExprId}
 use Rattle.expr_dag.specs.fx_model.declared.Node.{Node}

@@ -1,5 +1,7 @@
 -- The literal of a text: its parts, and the normal form of the number that they stand for.
-use Rattle.std.specs.Prelude.{◌≡◌, ◌⊎◌, ℕ, ℤ, pos, int_lt, zero, suc, ◌/◌, ◌%◌, ◌==◌, ◌^◌, ◌&&◌, not, ◌+ℤ◌, negsuc, nat_lt, List, [], ◌∷◌, length, drop, Option, Some, None, Bool, true, false, if◌then◌else◌}
+use Rattle.std.specs.Prelude.{◌≡◌, ◌⊎◌, ℕ, ℤ, pos, int_lt, zero, suc, ◌/◌, ◌%◌, ◌==◌, ◌^◌, ◌&&◌}
+use Rattle.std.specs.Prelude.{not, ◌+ℤ◌, negsuc, nat_lt, List, [], ◌∷◌, length, drop, Option, Some}
+use Rattle.std.specs.Prelude.{None, Bool, true, false, if◌then◌else◌}
 use Rattle.std.specs.Bool.{Decides}
 use Rattle.std.specs.Char.{digit_value}
 use Rattle.std.specs.Str.{bytes_eq}
@@ -7,7 +9,8 @@ use Rattle.expr_dag.specs.fx_model.declared.Literal.{Literal}
 use Rattle.expr_dag.specs.literal.declared.scan.Form.{Form}
 use Rattle.expr_dag.specs.literal.declared.scan.Form.TheVariants.{Decimal, Binary, Hexadecimal}
 use Rattle.expr_dag.specs.literal.declared.scan.Mark.TheVariants.{Unmarked, Plus, Minus}
-use Rattle.expr_dag.specs.literal.Spelling.{Exponent, Spelling, Spells, IsLiteral, base, is_hexadecimal, spelling_bytes, written}
+use Rattle.expr_dag.specs.literal.Spelling.{Exponent, Spelling, Spells, IsLiteral, base}
+use Rattle.expr_dag.specs.literal.Spelling.{is_hexadecimal, spelling_bytes, written}
 use Rattle.expr_dag.specs.literal.Normal.{nought, IsReading, IsPastLimits}
 
 -- ---- parts

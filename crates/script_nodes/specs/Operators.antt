@@ -3,9 +3,11 @@ use Rattle.std.specs.Prelude.{ℕ, ℤ, pos, neg_ℤ, codes, List, if◌then◌e
 use Rattle.std.specs.Str.{bytes_eq}
 use Rattle.std.specs.Str.Parse.{digits_value}
 use Rattle.expr_dag.specs.fx_model.declared.Direction.{Direction}
-use Rattle.expr_dag.specs.fx_model.declared.Direction.TheVariants.{Zr, Aw, Dn, Up, Od, Ne, No, Nz, Na, Nd, Nu}
+use Rattle.expr_dag.specs.fx_model.declared.Direction.TheVariants.{Zr, Aw, Dn, Up, Od, Ne, No, Nz}
+use Rattle.expr_dag.specs.fx_model.declared.Direction.TheVariants.{Na, Nd, Nu}
 use Rattle.expr_dag.specs.fx_model.declared.Rounding.{Rounding}
-use Rattle.script_shape.specs.Tree.{Special, free, defined, Digits, zero_alone, digits, Whole, natural, opposite, Operator, fixed, int}
+use Rattle.script_shape.specs.Tree.{Special, free, defined, Digits, zero_alone, digits, Whole}
+use Rattle.script_shape.specs.Tree.{natural, opposite, Operator, fixed, int}
 
 -- the direction of a word: `zr aw dn up od ne no nz na nd`, else `nu`
 unfoldable pub direction_of : List ℕ → Direction

@@ -3,7 +3,8 @@
 use Rattle.std.specs.Prelude.{List, [], ◌∷◌, Option, Some, None, Bool, true, false}
 use Rattle.expr_dag.specs.fx_model.declared.Rounding.{Rounding}
 use Rattle.expr_dag.specs.fx_model.declared.ExprId.{ExprId}
-use Rattle.expr_dag.specs.fx_model.declared.Node.TheVariants.{Lit, Neg, Add, Sub, Mul, Div, Abs, Round}
+use Rattle.expr_dag.specs.fx_model.declared.Node.TheVariants.{Lit, Neg, Add, Sub, Mul, Div, Abs}
+use Rattle.expr_dag.specs.fx_model.declared.Node.TheVariants.{Round}
 use Rattle.script_shape.specs.script_words.declared.class.Symbol.{Symbol}
 use Rattle.script_shape.specs.script_words.declared.class.Symbol.TheVariants as s
 use Rattle.script_shape.specs.script_words.Words.{Word, name, rounding, literal, sign}
@@ -12,7 +13,8 @@ use Rattle.script_shape.specs.declared.due.Due.TheVariants as d
 use Rattle.script_shape.specs.Roles.{Leaf}
 use Rattle.script_nodes.specs.declared.waits.Waits.{Waits}
 use Rattle.script_nodes.specs.declared.waits.Waits.TheVariants as wait
-use Rattle.script_nodes.specs.OperatorWords.{operator_ended, whole_read, opposite_read, direction_read}
+use Rattle.script_nodes.specs.OperatorWords.{operator_ended, whole_read, opposite_read}
+use Rattle.script_nodes.specs.OperatorWords.{direction_read}
 use Rattle.script_nodes.specs.Literals.{literal_of}
 use Rattle.script_nodes.specs.Known.{Known, PlacedNode, put, named, no_rounding, operator_named}
 use Rattle.script_nodes.specs.Values.{one_operand, two_operands, fused_sum}

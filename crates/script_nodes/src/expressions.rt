@@ -1,6 +1,7 @@
 //! What is complete: an operation, a factor, a term, an expression.
 
-ghost use Rattle.std.specs.Prelude.{◌≡◌, ℕ, ◌<◌, ◌≤◌, List, length, Some, None, Err, IfOk, OnOk, MatchOption, IfSome, false};
+ghost use Rattle.std.specs.Prelude.{◌≡◌, ℕ, ◌<◌, ◌≤◌, List, length, Some, None, Err, IfOk, OnOk};
+ghost use Rattle.std.specs.Prelude.{MatchOption, IfSome, false};
 ghost use Rattle.std.specs.Option.{IsSomeAnd};
 ghost use Rattle.expr_dag.specs.Nodes.{IsLawful};
 ghost use Rattle.script_nodes.specs.Known.{put};

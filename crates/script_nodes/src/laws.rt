@@ -1,6 +1,7 @@
 //! What the reading of words gives.
 
-ghost use Rattle.script_nodes.specs.Literals.{ReadsLiterals, LiteralsAreTold, LiteralsAreTested, SpelledOnce};
+ghost use Rattle.script_nodes.specs.Literals.{ReadsLiterals, LiteralsAreTold, LiteralsAreTested};
+ghost use Rattle.script_nodes.specs.Literals.{SpelledOnce};
 ghost use Rattle.script_nodes.specs.ReadingLaw.{ReadsTrees};
 ghost use Rattle.script_nodes.specs.Defining.{ReadsDefinition, ReadsDefinitions};
 ghost use Rattle.script_nodes.specs.Growth.{NamesGrow, EndsGrow, WordsGrow, DefiningGrows};

@@ -1,5 +1,6 @@
 -- A run that checks the role of each word.
-use Rattle.std.proofs.Common.{◌≡◌, ℕ, List, [], ◌∷◌, Option, Some, None, option_and_then, cond, eqb, refl, sym, ap, ◌∙◌}
+use Rattle.std.proofs.Common.{◌≡◌, ℕ, List, [], ◌∷◌, Option, Some, None, option_and_then, cond, eqb}
+use Rattle.std.proofs.Common.{refl, sym, ap, ◌∙◌}
 use Rattle.script_shape.specs.declared.due.Due.{Due}
 use Rattle.script_shape.specs.declared.due.Due.TheVariants as due
 use Rattle.script_words.specs.Words.{Word, class_of}
@@ -50,7 +51,20 @@ number_of due.MoreNeeds = 39
 number_of due.Claim = 40
 
 abbrev due_with : ℕ → Due → Due
-due_with n other = cond (eqb n 0) due.Script (cond (eqb n 1) due.NewName (cond (eqb n 2) due.DefinedBy (cond (eqb n 3) due.Equal (cond (eqb n 4) due.Operator (cond (eqb n 5) due.Less (cond (eqb n 6) due.Greater (cond (eqb n 7) due.Whole (cond (eqb n 8) due.WholeDigits (cond (eqb n 9) due.Direction (cond (eqb n 10) due.CloseOperator (cond (eqb n 11) due.Semicolon (cond (eqb n 12) due.Prop (cond (eqb n 13) due.Operand (cond (eqb n 14) due.Tail (cond (eqb n 15) due.OpenParen (cond (eqb n 16) due.CloseParen (cond (eqb n 17) due.CloseBar (cond (eqb n 18) due.Comma (cond (eqb n 19) due.Fix (cond (eqb n 20) due.Relation (cond (eqb n 21) due.In (cond (eqb n 22) due.Range (cond (eqb n 23) due.Bound (cond (eqb n 24) due.Magnitude (cond (eqb n 25) due.CloseBracket (cond (eqb n 26) due.Connective (cond (eqb n 27) due.CloseBrace (cond (eqb n 28) due.Hints (cond (eqb n 29) due.HintRest (cond (eqb n 30) due.GoalSplit (cond (eqb n 31) due.SplitName (cond (eqb n 32) due.SplitNames (cond (eqb n 33) due.SplitCut (cond (eqb n 34) due.Cut (cond (eqb n 35) due.Points (cond (eqb n 36) due.Needs (cond (eqb n 37) due.NeedRelation (cond (eqb n 38) due.Zero (cond (eqb n 39) due.MoreNeeds (cond (eqb n 40) due.Claim (other)))))))))))))))))))))))))))))))))))))))))
+due_with n other = cond (eqb n 0) due.Script (cond (eqb n 1) due.NewName
+    (cond (eqb n 2) due.DefinedBy (cond (eqb n 3) due.Equal (cond (eqb n 4) due.Operator
+    (cond (eqb n 5) due.Less (cond (eqb n 6) due.Greater (cond (eqb n 7) due.Whole
+    (cond (eqb n 8) due.WholeDigits (cond (eqb n 9) due.Direction (cond (eqb n 10) due.CloseOperator
+    (cond (eqb n 11) due.Semicolon (cond (eqb n 12) due.Prop (cond (eqb n 13) due.Operand
+    (cond (eqb n 14) due.Tail (cond (eqb n 15) due.OpenParen (cond (eqb n 16) due.CloseParen (cond
+    (eqb n 17) due.CloseBar (cond (eqb n 18) due.Comma (cond (eqb n 19) due.Fix (cond (eqb n 20)
+    due.Relation (cond (eqb n 21) due.In (cond (eqb n 22) due.Range (cond (eqb n 23) due.Bound
+    (cond (eqb n 24) due.Magnitude (cond (eqb n 25) due.CloseBracket (cond (eqb n 26) due.Connective
+    (cond (eqb n 27) due.CloseBrace (cond (eqb n 28) due.Hints (cond (eqb n 29) due.HintRest (cond
+    (eqb n 30) due.GoalSplit (cond (eqb n 31) due.SplitName (cond (eqb n 32) due.SplitNames (cond
+    (eqb n 33) due.SplitCut (cond (eqb n 34) due.Cut (cond (eqb n 35) due.Points (cond (eqb n 36)
+    due.Needs (cond (eqb n 37) due.NeedRelation (cond (eqb n 38) due.Zero (cond (eqb n 39)
+    due.MoreNeeds (cond (eqb n 40) due.Claim (other)))))))))))))))))))))))))))))))))))))))))
 
 pub same_number : (a b : Due) → number_of a ≡ number_of b → a ≡ b
 same_number a b e = sym (back a a) ∙ ap (λ n. due_with n a) e ∙ back b a

@@ -13,8 +13,12 @@ use Rattle.script_words.specs.Lex.{front}
 use Rattle.script_words.specs.Named.{IsToken}
 use Rattle.script_shape.specs.declared.due.Due.{Due}
 use Rattle.script_shape.specs.declared.due.Due.TheVariants as due
-use Rattle.script_shape.specs.Tree.{AnyName, plain, free, Digits, digits, natural, unsigned, int, Expr, term, factor, atom, number, asked, lies_in, affirmed, single, nonzero, always, in_four, last_name, halved_by, like, no_hint, exactly, formula}
-use Rattle.script_shape.proofs.Parts.{Part, part_words, Parts, parts_words, apart, to_pieces, skipped}
+use Rattle.script_shape.specs.Tree.{AnyName, plain, free, Digits, digits, natural, unsigned, int}
+use Rattle.script_shape.specs.Tree.{Expr, term, factor, atom, number, asked, lies_in, affirmed}
+use Rattle.script_shape.specs.Tree.{single, nonzero, always, in_four, last_name, halved_by, like}
+use Rattle.script_shape.specs.Tree.{no_hint, exactly, formula}
+use Rattle.script_shape.proofs.Parts.{Part, part_words, Parts, parts_words, apart, to_pieces}
+use Rattle.script_shape.proofs.Parts.{skipped}
 
 -- ---- words that tokens can be
 
@@ -94,7 +98,13 @@ sign_alone s.Float = refl
 sign_alone s.Sqrt = refl
 
 some_sign : (g : Symbol) → IsToken (sign g)
-some_sign g = record { text = sign_text g; kind = kind.Sign g; operators = []; alone = sign_alone g; word = refl }
+some_sign g = record {
+  text = sign_text g;
+  kind = kind.Sign g;
+  operators = [];
+  alone = sign_alone g;
+  word = refl;
+}
 
 one : IsToken (literal digits_kind.Digits (codes "1"))
 unfolding front literal_len scaled_len
@@ -110,11 +120,13 @@ plain_x = record { text = codes "x"; kind = kind.Name; operators = []; alone = r
 
 direction_dn : IsToken (name spelled.Direction (codes "dn"))
 unfolding front
-direction_dn = record { text = codes "dn"; kind = kind.Name; operators = []; alone = refl; word = refl }
+direction_dn =
+    record { text = codes "dn"; kind = kind.Name; operators = []; alone = refl; word = refl }
 
 fix_itself : IsToken (name spelled.Fix (codes "FIX"))
 unfolding front
-fix_itself = record { text = codes "FIX"; kind = kind.Name; operators = []; alone = refl; word = refl }
+fix_itself =
+    record { text = codes "FIX"; kind = kind.Name; operators = []; alone = refl; word = refl }
 
 -- ---- a part for each thing that is due
 
@@ -148,14 +160,16 @@ some_part due.Magnitude = (digits_kind.Digits, codes "1")
 some_part due.Connective = (skipped due.Connective refl).0
 some_part due.Hints = no_hint
 some_part due.HintRest = record { words = _; make = λ e. like e some_expr; spells = λ e. refl }
-some_part due.GoalSplit = record { words = _; make = λ e. halved_by e (last_name some_name); spells = λ e. refl }
+some_part due.GoalSplit =
+    record { words = _; make = λ e. halved_by e (last_name some_name); spells = λ e. refl }
 some_part due.SplitName = some_name
 some_part due.SplitNames = (skipped due.SplitNames refl).0
 some_part due.SplitCut = in_four
 some_part due.Cut = to_pieces some_digits
 some_part due.Points = (skipped due.Points refl).0
 some_part due.Needs = always
-some_part due.NeedRelation = record { words = _; make = λ e. nonzero e (codes "0"); spells = λ e. refl }
+some_part due.NeedRelation =
+    record { words = _; make = λ e. nonzero e (codes "0"); spells = λ e. refl }
 some_part due.Zero = codes "0"
 some_part due.MoreNeeds = (skipped due.MoreNeeds refl).0
 some_part due.Equal = tt
@@ -177,7 +191,10 @@ some_parts (d ∷ ds) = (some_part d, some_parts ds)
 -- its words are tokens
 part_spelled : (d : Due) → AllByRecursion IsToken (part_words d (some_part d))
 unfolding skipped
-part_spelled due.Script = (some_sign s.OpenBrace, (one, (some_sign s.In, (some_sign s.Ask, (some_sign s.CloseBrace, tt)))))
+part_spelled due.Script = (
+  some_sign s.OpenBrace,
+  (one, (some_sign s.In, (some_sign s.Ask, (some_sign s.CloseBrace, tt)))),
+)
 part_spelled due.NewName = (plain_x, tt)
 part_spelled due.DefinedBy = (some_sign s.Equal, tt)
 part_spelled due.Operator = (some_sign s.Int, (some_sign s.Less, (direction_dn, tt)))
@@ -222,4 +239,6 @@ part_spelled due.CloseBrace = (some_sign s.CloseBrace, tt)
 pub parts_spelled : (ds : List Due) → All IsToken (parts_words ds (some_parts ds))
 unfolding some_parts
 parts_spelled [] = All-nil IsToken
-parts_spelled (d ∷ ds) = All-append IsToken (part_words d (some_part d)) (parts_words ds (some_parts ds)) (All-from_recursion IsToken _ (part_spelled d)) (parts_spelled ds)
+parts_spelled (d ∷ ds) =
+    All-append IsToken (part_words d (some_part d)) (parts_words ds (some_parts ds))
+    (All-from_recursion IsToken _ (part_spelled d)) (parts_spelled ds)

@@ -1,5 +1,7 @@
 -- The stack tells the role that each word has in every tree that the words begin.
-use Rattle.std.proofs.Common.{◌≡◌, ℕ, suc, List, [], ◌∷◌, ◌++◌, length, take, Option, Some, None, option_and_then, Bool, true, false, cond, eqb, map, refl, sym, ap, ◌∙◌, append-nil}
+use Rattle.std.proofs.Common.{◌≡◌, ℕ, suc, List, [], ◌∷◌, ◌++◌, length, take, Option, Some, None}
+use Rattle.std.proofs.Common.{option_and_then, Bool, true, false, cond, eqb, map, refl, sym, ap}
+use Rattle.std.proofs.Common.{◌∙◌, append-nil}
 use Rattle.std.proofs.lemmas.List.{map-append, length-map}
 use Rattle.std.proofs.Math.Seq.{take-length}
 use Rattle.std.proofs.lemmas.Bool.{eqb-true}
@@ -7,8 +9,35 @@ use Rattle.script_shape.specs.declared.due.Due.{Due}
 use Rattle.script_shape.specs.declared.due.Due.TheVariants as due
 use Rattle.script_words.specs.declared.class.Symbol.TheVariants as s
 use Rattle.script_words.specs.Words.{Word, class_of, sign}
-use Rattle.script_shape.specs.Tree.{AnyName, plain, operator, name_words, Special, free, defined, special_words, Digits, zero_alone, digits, digits_words, Whole, natural, opposite, whole_words, Bound, unsigned, positive, negative, bound_words, Operator, fixed, int, operator_words, Expr, term, sum, difference, Term, factor, product, quotient, Factor, negation, atom, Atom, number, variable, parenthesized, absolute, called, rounded, fused, expr_words, term_words, factor_words, atom_words, Range, asked, between, range_words, Prop, lies_in, relative_in, at_most, at_least, multiple, prop_words, Stated, affirmed, denied, stated_words, Formula, single, and, or, implies, formula_words, Need, nonzero, below, not_above, above, not_below, need_words, NeedList, last_need, more_needs, need_list_words, Needs, always, provided, needs_words, Points, last_point, more_points, points_words, CutForm, in_four, pieces, at_points, cut_words, Names, last_name, more_names, names_words, Halving, halved_by, with_goal, halving_words, Hint, rewrite, like, split, halving, hint_words, Hints, no_hint, hint, hints_words, How, exactly, rounded_by, rounded_apart, rounded_joined, how_words, Definition, names_operator, names_value, definition_words, Script, formula, define, script_words}
-use Rattle.script_shape.specs.Roles.{Leaf, at, name_leaves, special_leaves, digits_leaves, whole_leaves, bound_leaves, operator_leaves, expr_leaves, term_leaves, factor_leaves, atom_leaves, range_leaves, prop_leaves, stated_leaves, formula_leaves, need_leaves, need_list_leaves, needs_leaves, points_leaves, cut_leaves, names_leaves, halving_leaves, hint_leaves, hints_leaves, how_leaves, definition_leaves, script_leaves, HasRoles, LeavesAreOfTrees}
+use Rattle.script_shape.specs.Tree.{AnyName, plain, operator, name_words, Special, free, defined}
+use Rattle.script_shape.specs.Tree.{special_words, Digits, zero_alone, digits, digits_words, Whole}
+use Rattle.script_shape.specs.Tree.{natural, opposite, whole_words, Bound, unsigned, positive}
+use Rattle.script_shape.specs.Tree.{negative, bound_words, Operator, fixed, int, operator_words}
+use Rattle.script_shape.specs.Tree.{Expr, term, sum, difference, Term, factor, product, quotient}
+use Rattle.script_shape.specs.Tree.{Factor, negation, atom, Atom, number, variable, parenthesized}
+use Rattle.script_shape.specs.Tree.{absolute, called, rounded, fused, expr_words, term_words}
+use Rattle.script_shape.specs.Tree.{factor_words, atom_words, Range, asked, between, range_words}
+use Rattle.script_shape.specs.Tree.{Prop, lies_in, relative_in, at_most, at_least, multiple}
+use Rattle.script_shape.specs.Tree.{prop_words, Stated, affirmed, denied, stated_words, Formula}
+use Rattle.script_shape.specs.Tree.{single, and, or, implies, formula_words, Need, nonzero, below}
+use Rattle.script_shape.specs.Tree.{not_above, above, not_below, need_words, NeedList, last_need}
+use Rattle.script_shape.specs.Tree.{more_needs, need_list_words, Needs, always, provided}
+use Rattle.script_shape.specs.Tree.{needs_words, Points, last_point, more_points, points_words}
+use Rattle.script_shape.specs.Tree.{CutForm, in_four, pieces, at_points, cut_words, Names}
+use Rattle.script_shape.specs.Tree.{last_name, more_names, names_words, Halving, halved_by}
+use Rattle.script_shape.specs.Tree.{with_goal, halving_words, Hint, rewrite, like, split, halving}
+use Rattle.script_shape.specs.Tree.{hint_words, Hints, no_hint, hint, hints_words, How, exactly}
+use Rattle.script_shape.specs.Tree.{rounded_by, rounded_apart, rounded_joined, how_words}
+use Rattle.script_shape.specs.Tree.{Definition, names_operator, names_value, definition_words}
+use Rattle.script_shape.specs.Tree.{Script, formula, define, script_words}
+use Rattle.script_shape.specs.Roles.{Leaf, at, name_leaves, special_leaves, digits_leaves}
+use Rattle.script_shape.specs.Roles.{whole_leaves, bound_leaves, operator_leaves, expr_leaves}
+use Rattle.script_shape.specs.Roles.{term_leaves, factor_leaves, atom_leaves, range_leaves}
+use Rattle.script_shape.specs.Roles.{prop_leaves, stated_leaves, formula_leaves, need_leaves}
+use Rattle.script_shape.specs.Roles.{need_list_leaves, needs_leaves, points_leaves, cut_leaves}
+use Rattle.script_shape.specs.Roles.{names_leaves, halving_leaves, hint_leaves, hints_leaves}
+use Rattle.script_shape.specs.Roles.{how_leaves, definition_leaves, script_leaves, HasRoles}
+use Rattle.script_shape.specs.Roles.{LeavesAreOfTrees}
 use Rattle.script_shape.specs.Shape.{step, run, start}
 use Rattle.script_shape.specs.ShapeLaw.{grown, roles_from}
 use Rattle.script_shape.proofs.Checked.{number_of, same_number, role_at, checked, step_as, run_as}
@@ -24,7 +53,8 @@ name_spells : (r : Due) (n : AnyName) → words_of (name_leaves r n) ≡ name_wo
 name_spells r (plain k t) = refl
 name_spells r (operator k t) = refl
 
-special_spells : (r : Due) (k : Spelled) (n : Special) → words_of (special_leaves r k n) ≡ special_words k n
+special_spells : (r : Due) (k : Spelled) (n : Special)
+    → words_of (special_leaves r k n) ≡ special_words k n
 special_spells r k (free t) = refl
 special_spells r k (defined t) = refl
 
@@ -148,70 +178,94 @@ script_spells (define x rest) = simp (map-append, definition_spells, script_spel
 
 -- ---- and drive the stack through
 
-one_plain : (o : Option Due) (role : Due) (next : Option (List Due)) (go after : List Due → Option (List Due)) (end : List Due)
-    → option_and_then go (checked o role next) ≡ Some end → ((left : List Due) → go left ≡ Some end → after left ≡ Some end) → option_and_then after next ≡ Some end
+one_plain : (o : Option Due) (role : Due) (next : Option (List Due))
+    (go after : List Due → Option (List Due)) (end : List Due)
+    → option_and_then go (checked o role next) ≡ Some end → ((left : List Due) → go left ≡ Some end
+    → after left ≡ Some end) → option_and_then after next ≡ Some end
 one_plain None role next go after end h k = cc h
 one_plain (Some r) role next go after end h k = tested (eqb (number_of r) (number_of role)) next h
   where
-    tested : (b : Bool) (next : Option (List Due)) → option_and_then go (cond b next None) ≡ Some end → option_and_then after next ≡ Some end
+    tested : (b : Bool) (next : Option (List Due))
+        → option_and_then go (cond b next None) ≡ Some end → option_and_then after next ≡ Some end
     tested false next h = cc h
     tested true None h = cc h
     tested true (Some left) h = k left h
 
 -- a run that checks roles is a run
-plain_run : (ls : List Leaf) (left end : List Due) → run_as ls left ≡ Some end → run (words_of ls) left ≡ Some end
+plain_run : (ls : List Leaf) (left end : List Due) → run_as ls left ≡ Some end
+    → run (words_of ls) left ≡ Some end
 unfolding run run_as step_as
 plain_run [] left end h = h
-plain_run (l ∷ ls) left end h = one_plain (role_at l.word left) l.role (step (class_of l.word) left) (run_as ls) (run (words_of ls)) end h (λ next e. plain_run ls next end e)
+plain_run (l ∷ ls) left end h = one_plain (role_at l.word left) l.role (step (class_of l.word) left)
+    (run_as ls) (run (words_of ls)) end h (λ next e. plain_run ls next end e)
 
 pub script_runs : (tree : Script) → run (script_words tree) start ≡ Some (due.Hints ∷ [])
-script_runs tree = ap (λ ws. run ws start) (sym (script_spells tree)) ∙ plain_run (script_leaves tree) start _ (script_drives tree)
+script_runs tree = ap (λ ws. run ws start) (sym (script_spells tree))
+    ∙ plain_run (script_leaves tree) start _ (script_drives tree)
 
 -- ---- and have the roles that the stack gives
 
-one_given : (o : Option Due) (l : Leaf) (next : Option (List Due)) (more : List Due → List Leaf) (go : List Due → Option (List Due)) (ls : List Leaf) (end : List Due)
-    → option_and_then go (checked o l.role next) ≡ Some end → ((left : List Due) → go left ≡ Some end → more left ≡ ls) → grown o l.word next more ≡ l ∷ ls
+one_given : (o : Option Due) (l : Leaf) (next : Option (List Due)) (more : List Due → List Leaf)
+    (go : List Due → Option (List Due)) (ls : List Leaf) (end : List Due)
+    → option_and_then go (checked o l.role next) ≡ Some end
+    → ((left : List Due) → go left ≡ Some end → more left ≡ ls) → grown o l.word next more ≡ l ∷ ls
 one_given None l next more go ls end h k = cc h
 one_given (Some r) l None more go ls end h k = stuck (eqb (number_of r) (number_of l.role)) h
   where
     stuck : (b : Bool) → option_and_then go (cond b None None) ≡ Some end → [] ≡ l ∷ ls
     stuck true h = cc h
     stuck false h = cc h
-one_given (Some r) l (Some left) more go ls end h k = given (eqb (number_of r) (number_of l.role)) refl h
+one_given (Some r) l (Some left) more go ls end h k =
+    given (eqb (number_of r) (number_of l.role)) refl h
   where
-    given : (b : Bool) → eqb (number_of r) (number_of l.role) ≡ b → option_and_then go (cond b (Some left) None) ≡ Some end → at r l.word ∷ more left ≡ l ∷ ls
-    given true e h = ap (λ x. at x l.word ∷ more left) (same_number r l.role (eqb-true _ _ e)) ∙ ap (λ x. l ∷ x) (k left h)
+    given : (b : Bool) → eqb (number_of r) (number_of l.role) ≡ b
+        → option_and_then go (cond b (Some left) None) ≡ Some end → at r l.word ∷ more left ≡ l ∷ ls
+    given true e h = ap (λ x. at x l.word ∷ more left) (same_number r l.role (eqb-true _ _ e))
+        ∙ ap (λ x. l ∷ x) (k left h)
     given false e h = cc h
 
-given_roles : (ls : List Leaf) (left end : List Due) → run_as ls left ≡ Some end → roles_from (words_of ls) left ≡ ls
+given_roles : (ls : List Leaf) (left end : List Due) → run_as ls left ≡ Some end
+    → roles_from (words_of ls) left ≡ ls
 unfolding run_as step_as roles_from
 given_roles [] left end h = refl
-given_roles (l ∷ ls) left end h = one_given (role_at l.word left) l (step (class_of l.word) left) (roles_from (words_of ls)) (run_as ls) ls end h (λ next e. given_roles ls next end e)
+given_roles (l ∷ ls) left end h = one_given (role_at l.word left) l (step (class_of l.word) left)
+    (roles_from (words_of ls)) (run_as ls) ls end h (λ next e. given_roles ls next end e)
 
-one_front : (o : Option Due) (w : Word) (next : Option (List Due)) (more less : List Due → List Leaf) (n : ℕ) → ((left : List Due) → take n (more left) ≡ less left) → take (suc n) (grown o w next more) ≡ grown o w next less
+one_front : (o : Option Due) (w : Word)
+    (next : Option (List Due)) (more less : List Due → List Leaf) (n : ℕ) → ((left : List Due)
+    → take n (more left) ≡ less left) → take (suc n) (grown o w next more) ≡ grown o w next less
 one_front None w next more less n h = refl
 one_front (Some r) w None more less n h = refl
 one_front (Some r) w (Some left) more less n h = ap (λ l. at r w ∷ l) (h left)
 
-front_roles : (a b : List Word) (left : List Due) → take (length a) (roles_from (a ++ b) left) ≡ roles_from a left
+front_roles : (a b : List Word) (left : List Due)
+    → take (length a) (roles_from (a ++ b) left) ≡ roles_from a left
 unfolding roles_from
 front_roles [] b left = refl
-front_roles (w ∷ a) b left = one_front (role_at w left) w (step (class_of w) left) (roles_from (a ++ b)) (roles_from a) (length a) (λ next. front_roles a b next)
+front_roles (w ∷ a) b left = one_front (role_at w left) w (step (class_of w) left)
+    (roles_from (a ++ b)) (roles_from a) (length a) (λ next. front_roles a b next)
 
 tree_roles : (tree : Script) → roles_from (script_words tree) start ≡ script_leaves tree
-tree_roles tree = ap (λ ws. roles_from ws start) (sym (script_spells tree)) ∙ given_roles (script_leaves tree) start _ (script_drives tree)
+tree_roles tree = ap (λ ws. roles_from ws start) (sym (script_spells tree))
+    ∙ given_roles (script_leaves tree) start _ (script_drives tree)
 
 -- in every tree that the words begin they have these roles
-pub roles_in : (tree : Script) (ws more : List Word) → script_words tree ≡ ws ++ more → take (length ws) (script_leaves tree) ≡ roles_from ws start
-roles_in tree ws more e = ap (take (length ws)) (sym (tree_roles tree) ∙ ap (λ l. roles_from l start) e) ∙ front_roles ws more start
+pub roles_in : (tree : Script) (ws more : List Word) → script_words tree ≡ ws ++ more
+    → take (length ws) (script_leaves tree) ≡ roles_from ws start
+roles_in tree ws more e = ap (take (length ws)) (sym (tree_roles tree)
+    ∙ ap (λ l. roles_from l start) e) ∙ front_roles ws more start
 
 pub roles_unique : (ws : List Word) (ls : List Leaf) → HasRoles ws ls → ls ≡ roles_from ws start
 roles_unique ws ls h = sym h.roles ∙ roles_in h.tree ws h.words.0 h.words.1
 
 -- ---- all words of a script
 
-as_many : (tree : Script) (ws : List Word) → script_words tree ≡ ws → length ws ≡ length (script_leaves tree)
-as_many tree ws e = sym (ap length (script_spells tree ∙ e)) ∙ length-map (script_leaves tree) (λ (l : Leaf). l.word)
+as_many : (tree : Script) (ws : List Word) → script_words tree ≡ ws
+    → length ws ≡ length (script_leaves tree)
+as_many tree ws e = sym (ap length (script_spells tree ∙ e))
+    ∙ length-map (script_leaves tree) (λ (l : Leaf). l.word)
 
 pub leaves_of_trees : LeavesAreOfTrees
-leaves_of_trees tree ws leaves e h = roles_unique ws leaves h ∙ sym (roles_in tree ws [] (e ∙ sym (append-nil ws))) ∙ ap (λ n. take n (script_leaves tree)) (as_many tree ws e) ∙ take-length (script_leaves tree)
+leaves_of_trees tree ws leaves e h =
+    roles_unique ws leaves h ∙ sym (roles_in tree ws [] (e ∙ sym (append-nil ws)))
+    ∙ ap (λ n. take n (script_leaves tree)) (as_many tree ws e) ∙ take-length (script_leaves tree)

@@ -3,7 +3,8 @@ use Rattle.std.specs.Prelude.{ℕ, List, [], ◌∷◌, ◌++◌}
 use Rattle.script_words.specs.Words.{Word, literal, sign}
 use Rattle.script_words.specs.declared.class.Number.TheVariants as digits_kind
 use Rattle.script_words.specs.declared.class.Symbol.TheVariants as s
-use Rattle.script_shape.specs.Expressions.{AnyName, name_words, Digits, digits_words, Bound, bound_words, Expr, expr_words}
+use Rattle.script_shape.specs.Expressions.{AnyName, name_words, Digits, digits_words, Bound}
+use Rattle.script_shape.specs.Expressions.{bound_words, Expr, expr_words}
 
 -- what a rewriting needs: an expression that isn't 0, or its relation to a bound
 pub data Need : Type 0 where

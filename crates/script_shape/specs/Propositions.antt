@@ -3,7 +3,8 @@ use Rattle.std.specs.Prelude.{List, [], ◌∷◌, ◌++◌}
 use Rattle.script_words.specs.Words.{Word, sign}
 use Rattle.script_words.specs.declared.class.Spelled.TheVariants as spelled
 use Rattle.script_words.specs.declared.class.Symbol.TheVariants as s
-use Rattle.script_shape.specs.Expressions.{Special, special_words, Whole, whole_words, Bound, bound_words, Expr, expr_words}
+use Rattle.script_shape.specs.Expressions.{Special, special_words, Whole, whole_words, Bound}
+use Rattle.script_shape.specs.Expressions.{bound_words, Expr, expr_words}
 
 -- a range: `?`, or two bounds
 pub data Range : Type 0 where

@@ -1,5 +1,6 @@
 -- The parser's stack: what is due after some words of a script, the next first.
-use Rattle.std.specs.Prelude.{List, [], ◌∷◌, ◌++◌, Option, Some, None, option_and_then, Bool, true, false, ◌&&◌}
+use Rattle.std.specs.Prelude.{List, [], ◌∷◌, ◌++◌, Option, Some, None, option_and_then, Bool, true}
+use Rattle.std.specs.Prelude.{false, ◌&&◌}
 use Rattle.script_words.specs.declared.class.Class.{Class}
 use Rattle.script_words.specs.Words.{Word, class_of}
 use Rattle.script_shape.specs.declared.due.Due.{Due}

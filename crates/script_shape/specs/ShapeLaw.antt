@@ -1,5 +1,6 @@
 -- The stack after some words tells whether they begin a script, and whether they are one.
-use Rattle.std.specs.Prelude.{◌≡◌, ℕ, ◌+◌, ◌<◌, ◌≤◌, List, [], ◌∷◌, length, take, map, Option, Some, None, Bool, true, false}
+use Rattle.std.specs.Prelude.{◌≡◌, ℕ, ◌+◌, ◌<◌, ◌≤◌, List, [], ◌∷◌, length, take, map, Option, Some}
+use Rattle.std.specs.Prelude.{None, Bool, true, false}
 use Rattle.script_shape.specs.declared.due.Due.{Due}
 use Rattle.script_words.specs.declared.class.Class.{Class}
 use Rattle.script_words.specs.Words.{Word, class_of}

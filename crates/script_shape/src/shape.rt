@@ -2,7 +2,8 @@
 
 ghost use Rattle.std.specs.Prelude.{◌≡◌, length, reverse, IfOk};
 ghost use Rattle.script_shape.specs.Shape as spec;
-ghost use Rattle.script_shape.specs.ShapeLaw.{ShapeIsExact, ShapeIsUnique, ShapesExist, RolesAreUnique, Steps, IsShapeOf, AreRolesOf};
+ghost use Rattle.script_shape.specs.ShapeLaw.{ShapeIsExact, ShapeIsUnique, ShapesExist};
+ghost use Rattle.script_shape.specs.ShapeLaw.{RolesAreUnique, Steps, IsShapeOf, AreRolesOf};
 ghost use Rattle.script_shape.specs.Roles.{LeavesSpell, LeavesAreOfTrees};
 ghost use Rattle.script_shape.specs.Next as spec_next;
 ghost use Rattle.script_shape.specs.Next.{NextIsExact};

@@ -1,4 +1,5 @@
--- What is said of expressions by their values alone is one over two lists of nodes that give them the same values.
+-- What is said of expressions by their values alone is one over two lists of nodes that give them
+-- the same values.
 use Rattle.std.specs.Prelude.{◌≡◌, ◌≢◌, ◌↔◌, ◌<◌, ℕ, List, [], ◌∷◌, Some, refl}
 use Rattle.std.specs.Option.{IsSomeAnd}
 use Rattle.std.specs.List.{AllByRecursion}
@@ -29,7 +30,9 @@ use Rattle.box_tree.specs.goals.Holds.{LineHolds}
 use Rattle.box_tree.specs.literal_order.Values.{written_value}
 use Rattle.box_tree.specs.script_bounds.Bounds.{written_range}
 use Rattle.box_tree.specs.script_claims.declared.claim.Claim.{Claim}
-use Rattle.box_tree.specs.script_claims.declared.claim.Claim.TheVariants.{Bounded, Asked, Relative, RelativeAsked, Multiple, Above, Below}
+use Rattle.box_tree.specs.script_claims.declared.claim.Claim.TheVariants.{Bounded, Asked, Relative}
+use Rattle.box_tree.specs.script_claims.declared.claim.Claim.TheVariants.{RelativeAsked, Multiple}
+use Rattle.box_tree.specs.script_claims.declared.claim.Claim.TheVariants.{Above, Below}
 use Rattle.box_tree.specs.script_claims.Meets.{IsRelatedWithin, IsTrueAt}
 use Rattle.script_meets.specs.script_grammar.Names.{AreNodes, ClaimIsOf}
 use Rattle.universe.specs.rule_universe.Licensed.{NeedIsKnown, RowIsKnown}
@@ -39,16 +42,22 @@ use Rattle.script_truths.specs.Kept.{SlotIsOf}
 pub either_way : (A B : Type 0) → A ≡ B → A ↔ B
 either_way A B e = (subst (λ T. T) e, subst (λ T. T) (sym e))
 
-all_alike : {A : Type 0} (K P Q : A → Type 0) → ((x : A) → K x → P x ≡ Q x) → (xs : List A) → AllByRecursion K xs → AllByRecursion P xs ≡ AllByRecursion Q xs
+all_alike : {A : Type 0} (K P Q : A → Type 0) → ((x : A) → K x → P x ≡ Q x) → (xs : List A)
+    → AllByRecursion K xs → AllByRecursion P xs ≡ AllByRecursion Q xs
 all_alike K P Q e [] k = refl
-all_alike K P Q e (x ∷ xs) k = let here = e x k.0 in let rest = all_alike K P Q e xs k.1 in (λ i. here i × rest i)
+all_alike K P Q e (x ∷ xs) k = let here = e x k.0 in
+    let rest = all_alike K P Q e xs k.1 in (λ i. here i × rest i)
 
-module _ (ns ms : List Node) (a : Assignment) (n : ℕ) (same : (x : ExprId) → x.0 < n → value ns a x ≡ value ms a x) where
-  one : (P : Fraction → Type 0) (x : ExprId) → x.0 < n → IsSomeAnd (value ns a x) P ≡ IsSomeAnd (value ms a x) P
+module _ (ns ms : List Node) (a : Assignment) (n : ℕ) (same : (x : ExprId) → x.0 < n
+    → value ns a x ≡ value ms a x) where
+  one : (P : Fraction → Type 0) (x : ExprId) → x.0 < n
+      → IsSomeAnd (value ns a x) P ≡ IsSomeAnd (value ms a x) P
   one P x l = let e = same x l in (λ i. IsSomeAnd (e i) P)
 
-  both : (P : Fraction → Fraction → Type 0) (x y : ExprId) → AreNodes n (x, y) → OfBoth ns a x y P ≡ OfBoth ms a x y P
-  both P x y l = let e = same x l.0 in let f = same y l.1 in (λ i. IsSomeAnd (e i) (λ v. IsSomeAnd (f i) (P v)))
+  both : (P : Fraction → Fraction → Type 0) (x y : ExprId) → AreNodes n (x, y)
+      → OfBoth ns a x y P ≡ OfBoth ms a x y P
+  both P x y l = let e = same x l.0 in let f = same y l.1 in
+      (λ i. IsSomeAnd (e i) (λ v. IsSomeAnd (f i) (P v)))
 
   pub fact_alike : (f : Fact) → SlotIsOf n (slot_of f) → Holds ns a f ≡ Holds ms a f
   fact_alike (fact.Bnd x i) l = one (Lies (range_of i)) x l
@@ -75,7 +84,8 @@ module _ (ns ms : List Node) (a : Assignment) (n : ℕ) (same : (x : ExprId) →
   pub claim_alike : (c : Claim) → ClaimIsOf n c → IsTrueAt ns a c ≡ IsTrueAt ms a c
   claim_alike (Bounded x lower upper) l = one (Lies (written_range lower upper)) x l
   claim_alike (Asked x) l = refl
-  claim_alike (Relative x y lower upper) l = both (IsRelatedWithin (written_range (Some lower) (Some upper))) x y l
+  claim_alike (Relative x y lower upper) l =
+      both (IsRelatedWithin (written_range (Some lower) (Some upper))) x y l
   claim_alike (RelativeAsked x y) l = refl
   claim_alike (Multiple x k) l = one (IsMultiple k) x l
   claim_alike (Above x w) l = one (λ v. written_value w <ℚ v) x l
@@ -88,8 +98,10 @@ module _ (ns ms : List Node) (a : Assignment) (n : ℕ) (same : (x : ExprId) →
 
   pub row_alike : (row : HintRow) → RowIsKnown n row → RowIsTrue ns a row ≡ RowIsTrue ms a row
   row_alike row k =
-      let divisors = all_alike (λ (d : ExprId). d.0 < n) (λ d. Holds ns a (fact.Nzr d)) (λ d. Holds ms a (fact.Nzr d)) (λ d l. one (λ v. v ≢ zero_ℚ) d l) row.divisors k.divisors in
-      let needs = all_alike (NeedIsKnown n) (IsMet ns a) (IsMet ms a) need_alike row.needs k.needs in
+      let divisors = all_alike (λ (d : ExprId). d.0 < n) (λ d. Holds ns a (fact.Nzr d))
+      (λ d. Holds ms a (fact.Nzr d)) (λ d l. one (λ v. v ≢ zero_ℚ) d l) row.divisors k.divisors in
+      let needs = all_alike (NeedIsKnown n) (IsMet ns a)
+      (IsMet ms a) need_alike row.needs k.needs in
       let left = same row.left k.left in
       let right = same row.right k.right in
       (λ i. divisors i → needs i → (v : Fraction) → right i ≡ Some v → left i ≡ Some v)

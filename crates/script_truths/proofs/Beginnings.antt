@@ -1,5 +1,6 @@
 -- What an assignment that meets a script has over the universe.
-use Rattle.std.specs.Prelude.{◌≡◌, ℕ, zero, suc, List, [], ◌∷◌, Option, Some, None, length, slice_get, refl}
+use Rattle.std.specs.Prelude.{◌≡◌, ℕ, zero, suc, List, [], ◌∷◌, Option, Some, None, length}
+use Rattle.std.specs.Prelude.{slice_get, refl}
 use Rattle.std.specs.List.{AllByRecursion}
 use Rattle.std.proofs.Common.{sym, subst, ⊎_elim}
 use Rattle.fx_model.specs.declared.Node.{Node}
@@ -20,47 +21,63 @@ use Rattle.script_meets.specs.script_grammar.Cases.{cases_of}
 use Rattle.universe.specs.Cases.{each_has}
 use Rattle.universe.specs.Universes.{with_fact, facts_of}
 use Rattle.script_truths.specs.Kept.{OfExtended, ClaimsAreKept, RowsAreKept}
-use Rattle.script_truths.specs.Truths.{AreTrue, SomeCaseIsMet, MetRowsAreTrue, HasUniverse, UniversesExtend, WhereMet, HypothesesHold, HintsAreTrue}
+use Rattle.script_truths.specs.Truths.{AreTrue, SomeCaseIsMet, MetRowsAreTrue, HasUniverse}
+use Rattle.script_truths.specs.Truths.{UniversesExtend, WhereMet, HypothesesHold, HintsAreTrue}
 use Rattle.script_truths.proofs.Rows.{hint_at, row_known}
 
-module _ (nodes : List Node) (a : Assignment) (holds : (c : Claim) (f : Fact) → hypothesis_fact c ≡ Some f → IsTrueAt nodes a c → Holds nodes a f) where
-  with_held : (c : Claim) → IsTrueAt nodes a c → (fs : List Fact) → AllByRecursion (Holds nodes a) fs → (o : Option Fact) → hypothesis_fact c ≡ o → AllByRecursion (Holds nodes a) (with_fact o fs)
+module _ (nodes : List Node) (a : Assignment) (holds : (c : Claim) (f : Fact)
+    → hypothesis_fact c ≡ Some f → IsTrueAt nodes a c → Holds nodes a f) where
+  with_held : (c : Claim) → IsTrueAt nodes a c → (fs : List Fact)
+      → AllByRecursion (Holds nodes a) fs → (o : Option Fact) → hypothesis_fact c ≡ o
+      → AllByRecursion (Holds nodes a) (with_fact o fs)
   with_held c t fs h None e = h
   with_held c t fs h (Some f) e = (holds c f e t, h)
 
   -- the facts of true claims hold
-  pub facts_held : (cs : List Claim) → AllByRecursion (IsTrueAt nodes a) cs → AllByRecursion (Holds nodes a) (facts_of cs)
+  pub facts_held : (cs : List Claim) → AllByRecursion (IsTrueAt nodes a) cs
+      → AllByRecursion (Holds nodes a) (facts_of cs)
   facts_held [] t = tt
   facts_held (c ∷ cs) t = with_held c t.0 (facts_of cs) (facts_held cs t.1) (hypothesis_fact c) refl
 
-all_kept : (P Q K : Claim → Type 0) → ((c : Claim) → K c → P c → Q c) → (cs : List Claim) → AllByRecursion K cs → AllByRecursion P cs → AllByRecursion Q cs
+all_kept : (P Q K : Claim → Type 0) → ((c : Claim) → K c → P c → Q c) → (cs : List Claim)
+    → AllByRecursion K cs → AllByRecursion P cs → AllByRecursion Q cs
 all_kept P Q K f [] k t = tt
 all_kept P Q K f (c ∷ cs) k t = (f c k.0 t.0, all_kept P Q K f cs k.1 t.1)
 
 -- what some member has, that in some place has
-some_place : {X : Type 0} (P : X → Type 0) (xs : List X) → SomeOf P xs → (k : ℕ) × (x : X) × (slice_get xs k ≡ Some x) × P x
+some_place : {X : Type 0} (P : X → Type 0) (xs : List X) → SomeOf P xs
+    → (k : ℕ) × (x : X) × (slice_get xs k ≡ Some x) × P x
 some_place P [] h = absurd h
-some_place P (x ∷ xs) h = ⊎_elim (λ p. (zero, x, refl, p)) (λ q. let r = some_place P xs q in (suc r.0, r.1, r.2, r.3)) h
+some_place P (x ∷ xs) h =
+    ⊎_elim (λ p. (zero, x, refl, p)) (λ q. let r = some_place P xs q in (suc r.0, r.1, r.2, r.3)) h
 
 -- some case is met
 pub case_is_met : SomeCaseIsMet
-case_is_met s a meets = some_place (AllByRecursion (IsTrueAt s.nodes a)) (cases_of s) ((met_in_some_case (IsTrueAt s.nodes a) s.parts).0 meets.hypotheses)
+case_is_met s a meets = some_place (AllByRecursion (IsTrueAt s.nodes a)) (cases_of s)
+    ((met_in_some_case (IsTrueAt s.nodes a) s.parts).0 meets.hypotheses)
 
 module _ (extend : UniversesExtend) (kept : OfExtended ClaimsAreKept) where
   -- the claims are true over the universe
-  pub claims_true : (s : View) (claims : List Claim) (u : World) (a : Assignment) → HasUniverse s claims u → AreTrue s a claims → AllByRecursion (IsTrueAt u.nodes a) claims
+  pub claims_true : (s : View) (claims : List Claim) (u : World) (a : Assignment)
+      → HasUniverse s claims u → AreTrue s a claims → AllByRecursion (IsTrueAt u.nodes a) claims
   claims_true s claims u a is truth =
-      all_kept (IsTrueAt s.nodes a) (IsTrueAt u.nodes a) (ClaimIsOf (length s.nodes)) (λ c k t. (kept s.nodes u.nodes a (extend s claims u is) c k).1 t) claims
-      (each_has (ClaimIsOf (length s.nodes)) s is.names.hypotheses claims is.universe.claims_are) truth
+      all_kept (IsTrueAt s.nodes a) (IsTrueAt u.nodes a) (ClaimIsOf (length s.nodes))
+      (λ c k t. (kept s.nodes u.nodes a (extend s claims u is) c k).1 t) claims
+      (each_has (ClaimIsOf (length s.nodes)) s is.names.hypotheses claims
+      is.universe.claims_are) truth
 
-  pub hypotheses_held : ((nodes : List Node) (a : Assignment) (c : Claim) (f : Fact) → hypothesis_fact c ≡ Some f → IsTrueAt nodes a c → Holds nodes a f) → WhereMet HypothesesHold
+  pub hypotheses_held : ((nodes : List Node) (a : Assignment) (c : Claim) (f : Fact)
+      → hypothesis_fact c ≡ Some f → IsTrueAt nodes a c → Holds nodes a f) → WhereMet HypothesesHold
   hypotheses_held holds s claims u a is meets truth f m =
       let all = facts_held u.nodes a (holds u.nodes a) claims (claims_true s claims u a is truth) in
-      all_contained (Holds u.nodes a) u.hypotheses (subst (AllByRecursion (Holds u.nodes a)) (sym is.universe.hypotheses) all) f m
+      all_contained (Holds u.nodes a) u.hypotheses
+      (subst (AllByRecursion (Holds u.nodes a)) (sym is.universe.hypotheses) all) f m
 
 -- and so are the rows
 pub hints_true : UniversesExtend → OfExtended RowsAreKept → MetRowsAreTrue → WhereMet HintsAreTrue
 hints_true extend kept met s claims u a is meets truth k row e =
     let h = hint_at s.nodes s.hints.rewrites u.hints is.universe.hints k row e in
-    let named = has_all (HintIsOf (length s.nodes)) s.hints.rewrites is.names.hints.rewrites h.0 h.1 in
-    (kept s.nodes u.nodes a (extend s claims u is) row (row_known s.nodes is.ordered h.0 row named h.2)).1 (met s a is.ordered is.names meets u.hints is.universe.hints k row e)
+    let named =
+    has_all (HintIsOf (length s.nodes)) s.hints.rewrites is.names.hints.rewrites h.0 h.1 in
+    (kept s.nodes u.nodes a (extend s claims u is) row (row_known s.nodes is.ordered h.0 row named
+    h.2)).1 (met s a is.ordered is.names meets u.hints is.universe.hints k row e)

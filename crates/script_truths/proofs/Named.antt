@@ -15,7 +15,9 @@ use Rattle.theorem_list.specs.facts.Conclusions.{bnd_of, fix_of}
 use Rattle.box_tree.specs.goals.declared.goal.Goal.{Goal}
 use Rattle.box_tree.specs.script_bounds.Bounds.{written_range, outward_of}
 use Rattle.box_tree.specs.script_claims.declared.claim.Claim.{Claim}
-use Rattle.box_tree.specs.script_claims.declared.claim.Claim.TheVariants.{Bounded, Asked, Relative, RelativeAsked, Multiple, Above, Below}
+use Rattle.box_tree.specs.script_claims.declared.claim.Claim.TheVariants.{Bounded, Asked, Relative}
+use Rattle.box_tree.specs.script_claims.declared.claim.Claim.TheVariants.{RelativeAsked, Multiple}
+use Rattle.box_tree.specs.script_claims.declared.claim.Claim.TheVariants.{Above, Below}
 use Rattle.box_tree.specs.script_claims.Facts.{hypothesis_fact, rel_of}
 use Rattle.script_meets.specs.script_grammar.Names.{IsNode, AreNodes, ClaimIsOf, HintIsOf}
 use Rattle.universe.specs.pair_closure.Members.{some-inj, has_all}
@@ -30,36 +32,45 @@ module _ (n : ℕ) where
   abbrev IsNamed : Fact → Type 0
   IsNamed f = SlotIsOf n (order.slot_of f)
 
-  from_bnd : (x : ExprId) → IsNode n x → (o : Option Interval) (f : Fact) → bnd_of x o ≡ Some f → IsNamed f
+  from_bnd : (x : ExprId) → IsNode n x → (o : Option Interval) (f : Fact)
+      → bnd_of x o ≡ Some f → IsNamed f
   from_bnd x l None f e = cc
   from_bnd x l (Some i) f e = subst IsNamed (some-inj (fact.Bnd x i) f e) l
 
-  from_rel : (x y : ExprId) → AreNodes n (x, y) → (o : Option RelativeError) (f : Fact) → rel_of x y o ≡ Some f → IsNamed f
+  from_rel : (x y : ExprId) → AreNodes n (x, y) → (o : Option RelativeError) (f : Fact)
+      → rel_of x y o ≡ Some f → IsNamed f
   from_rel x y l None f e = cc
   from_rel x y l (Some d) f e = subst IsNamed (some-inj (fact.Rel x y (Some d)) f e) l
 
-  from_fix : (x : ExprId) → IsNode n x → (o : Option FixPlace) (f : Fact) → fix_of x o ≡ Some f → IsNamed f
+  from_fix : (x : ExprId) → IsNode n x → (o : Option FixPlace) (f : Fact)
+      → fix_of x o ≡ Some f → IsNamed f
   from_fix x l None f e = cc
   from_fix x l (Some k) f e = subst IsNamed (some-inj (fact.Fix x k) f e) l
 
   fact_named : (c : Claim) → ClaimIsOf n c → (f : Fact) → hypothesis_fact c ≡ Some f → IsNamed f
-  fact_named (Bounded x lower upper) l f e = from_bnd x l (outward_of (written_range lower upper)) f e
+  fact_named (Bounded x lower upper) l f e =
+      from_bnd x l (outward_of (written_range lower upper)) f e
   fact_named (Asked x) l f e = cc
-  fact_named (Relative x y lower upper) l f e = from_rel x y l (error_of_part (outward_of (written_range (Some lower) (Some upper)))) f e
+  fact_named (Relative x y lower upper) l f e =
+      from_rel x y l (error_of_part (outward_of (written_range (Some lower) (Some upper)))) f e
   fact_named (RelativeAsked x y) l f e = cc
   fact_named (Multiple x k) l f e = from_fix x l (place_from k) f e
   fact_named (Above x w) l f e = from_bnd x l (outward_of (written_range (Some w) None)) f e
   fact_named (Below x w) l f e = from_bnd x l (outward_of (written_range None (Some w))) f e
 
-  with_named : (c : Claim) → ClaimIsOf n c → (fs : List Fact) → AllByRecursion IsNamed fs → (o : Option Fact) → hypothesis_fact c ≡ o → AllByRecursion IsNamed (with_fact o fs)
+  with_named : (c : Claim) → ClaimIsOf n c → (fs : List Fact) → AllByRecursion IsNamed fs
+      → (o : Option Fact) → hypothesis_fact c ≡ o → AllByRecursion IsNamed (with_fact o fs)
   with_named c l fs h None e = h
   with_named c l fs h (Some f) e = (fact_named c l f e, h)
 
-  facts_named_in : (cs : List Claim) → AllByRecursion (ClaimIsOf n) cs → AllByRecursion IsNamed (facts_of cs)
+  facts_named_in : (cs : List Claim) → AllByRecursion (ClaimIsOf n) cs
+      → AllByRecursion IsNamed (facts_of cs)
   facts_named_in [] l = tt
-  facts_named_in (c ∷ cs) l = with_named c l.0 (facts_of cs) (facts_named_in cs l.1) (hypothesis_fact c) refl
+  facts_named_in (c ∷ cs) l =
+      with_named c l.0 (facts_of cs) (facts_named_in cs l.1) (hypothesis_fact c) refl
 
-  goals_named_in : (cs : List Claim) → AllByRecursion (ClaimIsOf n) cs → AllByRecursion (λ (g : Goal). SlotIsOf n g.of) (map goal_of cs)
+  goals_named_in : (cs : List Claim) → AllByRecursion (ClaimIsOf n) cs
+      → AllByRecursion (λ (g : Goal). SlotIsOf n g.of) (map goal_of cs)
   goals_named_in [] l = tt
   goals_named_in (c ∷ cs) l = (slot_of_nodes n c l.0, goals_named_in cs l.1)
 
@@ -72,4 +83,5 @@ goals_named s names = goals_named_in (length s.nodes) s.goals names.goals
 pub rows_named : RowsAreNamed
 rows_named s ordered names rows are = all_from (RowIsKnown (length s.nodes)) rows (λ row m.
     let h = hint_at s.nodes s.hints.rewrites rows are m.0 row m.1 in
-    row_known s.nodes ordered h.0 row (has_all (HintIsOf (length s.nodes)) s.hints.rewrites names.hints.rewrites h.0 h.1) h.2)
+    row_known s.nodes ordered h.0 row
+    (has_all (HintIsOf (length s.nodes)) s.hints.rewrites names.hints.rewrites h.0 h.1) h.2)

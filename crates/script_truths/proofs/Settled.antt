@@ -20,13 +20,16 @@ use Rattle.box_tree.specs.goals.declared.goal.Want.TheVariants.{Ask, Inside}
 use Rattle.box_tree.specs.goals.Lies.{LiesAt, AreZeroAt}
 use Rattle.box_tree.specs.goals.Settles.{Answers}
 use Rattle.box_tree.specs.script_claims.declared.claim.Claim.{Claim}
-use Rattle.box_tree.specs.script_claims.declared.claim.Claim.TheVariants.{Bounded, Asked, Relative, RelativeAsked, Multiple, Above, Below}
+use Rattle.box_tree.specs.script_claims.declared.claim.Claim.TheVariants.{Bounded, Asked, Relative}
+use Rattle.box_tree.specs.script_claims.declared.claim.Claim.TheVariants.{RelativeAsked, Multiple}
+use Rattle.box_tree.specs.script_claims.declared.claim.Claim.TheVariants.{Above, Below}
 use Rattle.box_tree.specs.script_claims.Facts.{want_of, slot_of}
 use Rattle.box_tree.specs.script_claims.Meets.{IsTrueAt}
 use Rattle.script_meets.specs.script_grammar.Names.{ClaimIsOf}
 use Rattle.universe.specs.pair_closure.Members.{has_all}
 use Rattle.script_truths.specs.Kept.{OfExtended, SlotIsOf, ClaimsAreKept, LinesAreKept}
-use Rattle.script_truths.specs.Truths.{UniversesExtend, OfUniverses, SettledGoalsAreTrue, GoalLinesHold}
+use Rattle.script_truths.specs.Truths.{UniversesExtend, OfUniverses, SettledGoalsAreTrue}
+use Rattle.script_truths.specs.Truths.{GoalLinesHold}
 
 -- a question claims nothing
 asked : (nodes : List Node) (a : Assignment) (c : Claim) → want_of c ≡ Ask → IsTrueAt nodes a c
@@ -35,19 +38,30 @@ asked nodes a (RelativeAsked x y) e = tt
 asked nodes a _ e = cc
 
 module _ (nodes : List Node) (a : Assignment) where
-  bound_lies : (x : ExprId) (i j : Interval) → IsWithin i j → Holds nodes a (fact.Bnd x i) → LiesAt nodes a j (order.slot_of (fact.Bnd x i))
-  bound_lies x i j l h = some-and (value nodes a x) (Lies (range_of i)) (Lies (range_of j)) (λ v m. within_in (range_of i) (range_of j) v l m) h
+  bound_lies : (x : ExprId) (i j : Interval) → IsWithin i j → Holds nodes a (fact.Bnd x i)
+      → LiesAt nodes a j (order.slot_of (fact.Bnd x i))
+  bound_lies x i j l h = some-and (value nodes a x) (Lies (range_of i)) (Lies (range_of j))
+      (λ v m. within_in (range_of i) (range_of j) v l m) h
 
-  error_lies : (x y : ExprId) (i j : Interval) → IsWithin i j → IsSomeAnd (value nodes a x) (λ v. IsSomeAnd (value nodes a y) (IsRelated i v)) → IsSomeAnd (value nodes a x) (λ v. IsSomeAnd (value nodes a y) (IsRelated j v))
-  error_lies x y i j l h = some-and (value nodes a x) (λ v. IsSomeAnd (value nodes a y) (IsRelated i v)) (λ v. IsSomeAnd (value nodes a y) (IsRelated j v))
-      (λ v k. some-and (value nodes a y) (IsRelated i v) (IsRelated j v) (λ w r. related-wider i j v w l r) k) h
+  error_lies : (x y : ExprId) (i j : Interval) → IsWithin i j
+      → IsSomeAnd (value nodes a x) (λ v. IsSomeAnd (value nodes a y) (IsRelated i v))
+      → IsSomeAnd (value nodes a x) (λ v. IsSomeAnd (value nodes a y) (IsRelated j v))
+  error_lies x y i j l h = some-and (value nodes a x) (λ v. IsSomeAnd (value nodes a y)
+      (IsRelated i v)) (λ v. IsSomeAnd (value nodes a y) (IsRelated j v))
+      (λ v k. some-and (value nodes a y) (IsRelated i v) (IsRelated j v)
+      (λ w r. related-wider i j v w l r) k) h
 
-  module _ (inside : (c : Claim) (i : Interval) → want_of c ≡ Inside (Some i) → LiesAt nodes a i (slot_of c) → IsTrueAt nodes a c) (zeros : (c : Claim) → AreZeroAt nodes a (slot_of c) → IsTrueAt nodes a c) where
-    pub answered : (c : Claim) (w : Want) (f : Fact) → want_of c ≡ w → order.slot_of f ≡ slot_of c → Answers w f → Holds nodes a f → IsTrueAt nodes a c
+  module _ (inside : (c : Claim) (i : Interval) → want_of c ≡ Inside (Some i)
+      → LiesAt nodes a i (slot_of c) → IsTrueAt nodes a c) (zeros : (c : Claim)
+      → AreZeroAt nodes a (slot_of c) → IsTrueAt nodes a c) where
+    pub answered : (c : Claim) (w : Want) (f : Fact) → want_of c ≡ w → order.slot_of f ≡ slot_of c
+        → Answers w f → Holds nodes a f → IsTrueAt nodes a c
     answered c Ask f e s n h = asked nodes a c e
     answered c (Inside o) (fact.Rel x y None) e s n h = zeros c (subst (AreZeroAt nodes a) s h)
-    answered c (Inside (Some i)) (fact.Bnd x j) e s n h = inside c i e (subst (LiesAt nodes a i) s (bound_lies x j i n h))
-    answered c (Inside (Some i)) (fact.Rel x y (Some d)) e s n h = inside c i e (subst (LiesAt nodes a i) s (error_lies x y d.interval i n h))
+    answered c (Inside (Some i)) (fact.Bnd x j) e s n h =
+        inside c i e (subst (LiesAt nodes a i) s (bound_lies x j i n h))
+    answered c (Inside (Some i)) (fact.Rel x y (Some d)) e s n h =
+        inside c i e (subst (LiesAt nodes a i) s (error_lies x y d.interval i n h))
     answered c (Inside None) (fact.Bnd x j) e s n h = absurd n
     answered c (Inside None) (fact.Rel x y (Some d)) e s n h = absurd n
     answered c (Inside o) (fact.Abs x j) e s n h = absurd n
@@ -55,11 +69,16 @@ module _ (nodes : List Node) (a : Assignment) where
     answered c (Inside o) (fact.Nzr x) e s n h = absurd n
     answered c (Inside o) fact.Void e s n h = absurd n
 
-pub goals_true : ((nodes : List Node) (a : Assignment) (c : Claim) (i : Interval) → want_of c ≡ Inside (Some i) → LiesAt nodes a i (slot_of c) → IsTrueAt nodes a c)
-    → ((nodes : List Node) (a : Assignment) (c : Claim) → AreZeroAt nodes a (slot_of c) → IsTrueAt nodes a c) → UniversesExtend → OfExtended ClaimsAreKept → OfUniverses SettledGoalsAreTrue
+pub goals_true : ((nodes : List Node) (a : Assignment) (c : Claim) (i : Interval)
+    → want_of c ≡ Inside (Some i) → LiesAt nodes a i (slot_of c) → IsTrueAt nodes a c)
+    → ((nodes : List Node) (a : Assignment) (c : Claim) → AreZeroAt nodes a (slot_of c)
+    → IsTrueAt nodes a c) → UniversesExtend → OfExtended ClaimsAreKept
+    → OfUniverses SettledGoalsAreTrue
 goals_true inside zeros extend kept s claims u a is c m f settles holds =
-    (kept s.nodes u.nodes a (extend s claims u is) c (has_all (ClaimIsOf (length s.nodes)) s.goals is.names.goals c m)).0
-    (answered u.nodes a (inside u.nodes a) (zeros u.nodes a) c (want_of c) f refl settles.0 settles.1 holds)
+    (kept s.nodes u.nodes a (extend s claims u is) c
+    (has_all (ClaimIsOf (length s.nodes)) s.goals is.names.goals c m)).0
+    (answered u.nodes a (inside u.nodes a)
+    (zeros u.nodes a) c (want_of c) f refl settles.0 settles.1 holds)
 
 -- a claim about nodes is about a slot of theirs
 pub slot_of_nodes : (n : ℕ) (c : Claim) → ClaimIsOf n c → SlotIsOf n (slot_of c)
@@ -73,4 +92,5 @@ slot_of_nodes n (Below x w) l = l
 
 pub lines_true : UniversesExtend → OfExtended LinesAreKept → OfUniverses GoalLinesHold
 lines_true extend kept s claims u a is c m l h =
-    (kept s.nodes u.nodes a (extend s claims u is) (slot_of c) l (slot_of_nodes (length s.nodes) c (has_all (ClaimIsOf (length s.nodes)) s.goals is.names.goals c m))).0 h
+    (kept s.nodes u.nodes a (extend s claims u is) (slot_of c) l (slot_of_nodes (length s.nodes) c
+    (has_all (ClaimIsOf (length s.nodes)) s.goals is.names.goals c m))).0 h

@@ -1,7 +1,11 @@
 // Laws for callers to cite. Nothing here is done at run time.
-ghost use Rattle.script_truths.specs.Kept.{OfExtended, ValuesAreKept, FactsAreKept, LinesAreKept, ClaimsAreKept, RowsAreKept};
+ghost use Rattle.script_truths.specs.Kept.{OfExtended, ValuesAreKept, FactsAreKept, LinesAreKept};
+ghost use Rattle.script_truths.specs.Kept.{ClaimsAreKept, RowsAreKept};
 ghost use Rattle.script_truths.specs.Named.{FactsAreNamed, GoalsAreNamed, RowsAreNamed};
-ghost use Rattle.script_truths.specs.Truths.{SomeCaseIsMet, TrueFactsHold, CheckedRowsAreTrue, MetRowsAreTrue, UniversesExtend, OfUniverses, WhereMet, HypothesesHold, HintsAreTrue, LiesInWholeBox, SettledGoalsAreTrue, GoalLinesHold};
+ghost use Rattle.script_truths.specs.Truths.{SomeCaseIsMet, TrueFactsHold, CheckedRowsAreTrue};
+ghost use Rattle.script_truths.specs.Truths.{MetRowsAreTrue, UniversesExtend, OfUniverses};
+ghost use Rattle.script_truths.specs.Truths.{WhereMet, HypothesesHold, HintsAreTrue};
+ghost use Rattle.script_truths.specs.Truths.{LiesInWholeBox, SettledGoalsAreTrue, GoalLinesHold};
 
 use box_tree::{goals_are_enough, hypotheses_are_in_the_box, hypotheses_hold};
 use script_meets::{equal_forms_have_equal_values, met_scripts};

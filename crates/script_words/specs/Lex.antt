@@ -1,5 +1,6 @@
 -- The tokens of a text, by cases on its bytes. At each place the longest token is taken.
-use Rattle.std.specs.Prelude.{◌≡◌, ℕ, ◌+◌, ◌==◌, ◌||◌, nat_lt, ◌<◌, ◌≤◌, List, [], ◌∷◌, length, drop, take, Option, Some, None, Bool, false, not, if◌then◌else◌}
+use Rattle.std.specs.Prelude.{◌≡◌, ℕ, ◌+◌, ◌==◌, ◌||◌, nat_lt, ◌<◌, ◌≤◌, List, [], ◌∷◌, length}
+use Rattle.std.specs.Prelude.{drop, take, Option, Some, None, Bool, false, not, if◌then◌else◌}
 use Rattle.script_words.specs.declared.class.Symbol.{Symbol}
 use Rattle.script_words.specs.declared.lex.Run.TheVariants.{Word, Digit}
 use Rattle.script_words.specs.declared.lex.TokenKind.{TokenKind}

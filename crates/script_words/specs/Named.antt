@@ -1,5 +1,6 @@
 -- The words of a text: its tokens by class, with the names of rounding operators marked.
-use Rattle.std.specs.Prelude.{◌≡◌, ℕ, ◌||◌, codes, List, [], ◌∷◌, ◌++◌, length, slice_range, Option, Some, None, option_to_list, Bool, if◌then◌else◌}
+use Rattle.std.specs.Prelude.{◌≡◌, ℕ, ◌||◌, codes, List, [], ◌∷◌, ◌++◌, length, slice_range, Option}
+use Rattle.std.specs.Prelude.{Some, None, option_to_list, Bool, if◌then◌else◌}
 use Rattle.std.specs.List.{list_all, list_any}
 use Rattle.std.specs.Str.{bytes_eq}
 use Rattle.std.specs.Char.{is_ascii_digit}

@@ -1,5 +1,6 @@
 -- The signs and the reserved words, as their bytes.
-use Rattle.std.specs.Prelude.{ℕ, ◌==◌, ◌&&◌, codes, List, [], ◌∷◌, Option, Some, None, if◌then◌else◌}
+use Rattle.std.specs.Prelude.{ℕ, ◌==◌, ◌&&◌, codes, List, [], ◌∷◌, Option, Some, None}
+use Rattle.std.specs.Prelude.{if◌then◌else◌}
 use Rattle.std.specs.Str.{bytes_eq}
 use Rattle.script_words.specs.declared.class.Symbol.{Symbol}
 use Rattle.script_words.specs.declared.class.Symbol.TheVariants as s

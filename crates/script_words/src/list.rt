@@ -1,6 +1,7 @@
 //! The words of a text, kept by class and place. Each is made when it is asked for.
 
-ghost use Rattle.std.specs.Prelude.{◌≡◌, ◌≤◌, ◌<◌, ◌+◌, [], ◌∷◌, All, length, take, drop, slice_get, slice_index_or, MatchOption, IfSome, IfOk};
+ghost use Rattle.std.specs.Prelude.{◌≡◌, ◌≤◌, ◌<◌, ◌+◌, [], ◌∷◌, All, length, take, drop};
+ghost use Rattle.std.specs.Prelude.{slice_get, slice_index_or, MatchOption, IfSome, IfOk};
 ghost use Rattle.std.specs.Option.{option_map};
 ghost use Rattle.script_words.specs.Placed as spec;
 ghost use Rattle.script_words.specs.Placed.{IsPlacedIn};

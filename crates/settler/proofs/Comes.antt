@@ -30,8 +30,11 @@ use Rattle.settler.specs.Held.{CaseHolds, CasesHold}
 use Rattle.settler.proofs.Planned.{case_at}
 use Rattle.settler.proofs.Stands.{stands_at}
 
-module _ (s : View) (o : Options) (u : World) (before : List Claim) (is : IsUniverse s before u) where
-  module _ (exist : TablesExist) (one : BoxesComeToOneState) (stronger : StrongerSettles) (lawful : (nodes : List Node) (hints : List HintRow) → IsLawful (concludes nodes hints)) (closed : IsClosed u.instances) where
+module _ (s : View) (o : Options) (u : World) (before : List Claim)
+    (is : IsUniverse s before u) where
+  module _ (exist : TablesExist) (one : BoxesComeToOneState) (stronger : StrongerSettles)
+      (lawful : (nodes : List Node) (hints : List HintRow) → IsLawful (concludes nodes hints))
+      (closed : IsClosed u.instances) where
     -- a case has its tree
     tree_of_case : (c : Case) → IsCaseOf s o.depth c → IsTreeOf s o c.claims (tree_in u o.rounds c)
     tree_of_case c case =
@@ -40,23 +43,41 @@ module _ (s : View) (o : Options) (u : World) (before : List Claim) (is : IsUniv
           universe = v;
           is_universe = assumed s u before c.claims is case.claims;
           states = state_at v (plan_of s c.claims o.depth) o.rounds;
-          are_states = λ path. stands_at exist one stronger (setting_of v) (lawful u.nodes u.hints) closed u.goals o.rounds (pieces_at (plan_of s c.claims o.depth) path);
+          are_states = λ path. stands_at exist one stronger (setting_of v) (lawful u.nodes u.hints)
+              closed u.goals o.rounds (pieces_at (plan_of s c.claims o.depth) path);
           is_tree = λ i. tree_of (cut_at (case.plan i)) (state_at v (case.plan i) o.rounds);
         }
 
-    trees_are : (cases : List (List Claim)) (cs : List Case) → AreCases s o.depth cases cs → AreTrees s o cases (trees_in u o.rounds cs)
+    trees_are : (cases : List (List Claim)) (cs : List Case) → AreCases s o.depth cases cs
+        → AreTrees s o cases (trees_in u o.rounds cs)
     trees_are [] [] are = tt
     trees_are [] (c ∷ cs) are = absurd are
     trees_are (x ∷ cases) [] are = absurd are
-    trees_are (x ∷ cases) (c ∷ cs) are = (subst (λ claims. IsTreeOf s o claims (tree_in u o.rounds c)) are.0 (tree_of_case c are.1), trees_are cases cs are.2)
+    trees_are (x ∷ cases) (c ∷ cs) are = (
+      subst (λ claims. IsTreeOf s o claims (tree_in u o.rounds c)) are.0 (tree_of_case c are.1),
+      trees_are cases cs are.2,
+    )
 
-    pub comes_to : ¬ IsTooLarge s → (cs : List Case) → AreCases s o.depth (cases_of s) cs → (found : CaseOutcome) → IsAnswerOfAll (trees_in u o.rounds cs) o.boxes found → ComesTo s o found
-    comes_to few cs are found answer = record { few = few; trees = trees_in u o.rounds cs; are_trees = trees_are (cases_of s) cs are; is_answer = answer }
+    pub comes_to : ¬ IsTooLarge s
+        → (cs : List Case) → AreCases s o.depth (cases_of s) cs → (found : CaseOutcome)
+        → IsAnswerOfAll (trees_in u o.rounds cs) o.boxes found → ComesTo s o found
+    comes_to few cs are found answer = record {
+      few = few;
+      trees = trees_in u o.rounds cs;
+      are_trees = trees_are (cases_of s) cs are;
+      is_answer = answer;
+    }
 
   -- each case holds
-  pub each_holds : LawfulCasesHold → NamesNodes s → IsOrdered s.nodes → IsOrdered u.nodes → (cs : List Case) → AreCases s o.depth (cases_of s) cs → CasesHold s o
+  pub each_holds : LawfulCasesHold → NamesNodes s → IsOrdered s.nodes → IsOrdered u.nodes
+      → (cs : List Case) → AreCases s o.depth (cases_of s) cs → CasesHold s o
   each_holds holds names ordered nodes cs are k claims e =
       let case = case_at s o.depth (cases_of s) cs are k claims e in
       let c : Case = case.0 in
-      let has : HasUniverse s c.claims (assuming u (facts_of c.claims)) = record { names = names; ordered = ordered; universe = assumed s u before c.claims is (case.2).claims; nodes = nodes } in
+      let has : HasUniverse s c.claims (assuming u (facts_of c.claims)) = record {
+        names = names;
+        ordered = ordered;
+        universe = assumed s u before c.claims is (case.2).claims;
+        nodes = nodes;
+      } in
       subst (CaseHolds s o) case.1 (holds s (assuming u (facts_of c.claims)) o c has case.2)

@@ -6,7 +6,8 @@ use Rattle.saturate.specs.facts.declared.fact.Fact.{Fact}
 use Rattle.saturate.specs.facts.declared.fact.Fact.TheVariants as fact
 use Rattle.saturate.specs.facts.Holds.{Holds}
 use Rattle.saturate.specs.derivation.Known.{Known}
-use Rattle.script_truths.specs.Truths.{HasUniverse, WhereMet, HypothesesHold, HintsAreTrue, LiesInWholeBox}
+use Rattle.script_truths.specs.Truths.{HasUniverse, WhereMet, HypothesesHold, HintsAreTrue}
+use Rattle.script_truths.specs.Truths.{LiesInWholeBox}
 use Rattle.saturate.specs.rule_universe.Worlds.{World}
 use Rattle.script_truths.specs.universe.Universes.{UniversesAreOne}
 use Rattle.saturate.specs.Universes.{setting_of}
@@ -22,11 +23,14 @@ use Rattle.settler.specs.Held.{MeetsUniverse, IsClosed, HasHeldLeaf, SettledLeav
 use Rattle.settler.proofs.Tight.{settled_fact}
 
 -- a leaf that isn't open, where what is known at its box holds
-pub held_leaf : (u : World) (plan : PlanParts) (height : ℕ) (t : Tree) (a : Assignment) (path : List ℕ) → IsLeaf t path → IsClosed t →
-    ((f : Fact) → Known (setting_of u) height (pieces_at plan path) f → Holds u.nodes a f) →
-    (s : State) → t.state_at path ≡ s → StandsAs (setting_of u) u.goals height (pieces_at plan path) s → HasHeldLeaf u t a
+pub held_leaf : (u : World) (plan : PlanParts) (height : ℕ) (t : Tree) (a : Assignment)
+    (path : List ℕ) → IsLeaf t path → IsClosed t
+    → ((f : Fact) → Known (setting_of u) height (pieces_at plan path) f → Holds u.nodes a f) →
+    (s : State) → t.state_at path ≡ s
+    → StandsAs (setting_of u) u.goals height (pieces_at plan path) s → HasHeldLeaf u t a
 held_leaf u plan height t a path leaf closed hold state.Void e w = absurd (hold fact.Void w)
-held_leaf u plan height t a path leaf closed hold (state.Open goal) e w = absurd (closed path goal (leaf, e))
+held_leaf u plan height t a path leaf closed hold (state.Open goal) e w =
+    absurd (closed path goal (leaf, e))
 held_leaf u plan height t a path leaf closed hold (state.Settled facts) e w = record {
   path = path;
   is_leaf = leaf;
@@ -38,16 +42,19 @@ held_leaf u plan height t a path leaf closed hold (state.Settled facts) e w = re
 }
 
 -- ---- of a case
-pub case_holds : UniversesAreOne → WhereMet HypothesesHold → WhereMet HintsAreTrue → WhereMet LiesInWholeBox → LawfulCasesHold
+pub case_holds : UniversesAreOne → WhereMet HypothesesHold → WhereMet HintsAreTrue
+    → WhereMet LiesInWholeBox → LawfulCasesHold
 case_holds universes hypotheses hints whole s u o case has is t a tree closed meets truth =
     let v : World = tree.universe in
     let plan : PlanParts = plan_of s case.claims o.depth in
-    let here : HasUniverse s case.claims v = subst (HasUniverse s case.claims) (universes s case.claims u v has.universe tree.is_universe) has in
+    let here : HasUniverse s case.claims v = subst (HasUniverse s case.claims)
+    (universes s case.claims u v has.universe tree.is_universe) has in
     let met : MeetsUniverse v plan a = record {
       hypotheses = hypotheses s case.claims v a here meets truth;
       rows = hints s case.claims v a here meets truth;
       inside = whole s case.claims v a here meets truth o.depth;
     } in
     let hold : SettledLeavesHold plan = subst SettledLeavesHold is.plan is.lawful.hold in
-    let leaf : HasHeldLeaf v (tree_by s case.claims o tree.states) a = hold v o.rounds tree.states a here.nodes tree.are_states (subst IsClosed tree.is_tree closed) met in
+    let leaf : HasHeldLeaf v (tree_by s case.claims o tree.states) a = hold v o.rounds tree.states a
+    here.nodes tree.are_states (subst IsClosed tree.is_tree closed) met in
     (v, here, subst (λ x. HasHeldLeaf v x a) (sym tree.is_tree) leaf)

@@ -12,7 +12,9 @@ use Rattle.case_trees.specs.Laws.{OneIsAll}
 use Rattle.settler.specs.Answers.{Options, AreTrees}
 use Rattle.settler.specs.One.{CaseComesTo, OneCaseIsAll, ProvedInOneCase}
 
-by_trees : OneIsAll → (s : View) (claims : List Claim) (o : Options) (found : Outcome) (trees : List Tree) → AreTrees s o (claims ∷ []) trees → IsAnswerOfAll trees o.boxes (of_one found) → CaseComesTo s claims o found
+by_trees : OneIsAll → (s : View) (claims : List Claim)
+    (o : Options) (found : Outcome) (trees : List Tree) → AreTrees s o (claims ∷ []) trees
+    → IsAnswerOfAll trees o.boxes (of_one found) → CaseComesTo s claims o found
 by_trees one s claims o found [] are a = absurd are
 by_trees one s claims o found (t ∷ u ∷ trees) are a = absurd are.1
 by_trees one s claims o found (t ∷ []) are a = record {
@@ -24,7 +26,9 @@ by_trees one s claims o found (t ∷ []) are a = record {
 }
 
 pub one_case_is_all : OneIsAll → OneCaseIsAll
-one_case_is_all one s claims o found e came = by_trees one s claims o found came.trees (subst (λ cases. AreTrees s o cases came.trees) e came.are_trees) came.is_answer
+one_case_is_all one s claims o found e came = by_trees one s claims o found came.trees
+    (subst (λ cases. AreTrees s o cases came.trees) e came.are_trees) came.is_answer
 
 pub proved_in_one : OneIsAll → ProvedInOneCase
-proved_in_one one s claims o lines e (count, (leaves, came, are)) = (count, (leaves, one_case_is_all one s claims o (outcome.Leaves count leaves) e came, are))
+proved_in_one one s claims o lines e (count, (leaves, came, are)) =
+    (count, (leaves, one_case_is_all one s claims o (outcome.Leaves count leaves) e came, are))

@@ -1,5 +1,6 @@
 -- What the lines of a proved script are gathered from.
-use Rattle.std.specs.Prelude.{◌≡◌, ◌↔◌, ◌++◌, ⊤, ℕ, List, [], ◌∷◌, length, Option, Some, None, slice_get}
+use Rattle.std.specs.Prelude.{◌≡◌, ◌↔◌, ◌++◌, ⊤, ℕ, List, [], ◌∷◌, length, Option, Some, None}
+use Rattle.std.specs.Prelude.{slice_get}
 use Rattle.saturate.specs.facts.declared.fact.Fact.{Fact}
 use Rattle.saturate.specs.facts.declared.fact.Fact.TheVariants as fact
 use Rattle.saturate.specs.goals.declared.goal.Goal.{Goal}

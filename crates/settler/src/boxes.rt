@@ -1,5 +1,6 @@
 //! The settler of boxes.
-ghost use Rattle.std.specs.Prelude.{◌≡◌, ◌<◌, ◌++◌, ℕ, List, [], length, IfOk, OnOk, Some, MatchOption};
+ghost use Rattle.std.specs.Prelude.{◌≡◌, ◌<◌, ◌++◌, ℕ, List, [], length, IfOk, OnOk, Some};
+ghost use Rattle.std.specs.Prelude.{MatchOption};
 ghost use Rattle.case_trees.specs.box_tree.Paths.{IsChild, IsPathOf};
 ghost use Rattle.case_trees.specs.box_tree.Pieces.{piece_count};
 ghost use Rattle.case_trees.specs.box_tree.Plans.{cut_at, piece_at, pieces_at};

@@ -7,7 +7,8 @@ use Rattle.expr_dag.specs.fx_model.declared.Node.TheVariants as node
 use Rattle.expr_dag.specs.fx_model.Fraction.{zero_ℚ, one_ℚ}
 use Rattle.expr_dag.specs.fx_model.Expression.{literal_value}
 use Rattle.facts.specs.interval.declared.interval.Interval.{Interval}
-use Rattle.facts.specs.interval.Results.{negation_of, sum_of, difference_of, product_of, quotient_of, point_of, whole_interval}
+use Rattle.facts.specs.interval.Results.{negation_of, sum_of, difference_of, product_of}
+use Rattle.facts.specs.interval.Results.{quotient_of, point_of, whole_interval}
 use Rattle.expr_dag.specs.Shapes.{is_at}
 use Rattle.facts.specs.declared.fact.Fact.{Fact}
 use Rattle.facts.specs.declared.fact.Slot.{Slot}

@@ -1,7 +1,12 @@
 -- What holds of each rule of this crate.
 use Rattle.facts.specs.Promises.{Rule}
-use Rattle.theorem_arith.specs.Bounds.{literal_rule, negation_rule, sum_rule, difference_rule, difference_with_itself_rule, product_rule, square_rule, quotient_rule, quotient_by_nonzero_rule, quotient_by_itself_rule}
-use Rattle.theorem_arith.specs.Sizes.{size_rule, value_rule, sign_rule, absolute_value_rule, size_of_value_rule, size_of_negation_rule, size_of_product_rule, size_of_quotient_rule, size_of_sum_rule}
+use Rattle.theorem_arith.specs.Bounds.{literal_rule, negation_rule, sum_rule, difference_rule}
+use Rattle.theorem_arith.specs.Bounds.{difference_with_itself_rule, product_rule, square_rule}
+use Rattle.theorem_arith.specs.Bounds.{quotient_rule, quotient_by_nonzero_rule}
+use Rattle.theorem_arith.specs.Bounds.{quotient_by_itself_rule}
+use Rattle.theorem_arith.specs.Sizes.{size_rule, value_rule, sign_rule, absolute_value_rule}
+use Rattle.theorem_arith.specs.Sizes.{size_of_value_rule, size_of_negation_rule}
+use Rattle.theorem_arith.specs.Sizes.{size_of_product_rule, size_of_quotient_rule, size_of_sum_rule}
 
 -- P holds of the rules 1 to 19.
 pub record EachRule (P : Rule → Type 0) : Type 0 where

@@ -5,16 +5,22 @@ use Rattle.expr_dag.specs.fx_model.declared.ExprId.{ExprId}
 use Rattle.expr_dag.specs.fx_model.declared.Node.{Node}
 use Rattle.expr_dag.specs.fx_model.declared.Node.TheVariants as node
 use Rattle.facts.specs.interval.declared.interval.Interval.{Interval}
-use Rattle.facts.specs.interval.Results.{negation_of, sum_of, difference_of, product_of, quotient_of}
-use Rattle.facts.specs.interval.Monotone.{negation_of-within, sum_of-within, difference_of-within, product_of-within, quotient_of-within}
+use Rattle.facts.specs.interval.Results.{negation_of, sum_of, difference_of, product_of}
+use Rattle.facts.specs.interval.Results.{quotient_of}
+use Rattle.facts.specs.interval.Monotone.{negation_of-within, sum_of-within, difference_of-within}
+use Rattle.facts.specs.interval.Monotone.{product_of-within, quotient_of-within}
 use Rattle.expr_dag.specs.Shapes.{is_at}
 use Rattle.facts.specs.declared.fact.Fact.TheVariants as fact
 use Rattle.facts.specs.declared.fact.Slot.TheVariants as slot
 use Rattle.facts.specs.Laws.{IsStronger-refl}
 use Rattle.facts.specs.Promises.{IsIsotone}
-use Rattle.facts.specs.Premises.{Gives, no_premises, one_bnd, one_abs, one_nzr, two_bnd, bnd_then_nzr}
+use Rattle.facts.specs.Premises.{Gives, no_premises, one_bnd, one_abs, one_nzr, two_bnd}
+use Rattle.facts.specs.Premises.{bnd_then_nzr}
 use Rattle.facts.specs.Conclusions.{IsRising, bnd_of, improves_bnd, improves_given, improves_only}
-use Rattle.theorem_arith.specs.Bounds.{literal_rule, negation_rule, binary_rule, sum_rule, difference_rule, product_rule, difference_with_itself_rule, square_rule, quotient_rule, quotient_by_nonzero_rule, quotient_by_itself_rule}
+use Rattle.theorem_arith.specs.Bounds.{literal_rule, negation_rule, binary_rule, sum_rule}
+use Rattle.theorem_arith.specs.Bounds.{difference_rule, product_rule, difference_with_itself_rule}
+use Rattle.theorem_arith.specs.Bounds.{square_rule, quotient_rule, quotient_by_nonzero_rule}
+use Rattle.theorem_arith.specs.Bounds.{quotient_by_itself_rule}
 
 -- ---- literals
 pub literal_rule-isotone : IsIsotone literal_rule

@@ -2,8 +2,11 @@
 -- stronger.
 use Rattle.std.specs.Prelude.{◌≡◌, ◌≢◌, ◌||◌, [], ◌∷◌, Option, Some, None, refl}
 use Rattle.std.proofs.Common.{sym, ap, subst, ◌∙◌}
-use Rattle.expr_dag.specs.fx_model.Fraction.{Fraction, ◌+ℚ◌, ◌-ℚ◌, ◌*ℚ◌, ◌/ℚ◌, ◌≤ℚ◌, zero_ℚ, neg_ℚ, abs_ℚ, abs-from, le_refl, le_trans, add-le-add, zero-add, add_comm}
-use Rattle.expr_dag.specs.fx_model.Enclosure.{Lies, IsFrom, IsUpTo, BoundLe, Sums, Differences, in_enclosure, product_holds, ordered_by, higher_from}
+use Rattle.expr_dag.specs.fx_model.Fraction.{Fraction, ◌+ℚ◌, ◌-ℚ◌, ◌*ℚ◌, ◌/ℚ◌, ◌≤ℚ◌, zero_ℚ, neg_ℚ}
+use Rattle.expr_dag.specs.fx_model.Fraction.{abs_ℚ, abs-from, le_refl, le_trans, add-le-add}
+use Rattle.expr_dag.specs.fx_model.Fraction.{zero-add, add_comm}
+use Rattle.expr_dag.specs.fx_model.Enclosure.{Lies, IsFrom, IsUpTo, BoundLe, Sums, Differences}
+use Rattle.expr_dag.specs.fx_model.Enclosure.{in_enclosure, product_holds, ordered_by, higher_from}
 use Rattle.expr_dag.specs.fx_model.declared.Node.TheVariants as node
 use Rattle.facts.specs.grid_words.Signs.{neg_down}
 use Rattle.facts.specs.grid_words.AbsoluteValues.{abs-not_negative, abs-mul, abs-div, product_up}
@@ -14,8 +17,12 @@ use Rattle.facts.specs.interval.declared.interval.Interval.{Interval}
 use Rattle.facts.specs.interval.Ends.{AreEnds}
 use Rattle.facts.specs.interval.Intervals.{range_of}
 use Rattle.facts.specs.interval.Meets.{interval_from, interval_from_out, from_greater}
-use Rattle.facts.specs.interval.Results.{sum_of, sum_of-is, difference_of, difference_of-is, product_of, product_of-is, quotient_of, quotient_of-is, half_line}
-use Rattle.facts.specs.interval.Monotone.{greater_end-rises, interval_from-within, sum_of-within, difference_of-within, product_of-within, quotient_of-within}
+use Rattle.facts.specs.interval.Results.{sum_of, sum_of-is, difference_of, difference_of-is}
+use Rattle.facts.specs.interval.Results.{product_of, product_of-is, quotient_of, quotient_of-is}
+use Rattle.facts.specs.interval.Results.{half_line}
+use Rattle.facts.specs.interval.Monotone.{greater_end-rises, interval_from-within, sum_of-within}
+use Rattle.facts.specs.interval.Monotone.{difference_of-within, product_of-within}
+use Rattle.facts.specs.interval.Monotone.{quotient_of-within}
 use Rattle.expr_dag.specs.Shapes.{is_at}
 use Rattle.facts.specs.declared.size.Size.{Size}
 use Rattle.facts.specs.declared.fact.Fact.TheVariants as fact
@@ -26,7 +33,9 @@ use Rattle.facts.specs.SizesWithin.{size_member, size_within-smaller}
 use Rattle.facts.specs.Promises.{IsIsotone}
 use Rattle.facts.specs.Premises.{Gives, one_abs, two_abs}
 use Rattle.facts.specs.Conclusions.{abs_of, improves_abs, improves_given, improves_only}
-use Rattle.theorem_arith.specs.Sizes.{size_of_negation_rule, size_of_product_rule, size_within_part, size_of_quotient_rule, least_size, size_of_sum, size_of_sum_rule}
+use Rattle.theorem_arith.specs.Sizes.{size_of_negation_rule, size_of_product_rule, size_within_part}
+use Rattle.theorem_arith.specs.Sizes.{size_of_quotient_rule, least_size, size_of_sum}
+use Rattle.theorem_arith.specs.Sizes.{size_of_sum_rule}
 use Rattle.facts.specs.Within.{on_half_line}
 
 pub size_of_negation_rule-isotone : IsIsotone size_of_negation_rule

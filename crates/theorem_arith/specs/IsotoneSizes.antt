@@ -1,10 +1,12 @@
 -- The rules on absolute values: from stronger premises they give a fact as strong, or stronger.
-use Rattle.std.specs.Prelude.{◌≡◌, Bool, true, false, ◌&&◌, [], ◌∷◌, Option, Some, None, slice_get, if◌then◌else◌, refl}
+use Rattle.std.specs.Prelude.{◌≡◌, Bool, true, false, ◌&&◌, [], ◌∷◌, Option, Some, None, slice_get}
+use Rattle.std.specs.Prelude.{if◌then◌else◌, refl}
 use Rattle.std.proofs.Common.{sym, ap, subst}
 use Rattle.std.proofs.lemmas.Bool.{and_parts, and_from}
 use Rattle.expr_dag.specs.fx_model.Fraction.{Fraction, ◌≤ℚ◌, zero_ℚ, neg_ℚ, abs_ℚ, le_trans}
 use Rattle.expr_dag.specs.fx_model.Grid.{Bound, Below, At, Above, neg_bound}
-use Rattle.expr_dag.specs.fx_model.Enclosure.{IsFrom, BoundLe, Negations, Sizes, in_enclosure, member_of, ordered_by, higher_from}
+use Rattle.expr_dag.specs.fx_model.Enclosure.{IsFrom, BoundLe, Negations, Sizes, in_enclosure}
+use Rattle.expr_dag.specs.fx_model.Enclosure.{member_of, ordered_by, higher_from}
 use Rattle.expr_dag.specs.fx_model.declared.ExprId.{ExprId}
 use Rattle.expr_dag.specs.fx_model.declared.Node.TheVariants as node
 use Rattle.facts.specs.grid_words.Signs.{neg_down}
@@ -17,19 +19,24 @@ use Rattle.facts.specs.interval.declared.interval.Interval.{Interval}
 use Rattle.facts.specs.interval.Ends.{AreEnds}
 use Rattle.facts.specs.interval.Intervals.{range_of}
 use Rattle.facts.specs.interval.Results.{negation_of, negation_of-is, size_of, size_of-is}
-use Rattle.facts.specs.interval.Monotone.{neg_bound-falls, interval_from-within, negation_of-within, size_of-within}
+use Rattle.facts.specs.interval.Monotone.{neg_bound-falls, interval_from-within, negation_of-within}
+use Rattle.facts.specs.interval.Monotone.{size_of-within}
 use Rattle.expr_dag.specs.Shapes.{is_at}
 use Rattle.facts.specs.declared.size.Size.{Size}
 use Rattle.facts.specs.declared.fact.Fact.TheVariants as fact
 use Rattle.facts.specs.declared.fact.Slot.TheVariants as slot
 use Rattle.facts.specs.Order.{IsWithin, IsStronger, is_same}
 use Rattle.facts.specs.Parts.{size_within}
-use Rattle.facts.specs.SizesWithin.{size_member, size_within-within, size_within-none, size_within-grows, size_within-smaller}
+use Rattle.facts.specs.SizesWithin.{size_member, size_within-within, size_within-none}
+use Rattle.facts.specs.SizesWithin.{size_within-grows, size_within-smaller}
 use Rattle.facts.specs.Promises.{IsIsotone}
 use Rattle.facts.specs.Premises.{Gives, one_bnd, one_abs, bnd_then_abs}
-use Rattle.facts.specs.Conclusions.{Improves, abs_of, bnd_of, improves_abs, improves_bnd, improves_given, improves_if, improves_only}
+use Rattle.facts.specs.Conclusions.{Improves, abs_of, bnd_of, improves_abs, improves_bnd}
+use Rattle.facts.specs.Conclusions.{improves_given, improves_if, improves_only}
 use Rattle.theorem_arith.specs.Shapes.{is_one}
-use Rattle.theorem_arith.specs.Sizes.{size_rule, around, value_rule, is_less, is_above, is_below, signed_fact, sign_rule, absolute_value_rule, abs_or_void, void_if_none, is_absolute_value, size_of_value_rule}
+use Rattle.theorem_arith.specs.Sizes.{size_rule, around, value_rule, is_less, is_above, is_below}
+use Rattle.theorem_arith.specs.Sizes.{signed_fact, sign_rule, absolute_value_rule, abs_or_void}
+use Rattle.theorem_arith.specs.Sizes.{void_if_none, is_absolute_value, size_of_value_rule}
 
 -- ---- from values to absolute values and back
 size_of-smaller : (i j : Interval) (s : Size) → IsWithin j i → size_within (size_of i) ≡ Some s

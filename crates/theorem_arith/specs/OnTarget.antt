@@ -1,5 +1,6 @@
 -- What a rule gives stands on its target, or is VOID.
-use Rattle.std.specs.Prelude.{◌≡◌, ◌⊎◌, Bool, true, false, ◌&&◌, ◌||◌, [], ◌∷◌, Option, Some, None, slice_get, refl}
+use Rattle.std.specs.Prelude.{◌≡◌, ◌⊎◌, Bool, true, false, ◌&&◌, ◌||◌, [], ◌∷◌, Option, Some, None}
+use Rattle.std.specs.Prelude.{slice_get, refl}
 use Rattle.std.proofs.Common.{inl, inr}
 use Rattle.expr_dag.specs.fx_model.Fraction.{zero_ℚ, one_ℚ}
 use Rattle.expr_dag.specs.fx_model.Expression.{literal_value}
@@ -7,7 +8,8 @@ use Rattle.expr_dag.specs.fx_model.declared.ExprId.{ExprId}
 use Rattle.expr_dag.specs.fx_model.declared.Node.{Node}
 use Rattle.expr_dag.specs.fx_model.declared.Node.TheVariants as node
 use Rattle.facts.specs.interval.declared.interval.Interval.{Interval}
-use Rattle.facts.specs.interval.Results.{negation_of, sum_of, difference_of, product_of, quotient_of, point_of, whole_interval, size_of}
+use Rattle.facts.specs.interval.Results.{negation_of, sum_of, difference_of, product_of}
+use Rattle.facts.specs.interval.Results.{quotient_of, point_of, whole_interval, size_of}
 use Rattle.expr_dag.specs.Shapes.{is_at}
 use Rattle.facts.specs.declared.size.Size.{Size}
 use Rattle.facts.specs.declared.fact.Fact.TheVariants as fact
@@ -15,10 +17,18 @@ use Rattle.facts.specs.declared.fact.Slot.TheVariants as slot
 use Rattle.facts.specs.Order.{slot_of, is_same}
 use Rattle.facts.specs.Parts.{size_within}
 use Rattle.facts.specs.Promises.{IsOnTarget}
-use Rattle.facts.specs.Conclusions.{StandsOn, abs_of, abs_stands, bnd_of, bnd_stands, fact_stands, given_stands, only_stands}
+use Rattle.facts.specs.Conclusions.{StandsOn, abs_of, abs_stands, bnd_of, bnd_stands, fact_stands}
+use Rattle.facts.specs.Conclusions.{given_stands, only_stands}
 use Rattle.theorem_arith.specs.Shapes.{is_one}
-use Rattle.theorem_arith.specs.Bounds.{literal_at, literal_rule, negation_rule, binary_rule, sum_rule, difference_rule, product_rule, difference_with_itself_rule, square_rule, quotient_rule, quotient_by_nonzero_rule, quotient_by_itself_rule}
-use Rattle.theorem_arith.specs.Sizes.{size_rule, around, value_rule, is_above, is_below, signed_fact, sign_rule, absolute_value_rule, abs_or_void, void_if_none, is_absolute_value, size_of_value_rule, size_of_negation_rule, size_of_product_rule, size_within_part, size_of_quotient_rule, size_of_sum, size_of_sum_rule}
+use Rattle.theorem_arith.specs.Bounds.{literal_at, literal_rule, negation_rule, binary_rule}
+use Rattle.theorem_arith.specs.Bounds.{sum_rule, difference_rule, product_rule}
+use Rattle.theorem_arith.specs.Bounds.{difference_with_itself_rule, square_rule, quotient_rule}
+use Rattle.theorem_arith.specs.Bounds.{quotient_by_nonzero_rule, quotient_by_itself_rule}
+use Rattle.theorem_arith.specs.Sizes.{size_rule, around, value_rule, is_above, is_below}
+use Rattle.theorem_arith.specs.Sizes.{signed_fact, sign_rule, absolute_value_rule, abs_or_void}
+use Rattle.theorem_arith.specs.Sizes.{void_if_none, is_absolute_value, size_of_value_rule}
+use Rattle.theorem_arith.specs.Sizes.{size_of_negation_rule, size_of_product_rule, size_within_part}
+use Rattle.theorem_arith.specs.Sizes.{size_of_quotient_rule, size_of_sum, size_of_sum_rule}
 
 -- ---- rules on bounds
 literal_stands : (n : Option Node) (x : ExprId) → StandsOn (slot.Bnd x) (literal_at n x)

@@ -1,7 +1,8 @@
 -- Rules on absolute values, numbers 11 to 19 of the list: each row as a function from premises and
 -- a target to its conclusion. What fits no row gives nothing. An interval of absolute values is met
 -- with [0, +inf].
-use Rattle.std.specs.Prelude.{Bool, true, false, ◌&&◌, ◌||◌, List, [], ◌∷◌, Option, Some, None, slice_get, if◌then◌else◌}
+use Rattle.std.specs.Prelude.{Bool, true, false, ◌&&◌, ◌||◌, List, [], ◌∷◌, Option, Some, None}
+use Rattle.std.specs.Prelude.{slice_get, if◌then◌else◌}
 use Rattle.expr_dag.specs.fx_model.declared.ExprId.{ExprId}
 use Rattle.expr_dag.specs.fx_model.declared.Node.{Node}
 use Rattle.expr_dag.specs.fx_model.declared.Node.TheVariants as node
@@ -12,7 +13,8 @@ use Rattle.facts.specs.interval.declared.interval.Interval.{Interval}
 use Rattle.facts.specs.dyadic.declared.number.End.{End}
 use Rattle.facts.specs.dyadic.Extremes.{greater_end}
 use Rattle.facts.specs.interval.Meets.{interval_from}
-use Rattle.facts.specs.interval.Results.{negation_of, sum_of, difference_of, product_of, quotient_of, size_of, half_line}
+use Rattle.facts.specs.interval.Results.{negation_of, sum_of, difference_of, product_of}
+use Rattle.facts.specs.interval.Results.{quotient_of, size_of, half_line}
 use Rattle.expr_dag.specs.Shapes.{is_at}
 use Rattle.facts.specs.declared.size.Size.{Size}
 use Rattle.facts.specs.declared.fact.Fact.{Fact}

@@ -1,11 +1,14 @@
 -- The rules on absolute values are sound: where the premises hold, the conclusion does.
-use Rattle.std.specs.Prelude.{◌≡◌, ◌⊎◌, ◌&&◌, Bool, true, false, List, [], ◌∷◌, Option, Some, None, slice_get, if◌then◌else◌, refl}
+use Rattle.std.specs.Prelude.{◌≡◌, ◌⊎◌, ◌&&◌, Bool, true, false, List, [], ◌∷◌, Option, Some, None}
+use Rattle.std.specs.Prelude.{slice_get, if◌then◌else◌, refl}
 use Rattle.std.specs.Option.{IsSomeAnd}
 use Rattle.std.proofs.Common.{sym, ap, subst, ◌∙◌, inl, inr, ⊎_elim}
 use Rattle.std.proofs.lemmas.Bool.{and_parts}
-use Rattle.expr_dag.specs.fx_model.Fraction.{Fraction, ◌≤ℚ◌, neg_ℚ, abs_ℚ, le_trans, neg-le, neg-neg}
+use Rattle.expr_dag.specs.fx_model.Fraction.{Fraction, ◌≤ℚ◌, neg_ℚ, abs_ℚ, le_trans, neg-le}
+use Rattle.expr_dag.specs.fx_model.Fraction.{neg-neg}
 use Rattle.expr_dag.specs.fx_model.Grid.{Bound, Below, At, Above, neg_bound}
-use Rattle.expr_dag.specs.fx_model.Enclosure.{IsFrom, IsUpTo, Lies, BoundLe, Sizes, Negations, in_enclosure, up_to_neg, higher_from, lower_up_to}
+use Rattle.expr_dag.specs.fx_model.Enclosure.{IsFrom, IsUpTo, Lies, BoundLe, Sizes, Negations}
+use Rattle.expr_dag.specs.fx_model.Enclosure.{in_enclosure, up_to_neg, higher_from, lower_up_to}
 use Rattle.expr_dag.specs.fx_model.Expression.{Assignment, IsOrdered, value, lift₁}
 use Rattle.expr_dag.specs.fx_model.declared.ExprId.{ExprId}
 use Rattle.expr_dag.specs.fx_model.declared.Node.{Node}
@@ -34,7 +37,9 @@ use Rattle.facts.specs.Promises.{IsSound}
 use Rattle.facts.specs.Conclusions.{abs_of, bnd_of, given}
 use Rattle.expr_dag.specs.Lifted.{at_node, lifted₁}
 use Rattle.theorem_arith.specs.Shapes.{is_one, one_same}
-use Rattle.theorem_arith.specs.Sizes.{size_rule, around, value_rule, is_less, is_above, is_below, signed_fact, sign_rule, absolute_value_rule, abs_or_void, void_if_none, is_absolute_value, size_of_value_rule}
+use Rattle.theorem_arith.specs.Sizes.{size_rule, around, value_rule, is_less, is_above, is_below}
+use Rattle.theorem_arith.specs.Sizes.{signed_fact, sign_rule, absolute_value_rule, abs_or_void}
+use Rattle.theorem_arith.specs.Sizes.{void_if_none, is_absolute_value, size_of_value_rule}
 
 -- an ABS fact of what of an interval is at least 0 holds where the absolute value lies in the
 -- interval

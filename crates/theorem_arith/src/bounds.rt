@@ -1,6 +1,8 @@
 // Bounds of literals, negations, sums, differences and products.
 ghost use Rattle.std.specs.Prelude.{◌≡◌};
-ghost use Rattle.theorem_arith.specs.Bounds.{literal_rule, literal_at, negation_rule, sum_rule, difference_rule, product_rule, difference_with_itself_rule, square_rule};
+ghost use Rattle.theorem_arith.specs.Bounds.{literal_rule, literal_at, negation_rule, sum_rule};
+ghost use Rattle.theorem_arith.specs.Bounds.{difference_rule, product_rule};
+ghost use Rattle.theorem_arith.specs.Bounds.{difference_with_itself_rule, square_rule};
 ghost use Rattle.std.specs.Prelude.{slice_get};
 
 use expr_dag::{Dag, ExprId, Node};

@@ -1,6 +1,7 @@
 // Bounds of quotients.
 ghost use Rattle.std.specs.Prelude.{◌≡◌};
-ghost use Rattle.theorem_arith.specs.Bounds.{quotient_rule, quotient_by_nonzero_rule, quotient_by_itself_rule};
+ghost use Rattle.theorem_arith.specs.Bounds.{quotient_rule, quotient_by_nonzero_rule};
+ghost use Rattle.theorem_arith.specs.Bounds.{quotient_by_itself_rule};
 
 use expr_dag::{Dag, Node};
 use facts::{Fact, Interval, Slot};

@@ -1,6 +1,8 @@
 // Absolute values of operations.
 ghost use Rattle.std.specs.Prelude.{◌≡◌};
-ghost use Rattle.theorem_arith.specs.Sizes.{size_of_negation_rule, size_of_product_rule, size_within_part, size_of_quotient_rule, least_size, size_of_sum, size_of_sum_rule};
+ghost use Rattle.theorem_arith.specs.Sizes.{size_of_negation_rule, size_of_product_rule};
+ghost use Rattle.theorem_arith.specs.Sizes.{size_within_part, size_of_quotient_rule, least_size};
+ghost use Rattle.theorem_arith.specs.Sizes.{size_of_sum, size_of_sum_rule};
 
 use expr_dag::{Dag, Node};
 use facts::{End, Fact, Interval, Size, Slot, greater};

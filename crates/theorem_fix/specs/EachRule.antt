@@ -7,9 +7,15 @@ use Rattle.theorem_arith.specs.facts.declared.fact.Fact.TheVariants as fact
 use Rattle.theorem_arith.specs.facts.declared.fact.Slot.TheVariants as slot
 use Rattle.theorem_arith.specs.facts.Order.{IsStronger}
 use Rattle.theorem_arith.specs.facts.Promises.{Rule, EachStronger}
-use Rattle.theorem_fix.specs.Multiples.{literal_multiple_rule, multiple_of_negation_rule, multiple_of_sum_rule, multiple_of_product_rule, rounded_multiple_rule, untouched_multiple_rule, number_multiple_rule}
-use Rattle.theorem_fix.specs.Nonzero.{nonzero_bound_rule, nonzero_size_rule, nonzero_product_rule, nonzero_quotient_rule, nonzero_negation_rule, nonzero_side_rule}
-use Rattle.theorem_fix.specs.Roundings.{rounded_bound_rule, error_rule, signed_error_rule, multiple_error_rule}
+use Rattle.theorem_fix.specs.Multiples.{literal_multiple_rule, multiple_of_negation_rule}
+use Rattle.theorem_fix.specs.Multiples.{multiple_of_sum_rule, multiple_of_product_rule}
+use Rattle.theorem_fix.specs.Multiples.{rounded_multiple_rule, untouched_multiple_rule}
+use Rattle.theorem_fix.specs.Multiples.{number_multiple_rule}
+use Rattle.theorem_fix.specs.Nonzero.{nonzero_bound_rule, nonzero_size_rule, nonzero_product_rule}
+use Rattle.theorem_fix.specs.Nonzero.{nonzero_quotient_rule, nonzero_negation_rule}
+use Rattle.theorem_fix.specs.Nonzero.{nonzero_side_rule}
+use Rattle.theorem_fix.specs.Roundings.{rounded_bound_rule, error_rule, signed_error_rule}
+use Rattle.theorem_fix.specs.Roundings.{multiple_error_rule}
 use Rattle.theorem_fix.specs.Shrunk.{no_multiple_rule}
 
 -- P holds of each rule but 28: 21 to 27, 31 to 36, 41 to 44 and 90.

@@ -1,6 +1,7 @@
 -- Worked rows of the rules on roundings and on the multiples in an interval.
 use Rattle.std.specs.Prelude.{◌≡◌, ℕ, pos, negsuc, List, [], ◌∷◌, Some, None, refl}
-use Rattle.rounding.specs.fx_model.Fraction.{Fraction, ◌-ℚ◌, ◌*ℚ◌, neg_ℚ, zero_ℚ, le_refl, mul-mk, neg-mk, floor-mk}
+use Rattle.rounding.specs.fx_model.Fraction.{Fraction, ◌-ℚ◌, ◌*ℚ◌, neg_ℚ, zero_ℚ, le_refl, mul-mk}
+use Rattle.rounding.specs.fx_model.Fraction.{neg-mk, floor-mk}
 use Rattle.rounding.specs.fx_model.Powers.{two_to, whole, whole-mk, two_to-mk, scaled}
 use Rattle.rounding.specs.fx_model.Grid.{At, Above}
 use Rattle.rounding.specs.fx_model.Enclosure.{Range}

@@ -1,6 +1,7 @@
 -- The rules on multiples and on values other than 0: from stronger premises they give a fact as
 -- strong, or stronger.
-use Rattle.std.specs.Prelude.{◌≡◌, ◌||◌, ℤ, pos, negsuc, ◌≤ℤ◌, ◌+ℤ◌, Bool, true, false, [], ◌∷◌, Option, Some, None, if◌then◌else◌, refl}
+use Rattle.std.specs.Prelude.{◌≡◌, ◌||◌, ℤ, pos, negsuc, ◌≤ℤ◌, ◌+ℤ◌, Bool, true, false, [], ◌∷◌}
+use Rattle.std.specs.Prelude.{Option, Some, None, if◌then◌else◌, refl}
 use Rattle.std.specs.Int.RustNames.{int_lt}
 use Rattle.std.proofs.Common.{sym, ap, subst, ◌∙◌, arith}
 use Rattle.std.proofs.lemmas.Int.{ints}
@@ -26,11 +27,16 @@ use Rattle.theorem_arith.specs.facts.Laws.{IsStronger-refl}
 use Rattle.theorem_arith.specs.facts.Promises.{IsIsotone}
 use Rattle.theorem_arith.specs.facts.Premises.{Gives, no_premises, one_bnd, one_fix, two_fix}
 use Rattle.rounding.specs.Places.{less, not_less}
-use Rattle.theorem_arith.specs.facts.Conclusions.{fix_of, improves_fix, improves_given, improves_only}
+use Rattle.theorem_arith.specs.facts.Conclusions.{fix_of, improves_fix, improves_given}
+use Rattle.theorem_arith.specs.facts.Conclusions.{improves_only}
 use Rattle.theorem_arith.specs.Shapes.{is_one}
-use Rattle.theorem_arith.specs.facts.Places.{place_from-some, place_from_out, kept, sum_place, lesser_place}
+use Rattle.theorem_arith.specs.facts.Places.{place_from-some, place_from_out, kept, sum_place}
+use Rattle.theorem_arith.specs.facts.Places.{lesser_place}
 use Rattle.theorem_fix.specs.Shapes.{rounding_at}
-use Rattle.theorem_fix.specs.Multiples.{literal_multiple_rule, multiple_of_negation_rule, multiple_of_sum_rule, multiple_of_product_rule, rounded_multiple_rule, untouched, untouched_multiple_rule, number_place, point_place, number_multiple_rule}
+use Rattle.theorem_fix.specs.Multiples.{literal_multiple_rule, multiple_of_negation_rule}
+use Rattle.theorem_fix.specs.Multiples.{multiple_of_sum_rule, multiple_of_product_rule}
+use Rattle.theorem_fix.specs.Multiples.{rounded_multiple_rule, untouched, untouched_multiple_rule}
+use Rattle.theorem_fix.specs.Multiples.{number_place, point_place, number_multiple_rule}
 
 lesser-rises : (k n l m : FixPlace) → k.exponent ≤ℤ l.exponent → n.exponent ≤ℤ m.exponent
     → (lesser_place k n).exponent ≤ℤ (lesser_place l m).exponent

@@ -1,5 +1,6 @@
 -- The rules on values other than 0: from stronger premises they give a fact as strong, or stronger.
-use Rattle.std.specs.Prelude.{◌≡◌, ◌&&◌, ◌||◌, not, Bool, true, false, [], ◌∷◌, Option, Some, None, refl}
+use Rattle.std.specs.Prelude.{◌≡◌, ◌&&◌, ◌||◌, not, Bool, true, false, [], ◌∷◌, Option, Some, None}
+use Rattle.std.specs.Prelude.{refl}
 use Rattle.std.proofs.Common.{sym, subst}
 use Rattle.rounding.specs.fx_model.Fraction.{zero_ℚ}
 use Rattle.rounding.specs.fx_model.declared.ExprId.{ExprId}
@@ -22,9 +23,13 @@ use Rattle.theorem_arith.specs.facts.Promises.{IsIsotone}
 use Rattle.theorem_arith.specs.facts.Premises.{Gives, one_bnd, one_abs, one_nzr, two_nzr}
 use Rattle.theorem_arith.specs.facts.Conclusions.{improves_given, improves_if, improves_only}
 use Rattle.theorem_arith.specs.facts.RelativePremises.{rel_then_nzr}
-use Rattle.theorem_arith.specs.facts.RelativeConclusions.{void_only, improves_fact, improves_void_only}
+use Rattle.theorem_arith.specs.facts.RelativeConclusions.{void_only, improves_fact}
+use Rattle.theorem_arith.specs.facts.RelativeConclusions.{improves_void_only}
 use Rattle.theorem_arith.specs.Shapes.{is_one}
-use Rattle.theorem_fix.specs.Nonzero.{nonzero_bound_rule, nonzero_size_rule, nonzero_binary_rule, nonzero_product_rule, nonzero_quotient_rule, nonzero_negation_rule, are_sides, nonzero_or_void, nonzero_side_rule}
+use Rattle.theorem_fix.specs.Nonzero.{nonzero_bound_rule, nonzero_size_rule, nonzero_binary_rule}
+use Rattle.theorem_fix.specs.Nonzero.{nonzero_product_rule, nonzero_quotient_rule}
+use Rattle.theorem_fix.specs.Nonzero.{nonzero_negation_rule, are_sides, nonzero_or_void}
+use Rattle.theorem_fix.specs.Nonzero.{nonzero_side_rule}
 
 -- ---- what the rows ask
 -- an interval within one without 0 is without 0

@@ -22,8 +22,11 @@ use Rattle.theorem_arith.specs.facts.Premises.{Gives, one_bnd, one_fix}
 use Rattle.theorem_arith.specs.facts.Conclusions.{improves_bnd}
 use Rattle.rounding.specs.interval.Outward.{outward_of-within}
 use Rattle.theorem_fix.specs.Shapes.{rounding_at, error_rounding_at}
-use Rattle.theorem_fix.specs.Ranges.{rounded_range_ordered, rounded_range-within, error_range_ordered, zero_errors, multiple_errors-falls}
-use Rattle.theorem_fix.specs.Roundings.{rounded_range, rounded_interval, rounded_bound_rule, errors_of, error_rule, sign_by, sign_of, sided, signed_errors_of, signed_error_rule, multiple_error_rule}
+use Rattle.theorem_fix.specs.Ranges.{rounded_range_ordered, rounded_range-within}
+use Rattle.theorem_fix.specs.Ranges.{error_range_ordered, zero_errors, multiple_errors-falls}
+use Rattle.theorem_fix.specs.Roundings.{rounded_range, rounded_interval, rounded_bound_rule}
+use Rattle.theorem_fix.specs.Roundings.{errors_of, error_rule, sign_by, sign_of, sided}
+use Rattle.theorem_fix.specs.Roundings.{signed_errors_of, signed_error_rule, multiple_error_rule}
 
 -- the second is there where the first is, and lies within it
 abbrev Narrows : Option Interval → Option Interval → Type 0

@@ -1,7 +1,8 @@
 -- Rules on multiples of powers of two, numbers 21 to 27 of the list: each row as a function from
 -- premises and a target to its conclusion. What fits no row gives nothing. A power above 2^512 is
 -- kept as 2^512; below 2^-1024 there is no conclusion.
-use Rattle.std.specs.Prelude.{◌==◌, ◌||◌, pos, Bool, List, [], ◌∷◌, Option, Some, None, slice_get, if◌then◌else◌}
+use Rattle.std.specs.Prelude.{◌==◌, ◌||◌, pos, Bool, List, [], ◌∷◌, Option, Some, None, slice_get}
+use Rattle.std.specs.Prelude.{if◌then◌else◌}
 use Rattle.std.specs.Int.RustNames.{int_lt, unsigned_abs}
 use Rattle.rounding.specs.fx_model.Expression.{literal_value}
 use Rattle.rounding.specs.fx_model.declared.Rounding.{Rounding}

@@ -1,5 +1,6 @@
 -- What a rule gives stands on its target, or is VOID.
-use Rattle.std.specs.Prelude.{◌≡◌, ◌⊎◌, ◌&&◌, ◌||◌, not, [], ◌∷◌, Option, Some, None, slice_get, refl}
+use Rattle.std.specs.Prelude.{◌≡◌, ◌⊎◌, ◌&&◌, ◌||◌, not, [], ◌∷◌, Option, Some, None, slice_get}
+use Rattle.std.specs.Prelude.{refl}
 use Rattle.std.proofs.Common.{inl, inr}
 use Rattle.rounding.specs.fx_model.Fraction.{zero_ℚ}
 use Rattle.rounding.specs.fx_model.declared.ExprId.{ExprId}
@@ -16,14 +17,24 @@ use Rattle.theorem_arith.specs.facts.declared.fact.Slot.TheVariants as slot
 use Rattle.theorem_arith.specs.facts.Order.{slot_of, is_same}
 use Rattle.theorem_arith.specs.facts.Ranges.{is_below}
 use Rattle.theorem_arith.specs.facts.Promises.{IsOnTarget}
-use Rattle.theorem_arith.specs.facts.Conclusions.{StandsOn, bnd_of, bnd_stands, fact_stands, fix_of, fix_stands, given_stands, only_stands}
+use Rattle.theorem_arith.specs.facts.Conclusions.{StandsOn, bnd_of, bnd_stands, fact_stands, fix_of}
+use Rattle.theorem_arith.specs.facts.Conclusions.{fix_stands, given_stands, only_stands}
 use Rattle.theorem_arith.specs.facts.RelativeConclusions.{void_only, void_only_stands}
 use Rattle.theorem_arith.specs.Shapes.{is_one}
 use Rattle.theorem_arith.specs.facts.Places.{lesser_place, sum_place}
 use Rattle.theorem_fix.specs.Shapes.{rounding_at, error_rounding_at}
-use Rattle.theorem_fix.specs.Multiples.{literal_place, literal_multiple_rule, multiple_of_negation_rule, multiple_of_sum_rule, multiple_of_product_rule, last_place, rounded_multiple_rule, untouched, untouched_multiple_rule, point_place, number_multiple_rule}
-use Rattle.theorem_fix.specs.Nonzero.{nonzero_bound_rule, nonzero_size_rule, nonzero_binary_rule, nonzero_product_rule, nonzero_quotient_rule, nonzero_negation_rule, are_sides, nonzero_or_void, nonzero_side_rule}
-use Rattle.theorem_fix.specs.Roundings.{rounded_interval, rounded_bound_rule, errors_of, error_rule, sign_of, signed_errors_of, signed_error_rule, multiple_error_rule}
+use Rattle.theorem_fix.specs.Multiples.{literal_place, literal_multiple_rule}
+use Rattle.theorem_fix.specs.Multiples.{multiple_of_negation_rule, multiple_of_sum_rule}
+use Rattle.theorem_fix.specs.Multiples.{multiple_of_product_rule, last_place, rounded_multiple_rule}
+use Rattle.theorem_fix.specs.Multiples.{untouched, untouched_multiple_rule, point_place}
+use Rattle.theorem_fix.specs.Multiples.{number_multiple_rule}
+use Rattle.theorem_fix.specs.Nonzero.{nonzero_bound_rule, nonzero_size_rule, nonzero_binary_rule}
+use Rattle.theorem_fix.specs.Nonzero.{nonzero_product_rule, nonzero_quotient_rule}
+use Rattle.theorem_fix.specs.Nonzero.{nonzero_negation_rule, are_sides, nonzero_or_void}
+use Rattle.theorem_fix.specs.Nonzero.{nonzero_side_rule}
+use Rattle.theorem_fix.specs.Roundings.{rounded_interval, rounded_bound_rule, errors_of, error_rule}
+use Rattle.theorem_fix.specs.Roundings.{sign_of, signed_errors_of, signed_error_rule}
+use Rattle.theorem_fix.specs.Roundings.{multiple_error_rule}
 use Rattle.theorem_fix.specs.Shrunk.{shrunk_of, shrinking_rule, void_without, no_multiple_rule}
 
 -- ---- multiples

@@ -1,9 +1,11 @@
 -- Rounded ranges and ranges of errors are in order, and of less there are smaller ones.
-use Rattle.std.specs.Prelude.{◌≡◌, ℤ, ◌≤ℤ◌, Bool, true, false, Option, Some, None, if◌then◌else◌, refl}
+use Rattle.std.specs.Prelude.{◌≡◌, ℤ, ◌≤ℤ◌, Bool, true, false, Option, Some, None, if◌then◌else◌}
+use Rattle.std.specs.Prelude.{refl}
 use Rattle.std.specs.Int.RustNames.{int_lt}
 use Rattle.std.proofs.Common.{sym, arith}
 use Rattle.std.proofs.lemmas.Int.{ints}
-use Rattle.rounding.specs.fx_model.Fraction.{Fraction, ◌-ℚ◌, ◌≤ℚ◌, zero_ℚ, le_refl, add-le, neg-le, lt_le}
+use Rattle.rounding.specs.fx_model.Fraction.{Fraction, ◌-ℚ◌, ◌≤ℚ◌, zero_ℚ, le_refl, add-le, neg-le}
+use Rattle.rounding.specs.fx_model.Fraction.{lt_le}
 use Rattle.rounding.specs.fx_model.Powers.{two_to, two_to-positive, scaled-zero}
 use Rattle.rounding.specs.fx_model.Grid.{Bound, Below, At, Above}
 use Rattle.rounding.specs.fx_model.Enclosure.{Range, Lies, IsOrdered, BoundLe, Within, ordered_by}

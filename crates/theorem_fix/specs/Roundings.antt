@@ -1,6 +1,7 @@
 -- Rules on roundings, numbers 41 to 44 of the list: each row as a function from premises and a
 -- target to its conclusion. What fits no row gives nothing.
-use Rattle.std.specs.Prelude.{ℤ, Bool, true, false, List, [], ◌∷◌, Option, Some, None, if◌then◌else◌}
+use Rattle.std.specs.Prelude.{ℤ, Bool, true, false, List, [], ◌∷◌, Option, Some, None}
+use Rattle.std.specs.Prelude.{if◌then◌else◌}
 use Rattle.rounding.specs.fx_model.Fraction.{zero_ℚ}
 use Rattle.rounding.specs.fx_model.Grid.{Bound, Below, At, Above}
 use Rattle.rounding.specs.fx_model.Enclosure.{Range}

@@ -1,5 +1,6 @@
 -- Conclusions on multiples, and roundings of an expression.
-use Rattle.std.specs.Prelude.{⊤, ◌≤ℤ◌, pos, negsuc, List, Option, Some, None, slice_get, if◌then◌else◌}
+use Rattle.std.specs.Prelude.{⊤, ◌≤ℤ◌, pos, negsuc, List, Option, Some, None, slice_get}
+use Rattle.std.specs.Prelude.{if◌then◌else◌}
 use Rattle.rounding.specs.fx_model.declared.ExprId.{ExprId}
 use Rattle.rounding.specs.fx_model.declared.Rounding.{Rounding}
 use Rattle.rounding.specs.fx_model.declared.Node.{Node}

@@ -19,12 +19,15 @@ use Rattle.theorem_arith.specs.facts.CommonParts.{expr_same, some-inj}
 use Rattle.theorem_arith.specs.facts.Order.{IsWithin, is_same}
 use Rattle.theorem_arith.specs.facts.Promises.{IsSound, IsIsotone, EachStronger}
 use Rattle.theorem_arith.specs.facts.Premises.{Gives, strong_bnd, first_premise, one_fix}
-use Rattle.theorem_arith.specs.facts.Conclusions.{bnd_of, given, given_if, improves_bnd, improves_given}
+use Rattle.theorem_arith.specs.facts.Conclusions.{bnd_of, given, given_if, improves_bnd}
+use Rattle.theorem_arith.specs.facts.Conclusions.{improves_given}
 use Rattle.theorem_arith.specs.Shapes.{is_one, one_same}
 use Rattle.theorem_fix.specs.EachRule.{IsIsotoneOrVoid}
 use Rattle.rounding.specs.interval.Outward.{outward_of_lies}
-use Rattle.theorem_fix.specs.Shrunk.{shrunk_range, shrunk_of, shrinking_rule, void_without, no_multiple_rule}
-use Rattle.theorem_fix.specs.ShrunkRanges.{shrunk_ends, shrunk_some, shrunk_ordered, multiple_lies, shrunk_within}
+use Rattle.theorem_fix.specs.Shrunk.{shrunk_range, shrunk_of, shrinking_rule, void_without}
+use Rattle.theorem_fix.specs.Shrunk.{no_multiple_rule}
+use Rattle.theorem_fix.specs.ShrunkRanges.{shrunk_ends, shrunk_some, shrunk_ordered, multiple_lies}
+use Rattle.theorem_fix.specs.ShrunkRanges.{shrunk_within}
 use Rattle.theorem_arith.specs.facts.Held.{both_some}
 use Rattle.theorem_arith.specs.Sound.{bnd_given}
 

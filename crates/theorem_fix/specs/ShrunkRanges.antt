@@ -6,7 +6,8 @@ use Rattle.std.proofs.lemmas.Int.{ints, by_lt_z}
 use Rattle.rounding.specs.fx_model.Fraction.{Fraction, le_trans}
 use Rattle.rounding.specs.fx_model.Powers.{IsMultiple}
 use Rattle.rounding.specs.fx_model.Grid.{Bound, Below, At, Above, IsOnGrid}
-use Rattle.rounding.specs.fx_model.Enclosure.{Range, IsFrom, IsUpTo, Lies, BoundLe, Within, IsOrdered}
+use Rattle.rounding.specs.fx_model.Enclosure.{Range, IsFrom, IsUpTo, Lies, BoundLe, Within}
+use Rattle.rounding.specs.fx_model.Enclosure.{IsOrdered}
 use Rattle.rounding.specs.fx_model.Rounded.{rounded}
 use Rattle.rounding.specs.fx_model.declared.Rounding.{Rounding}
 use Rattle.rounding.specs.fx_model.declared.Direction.{Direction}
@@ -21,7 +22,8 @@ use Rattle.rounding.specs.OnGrid.{rounded_on_grid}
 use Rattle.theorem_arith.specs.facts.declared.place.FixPlace.{FixPlace}
 use Rattle.theorem_arith.specs.facts.Order.{IsWithin}
 use Rattle.theorem_fix.specs.Beside.{rounded_below, rounded_above, multiple_below, multiple_above}
-use Rattle.rounding.specs.interval.Outward.{outward_of-some, low_end, high_end, low_bound_self, high_bound_self}
+use Rattle.rounding.specs.interval.Outward.{outward_of-some, low_end, high_end, low_bound_self}
+use Rattle.rounding.specs.interval.Outward.{high_bound_self}
 use Rattle.theorem_fix.specs.Roundings.{rounded_end}
 use Rattle.theorem_fix.specs.Shrunk.{shrunk_range, shrunk_of}
 

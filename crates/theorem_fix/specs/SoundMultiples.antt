@@ -1,13 +1,16 @@
 -- The rules on multiples are sound: where the premises hold, the conclusion does.
-use Rattle.std.specs.Prelude.{◌≡◌, ◌⊎◌, ◌||◌, ℤ, pos, ◌≤ℤ◌, ◌+ℤ◌, ◌*ℤ◌, Bool, true, false, List, [], ◌∷◌, Option, Some, None, slice_get, if◌then◌else◌, refl}
+use Rattle.std.specs.Prelude.{◌≡◌, ◌⊎◌, ◌||◌, ℤ, pos, ◌≤ℤ◌, ◌+ℤ◌, ◌*ℤ◌, Bool, true, false, List, []}
+use Rattle.std.specs.Prelude.{◌∷◌, Option, Some, None, slice_get, if◌then◌else◌, refl}
 use Rattle.std.specs.Int.RustNames.{int_lt, unsigned_abs}
 use Rattle.std.specs.Option.{IsSomeAnd}
 use Rattle.std.proofs.Common.{sym, ap, subst, ◌∙◌, ⊎_elim, arith}
 use Rattle.std.proofs.lemmas.Int.{ints}
 use Rattle.std.proofs.lemmas.Bool.{eqb-true, or_cases}
 use lib.IntN.{neg_ℤ}
-use Rattle.rounding.specs.fx_model.Fraction.{Fraction, ◌+ℚ◌, ◌-ℚ◌, ◌*ℚ◌, ◌≤ℚ◌, neg_ℚ, le_antisymm, le_trans}
-use Rattle.rounding.specs.fx_model.Powers.{IsMultiple, scaled, scaled-zero, whole, two_to, whole-add, scaled-add}
+use Rattle.rounding.specs.fx_model.Fraction.{Fraction, ◌+ℚ◌, ◌-ℚ◌, ◌*ℚ◌, ◌≤ℚ◌, neg_ℚ, le_antisymm}
+use Rattle.rounding.specs.fx_model.Fraction.{le_trans}
+use Rattle.rounding.specs.fx_model.Powers.{IsMultiple, scaled, scaled-zero, whole, two_to}
+use Rattle.rounding.specs.fx_model.Powers.{whole-add, scaled-add}
 use Rattle.rounding.specs.fx_model.Grid.{scaled-neg, scaled-mul, multiple-neg}
 use Rattle.rounding.specs.fx_model.Enclosure.{Lies}
 use Rattle.rounding.specs.fx_model.Expression.{Assignment, IsOrdered, value, lift₁, literal_value}
@@ -43,7 +46,11 @@ use Rattle.theorem_arith.specs.Shapes.{is_one, one_same}
 use Rattle.theorem_arith.specs.facts.Places.{place_from_out, kept, sum_place, lesser_place}
 use Rattle.theorem_fix.specs.Greatest.{greatest_place_out}
 use Rattle.theorem_fix.specs.Shapes.{rounding_of, rounding_at}
-use Rattle.theorem_fix.specs.Multiples.{literal_place, literal_multiple_rule, multiple_of_negation_rule, multiple_of_sum_rule, multiple_of_product_rule, last_place, rounded_multiple_rule, untouched, untouched_multiple_rule, is_zero, number_place, point_place, number_multiple_rule}
+use Rattle.theorem_fix.specs.Multiples.{literal_place, literal_multiple_rule}
+use Rattle.theorem_fix.specs.Multiples.{multiple_of_negation_rule, multiple_of_sum_rule}
+use Rattle.theorem_fix.specs.Multiples.{multiple_of_product_rule, last_place, rounded_multiple_rule}
+use Rattle.theorem_fix.specs.Multiples.{untouched, untouched_multiple_rule, is_zero, number_place}
+use Rattle.theorem_fix.specs.Multiples.{point_place, number_multiple_rule}
 
 -- ---- multiples
 pub multiple-add : (k : ℤ) (x y : Fraction) → IsMultiple k x

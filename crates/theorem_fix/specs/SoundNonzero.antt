@@ -1,9 +1,13 @@
 -- The rules on values other than 0 are sound: where the premises hold, the conclusion does.
-use Rattle.std.specs.Prelude.{◌≡◌, ◌≢◌, ◌⊎◌, ◌&&◌, ◌||◌, not, Bool, true, false, List, [], ◌∷◌, Option, Some, None}
+use Rattle.std.specs.Prelude.{◌≡◌, ◌≢◌, ◌⊎◌, ◌&&◌, ◌||◌, not, Bool, true, false, List, [], ◌∷◌}
+use Rattle.std.specs.Prelude.{Option, Some, None}
 use Rattle.std.specs.Option.{IsSomeAnd}
 use Rattle.std.proofs.Common.{sym, ap, subst, ◌∙◌, inl, inr, ⊎_elim}
 use Rattle.std.proofs.lemmas.Bool.{and_parts, or_cases}
-use Rattle.rounding.specs.fx_model.Fraction.{Fraction, ◌*ℚ◌, ◌/ℚ◌, neg_ℚ, abs_ℚ, zero_ℚ, one_ℚ, inverse_ℚ, abs-from, le_refl, lt_not, mul_comm, mul_assoc, mul-inverse, one-mul, zero-mul, zero-add, neg-neg, add-neg, div-mul}
+use Rattle.rounding.specs.fx_model.Fraction.{Fraction, ◌*ℚ◌, ◌/ℚ◌, neg_ℚ, abs_ℚ, zero_ℚ, one_ℚ}
+use Rattle.rounding.specs.fx_model.Fraction.{inverse_ℚ, abs-from, le_refl, lt_not, mul_comm}
+use Rattle.rounding.specs.fx_model.Fraction.{mul_assoc, mul-inverse, one-mul, zero-mul, zero-add}
+use Rattle.rounding.specs.fx_model.Fraction.{neg-neg, add-neg, div-mul}
 use Rattle.rounding.specs.fx_model.Grid.{Bound, Below, At, Above}
 use Rattle.rounding.specs.fx_model.Enclosure.{IsFrom, Lies}
 use Rattle.rounding.specs.fx_model.Expression.{Assignment, value}
@@ -29,7 +33,9 @@ use Rattle.theorem_arith.specs.facts.RelatedZeros.{first_nonzero, second_nonzero
 use Rattle.rounding.specs.interval.Members.{zero_test}
 use Rattle.theorem_arith.specs.expr_dag.Lifted.{at_node, lifted_quotient, lifted₁, lifted₂}
 use Rattle.theorem_arith.specs.Shapes.{is_one, one_same}
-use Rattle.theorem_fix.specs.Nonzero.{nonzero_bound_rule, nonzero_size_rule, nonzero_product_rule, nonzero_quotient_rule, nonzero_negation_rule, are_sides, nonzero_or_void, nonzero_side_rule}
+use Rattle.theorem_fix.specs.Nonzero.{nonzero_bound_rule, nonzero_size_rule, nonzero_product_rule}
+use Rattle.theorem_fix.specs.Nonzero.{nonzero_quotient_rule, nonzero_negation_rule, are_sides}
+use Rattle.theorem_fix.specs.Nonzero.{nonzero_or_void, nonzero_side_rule}
 
 -- the value isn't 0
 abbrev IsNonzero : Fraction → Type 0

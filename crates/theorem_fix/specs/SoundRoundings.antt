@@ -1,5 +1,6 @@
 -- The rules on roundings are sound: where the premises hold, the conclusion does.
-use Rattle.std.specs.Prelude.{◌≡◌, ℤ, List, [], ◌∷◌, Bool, true, false, Option, Some, None, slice_get, refl}
+use Rattle.std.specs.Prelude.{◌≡◌, ℤ, List, [], ◌∷◌, Bool, true, false, Option, Some, None}
+use Rattle.std.specs.Prelude.{slice_get, refl}
 use Rattle.std.specs.Option.{IsSomeAnd}
 use Rattle.std.proofs.Common.{sym, ap, subst, ◌∙◌}
 use Rattle.rounding.specs.fx_model.Fraction.{Fraction, ◌-ℚ◌, ◌≤ℚ◌, zero_ℚ, le_trans, le_antisymm}
@@ -35,7 +36,10 @@ use Rattle.theorem_arith.specs.facts.Conclusions.{bnd_of, given}
 use Rattle.rounding.specs.interval.Outward.{outward_of_lies}
 use Rattle.theorem_fix.specs.Shapes.{rounding_at, error_rounding_of, error_rounding_at}
 use Rattle.theorem_fix.specs.SoundMultiples.{at_rounding, rounding_of_out}
-use Rattle.theorem_fix.specs.Roundings.{rounded_end, rounded_range, rounded_interval, rounded_bound_rule, errors_of, error_rule, sign_by, sign_of, is_sided, sided, signed_errors_of, signed_error_rule, multiple_error_rule}
+use Rattle.theorem_fix.specs.Roundings.{rounded_end, rounded_range, rounded_interval}
+use Rattle.theorem_fix.specs.Roundings.{rounded_bound_rule, errors_of, error_rule, sign_by, sign_of}
+use Rattle.theorem_fix.specs.Roundings.{is_sided, sided, signed_errors_of, signed_error_rule}
+use Rattle.theorem_fix.specs.Roundings.{multiple_error_rule}
 use Rattle.theorem_arith.specs.Sound.{bnd_given}
 
 -- ---- rounded values

@@ -3,7 +3,12 @@ ghost use Rattle.std.specs.Prelude.{◌≡◌, slice_get};
 ghost use Rattle.rounding.specs.fx_model.Expression.{literal_value};
 ghost use Rattle.rounding.specs.literal.Normal.{IsNormal};
 ghost use Rattle.theorem_fix.specs.Greatest.{greatest_place};
-ghost use Rattle.theorem_fix.specs.Multiples.{literal_place, literal_multiple_rule, multiple_of_negation_rule, multiple_of_sum_rule, multiple_of_product_rule, last_place, rounded_multiple_rule, untouched, untouched_multiple_rule, number_place, point_place, number_multiple_rule};
+ghost use Rattle.theorem_fix.specs.Multiples.{literal_place, literal_multiple_rule};
+ghost use Rattle.theorem_fix.specs.Multiples.{multiple_of_negation_rule, multiple_of_sum_rule};
+ghost use Rattle.theorem_fix.specs.Multiples.{multiple_of_product_rule, last_place};
+ghost use Rattle.theorem_fix.specs.Multiples.{rounded_multiple_rule, untouched};
+ghost use Rattle.theorem_fix.specs.Multiples.{untouched_multiple_rule, number_place, point_place};
+ghost use Rattle.theorem_fix.specs.Multiples.{number_multiple_rule};
 
 use crate::places::{keep, lesser, product_place};
 use crate::shape::rounding;

@@ -3,7 +3,10 @@ ghost use Rattle.std.specs.Prelude.{◌≡◌};
 ghost use Rattle.rounding.specs.fx_model.Fraction.{zero_ℚ};
 ghost use Rattle.rounding.specs.interval.Intervals.{range_of};
 ghost use Rattle.theorem_arith.specs.facts.Ranges.{is_below};
-ghost use Rattle.theorem_fix.specs.Nonzero.{nonzero_bound_rule, nonzero_size_rule, nonzero_product_rule, nonzero_quotient_rule, nonzero_negation_rule, are_sides, nonzero_or_void, nonzero_side_rule};
+ghost use Rattle.theorem_fix.specs.Nonzero.{nonzero_bound_rule, nonzero_size_rule};
+ghost use Rattle.theorem_fix.specs.Nonzero.{nonzero_product_rule, nonzero_quotient_rule};
+ghost use Rattle.theorem_fix.specs.Nonzero.{nonzero_negation_rule, are_sides, nonzero_or_void};
+ghost use Rattle.theorem_fix.specs.Nonzero.{nonzero_side_rule};
 
 use rounding::Interval;
 use theorem_arith::{Dag, ExprId, Fact, Node, RelativeError, Slot};

@@ -3,7 +3,10 @@ ghost use Rattle.std.specs.Prelude.{◌≡◌, ◌≤ℤ◌, pos, negsuc};
 ghost use Rattle.rounding.specs.dyadic.Ends.{bound_of};
 ghost use Rattle.rounding.specs.interval.Intervals.{range_of};
 ghost use Rattle.theorem_fix.specs.Shapes.{IsInLimits};
-ghost use Rattle.theorem_fix.specs.Roundings.{rounded_end, rounded_interval, rounded_bound_rule, errors_of, error_rule, sign_of, is_sided, signed_errors_of, signed_error_rule, multiple_error_rule};
+ghost use Rattle.theorem_fix.specs.Roundings.{rounded_end, rounded_interval, rounded_bound_rule};
+ghost use Rattle.theorem_fix.specs.Roundings.{errors_of, error_rule, sign_of, is_sided};
+ghost use Rattle.theorem_fix.specs.Roundings.{signed_errors_of, signed_error_rule};
+ghost use Rattle.theorem_fix.specs.Roundings.{multiple_error_rule};
 
 use crate::shape::{error_rounding, rounding};
 use rounding::{End, Interval, Sign, error_interval, round_grid};

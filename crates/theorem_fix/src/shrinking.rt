@@ -1,6 +1,7 @@
 // Multiples in an interval.
 ghost use Rattle.std.specs.Prelude.{◌≡◌};
-ghost use Rattle.theorem_fix.specs.Shrunk.{shrunk_of, shrinking_rule, void_without, no_multiple_rule};
+ghost use Rattle.theorem_fix.specs.Shrunk.{shrunk_of, shrinking_rule, void_without};
+ghost use Rattle.theorem_fix.specs.Shrunk.{no_multiple_rule};
 
 use rounding::Interval;
 use theorem_arith::{Dag, Fact, FixPlace, Slot};

@@ -5,7 +5,8 @@ use Rattle.expr_dag.specs.fx_model.Enclosure.{Lies, Sums, Differences, in_enclos
 use Rattle.facts.specs.interval.declared.interval.Interval.{Interval}
 use Rattle.facts.specs.interval.Intervals.{range_of}
 use Rattle.facts.specs.interval.Members.{alone_lies}
-use Rattle.facts.specs.interval.Results.{sum_of, sum_of-is, difference_of, difference_of-is, product_of, product_of-is}
+use Rattle.facts.specs.interval.Results.{sum_of, sum_of-is, difference_of, difference_of-is}
+use Rattle.facts.specs.interval.Results.{product_of, product_of-is}
 use Rattle.theorem_rel.specs.Values.{unit}
 use Rattle.theorem_rel.specs.Operations.{weighted}
 

@@ -1,5 +1,6 @@
 -- What a rule gives stands on its target, or is VOID.
-use Rattle.std.specs.Prelude.{◌≡◌, ◌⊎◌, ◌&&◌, Bool, true, false, [], ◌∷◌, Option, Some, None, if◌then◌else◌, slice_get, refl}
+use Rattle.std.specs.Prelude.{◌≡◌, ◌⊎◌, ◌&&◌, Bool, true, false, [], ◌∷◌, Option, Some, None}
+use Rattle.std.specs.Prelude.{if◌then◌else◌, slice_get, refl}
 use Rattle.std.proofs.Common.{inl, inr}
 use Rattle.expr_dag.specs.fx_model.Fraction.{zero_ℚ}
 use Rattle.expr_dag.specs.fx_model.declared.ExprId.{ExprId}
@@ -19,8 +20,15 @@ use Rattle.facts.specs.Parts.{error_from, error_of_part}
 use Rattle.facts.specs.Promises.{IsOnTarget}
 use Rattle.facts.specs.Conclusions.{StandsOn, fact_stands, given_stands, only_stands}
 use Rattle.facts.specs.RelativeConclusions.{rel_of, void_only}
-use Rattle.theorem_rel.specs.Values.{unit, relative_to_itself_rule, relative_difference_rule, zero_or_void, difference_fact, difference_by_error_rule, value_fact, value_by_error_rule, quotient_fact, quotient_by_error_rule}
-use Rattle.theorem_rel.specs.Operations.{joint, joint_fact, relative_product_rule, relative_chain_rule, over_one, ratio_fact, relative_quotient_rule, turned_fact, relative_turned_rule, relative_negation_rule, weighted, rel_or_void, sum_fact, is_share, relative_sum_rule}
+use Rattle.theorem_rel.specs.Values.{unit, relative_to_itself_rule, relative_difference_rule}
+use Rattle.theorem_rel.specs.Values.{zero_or_void, difference_fact, difference_by_error_rule}
+use Rattle.theorem_rel.specs.Values.{value_fact, value_by_error_rule, quotient_fact}
+use Rattle.theorem_rel.specs.Values.{quotient_by_error_rule}
+use Rattle.theorem_rel.specs.Operations.{joint, joint_fact, relative_product_rule}
+use Rattle.theorem_rel.specs.Operations.{relative_chain_rule, over_one, ratio_fact}
+use Rattle.theorem_rel.specs.Operations.{relative_quotient_rule, turned_fact, relative_turned_rule}
+use Rattle.theorem_rel.specs.Operations.{relative_negation_rule, weighted, rel_or_void, sum_fact}
+use Rattle.theorem_rel.specs.Operations.{is_share, relative_sum_rule}
 use Rattle.facts.specs.RelativeConclusions.{rel_stands, void_only_stands}
 
 -- the fact stands on the slot, or is VOID

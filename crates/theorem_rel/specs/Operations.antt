@@ -1,7 +1,8 @@
 -- Rules on relative errors of operations, numbers 56 to 61 of the list: each row as a function from
 -- premises and a target to its conclusion. What fits no row gives nothing. A conclusion whose lower
 -- end isn't above -1 isn't drawn. "Both are 0" is what a REL fact says without an interval.
-use Rattle.std.specs.Prelude.{◌&&◌, Bool, false, List, [], ◌∷◌, Option, Some, None, if◌then◌else◌, slice_get}
+use Rattle.std.specs.Prelude.{◌&&◌, Bool, false, List, [], ◌∷◌, Option, Some, None, if◌then◌else◌}
+use Rattle.std.specs.Prelude.{slice_get}
 use Rattle.expr_dag.specs.fx_model.declared.ExprId.{ExprId}
 use Rattle.expr_dag.specs.fx_model.declared.Node.{Node}
 use Rattle.expr_dag.specs.fx_model.declared.Node.TheVariants as node

@@ -1,7 +1,8 @@
 -- Related values: x is y(1 + t) for a t in the interval.
 use Rattle.std.specs.Prelude.{◌≡◌, ◌≢◌, Bool, true, false, refl}
 use Rattle.std.proofs.Common.{sym, ap, subst, ◌∙◌, inl, inr, ⊎_elim}
-use Rattle.expr_dag.specs.fx_model.Fraction.{Fraction, ◌+ℚ◌, ◌-ℚ◌, ◌*ℚ◌, ◌/ℚ◌, zero_ℚ, one_ℚ, is_zero_ℚ, is_zero_out, is_zero_not, zero-mul}
+use Rattle.expr_dag.specs.fx_model.Fraction.{Fraction, ◌+ℚ◌, ◌-ℚ◌, ◌*ℚ◌, ◌/ℚ◌, zero_ℚ, one_ℚ}
+use Rattle.expr_dag.specs.fx_model.Fraction.{is_zero_ℚ, is_zero_out, is_zero_not, zero-mul}
 use Rattle.expr_dag.specs.fx_model.Enclosure.{Lies, member_of}
 use Rattle.facts.specs.interval.declared.interval.Interval.{Interval}
 use Rattle.facts.specs.interval.Intervals.{range_of}

@@ -1,9 +1,11 @@
 -- The rules from bounds to relative errors and back are sound: where the premises hold, the
 -- conclusion does.
-use Rattle.std.specs.Prelude.{◌≡◌, ◌≢◌, ◌&&◌, Bool, List, [], ◌∷◌, Option, Some, None, if◌then◌else◌}
+use Rattle.std.specs.Prelude.{◌≡◌, ◌≢◌, ◌&&◌, Bool, List, [], ◌∷◌, Option, Some, None}
+use Rattle.std.specs.Prelude.{if◌then◌else◌}
 use Rattle.std.proofs.Common.{sym, ap, subst, ◌∙◌}
 use Rattle.std.proofs.lemmas.Bool.{and_parts}
-use Rattle.expr_dag.specs.fx_model.Fraction.{Fraction, ◌+ℚ◌, ◌-ℚ◌, ◌*ℚ◌, ◌/ℚ◌, zero_ℚ, one_ℚ, mul_comm, add-neg}
+use Rattle.expr_dag.specs.fx_model.Fraction.{Fraction, ◌+ℚ◌, ◌-ℚ◌, ◌*ℚ◌, ◌/ℚ◌, zero_ℚ, one_ℚ}
+use Rattle.expr_dag.specs.fx_model.Fraction.{mul_comm, add-neg}
 use Rattle.expr_dag.specs.fx_model.Enclosure.{Lies, product_holds}
 use Rattle.expr_dag.specs.fx_model.Expression.{Assignment, value}
 use Rattle.expr_dag.specs.fx_model.declared.ExprId.{ExprId}
@@ -12,7 +14,8 @@ use Rattle.expr_dag.specs.fx_model.declared.Node.TheVariants as node
 use Rattle.facts.specs.grid_words.Products.{quotient_holds}
 use Rattle.facts.specs.interval.declared.interval.Interval.{Interval}
 use Rattle.facts.specs.interval.Intervals.{range_of}
-use Rattle.facts.specs.interval.Results.{sum_of, product_of, product_of-is, quotient_of, quotient_of-is, point_of}
+use Rattle.facts.specs.interval.Results.{sum_of, product_of, product_of-is, quotient_of}
+use Rattle.facts.specs.interval.Results.{quotient_of-is, point_of}
 use Rattle.expr_dag.specs.Shapes.{is_at, is_known, are_known}
 use Rattle.facts.specs.declared.relative.RelativeError.{RelativeError}
 use Rattle.facts.specs.declared.fact.Fact.{Fact}
@@ -25,7 +28,10 @@ use Rattle.facts.specs.CommonParts.{if-some, expr_same}
 use Rattle.facts.specs.Promises.{IsSound}
 use Rattle.facts.specs.Conclusions.{given}
 use Rattle.facts.specs.RelativeConclusions.{rel_of, void_only}
-use Rattle.theorem_rel.specs.Values.{unit, relative_to_itself_rule, relative_difference_rule, zero_or_void, difference_fact, difference_by_error_rule, value_fact, value_by_error_rule, quotient_fact, quotient_by_error_rule}
+use Rattle.theorem_rel.specs.Values.{unit, relative_to_itself_rule, relative_difference_rule}
+use Rattle.theorem_rel.specs.Values.{zero_or_void, difference_fact, difference_by_error_rule}
+use Rattle.theorem_rel.specs.Values.{value_fact, value_by_error_rule, quotient_fact}
+use Rattle.theorem_rel.specs.Values.{quotient_by_error_rule}
 use Rattle.facts.specs.grid_words.FractionLaws.{add-zero, mul-one, mul-div}
 use Rattle.theorem_rel.specs.Numbers.{error_alone, difference_error}
 use Rattle.theorem_rel.specs.Related.{related_out}

@@ -7,7 +7,12 @@ ghost use Rattle.facts.specs.RelativeConclusions.{void_only};
 ghost use Rattle.facts.specs.declared.fact.Fact.TheVariants as fact;
 ghost use Rattle.facts.specs.declared.fact.Slot.TheVariants as slot;
 ghost use Rattle.theorem_rel.specs.Values.{unit};
-ghost use Rattle.theorem_rel.specs.Operations.{joint, joint_fact, relative_product_rule, relative_chain_rule, less_one, over_one, ratio_fact, relative_quotient_rule, turned_fact, relative_turned_rule, relative_negation_rule, weighted, rel_or_void, sum_fact, is_share, relative_sum_rule};
+ghost use Rattle.theorem_rel.specs.Operations.{joint, joint_fact, relative_product_rule};
+ghost use Rattle.theorem_rel.specs.Operations.{relative_chain_rule, less_one, over_one, ratio_fact};
+ghost use Rattle.theorem_rel.specs.Operations.{relative_quotient_rule, turned_fact};
+ghost use Rattle.theorem_rel.specs.Operations.{relative_turned_rule, relative_negation_rule};
+ghost use Rattle.theorem_rel.specs.Operations.{weighted, rel_or_void, sum_fact, is_share};
+ghost use Rattle.theorem_rel.specs.Operations.{relative_sum_rule};
 
 use crate::parts::error_within;
 use expr_dag::{Dag, ExprId, Node};

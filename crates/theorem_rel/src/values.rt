@@ -1,6 +1,9 @@
 // From bounds to relative errors, and back.
 ghost use Rattle.std.specs.Prelude.{◌≡◌};
-ghost use Rattle.theorem_rel.specs.Values.{relative_to_itself_rule, relative_difference_rule, zero_or_void, difference_fact, difference_by_error_rule, value_fact, value_by_error_rule, quotient_fact, quotient_by_error_rule};
+ghost use Rattle.theorem_rel.specs.Values.{relative_to_itself_rule, relative_difference_rule};
+ghost use Rattle.theorem_rel.specs.Values.{zero_or_void, difference_fact, difference_by_error_rule};
+ghost use Rattle.theorem_rel.specs.Values.{value_fact, value_by_error_rule, quotient_fact};
+ghost use Rattle.theorem_rel.specs.Values.{quotient_by_error_rule};
 
 use crate::parts::error_within;
 use expr_dag::{Dag, ExprId, Node};

@@ -19,52 +19,93 @@ use Rattle.derivation.specs.facts.RelativeConclusions.{void_only}
 use Rattle.cert_checker.specs.theorem_arith.Shapes.{is_one}
 use Rattle.derivation.specs.facts.Places.{lesser_place, sum_place}
 use Rattle.cert_checker.specs.theorem_fix.Shapes.{rounding_at, error_rounding_at}
-use Rattle.cert_checker.specs.theorem_fix.Multiples.{literal_place, literal_multiple_rule, multiple_of_negation_rule, multiple_of_sum_rule, multiple_of_product_rule, last_place, rounded_multiple_rule, untouched, untouched_multiple_rule, point_place, number_multiple_rule}
-use Rattle.cert_checker.specs.theorem_fix.Nonzero.{nonzero_bound_rule, nonzero_size_rule, nonzero_binary_rule, nonzero_product_rule, nonzero_quotient_rule, nonzero_negation_rule, are_sides, nonzero_or_void, nonzero_side_rule}
-use Rattle.cert_checker.specs.theorem_fix.Roundings.{rounded_interval, rounded_bound_rule, errors_of, error_rule, sign_of, signed_errors_of, signed_error_rule, multiple_error_rule}
+use Rattle.cert_checker.specs.theorem_fix.Multiples.{literal_place, literal_multiple_rule}
+use Rattle.cert_checker.specs.theorem_fix.Multiples.{multiple_of_negation_rule}
+use Rattle.cert_checker.specs.theorem_fix.Multiples.{multiple_of_sum_rule, multiple_of_product_rule}
+use Rattle.cert_checker.specs.theorem_fix.Multiples.{last_place, rounded_multiple_rule, untouched}
+use Rattle.cert_checker.specs.theorem_fix.Multiples.{untouched_multiple_rule, point_place}
+use Rattle.cert_checker.specs.theorem_fix.Multiples.{number_multiple_rule}
+use Rattle.cert_checker.specs.theorem_fix.Nonzero.{nonzero_bound_rule, nonzero_size_rule}
+use Rattle.cert_checker.specs.theorem_fix.Nonzero.{nonzero_binary_rule, nonzero_product_rule}
+use Rattle.cert_checker.specs.theorem_fix.Nonzero.{nonzero_quotient_rule, nonzero_negation_rule}
+use Rattle.cert_checker.specs.theorem_fix.Nonzero.{are_sides, nonzero_or_void, nonzero_side_rule}
+use Rattle.cert_checker.specs.theorem_fix.Roundings.{rounded_interval, rounded_bound_rule}
+use Rattle.cert_checker.specs.theorem_fix.Roundings.{errors_of, error_rule, sign_of}
+use Rattle.cert_checker.specs.theorem_fix.Roundings.{signed_errors_of, signed_error_rule}
+use Rattle.cert_checker.specs.theorem_fix.Roundings.{multiple_error_rule}
 use Rattle.cert_checker.specs.theorem_fix.Shrunk.{shrunk_of, shrinking_rule, no_multiple_rule}
 use Rattle.std.specs.Prelude.{Bool, true, false}
 use Rattle.std.proofs.lemmas.Bool.{and_parts, and_from}
-use Rattle.tree_certificates.proofs.Fitting.{FitsSteps, only_never, given_never, bnd_never, fix_never, only_given, given_both}
+use Rattle.tree_certificates.proofs.Fitting.{FitsSteps, only_never, given_never, bnd_never}
+use Rattle.tree_certificates.proofs.Fitting.{fix_never, only_given, given_both}
 
 pub literal_multiple_rule-fits : FitsSteps literal_multiple_rule
-literal_multiple_rule-fits nodes [] (slot.Fix e) f o q = (omega arith, λ v. absurd (fix_never e (literal_place (slice_get nodes e.0)) (q ∙ ap Some v)))
+literal_multiple_rule-fits nodes [] (slot.Fix e) f o q =
+    (omega arith, λ v. absurd (fix_never e (literal_place (slice_get nodes e.0)) (q ∙ ap Some v)))
 literal_multiple_rule-fits nodes _ _ f o q = cc
 
 pub multiple_of_negation_rule-fits : FitsSteps multiple_of_negation_rule
-multiple_of_negation_rule-fits nodes (fact.Fix x k ∷ []) (slot.Fix e) f o q = (omega arith, λ v. absurd (only_never (is_at nodes e (node.Neg x)) (fact.Fix e k) (λ w. cc) (q ∙ ap Some v)))
+multiple_of_negation_rule-fits nodes (fact.Fix x k ∷ []) (slot.Fix e) f o q = (
+  omega arith,
+  λ v. absurd (only_never (is_at nodes e (node.Neg x)) (fact.Fix e k) (λ w. cc) (q ∙ ap Some v)),
+)
 multiple_of_negation_rule-fits nodes _ _ f o q = cc
 
 pub multiple_of_sum_rule-fits : FitsSteps multiple_of_sum_rule
-multiple_of_sum_rule-fits nodes (fact.Fix x k ∷ fact.Fix y n ∷ []) (slot.Fix e) f o q = (omega arith, λ v. absurd (only_never (is_at nodes e (node.Add x y) || is_at nodes e (node.Sub x y)) (fact.Fix e (lesser_place k n)) (λ w. cc) (q ∙ ap Some v)))
+multiple_of_sum_rule-fits nodes (fact.Fix x k ∷ fact.Fix y n ∷ []) (slot.Fix e) f o q = (
+  omega arith,
+  λ v. absurd (only_never (is_at nodes e (node.Add x y) || is_at nodes e (node.Sub x y))
+      (fact.Fix e (lesser_place k n)) (λ w. cc) (q ∙ ap Some v)),
+)
 multiple_of_sum_rule-fits nodes _ _ f o q = cc
 
 pub multiple_of_product_rule-fits : FitsSteps multiple_of_product_rule
-multiple_of_product_rule-fits nodes (fact.Fix x k ∷ fact.Fix y n ∷ []) (slot.Fix e) f o q = (omega arith, λ v. absurd (given_never (is_at nodes e (node.Mul x y)) (fix_of e (sum_place k n)) (fix_never e (sum_place k n)) (q ∙ ap Some v)))
+multiple_of_product_rule-fits nodes (fact.Fix x k ∷ fact.Fix y n ∷ []) (slot.Fix e) f o q = (
+  omega arith,
+  λ v. absurd (given_never (is_at nodes e (node.Mul x y)) (fix_of e (sum_place k n))
+      (fix_never e (sum_place k n)) (q ∙ ap Some v)),
+)
 multiple_of_product_rule-fits nodes _ _ f o q = cc
 
 pub rounded_multiple_rule-fits : FitsSteps rounded_multiple_rule
-rounded_multiple_rule-fits nodes (fact.Bnd x i ∷ []) (slot.Fix e) f o q = (omega arith, λ v. absurd (fix_never e (last_place (rounding_at nodes e x)) (q ∙ ap Some v)))
+rounded_multiple_rule-fits nodes (fact.Bnd x i ∷ []) (slot.Fix e) f o q =
+    (omega arith, λ v. absurd (fix_never e (last_place (rounding_at nodes e x)) (q ∙ ap Some v)))
 rounded_multiple_rule-fits nodes _ _ f o q = cc
 
 pub untouched_multiple_rule-fits : FitsSteps untouched_multiple_rule
-untouched_multiple_rule-fits nodes (fact.Fix x k ∷ []) (slot.Fix e) f o q = (omega arith, λ v. absurd (fix_never e (untouched k (rounding_at nodes e x)) (q ∙ ap Some v)))
+untouched_multiple_rule-fits nodes (fact.Fix x k ∷ []) (slot.Fix e) f o q =
+    (omega arith, λ v. absurd (fix_never e (untouched k (rounding_at nodes e x)) (q ∙ ap Some v)))
 untouched_multiple_rule-fits nodes _ _ f o q = cc
 
 pub number_multiple_rule-fits : FitsSteps number_multiple_rule
-number_multiple_rule-fits nodes (fact.Bnd x i ∷ []) (slot.Fix e) f o q = (omega arith, λ v. absurd (given_never (is_one nodes x e) (fix_of e (point_place i.lo i.hi)) (fix_never e (point_place i.lo i.hi)) (q ∙ ap Some v)))
+number_multiple_rule-fits nodes (fact.Bnd x i ∷ []) (slot.Fix e) f o q = (
+  omega arith,
+  λ v. absurd (given_never (is_one nodes x e) (fix_of e (point_place i.lo i.hi))
+      (fix_never e (point_place i.lo i.hi)) (q ∙ ap Some v)),
+)
 number_multiple_rule-fits nodes _ _ f o q = cc
 
 pub nonzero_bound_rule-fits : FitsSteps nonzero_bound_rule
-nonzero_bound_rule-fits nodes (fact.Bnd x i ∷ []) (slot.Nzr e) f o q = (omega arith, λ v. absurd (only_never (is_one nodes x e && not (has_zero (range_of i))) (fact.Nzr e) (λ w. cc) (q ∙ ap Some v)))
+nonzero_bound_rule-fits nodes (fact.Bnd x i ∷ []) (slot.Nzr e) f o q = (
+  omega arith,
+  λ v. absurd (only_never (is_one nodes x e && not (has_zero (range_of i))) (fact.Nzr e)
+      (λ w. cc) (q ∙ ap Some v)),
+)
 nonzero_bound_rule-fits nodes _ _ f o q = cc
 
 pub nonzero_size_rule-fits : FitsSteps nonzero_size_rule
-nonzero_size_rule-fits nodes (fact.Abs x s ∷ []) (slot.Nzr e) f o q = (omega arith, λ v. absurd (only_never (is_one nodes x e && is_below zero_ℚ (range_of s.interval).low) (fact.Nzr e) (λ w. cc) (q ∙ ap Some v)))
+nonzero_size_rule-fits nodes (fact.Abs x s ∷ []) (slot.Nzr e) f o q = (
+  omega arith,
+  λ v. absurd (only_never (is_one nodes x e && is_below zero_ℚ (range_of s.interval).low)
+      (fact.Nzr e) (λ w. cc) (q ∙ ap Some v)),
+)
 nonzero_size_rule-fits nodes _ _ f o q = cc
 
 nonzero_binary_rule-fits : (make : ExprId → ExprId → Node) → FitsSteps (nonzero_binary_rule make)
-nonzero_binary_rule-fits make nodes (fact.Nzr x ∷ fact.Nzr y ∷ []) (slot.Nzr e) f o q = (omega arith, λ v. absurd (only_never (is_at nodes e (make x y)) (fact.Nzr e) (λ w. cc) (q ∙ ap Some v)))
+nonzero_binary_rule-fits make nodes (fact.Nzr x ∷ fact.Nzr y ∷ []) (slot.Nzr e) f o q = (
+  omega arith,
+  λ v. absurd (only_never (is_at nodes e (make x y)) (fact.Nzr e) (λ w. cc) (q ∙ ap Some v)),
+)
 nonzero_binary_rule-fits make nodes _ _ f o q = cc
 
 pub nonzero_product_rule-fits : FitsSteps nonzero_product_rule
@@ -74,7 +115,10 @@ pub nonzero_quotient_rule-fits : FitsSteps nonzero_quotient_rule
 nonzero_quotient_rule-fits = nonzero_binary_rule-fits node.Div
 
 pub nonzero_negation_rule-fits : FitsSteps nonzero_negation_rule
-nonzero_negation_rule-fits nodes (fact.Nzr x ∷ []) (slot.Nzr e) f o q = (omega arith, λ v. absurd (only_never (is_at nodes e (node.Neg x)) (fact.Nzr e) (λ w. cc) (q ∙ ap Some v)))
+nonzero_negation_rule-fits nodes (fact.Nzr x ∷ []) (slot.Nzr e) f o q = (
+  omega arith,
+  λ v. absurd (only_never (is_at nodes e (node.Neg x)) (fact.Nzr e) (λ w. cc) (q ∙ ap Some v)),
+)
 nonzero_negation_rule-fits nodes _ _ f o q = cc
 
 sides_seen : (x y z e : ExprId) → are_sides x y z e ≡ true → (is_same z x || is_same z y) ≡ true
@@ -85,7 +129,8 @@ sides_seen x y z e q = by_tests (is_same z x) (is_same e y) (is_same z y) (is_sa
     by_tests false b true d q = refl
     by_tests false b false d q = cc
 
-both_zero : (e z : ExprId) (d : Option RelativeError) → nonzero_or_void e d ≡ fact.Void → void_only (Some (nonzero_or_void z d)) ≡ Some fact.Void
+both_zero : (e z : ExprId) (d : Option RelativeError) → nonzero_or_void e d ≡ fact.Void
+    → void_only (Some (nonzero_or_void z d)) ≡ Some fact.Void
 both_zero e z (Some d) q = cc
 both_zero e z None q = refl
 
@@ -96,31 +141,53 @@ nonzero_side_rule-fits nodes (fact.Rel x y d ∷ fact.Nzr z ∷ []) (slot.Nzr e)
       let here = q ∙ ap Some v in
       let g = only_given (are_known nodes x y && are_sides x y z e) (nonzero_or_void e d) here in
       let k = and_parts (are_known nodes x y) (are_sides x y z e) g.0 in
-      given_both (are_known nodes x y && (is_same z x || is_same z y)) (void_only (Some (nonzero_or_void z d))) fact.Void (and_from (are_known nodes x y) (is_same z x || is_same z y) k.0 (sides_seen x y z e k.1)) (both_zero e z d g.1),
+      given_both (are_known nodes x y && (is_same z x || is_same z y))
+      (void_only (Some (nonzero_or_void z d))) fact.Void (and_from (are_known nodes x y)
+      (is_same z x || is_same z y) k.0 (sides_seen x y z e k.1)) (both_zero e z d g.1),
 )
-nonzero_side_rule-fits nodes (fact.Rel x y d ∷ fact.Nzr z ∷ []) slot.Void f o q = (omega arith, λ v. q ∙ ap Some v)
+nonzero_side_rule-fits nodes (fact.Rel x y d ∷ fact.Nzr z ∷ []) slot.Void f o q =
+    (omega arith, λ v. q ∙ ap Some v)
 nonzero_side_rule-fits nodes _ _ f o q = cc
 
 pub rounded_bound_rule-fits : FitsSteps rounded_bound_rule
-rounded_bound_rule-fits nodes (fact.Bnd x i ∷ []) (slot.Bnd e) f o q = (omega arith, λ v. absurd (bnd_never e (rounded_interval (rounding_at nodes e x) i) (q ∙ ap Some v)))
+rounded_bound_rule-fits nodes (fact.Bnd x i ∷ []) (slot.Bnd e) f o q = (
+  omega arith,
+  λ v. absurd (bnd_never e (rounded_interval (rounding_at nodes e x) i) (q ∙ ap Some v)),
+)
 rounded_bound_rule-fits nodes _ _ f o q = cc
 
 pub error_rule-fits : FitsSteps error_rule
-error_rule-fits nodes (fact.Bnd x i ∷ []) (slot.Bnd e) f o q = (omega arith, λ v. absurd (bnd_never e (errors_of (error_rounding_at nodes e x) Unknown None) (q ∙ ap Some v)))
+error_rule-fits nodes (fact.Bnd x i ∷ []) (slot.Bnd e) f o q = (
+  omega arith,
+  λ v. absurd (bnd_never e (errors_of (error_rounding_at nodes e x) Unknown None) (q ∙ ap Some v)),
+)
 error_rule-fits nodes _ _ f o q = cc
 
 pub signed_error_rule-fits : FitsSteps signed_error_rule
-signed_error_rule-fits nodes (fact.Bnd x i ∷ []) (slot.Bnd e) f o q = (omega arith, λ v. absurd (bnd_never e (signed_errors_of (error_rounding_at nodes e x) (sign_of (range_of i))) (q ∙ ap Some v)))
+signed_error_rule-fits nodes (fact.Bnd x i ∷ []) (slot.Bnd e) f o q = (
+  omega arith,
+  λ v. absurd (bnd_never e
+      (signed_errors_of (error_rounding_at nodes e x) (sign_of (range_of i))) (q ∙ ap Some v)),
+)
 signed_error_rule-fits nodes _ _ f o q = cc
 
 pub multiple_error_rule-fits : FitsSteps multiple_error_rule
-multiple_error_rule-fits nodes (fact.Fix x k ∷ []) (slot.Bnd e) f o q = (omega arith, λ v. absurd (bnd_never e (errors_of (error_rounding_at nodes e x) Unknown (Some k.exponent)) (q ∙ ap Some v)))
+multiple_error_rule-fits nodes (fact.Fix x k ∷ []) (slot.Bnd e) f o q = (
+  omega arith,
+  λ v. absurd (bnd_never e
+      (errors_of (error_rounding_at nodes e x) Unknown (Some k.exponent)) (q ∙ ap Some v)),
+)
 multiple_error_rule-fits nodes _ _ f o q = cc
 
 pub shrinking_rule-fits : FitsSteps shrinking_rule
-shrinking_rule-fits nodes (fact.Bnd x i ∷ fact.Fix y k ∷ []) (slot.Bnd e) f o q = (omega arith, λ v. absurd (given_never (is_one nodes x y && is_same x e) (bnd_of e (shrunk_of i k)) (bnd_never e (shrunk_of i k)) (q ∙ ap Some v)))
+shrinking_rule-fits nodes (fact.Bnd x i ∷ fact.Fix y k ∷ []) (slot.Bnd e) f o q = (
+  omega arith,
+  λ v. absurd (given_never (is_one nodes x y && is_same x e) (bnd_of e (shrunk_of i k))
+      (bnd_never e (shrunk_of i k)) (q ∙ ap Some v)),
+)
 shrinking_rule-fits nodes _ _ f o q = cc
 
 pub no_multiple_rule-fits : FitsSteps no_multiple_rule
-no_multiple_rule-fits nodes (fact.Bnd x i ∷ fact.Fix y k ∷ []) slot.Void f o q = (omega arith, λ v. q ∙ ap Some v)
+no_multiple_rule-fits nodes (fact.Bnd x i ∷ fact.Fix y k ∷ []) slot.Void f o q =
+    (omega arith, λ v. q ∙ ap Some v)
 no_multiple_rule-fits nodes _ _ f o q = cc

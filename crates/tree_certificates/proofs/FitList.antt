@@ -1,5 +1,6 @@
 -- What the list of rules gives can be written as steps.
-use Rattle.std.specs.Prelude.{◌≡◌, ◌<◌, ◌≤◌, ◌==◌, ℕ, length, Bool, true, false, List, [], ◌∷◌, Option, Some, None, if◌then◌else◌, slice_get, refl}
+use Rattle.std.specs.Prelude.{◌≡◌, ◌<◌, ◌≤◌, ◌==◌, ℕ, length, Bool, true, false, List, [], ◌∷◌}
+use Rattle.std.specs.Prelude.{Option, Some, None, if◌then◌else◌, slice_get, refl}
 use Rattle.std.specs.List.{AllByRecursion}
 use Rattle.std.proofs.Common.{arith}
 use Rattle.fx_model.specs.Expression.{IsOrdered}
@@ -18,10 +19,45 @@ use Rattle.cert_checker.specs.theorem_list.Concludes.{listed, by_number, by_row,
 use Rattle.cert_checker.specs.theorem_list.Rows.{numbered, by_rows, each_row}
 use Rattle.tree_certificates.specs.Writing.{IsVoidFitting, IsFromFew, IsNumberedLow}
 use Rattle.tree_certificates.proofs.Fitting.{FitsSteps}
-use Rattle.tree_certificates.proofs.FitArith.{literal_rule-fits, negation_rule-fits, sum_rule-fits, difference_rule-fits, difference_with_itself_rule-fits, product_rule-fits, square_rule-fits, quotient_rule-fits, quotient_by_nonzero_rule-fits, quotient_by_itself_rule-fits, size_rule-fits, value_rule-fits, sign_rule-fits, absolute_value_rule-fits, size_of_value_rule-fits, size_of_negation_rule-fits, size_of_product_rule-fits, size_of_quotient_rule-fits, size_of_sum_rule-fits}
-use Rattle.tree_certificates.proofs.FitFix.{literal_multiple_rule-fits, multiple_of_negation_rule-fits, multiple_of_sum_rule-fits, multiple_of_product_rule-fits, rounded_multiple_rule-fits, untouched_multiple_rule-fits, number_multiple_rule-fits, nonzero_bound_rule-fits, nonzero_size_rule-fits, nonzero_product_rule-fits, nonzero_quotient_rule-fits, nonzero_negation_rule-fits, nonzero_side_rule-fits, rounded_bound_rule-fits, error_rule-fits, signed_error_rule-fits, multiple_error_rule-fits, shrinking_rule-fits, no_multiple_rule-fits}
-use Rattle.tree_certificates.proofs.FitRel.{relative_to_itself_rule-fits, relative_difference_rule-fits, difference_by_error_rule-fits, value_by_error_rule-fits, quotient_by_error_rule-fits, relative_product_rule-fits, relative_quotient_rule-fits, relative_chain_rule-fits, relative_turned_rule-fits, relative_negation_rule-fits, relative_sum_rule-fits}
-use Rattle.tree_certificates.proofs.FitRewrites.{difference_of_sums_rule-fits, difference_of_differences_rule-fits, difference_of_products_rule-fits, difference_of_negations_rule-fits, difference_through_rule-fits, difference_against_rule-fits, first_by_difference_rule-fits, second_by_difference_rule-fits, zero_and_not_rule-fits, both_zero_and_not_rule-fits, rewriting_rule-fits}
+use Rattle.tree_certificates.proofs.FitArith.{literal_rule-fits, negation_rule-fits, sum_rule-fits}
+use Rattle.tree_certificates.proofs.FitArith.{difference_rule-fits}
+use Rattle.tree_certificates.proofs.FitArith.{difference_with_itself_rule-fits, product_rule-fits}
+use Rattle.tree_certificates.proofs.FitArith.{square_rule-fits, quotient_rule-fits}
+use Rattle.tree_certificates.proofs.FitArith.{quotient_by_nonzero_rule-fits}
+use Rattle.tree_certificates.proofs.FitArith.{quotient_by_itself_rule-fits, size_rule-fits}
+use Rattle.tree_certificates.proofs.FitArith.{value_rule-fits, sign_rule-fits}
+use Rattle.tree_certificates.proofs.FitArith.{absolute_value_rule-fits, size_of_value_rule-fits}
+use Rattle.tree_certificates.proofs.FitArith.{size_of_negation_rule-fits, size_of_product_rule-fits}
+use Rattle.tree_certificates.proofs.FitArith.{size_of_quotient_rule-fits, size_of_sum_rule-fits}
+use Rattle.tree_certificates.proofs.FitFix.{literal_multiple_rule-fits}
+use Rattle.tree_certificates.proofs.FitFix.{multiple_of_negation_rule-fits}
+use Rattle.tree_certificates.proofs.FitFix.{multiple_of_sum_rule-fits}
+use Rattle.tree_certificates.proofs.FitFix.{multiple_of_product_rule-fits}
+use Rattle.tree_certificates.proofs.FitFix.{rounded_multiple_rule-fits}
+use Rattle.tree_certificates.proofs.FitFix.{untouched_multiple_rule-fits, number_multiple_rule-fits}
+use Rattle.tree_certificates.proofs.FitFix.{nonzero_bound_rule-fits, nonzero_size_rule-fits}
+use Rattle.tree_certificates.proofs.FitFix.{nonzero_product_rule-fits, nonzero_quotient_rule-fits}
+use Rattle.tree_certificates.proofs.FitFix.{nonzero_negation_rule-fits, nonzero_side_rule-fits}
+use Rattle.tree_certificates.proofs.FitFix.{rounded_bound_rule-fits, error_rule-fits}
+use Rattle.tree_certificates.proofs.FitFix.{signed_error_rule-fits, multiple_error_rule-fits}
+use Rattle.tree_certificates.proofs.FitFix.{shrinking_rule-fits, no_multiple_rule-fits}
+use Rattle.tree_certificates.proofs.FitRel.{relative_to_itself_rule-fits}
+use Rattle.tree_certificates.proofs.FitRel.{relative_difference_rule-fits}
+use Rattle.tree_certificates.proofs.FitRel.{difference_by_error_rule-fits, value_by_error_rule-fits}
+use Rattle.tree_certificates.proofs.FitRel.{quotient_by_error_rule-fits, relative_product_rule-fits}
+use Rattle.tree_certificates.proofs.FitRel.{relative_quotient_rule-fits, relative_chain_rule-fits}
+use Rattle.tree_certificates.proofs.FitRel.{relative_turned_rule-fits, relative_negation_rule-fits}
+use Rattle.tree_certificates.proofs.FitRel.{relative_sum_rule-fits}
+use Rattle.tree_certificates.proofs.FitRewrites.{difference_of_sums_rule-fits}
+use Rattle.tree_certificates.proofs.FitRewrites.{difference_of_differences_rule-fits}
+use Rattle.tree_certificates.proofs.FitRewrites.{difference_of_products_rule-fits}
+use Rattle.tree_certificates.proofs.FitRewrites.{difference_of_negations_rule-fits}
+use Rattle.tree_certificates.proofs.FitRewrites.{difference_through_rule-fits}
+use Rattle.tree_certificates.proofs.FitRewrites.{difference_against_rule-fits}
+use Rattle.tree_certificates.proofs.FitRewrites.{first_by_difference_rule-fits}
+use Rattle.tree_certificates.proofs.FitRewrites.{second_by_difference_rule-fits}
+use Rattle.tree_certificates.proofs.FitRewrites.{zero_and_not_rule-fits}
+use Rattle.tree_certificates.proofs.FitRewrites.{both_zero_and_not_rule-fits, rewriting_rule-fits}
 
 arithmetic_fit : arithmetic.EachRule FitsSteps
 arithmetic_fit = record {
@@ -100,45 +136,69 @@ rewritings_fit = record {
 -- what holds of each rule's number and the rule
 numbers_fit : (n : ℕ) → FitsSteps (numbered listed n)
 numbers_fit n = by_rows (λ _ r. FitsSteps r) listed n (λ nodes premises target f o e. cc)
-    (each_row FitsSteps (λ _ r. FitsSteps r) (λ _ r h. h) shrinking_rule-fits arithmetic_fit multiples_fit relatives_fit rewritings_fit)
+    (each_row FitsSteps (λ _ r. FitsSteps r)
+    (λ _ r h. h) shrinking_rule-fits arithmetic_fit multiples_fit relatives_fit rewritings_fit)
 
-row_fits : (nodes : List Node) (o : Option HintRow) (premises : List Fact) (target : Slot) (f : Fact) → IsOrdered nodes → by_row nodes o premises target ≡ Some f →
-    (length premises ≤ 65535) × (f ≡ fact.Void → by_row nodes o premises slot.Void ≡ Some fact.Void)
+row_fits : (nodes : List Node) (o : Option HintRow) (premises : List Fact) (target : Slot)
+    (f : Fact) → IsOrdered nodes → by_row nodes o premises target ≡ Some f
+    → (length premises ≤ 65535)
+    × (f ≡ fact.Void → by_row nodes o premises slot.Void ≡ Some fact.Void)
 row_fits nodes None premises target f d e = cc
-row_fits nodes (Some row) premises target f d e = rewriting_rule-fits row nodes premises target f d e
+row_fits nodes (Some row) premises target f d e =
+    rewriting_rule-fits row nodes premises target f d e
 
-list_fits : (nodes : List Node) (hints : List HintRow) → IsOrdered nodes → (number arg : ℕ) (premises : List Fact) (target : Slot) (f : Fact) → concludes nodes hints number arg premises target ≡ Some f →
-    (length premises ≤ 65535) × (f ≡ fact.Void → concludes nodes hints number arg premises slot.Void ≡ Some fact.Void)
+list_fits : (nodes : List Node) (hints : List HintRow)
+    → IsOrdered nodes → (number arg : ℕ) (premises : List Fact) (target : Slot) (f : Fact)
+    → concludes nodes hints number arg premises target ≡ Some f
+    → (length premises ≤ 65535)
+    × (f ≡ fact.Void → concludes nodes hints number arg premises slot.Void ≡ Some fact.Void)
 list_fits nodes hints o number arg premises target f e = by_test (number == 80) (arg == 0) e
   where
-    by_test : (b c : Bool) → (if b then by_row nodes (slice_get hints arg) premises target else (if c then by_number listed number nodes premises target else None)) ≡ Some f →
-        (length premises ≤ 65535) × (f ≡ fact.Void → (if b then by_row nodes (slice_get hints arg) premises slot.Void else (if c then by_number listed number nodes premises slot.Void else None)) ≡ Some fact.Void)
+    by_test : (b c : Bool) → (if b then by_row nodes (slice_get hints arg) premises target
+        else (if c then by_number listed number nodes premises target else None)) ≡ Some f
+        → (length premises ≤ 65535) × (f ≡ fact.Void
+        → (if b then by_row nodes (slice_get hints arg) premises slot.Void else (if c
+        then by_number listed number nodes premises slot.Void else None)) ≡ Some fact.Void)
     by_test true c e = row_fits nodes (slice_get hints arg) premises target f o e
     by_test false true e = numbers_fit number nodes premises target f o e
     by_test false false e = cc
 
-pub list_void_fitting : (nodes : List Node) (hints : List HintRow) → IsOrdered nodes → IsVoidFitting (concludes nodes hints)
-list_void_fitting nodes hints o number arg premises target e = (list_fits nodes hints o number arg premises target fact.Void e).1 refl
+pub list_void_fitting : (nodes : List Node) (hints : List HintRow) → IsOrdered nodes
+    → IsVoidFitting (concludes nodes hints)
+list_void_fitting nodes hints o number arg premises target e =
+    (list_fits nodes hints o number arg premises target fact.Void e).1 refl
 
-pub list_from_few : (nodes : List Node) (hints : List HintRow) → IsOrdered nodes → IsFromFew (concludes nodes hints)
-list_from_few nodes hints o number arg premises target f e = (list_fits nodes hints o number arg premises target f e).0
+pub list_from_few : (nodes : List Node) (hints : List HintRow) → IsOrdered nodes
+    → IsFromFew (concludes nodes hints)
+list_from_few nodes hints o number arg premises target f e =
+    (list_fits nodes hints o number arg premises target f e).0
 
 -- ---- numbers
-number_low : (rules : List (ℕ × Rule)) (n : ℕ) → AllByRecursion (λ e. e.0 < 100) rules → (nodes : List Node) (premises : List Fact) (target : Slot) (f : Fact) → by_number rules n nodes premises target ≡ Some f → n < 100
+number_low : (rules : List (ℕ × Rule)) (n : ℕ) → AllByRecursion (λ e. e.0 < 100) rules
+    → (nodes : List Node) (premises : List Fact) (target : Slot) (f : Fact)
+    → by_number rules n nodes premises target ≡ Some f → n < 100
 number_low [] n h nodes premises target f e = cc
-number_low (r ∷ rules) n h nodes premises target f e = by_test (n == r.0) refl e (λ w. number_low rules n h.1 nodes premises target f w)
+number_low (r ∷ rules) n h nodes premises target f e =
+    by_test (n == r.0) refl e (λ w. number_low rules n h.1 nodes premises target f w)
   where
-    by_test : (b : Bool) → (n == r.0) ≡ b → (if b then r.1 nodes premises target else by_number rules n nodes premises target) ≡ Some f → (by_number rules n nodes premises target ≡ Some f → n < 100) → n < 100
-    by_test true q e later = let l : r.0 < 100 = h.0 in let d : n ≡ r.0 = grind (arith, q) in omega (arith, l, d)
+    by_test : (b : Bool) → (n == r.0) ≡ b
+        → (if b then r.1 nodes premises target else by_number rules n nodes premises target)
+        ≡ Some f → (by_number rules n nodes premises target ≡ Some f → n < 100) → n < 100
+    by_test true q e later = let l : r.0 < 100 = h.0 in
+        let d : n ≡ r.0 = grind (arith, q) in omega (arith, l, d)
     by_test false q e later = later e
 
 listed_low : AllByRecursion (λ e. e.0 < 100) listed
 listed_low = (omega arith, (omega arith, (omega arith, (omega arith, (omega arith, (omega arith, (omega arith, (omega arith, (omega arith, (omega arith, (omega arith, (omega arith, (omega arith, (omega arith, (omega arith, (omega arith, (omega arith, (omega arith, (omega arith, (omega arith, (omega arith, (omega arith, (omega arith, (omega arith, (omega arith, (omega arith, (omega arith, (omega arith, (omega arith, (omega arith, (omega arith, (omega arith, (omega arith, (omega arith, (omega arith, (omega arith, (omega arith, (omega arith, (omega arith, (omega arith, (omega arith, (omega arith, (omega arith, (omega arith, (omega arith, (omega arith, (omega arith, (omega arith, (omega arith, (omega arith, (omega arith, (omega arith, (omega arith, (omega arith, (omega arith, (omega arith, (omega arith, (omega arith, (omega arith, tt)))))))))))))))))))))))))))))))))))))))))))))))))))))))))))
 
-pub list_numbered_low : (nodes : List Node) (hints : List HintRow) → IsNumberedLow (concludes nodes hints)
-list_numbered_low nodes hints number arg premises target f e = by_test (number == 80) refl (arg == 0) e
+pub list_numbered_low : (nodes : List Node) (hints : List HintRow)
+    → IsNumberedLow (concludes nodes hints)
+list_numbered_low nodes hints number arg premises target f e =
+    by_test (number == 80) refl (arg == 0) e
   where
-    by_test : (b : Bool) → (number == 80) ≡ b → (c : Bool) → (if b then by_row nodes (slice_get hints arg) premises target else (if c then by_number listed number nodes premises target else None)) ≡ Some f → number < 100
+    by_test : (b : Bool) → (number == 80) ≡ b
+        → (c : Bool) → (if b then by_row nodes (slice_get hints arg) premises target else (if c
+        then by_number listed number nodes premises target else None)) ≡ Some f → number < 100
     by_test true q c e = let d : number ≡ 80 = grind (arith, q) in omega (arith, d)
     by_test false q true e = number_low listed number listed_low nodes premises target f e
     by_test false q false e = cc

@@ -15,10 +15,12 @@ use Rattle.derivation.specs.Parts.{some_same, slot_cases, stronger_slot}
 use Rattle.derivation.specs.Exists.{joined}
 use Rattle.cert_checker.specs.cert_bytes.declared.item.StepRow.{StepRow}
 use Rattle.cert_checker.specs.Open.{Numbered, with_step}
-use Rattle.cert_checker.specs.Steps.{step_fact, step_facts, IsMetWith, IsLike, AreKnown, Givens, gives, met_with, IsEnough, IsConcluded, target_of}
+use Rattle.cert_checker.specs.Steps.{step_fact, step_facts, IsMetWith, IsLike, AreKnown, Givens}
+use Rattle.cert_checker.specs.Steps.{gives, met_with, IsEnough, IsConcluded, target_of}
 use Rattle.tree_certificates.specs.Sections.{behind, ArePlaces, IsTraced, AreBelow}
 use Rattle.tree_certificates.specs.Writing.{IsSlotKnown}
-use Rattle.tree_certificates.specs.Cited.{step_kept, step_new, below_behind, behind_both, accepted_both}
+use Rattle.tree_certificates.specs.Cited.{step_kept, step_new, below_behind, behind_both}
+use Rattle.tree_certificates.specs.Cited.{accepted_both}
 use Rattle.derivation.specs.facts.CommonParts.{void_cases}
 use Rattle.fx_model.specs.declared.ExprId.{ExprId}
 use Rattle.derivation.specs.interval.declared.interval.Interval.{Interval}

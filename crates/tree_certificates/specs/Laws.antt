@@ -18,7 +18,8 @@ use Rattle.cert_checker.specs.declared.subject.Subject.{Subject}
 use Rattle.cert_checker.specs.Open.{Numbered}
 use Rattle.cert_checker.specs.Accepted.{Accepts}
 use Rattle.tree_certificates.specs.Sections.{ArePlaces, AreBelow}
-use Rattle.tree_certificates.specs.Writing.{IsSlotKnown, IsWritable, IsVoidFitting, IsFromFew, IsNumberedLow, givens_of}
+use Rattle.tree_certificates.specs.Writing.{IsSlotKnown, IsWritable, IsVoidFitting, IsFromFew}
+use Rattle.tree_certificates.specs.Writing.{IsNumberedLow, givens_of}
 use Rattle.tree_certificates.specs.Traces.{Trace, IsCutTo, most_steps}
 use Rattle.tree_certificates.specs.Roots.{Root, AreRoots, steps_in_roots, lines_of_roots}
 

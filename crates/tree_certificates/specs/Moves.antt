@@ -1,5 +1,6 @@
 -- How a walk over a tree of boxes moves, and that it can always go on.
-use Rattle.std.specs.Prelude.{◌≡◌, ◌≤◌, ◌+◌, ◌^◌, ℕ, suc, List, ◌∷◌, length, map, None, Some, zero, ◌++◌, []}
+use Rattle.std.specs.Prelude.{◌≡◌, ◌≤◌, ◌+◌, ◌^◌, ℕ, suc, List, ◌∷◌, length, map, None, Some, zero}
+use Rattle.std.specs.Prelude.{◌++◌, []}
 use Rattle.std.proofs.Common.{arith, sym, subst}
 use Rattle.fx_model.specs.declared.ExprId.{ExprId}
 use Rattle.dyadic.specs.declared.number.Dyadic.{Dyadic}
@@ -23,9 +24,12 @@ use Rattle.cert_checker.specs.Accepted.{LeadsTo}
 use Rattle.tree_certificates.specs.Sections.{behind, AreAccepted, ArePlaces}
 use Rattle.tree_certificates.specs.Writing.{IsWritable, givens_of}
 use Rattle.tree_certificates.specs.Traces.{HaveFields, most_steps}
-use Rattle.tree_certificates.specs.Trees.{Tree, Trees, cut, last, next, IsProved, lines_of_tree, steps_in, IsSubjectOf}
+use Rattle.tree_certificates.specs.Trees.{Tree, Trees, cut, last, next, IsProved, lines_of_tree}
+use Rattle.tree_certificates.specs.Trees.{steps_in, IsSubjectOf}
 use Rattle.tree_certificates.specs.Roots.{Root, IsRoot, AreRoots, steps_in_roots, lines_of_roots}
-use Rattle.tree_certificates.specs.Walks.{numbered, behind_steps, IsLater, IsOpen, IsBehind, IsEndOf, Frame, LiesIn, left_in, lines_behind, steps_behind, IsDue, Ending}
+use Rattle.tree_certificates.specs.Walks.{numbered, behind_steps, IsLater, IsOpen, IsBehind}
+use Rattle.tree_certificates.specs.Walks.{IsEndOf, Frame, LiesIn, left_in, lines_behind}
+use Rattle.tree_certificates.specs.Walks.{steps_behind, IsDue, Ending}
 use Rattle.derivation.specs.facts.declared.hint.HintMark.{HintMark}
 use Rattle.cert_checker.specs.cert_bytes.declared.item.Item.{Item}
 use Rattle.cert_checker.specs.cert_bytes.Certificates.{AreDue}

@@ -7,14 +7,18 @@ use Rattle.whole_texts.specs.Texts.{IsText}
 use Rattle.whole_texts.specs.declared.read.ReadStop.{ReadStop}
 use Rattle.whole_texts.specs.declared.read.ReadStop.TheVariants as stop
 use Rattle.command_line.specs.Trim.{AskedTrim}
-use Rattle.command_runs.specs.Ends.{IsOnce, IsPutBy, IsStopPutBy, exhausted_runs, kept_all, or_unread, put_runs, run_by, starved_runs, stop_runs, unread_kept, unread_once, unwritten_runs}
-use Rattle.command_runs.specs.Fates.{AreTold, Fate, IsKeptFile, IsTold, Left, Leaves, MayWrite, Runs, Written, begun, ending}
+use Rattle.command_runs.specs.Ends.{IsOnce, IsPutBy, IsStopPutBy, exhausted_runs, kept_all}
+use Rattle.command_runs.specs.Ends.{or_unread, put_runs, run_by, starved_runs, stop_runs}
+use Rattle.command_runs.specs.Ends.{unread_kept, unread_once, unwritten_runs}
+use Rattle.command_runs.specs.Fates.{AreTold, Fate, IsKeptFile, IsTold, Left, Leaves, MayWrite}
+use Rattle.command_runs.specs.Fates.{Runs, Written, begun, ending}
 use Rattle.command_runs.specs.Fates.Ending.{Done}
 use Rattle.command_runs.specs.Fates.Left.{Kept, Whole}
 use Rattle.command_runs.specs.Runs.{Bytes, Told, Run, IsKept, IsSilent, ReadFailed, WriteFailed}
 use Rattle.command_runs.specs.declared.status.Status.{Status}
 use Rattle.command_runs.specs.declared.status.Status.TheVariants as status
-use Rattle.check_command.specs.script_answers.Texts.{IsLong, ReadsBehind, long_refused, no_script, told_script, told_text}
+use Rattle.check_command.specs.script_answers.Texts.{IsLong, ReadsBehind, long_refused, no_script}
+use Rattle.check_command.specs.script_answers.Texts.{told_script, told_text}
 use Rattle.trim_command.specs.Command.{TrimFate, TrimTold, IsTrimRun}
 use Rattle.check_command.specs.Laws.{IsCertTold}
 use Rattle.trim_command.specs.Laws.{AcceptableAreTrimmed, TrimAnswersAreOne}

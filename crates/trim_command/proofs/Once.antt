@@ -26,7 +26,8 @@ use Rattle.command_runs.specs.declared.status.Status.TheVariants as status
 use Rattle.check_command.specs.Checked.{CheckPrints, IsFaulty}
 use Rattle.check_command.specs.Laws.{CheckAnswersAreOne, IsCertTold}
 use Rattle.trim_command.specs.Laws.{TrimAnswersAreOne, AcceptableAreTrimmed}
-use Rattle.trim_command.specs.Trimmed.{AreTrimmable, IsTrimmed, IsTooLong, IsNotAccepted, TrimPrints, line_of, new_bytes}
+use Rattle.trim_command.specs.Trimmed.{AreTrimmable, IsTrimmed, IsTooLong, IsNotAccepted}
+use Rattle.trim_command.specs.Trimmed.{TrimPrints, line_of, new_bytes}
 use Rattle.trim_command.proofs.Trimmable.{accepted_new}
 
 -- ---- items that are read

@@ -19,7 +19,8 @@ use Rattle.cert_trim.specs.cert_checker.Accepted.{Accepts}
 use Rattle.cert_trim.specs.cert_checker.Checking.{IsFresh}
 use Rattle.cert_trim.specs.cert_checker.Keeping.{lines_of}
 use Rattle.check_command.specs.script_checker.Subjects.{IsSubjectOf}
-use Rattle.check_command.specs.script_checker.Checking.{AreAcceptedFor, AreAcceptedItemsFor, ChecksFor, ShowsFor}
+use Rattle.check_command.specs.script_checker.Checking.{AreAcceptedFor, AreAcceptedItemsFor}
+use Rattle.check_command.specs.script_checker.Checking.{ChecksFor, ShowsFor}
 use Rattle.cert_trim.specs.Law.{AcceptsTrimmed, AllLeftAreUsed, AreLedBySome}
 use Rattle.cert_trim.specs.cert_bytes.Spelling.{certificate_of}
 use Rattle.command_runs.specs.Runs.{Bytes, Told}

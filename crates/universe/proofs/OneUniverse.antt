@@ -21,7 +21,8 @@ use Rattle.universe.specs.Universes.{UniversesAreOne}
 use Rattle.rule_universe.specs.facts.CommonParts.{stands}
 
 -- lists as long as each other, with the same at each place
-same_list : {A : Type 0} (xs ys : List A) → length xs ≡ length ys → ((k : ℕ) (x y : A) → slice_get xs k ≡ Some x → slice_get ys k ≡ Some y → x ≡ y) → xs ≡ ys
+same_list : {A : Type 0} (xs ys : List A) → length xs ≡ length ys
+    → ((k : ℕ) (x y : A) → slice_get xs k ≡ Some x → slice_get ys k ≡ Some y → x ≡ y) → xs ≡ ys
 same_list [] [] e f = refl
 same_list [] (y ∷ ys) e f = absurd (omega arith)
 same_list (x ∷ xs) [] e f = absurd (omega arith)
@@ -30,22 +31,27 @@ same_list (x ∷ xs) (y ∷ ys) e f =
     let tail : xs ≡ ys = same_list xs ys (omega arith) (λ k u v a b. f (suc k) u v a b) in
     (λ i. head i ∷ tail i)
 
-one_row : (nodes : List Node) (h : Hint) (row other : HintRow) → IsRowOf nodes h row → IsRowOf nodes h other → row ≡ other
+one_row : (nodes : List Node) (h : Hint) (row other : HintRow) → IsRowOf nodes h row
+    → IsRowOf nodes h other → row ≡ other
 one_row nodes h row other a b =
     let left : row.left ≡ other.left = a.left ∙ sym b.left in
     let right : row.right ≡ other.right = a.right ∙ sym b.right in
-    let divisors : row.divisors ≡ other.divisors = one_list (λ (d : ExprId). d.0) row.divisors other.divisors a.divisors.rising b.divisors.rising (λ d m. (b.divisors.exactly d).1 ((a.divisors.exactly d).0 m)) (λ d m. (a.divisors.exactly d).1 ((b.divisors.exactly d).0 m)) in
+    let divisors : row.divisors ≡ other.divisors = one_list (λ (d : ExprId). d.0)
+    row.divisors other.divisors a.divisors.rising b.divisors.rising (λ d m. (b.divisors.exactly d).1
+    ((a.divisors.exactly d).0 m)) (λ d m. (a.divisors.exactly d).1 ((b.divisors.exactly d).0 m)) in
     let needs : row.needs ≡ other.needs = a.needs ∙ sym b.needs in
     (λ i. record { left = left i; right = right i; divisors = divisors i; needs = needs i })
 
-rows_are_one : (nodes : List Node) (hints : List Hint) (rows others : List HintRow) → AreRows nodes hints rows → AreRows nodes hints others → rows ≡ others
+rows_are_one : (nodes : List Node) (hints : List Hint) (rows others : List HintRow)
+    → AreRows nodes hints rows → AreRows nodes hints others → rows ≡ others
 rows_are_one nodes hints rows others a b = same_list rows others (a.count ∙ sym b.count)
     (λ k row other e f.
     let within = slice_get_within rows k row e in
     let s = stands hints k (omega (arith, a.count, within)) in
     one_row nodes s.0 row other (a.each k s.0 row s.1 e) (b.each k s.0 other s.1 f))
 
-one_mark : (nodes : List Node) (h : Hint) (m n : HintMark) → IsMarkOf nodes h m → IsMarkOf nodes h n → m ≡ n
+one_mark : (nodes : List Node) (h : Hint) (m n : HintMark) → IsMarkOf nodes h m
+    → IsMarkOf nodes h n → m ≡ n
 one_mark nodes h Checked Checked a b = refl
 one_mark nodes h Checked Assumed a b = absurd (b a)
 one_mark nodes h Assumed Checked a b = absurd (a b)
@@ -60,11 +66,21 @@ marks_are_one nodes hints marks others a b = same_list marks others (a.count ∙
 
 pub universes_are_one : ClosuresAreOne → UniversesAreOne
 universes_are_one closures s claims u v a b =
-    let both = closures s.nodes (starting_pairs s) u.nodes v.nodes u.pairs v.pairs a.closure b.closure in
+    let both = closures s.nodes
+    (starting_pairs s) u.nodes v.nodes u.pairs v.pairs a.closure b.closure in
     let nodes : u.nodes ≡ v.nodes = both.0 in
     let pairs : u.pairs ≡ v.pairs = both.1 in
     let goals : u.goals ≡ v.goals = a.goals ∙ sym b.goals in
     let hypotheses : u.hypotheses ≡ v.hypotheses = a.hypotheses ∙ sym b.hypotheses in
-    let hints : u.hints ≡ v.hints = rows_are_one s.nodes s.hints.rewrites u.hints v.hints a.hints b.hints in
-    let instances : u.instances ≡ v.instances = a.order ∙ (λ i. instance_list (nodes i) (pairs i) (hints i)) ∙ sym b.order in
-    (λ i. record { nodes = nodes i; pairs = pairs i; goals = goals i; hypotheses = hypotheses i; hints = hints i; instances = instances i })
+    let hints : u.hints ≡ v.hints =
+    rows_are_one s.nodes s.hints.rewrites u.hints v.hints a.hints b.hints in
+    let instances : u.instances ≡ v.instances =
+    a.order ∙ (λ i. instance_list (nodes i) (pairs i) (hints i)) ∙ sym b.order in
+    (λ i. record {
+      nodes = nodes i;
+      pairs = pairs i;
+      goals = goals i;
+      hypotheses = hypotheses i;
+      hints = hints i;
+      instances = instances i;
+    })

@@ -5,7 +5,11 @@ use Rattle.fx_model.specs.declared.Node.{Node}
 use Rattle.fx_model.specs.declared.Node.TheVariants.{Sub}
 use Rattle.rule_universe.specs.pair_closure.Closure.{Pair}
 use Rattle.script_grammar.specs.script_claims.declared.claim.Claim.{Claim}
-use Rattle.script_grammar.specs.script_claims.declared.claim.Claim.TheVariants.{Bounded, Asked, Relative, RelativeAsked, Multiple, Above, Below}
+use Rattle.script_grammar.specs.script_claims.declared.claim.Claim.TheVariants.{Bounded, Asked}
+use Rattle.script_grammar.specs.script_claims.declared.claim.Claim.TheVariants.{Relative}
+use Rattle.script_grammar.specs.script_claims.declared.claim.Claim.TheVariants.{RelativeAsked}
+use Rattle.script_grammar.specs.script_claims.declared.claim.Claim.TheVariants.{Multiple, Above}
+use Rattle.script_grammar.specs.script_claims.declared.claim.Claim.TheVariants.{Below}
 use Rattle.rewrite_hints.specs.script_hints.declared.hint.Hint.{Hint}
 use Rattle.script_grammar.specs.Spells.{View}
 

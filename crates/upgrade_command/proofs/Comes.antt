@@ -1,5 +1,6 @@
 -- How a run of `upgrade` ends, by what came of the certificate.
-use Rattle.std.specs.Prelude.{◌≡◌, ◌≢◌, ◌≤◌, ◌<◌, ◌⊎◌, ⊤, ℕ, List, Option, Some, None, Result, Ok, Err, IsErrOf, length}
+use Rattle.std.specs.Prelude.{◌≡◌, ◌≢◌, ◌≤◌, ◌<◌, ◌⊎◌, ⊤, ℕ, List, Option, Some, None, Result, Ok}
+use Rattle.std.specs.Prelude.{Err, IsErrOf, length}
 use Rattle.std.specs.Io.KnownBytes.{Keeps}
 use Rattle.std.proofs.Common.{inl, inr, refl, sym, ap, subst, ◌∙◌, arith}
 use Rattle.cert_bytes.specs.declared.fault.CertFault.{CertFault}
@@ -20,22 +21,27 @@ use Rattle.cert_upgrade.specs.declared.stop.UpgradeStop.TheVariants as stop
 use Rattle.command_line.specs.Upgrade.{AskedUpgrade}
 use Rattle.report.specs.Certificates.{cert_fault_line, new_too_long_line, upgraded_line}
 use Rattle.whole_texts.specs.declared.read.ReadStop.TheVariants as reading
-use Rattle.command_runs.specs.Ends.{IsPutBy, IsLinePutBy, IsStopPutBy, IsOnce, put_runs, line_runs, stop_runs, starved_runs, unwritten_runs, exhausted_runs, kept_all, run_by}
-use Rattle.command_runs.specs.Fates.{Left, Leaves, begun, Fate, Written, AreTold, Runs, IsUntouched, MayWrite}
+use Rattle.command_runs.specs.Ends.{IsPutBy, IsLinePutBy, IsStopPutBy, IsOnce, put_runs, line_runs}
+use Rattle.command_runs.specs.Ends.{stop_runs, starved_runs, unwritten_runs, exhausted_runs}
+use Rattle.command_runs.specs.Ends.{kept_all, run_by}
+use Rattle.command_runs.specs.Fates.{Left, Leaves, begun, Fate, Written, AreTold, Runs, IsUntouched}
+use Rattle.command_runs.specs.Fates.{MayWrite}
 use Rattle.command_runs.specs.Fates.Ending.{Done}
 use Rattle.command_runs.specs.Fates.Left.{Kept, Whole, Begun}
 use Rattle.command_runs.specs.Runs.{Bytes, Told, Run, IsKept, IsSilent, ReadFailed, WriteFailed}
 use Rattle.command_runs.specs.Statuses.{read_fault_line}
 use Rattle.command_runs.specs.declared.status.Status.{Status}
 use Rattle.command_runs.specs.declared.status.Status.TheVariants as status
-use Rattle.upgrade_command.specs.Command.{MayBecomeOf, IsBegunOf, UpgradeTold, UpgradeFate, MayRewrite, IsUpgradeRun}
+use Rattle.upgrade_command.specs.Command.{MayBecomeOf, IsBegunOf, UpgradeTold, UpgradeFate}
+use Rattle.upgrade_command.specs.Command.{MayRewrite, IsUpgradeRun}
 
 -- ---- what a file holds
 whole_of : (bytes : Bytes) (old new : Option Bytes) → Holds bytes old new → HoldsWhole bytes old new
 whole_of bytes None new h = tt
 whole_of bytes (Some old) new h = h old refl
 
-part_of : (bytes : Bytes) (old new : Option Bytes) → (new ≡ old) ⊎ HoldsFront bytes old new → HoldsPart bytes old new
+part_of : (bytes : Bytes) (old new : Option Bytes) → (new ≡ old) ⊎ HoldsFront bytes old new
+    → HoldsPart bytes old new
 part_of bytes None new h = tt
 part_of bytes (Some old) new (inl same) = inl same
 part_of bytes (Some old) new (inr h) = inr (h old refl)
@@ -71,7 +77,8 @@ module _ (known old new : Option Bytes) where
       → ComesOfAny old new (Err stop.WriteFailed) → (items : List Item) × MayBecomeOf known items
       × ((new ≡ old) ⊎ HoldsFront (certificate_of items) old new)
   unwritten comes any = by known comes where
-    by : (k : Option Bytes) → ((all : Bytes) → k ≡ Some all → ComesOf all old new (Err stop.WriteFailed))
+    by : (k : Option Bytes) → ((all : Bytes) → k ≡ Some all
+        → ComesOf all old new (Err stop.WriteFailed))
         → (items : List Item) × MayBecomeOf k items
         × ((new ≡ old) ⊎ HoldsFront (certificate_of items) old new)
     by None comes = any
@@ -85,7 +92,8 @@ module _ (known old new : Option Bytes) where
   unread : ((all : Bytes) → known ≡ Some all → ComesOf all old new (Err stop.ReadFailed))
       → ComesOfAny old new (Err stop.ReadFailed) → IsBroken
   unread comes any = by known comes where
-    by : (k : Option Bytes) → ((all : Bytes) → k ≡ Some all → ComesOf all old new (Err stop.ReadFailed))
+    by : (k : Option Bytes) → ((all : Bytes) → k ≡ Some all
+        → ComesOf all old new (Err stop.ReadFailed))
         → (new ≡ old)
         ⊎ ((items : List Item) × MayBecomeOf k items × HoldsFront (certificate_of items) old new)
     by None comes = any
@@ -94,19 +102,23 @@ module _ (known old new : Option Bytes) where
   starved : ((all : Bytes) → known ≡ Some all → ComesOf all old new (Err stop.OutOfMemory))
       → ComesOfAny old new (Err stop.OutOfMemory) → IsBroken
   starved comes any = by known comes where
-    by : (k : Option Bytes) → ((all : Bytes) → k ≡ Some all → ComesOf all old new (Err stop.OutOfMemory))
+    by : (k : Option Bytes) → ((all : Bytes) → k ≡ Some all
+        → ComesOf all old new (Err stop.OutOfMemory))
         → (new ≡ old)
         ⊎ ((items : List Item) × MayBecomeOf k items × HoldsFront (certificate_of items) old new)
     by None comes = any
     by (Some all) comes = comes all refl
 
   -- its bytes have a fault; those that aren't told may have it at the second reading alone
-  faulty : (f : CertFault) → ((all : Bytes) → known ≡ Some all → ComesOf all old new (Err (stop.Fault f)))
-      → ComesOfAny old new (Err (stop.Fault f)) → ((all : Bytes) → known ≡ Some all → HasFault all f)
+  faulty : (f : CertFault)
+      → ((all : Bytes) → known ≡ Some all → ComesOf all old new (Err (stop.Fault f)))
+      → ComesOfAny old new (Err (stop.Fault f))
+      → ((all : Bytes) → known ≡ Some all → HasFault all f)
       × ((new ≡ old) ⊎ ((known ≡ None) × ((items : List Item) × AreCertificate items
       × HoldsFront (certificate_of items) old new)))
   faulty f comes any = by known comes where
-    by : (k : Option Bytes) → ((all : Bytes) → k ≡ Some all → ComesOf all old new (Err (stop.Fault f)))
+    by : (k : Option Bytes) → ((all : Bytes) → k ≡ Some all
+        → ComesOf all old new (Err (stop.Fault f)))
         → ((all : Bytes) → k ≡ Some all → HasFault all f)
         × ((new ≡ old) ⊎ ((k ≡ None) × ((items : List Item) × AreCertificate items
         × HoldsFront (certificate_of items) old new)))
@@ -139,7 +151,8 @@ module _ (a : AskedUpgrade) (r : Run)
   Comes_as result = ((all : Bytes) → known ≡ Some all → ComesOf all old new result)
       × ComesOfAny old new result
 
-  comes_as : (result given : Result Seen UpgradeStop) → result ≡ given → Comes_as result → Comes_as given
+  comes_as : (result given : Result Seen UpgradeStop) → result ≡ given
+      → Comes_as result → Comes_as given
   comes_as result given is h = subst Comes_as is h
 
   -- the new file is left so
@@ -155,7 +168,8 @@ module _ (a : AskedUpgrade) (r : Run)
     pub done_runs : (counts : Seen) → result ≡ Ok counts
         → IsLinePutBy status.Answered (upgraded_line counts) r → IsSo
     done_runs counts given put =
-        let c = comes_as result (Ok counts) given came in by (rewritten known old new counts c.0 c.1) where
+        let c = comes_as result (Ok counts) given came in
+        by (rewritten known old new counts c.0 c.1) where
           by : (items : List Item) × MayBecomeOf known items
               × (counts ≡ seen_in items) × Holds (certificate_of items) old new → IsSo
           by (items, may, is, holds) = line_runs (Some a.new) fate r status.Answered
@@ -167,7 +181,8 @@ module _ (a : AskedUpgrade) (r : Run)
     pub faulty_runs : (f : CertFault) → result ≡ Err (stop.Fault f)
         → IsLinePutBy status.Certificate (cert_fault_line f) r → IsSo
     faulty_runs f given put =
-        let c = comes_as result (Err (stop.Fault f)) given came in by (faulty known old new f c.0 c.1) where
+        let c = comes_as result (Err (stop.Fault f)) given came in
+        by (faulty known old new f c.0 c.1) where
           by : ((all : Bytes) → known ≡ Some all → HasFault all f)
               × ((new ≡ old) ⊎ ((known ≡ None) × ((items : List Item) × AreCertificate items
               × HoldsFront (certificate_of items) old new))) → IsSo
@@ -194,7 +209,8 @@ module _ (a : AskedUpgrade) (r : Run)
           by : IsBroken known old new → IsStopPutBy reading.Fault a.cert r → IsSo
           by (inl same) put = stop_runs (Some a.new) fate r reading.Fault a.cert (all_kept same)
               (λ _. (a.cert, refl, failed, inl refl, refl)) put
-          by (inr (items, may, part)) (inr (is, put)) = put_runs (Some a.new) fate r status.ReadFault
+          by (inr (items, may, part)) (inr (is, put)) =
+              put_runs (Some a.new) fate r status.ReadFault
               (read_fault_line a.cert) (Begun (Some (certificate_of items)))
               (a.cert, refl, failed, inr (items, may, refl), refl) others_kept refl
               (left_so (Begun (Some (certificate_of items)))
@@ -240,12 +256,15 @@ module _ (law : ItemsAreOne) (a : AskedUpgrade) (r : Run) where
   IsOutcome all s = ((s ≡ status.Answered) × ((items : List Item) × MayBecome all items))
       ⊎ ((s ≡ status.Certificate) × (((f : CertFault) × HasFault all f) ⊎ IsTooLong all))
 
-  outcome : (s : Status) (lines : Bytes) (left : Left) → s ≢ status.ReadFault → UpgradeFate a r s lines left
+  outcome : (s : Status) (lines : Bytes) (left : Left) → s ≢ status.ReadFault
+      → UpgradeFate a r s lines left
       → (all : Bytes) → r.before.told a.cert ≡ Some all → IsOutcome all s
   outcome status.Answered lines left n (items, may, is, kept) all e =
       inl (refl, (items, subst (λ k. MayBecomeOf k items) e may))
-  outcome status.Certificate lines left n (inl (f, has, is, kept)) all e = inr (refl, inl (f, has all e))
-  outcome status.Certificate lines left n (inr (long, is, kept)) all e = inr (refl, inr (long all e))
+  outcome status.Certificate lines left n (inl (f, has, is, kept)) all e =
+      inr (refl, inl (f, has all e))
+  outcome status.Certificate lines left n (inr (long, is, kept)) all e =
+      inr (refl, inr (long all e))
   outcome status.ReadFault lines left n p all e = absurd (n refl)
   outcome _ lines left n p all e = absurd p
 
@@ -276,12 +295,14 @@ keeps : (a : AskedUpgrade) (r : Run) (s : Status) (lines : Bytes) (left : Left)
 keeps a r status.Answered lines left still p = absurd (still tt)
 keeps a r status.ReadFault lines left still p = absurd (still tt)
 keeps a r status.Certificate lines left still (inl (f, has, is, inl kept)) = kept
-keeps a r status.Certificate lines left still (inl (f, has, is, inr (untold, part))) = absurd (still untold)
+keeps a r status.Certificate lines left still (inl (f, has, is, inr (untold, part))) =
+    absurd (still untold)
 keeps a r status.Certificate lines left still (inr (long, is, kept)) = kept
 keeps a r status.WriteFault lines left still p = absurd (still tt)
 keeps a r status.OutOfMemory lines left still p = absurd (still tt)
 keeps a r _ lines left still p = absurd p
 
-pub whole : ItemsAreOne → (a : AskedUpgrade) (r : Run) → Runs (Some a.new) (UpgradeFate a r) r → IsUpgradeRun a r
+pub whole : ItemsAreOne → (a : AskedUpgrade) (r : Run)
+    → Runs (Some a.new) (UpgradeFate a r) r → IsUpgradeRun a r
 whole law a r h = run_by (Some a.new) (λ name. name ≡ a.cert) (MayRewrite (r.before.told a.cert))
     (UpgradeFate a r) r tt tt (keeps a r) (once law a r) h

@@ -1,5 +1,6 @@
 -- Bytes that are read piece by piece.
-use Rattle.std.proofs.Common.{◌≡◌, ◌≤◌, ◌<◌, ◌+◌, ℕ, List, ◌++◌, length, take, drop, Option, Some, None, sym, ap, ◌∙◌, arith, subst, Ok, length-append}
+use Rattle.std.proofs.Common.{◌≡◌, ◌≤◌, ◌<◌, ◌+◌, ℕ, List, ◌++◌, length, take, drop, Option, Some}
+use Rattle.std.proofs.Common.{None, sym, ap, ◌∙◌, arith, subst, Ok, length-append}
 use Rattle.std.specs.Prelude.{⊤}
 use Rattle.std.proofs.lemmas.List.{length-take-le, take_all, take-append-le}
 use Rattle.std.proofs.Math.Seq.{take-add}
@@ -22,9 +23,11 @@ begun_more E (Some all) seen text buf at n same e le front read =
     piece.bytes ∙ ap (λ (i : ℕ). take n (drop i all)) e in
     let len : length (text ++ take n buf) ≡ length text + n =
     length-append text (take n buf) ∙ ap (λ (i : ℕ). length text + i) (length-take-le n buf le) in
-    let parts : take (length text + n) all ≡ take (length text) all ++ take n (drop (length text) all) =
+    let parts : take (length text + n) all
+    ≡ take (length text) all ++ take n (drop (length text) all) =
     take-add (length text) n all in
-    ap (λ (t : List ℕ). t ++ take n buf) front ∙ ap (λ (t : List ℕ). take (length text) all ++ t) here
+    ap (λ (t : List ℕ). t ++ take n buf) front
+    ∙ ap (λ (t : List ℕ). take (length text) all ++ t) here
     ∙ sym parts ∙ sym (ap (λ (i : ℕ). take i all) len)
 
 -- the same where the bytes were read into the front of a longer buffer
@@ -37,7 +40,8 @@ begun_piece E known seen text buf rest at n same e le front read =
 
 -- nothing more was there
 pub text_ends : (E : Type 0) (known seen : Option (List ℕ)) (text buf : List ℕ) (at n most : ℕ)
-    → seen ≡ known → at ≡ length text → n ≡ 0 → 0 < length buf → length text ≤ most → IsBegun known text
+    → seen ≡ known → at ≡ length text → n ≡ 0 → 0 < length buf
+    → length text ≤ most → IsBegun known text
     → ReadsFrom {E = E} seen at (Ok n) buf → IsText most known text
 text_ends E None seen text buf at n most same e none room short front read = short
 text_ends E (Some all) seen text buf at n most same e none room short front read =
@@ -52,4 +56,5 @@ pub text_full : (known : Option (List ℕ)) (text : List ℕ) (most : ℕ)
     → length text ≤ most → most ≤ length text → IsBegun known text → IsText most known text
 text_full None text most short long front = short
 text_full (Some all) text most short long front =
-    let full : length text ≡ most = omega (arith, short, long) in front ∙ ap (λ (i : ℕ). take i all) full
+    let full : length text ≡ most = omega (arith, short, long) in
+    front ∙ ap (λ (i : ℕ). take i all) full

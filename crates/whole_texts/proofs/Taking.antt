@@ -6,7 +6,8 @@ use Rattle.std.proofs.lemmas.List.{take-append-drop}
 use Rattle.whole_texts.specs.Pieces.{AppendsFront, appends_kept}
 
 -- the first bytes were taken, and then a call failed
-pub on_failure : {T E : Type 0} (r : Result T E) (a b c : Option (List ℕ)) (bytes : List ℕ) (done : ℕ)
+pub on_failure : {T E : Type 0} (r : Result T E) (a b c : Option (List ℕ))
+    (bytes : List ℕ) (done : ℕ)
     → Appends a b (take done bytes) → Keeps b c → OnErr r (AppendsFront a c bytes)
 on_failure (Ok x) a b c bytes done p q = tt
 on_failure (Err e) a b c bytes done p q = (

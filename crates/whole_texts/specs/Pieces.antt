@@ -1,5 +1,6 @@
 -- What a file or a sink took, where its bytes are known.
-use Rattle.std.specs.Prelude.{⊤, ◌≡◌, ◌-◌, ◌++◌, ◌⊎◌, ℕ, List, length, take, drop, Option, Some, None}
+use Rattle.std.specs.Prelude.{⊤, ◌≡◌, ◌-◌, ◌++◌, ◌⊎◌, ℕ, List, length, take, drop, Option, Some}
+use Rattle.std.specs.Prelude.{None}
 use Rattle.std.specs.Io.KnownBytes.{Appends, Keeps}
 use Rattle.std.proofs.Common.{ap, sym, ◌∙◌, append_assoc, length-drop}
 use Rattle.std.proofs.Math.Seq.{take-length}

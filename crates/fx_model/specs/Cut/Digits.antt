@@ -1,10 +1,13 @@
 -- Cuts with fewer digits, and cuts of quotients.
-use Rattle.std.specs.Prelude.{◌≡◌, ℕ, ℤ, pos, ◌+ℤ◌, ◌*◌, ◌+◌, ◌≤◌, ◌<◌, ◌^◌, Bool, true, false, ◌||◌, not, refl}
+use Rattle.std.specs.Prelude.{◌≡◌, ℕ, ℤ, pos, ◌+ℤ◌, ◌*◌, ◌+◌, ◌≤◌, ◌<◌, ◌^◌, Bool, true, false}
+use Rattle.std.specs.Prelude.{◌||◌, not, refl}
 use lib.Dec.{T, ltb, ltb→lt, nltb→le}
 use Rattle.std.proofs.Common.{arith, sym, ap, ◌∙◌, subst}
 use Rattle.std.proofs.lemmas.Int.{ints}
-use Rattle.fx_model.specs.Fraction.{Fraction, ◌*ℚ◌, ◌≤ℚ◌, ◌<ℚ◌, zero_ℚ, lt_le, le_lt_trans, lt_le_trans, mul_assoc, mul-lt_cancel, mul_cancel}
-use Rattle.fx_model.specs.Powers.{whole, two_to, scaled, scaled-le, scaled-lt, scaled-shift, whole-mul, whole-lt, zero-whole}
+use Rattle.fx_model.specs.Fraction.{Fraction, ◌*ℚ◌, ◌≤ℚ◌, ◌<ℚ◌, zero_ℚ, lt_le, le_lt_trans}
+use Rattle.fx_model.specs.Fraction.{lt_le_trans, mul_assoc, mul-lt_cancel, mul_cancel}
+use Rattle.fx_model.specs.Powers.{whole, two_to, scaled, scaled-le, scaled-lt, scaled-shift}
+use Rattle.fx_model.specs.Powers.{whole-mul, whole-lt, zero-whole}
 use Rattle.fx_model.specs.Cut.Gaps.{Cuts}
 
 -- ---- fewer digits: h * p + l at 2^e, with p = 2^s, is h at 2^(e + s), and l is cut off

@@ -1,11 +1,13 @@
 -- Cuts at and past the largest grid number.
-use Rattle.std.specs.Prelude.{◌≡◌, ◌⊎◌, ℕ, ℤ, pos, negsuc, ◌+ℤ◌, ◌*ℤ◌, ◌≤ℤ◌, ◌<ℤ◌, ◌*◌, ◌+◌, ◌≤◌, ◌<◌, ◌^◌, Bool, true}
+use Rattle.std.specs.Prelude.{◌≡◌, ◌⊎◌, ℕ, ℤ, pos, negsuc, ◌+ℤ◌, ◌*ℤ◌, ◌≤ℤ◌, ◌<ℤ◌, ◌*◌, ◌+◌, ◌≤◌}
+use Rattle.std.specs.Prelude.{◌<◌, ◌^◌, Bool, true}
 use Rattle.std.proofs.Common.{arith, sym, ap, ◌∙◌, subst, ⊎_elim}
 use Rattle.std.proofs.Math.Nat.{mul-le-mul_left, mul-one}
 use Rattle.std.proofs.lemmas.Bool.{cases_lt}
 use Rattle.std.proofs.lemmas.Nat.{pow_pos}
 use Rattle.std.proofs.lemmas.Int.{ints, by_lt_z}
-use Rattle.fx_model.specs.Fraction.{Fraction, ◌≤ℚ◌, ◌<ℚ◌, zero_ℚ, le_trans, lt_le, lt_not, lt_le_trans, le_or_lt}
+use Rattle.fx_model.specs.Fraction.{Fraction, ◌≤ℚ◌, ◌<ℚ◌, zero_ℚ, le_trans, lt_le, lt_not}
+use Rattle.fx_model.specs.Fraction.{lt_le_trans, le_or_lt}
 use Rattle.fx_model.specs.Powers.{scaled, scaled-le, scaled-lt, scaled-shift, scaled-zero}
 use Rattle.fx_model.specs.Grid.{IsOnGrid, At, Above, IsDown, IsUp}
 use Rattle.fx_model.specs.Cut.Gaps.{Cuts, Full, cut_low, gap_le, on_grid, up_least}

@@ -1,7 +1,8 @@
 -- The enclosure of a set whose least and greatest members are known, and that it holds each member.
 use Rattle.fx_model.specs.Fraction.{Fraction, ◌≤ℚ◌, le_trans}
 use Rattle.fx_model.specs.Grid.{Bound, Below, At, Above, IsDown, IsUp}
-use Rattle.fx_model.specs.Enclosure.Sets.{Range, IsFrom, IsUpTo, Lies, IsInfimum, IsSupremum, IsEnclosure}
+use Rattle.fx_model.specs.Enclosure.Sets.{Range, IsFrom, IsUpTo, Lies, IsInfimum, IsSupremum}
+use Rattle.fx_model.specs.Enclosure.Sets.{IsEnclosure}
 
 -- ---- a set with a least member
 pub infimum_at : (S : Fraction → Type 0) (m : Fraction) (b : Bound) → S m

@@ -2,7 +2,8 @@
 use Rattle.std.specs.Prelude.{⊤}
 use Rattle.fx_model.specs.Fraction.{Fraction, ◌≤ℚ◌, le_trans}
 use Rattle.fx_model.specs.Grid.{Bound, Below, At, Above}
-use Rattle.fx_model.specs.Enclosure.Sets.{Range, IsFrom, IsUpTo, Lies, IsInfimum, IsSupremum, IsEnclosure, Sums, IsSum}
+use Rattle.fx_model.specs.Enclosure.Sets.{Range, IsFrom, IsUpTo, Lies, IsInfimum, IsSupremum}
+use Rattle.fx_model.specs.Enclosure.Sets.{IsEnclosure, Sums, IsSum}
 
 -- ---- smaller sets have better enclosures
 abbrev pub BoundLe : Bound → Bound → Type 0

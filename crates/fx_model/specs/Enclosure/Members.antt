@@ -1,9 +1,11 @@
 -- What lies in intervals and near their ends, their negatives, and sets with the same members.
 use Rattle.std.specs.Prelude.{◌≡◌}
 use Rattle.std.proofs.Common.{sym, subst, ⊎_elim}
-use Rattle.fx_model.specs.Fraction.{Fraction, ◌≤ℚ◌, neg_ℚ, le_refl, le_trans, le_or_lt, lt_le, neg-le}
+use Rattle.fx_model.specs.Fraction.{Fraction, ◌≤ℚ◌, neg_ℚ, le_refl, le_trans, le_or_lt, lt_le}
+use Rattle.fx_model.specs.Fraction.{neg-le}
 use Rattle.fx_model.specs.Grid.{Bound, Below, At, Above, neg_bound, neg_bound-neg}
-use Rattle.fx_model.specs.Enclosure.Sets.{Range, IsFrom, IsUpTo, Lies, IsInfimum, IsSupremum, IsEnclosure}
+use Rattle.fx_model.specs.Enclosure.Sets.{Range, IsFrom, IsUpTo, Lies, IsInfimum, IsSupremum}
+use Rattle.fx_model.specs.Enclosure.Sets.{IsEnclosure}
 use Rattle.fx_model.specs.Enclosure.Attained.{in_enclosure}
 use Rattle.fx_model.specs.Enclosure.Isotone.{BoundLe, within_in}
 use Rattle.fx_model.specs.Enclosure.Ends.{IsOrdered, member_of, ordered_by}

@@ -4,7 +4,8 @@ use Rattle.std.specs.Prelude.{◌≡◌, ◌⊎◌}
 use Rattle.std.proofs.Common.{refl, sym, ap, ◌∙◌, subst, inl, inr, ⊎_elim}
 use Rattle.fx_model.specs.Fraction.{Fraction, ◌*ℚ◌, le_antisymm}
 use Rattle.fx_model.specs.Grid.{Bound, Below, At, Above}
-use Rattle.fx_model.specs.Enclosure.Sets.{Range, Lies, IsInfimum, IsSupremum, IsEnclosure, Products, IsFinite, IsProduct}
+use Rattle.fx_model.specs.Enclosure.Sets.{Range, Lies, IsInfimum, IsSupremum, IsEnclosure, Products}
+use Rattle.fx_model.specs.Enclosure.Sets.{IsFinite, IsProduct}
 use Rattle.fx_model.specs.Enclosure.Attained.{in_enclosure}
 
 infimum_unique : (S : Fraction → Type 0) (b c : Bound) → IsInfimum S b → IsInfimum S c → b ≡ c

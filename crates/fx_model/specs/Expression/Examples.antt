@@ -2,9 +2,12 @@
 use Rattle.std.specs.Prelude.{◌≡◌, ℕ, pos, negsuc, Some, None, [], ◌∷◌, if◌then◌else◌, refl}
 use Rattle.std.proofs.Common.{ap, ◌∙◌, lit<}
 use mathlib.Core.Quot.{sound}
-use Rattle.fx_model.specs.Fraction.{Ratio, Same, of_ratio, ◌*ℚ◌, ◌/ℚ◌, inverse_ℚ, zero_ℚ, is_zero-zero, mul_ratio, mul-mk, inverse_ratio, inverse-mk, add-neg}
+use Rattle.fx_model.specs.Fraction.{Ratio, Same, of_ratio, ◌*ℚ◌, ◌/ℚ◌, inverse_ℚ, zero_ℚ}
+use Rattle.fx_model.specs.Fraction.{is_zero-zero, mul_ratio, mul-mk, inverse_ratio, inverse-mk}
+use Rattle.fx_model.specs.Fraction.{add-neg}
 use Rattle.fx_model.specs.Powers.{two_to, whole_ratio, two_to_ratio, whole-mk, two_to-mk}
-use Rattle.fx_model.specs.Expression.{Assignment, ten_to, literal_value, quotient, value, values_after}
+use Rattle.fx_model.specs.Expression.{Assignment, ten_to, literal_value, quotient, value}
+use Rattle.fx_model.specs.Expression.{values_after}
 use Rattle.fx_model.specs.declared.ExprId.{ExprId}
 use Rattle.fx_model.specs.declared.Node.TheVariants.{Var, Sub, Mul, Div}
 

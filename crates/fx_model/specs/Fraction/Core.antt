@@ -5,7 +5,8 @@ pub mod Order
 pub mod Laws
 pub mod Floor
 pub mod Inverse
-use Rattle.std.specs.Prelude.{◌≡◌, ◌⊎◌, ℕ, ◌*◌, ◌+◌, ◌-◌, ◌/◌, ◌≤◌, ◌<◌, ◌^◌, Bool, true, false, cond, nat_le, nat_lt, IsTrue, IsFalse, not, refl}
+use Rattle.std.specs.Prelude.{◌≡◌, ◌⊎◌, ℕ, ◌*◌, ◌+◌, ◌-◌, ◌/◌, ◌≤◌, ◌<◌, ◌^◌, Bool, true, false}
+use Rattle.std.specs.Prelude.{cond, nat_le, nat_lt, IsTrue, IsFalse, not, refl}
 use Rattle.std.proofs.Common.{arith, sym, ap, ◌∙◌, subst, lit<, inl, inr}
 use Rattle.std.proofs.Math.Nat.{mul-le-mul_left, mul-le-mul_right, mul-pos}
 use mathlib.Core.Quot.{Quot, mk, sound, ind, lift, Quot-set}

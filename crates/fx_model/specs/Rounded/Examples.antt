@@ -4,7 +4,8 @@ use Rattle.std.proofs.Common.{lit<}
 use Rattle.fx_model.specs.Fraction.{Fraction, of_ratio, zero_ℚ, add-mk, neg-mk, floor-mk, le-mk}
 use Rattle.fx_model.specs.Powers.{two_to-mk}
 use Rattle.fx_model.specs.Rounded.{whole_for}
-use Rattle.fx_model.specs.declared.Direction.TheVariants.{Zr, Aw, Dn, Up, Od, Ne, No, Nz, Na, Nd, Nu}
+use Rattle.fx_model.specs.declared.Direction.TheVariants.{Zr, Aw, Dn, Up, Od, Ne, No, Nz, Na, Nd}
+use Rattle.fx_model.specs.declared.Direction.TheVariants.{Nu}
 
 abbrev five_halves : Fraction
 five_halves = of_ratio (record { plus = 5; minus = 0; den = 2; positive = lit< tt })

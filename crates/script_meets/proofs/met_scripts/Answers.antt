@@ -7,7 +7,8 @@ pub returns-clause-hints : goal.returns-clause-hints
 returns-clause-hints c = hints_are_met c.equal_forms_have_equal_values.ensures
 
 pub returns-clause-sides : goal.returns-clause-sides
-returns-clause-sides c = needs_give_equal_sides c.equal_forms_have_equal_values.ensures c.rounded_needs_are_enough.ensures.sides
+returns-clause-sides c = needs_give_equal_sides c.equal_forms_have_equal_values.ensures
+    c.rounded_needs_are_enough.ensures.sides
 
 pub returns-clause-cases : goal.returns-clause-cases
 returns-clause-cases c = λ a s. met_in_some_case (IsTrueAt s.nodes a) s.parts

@@ -1,4 +1,5 @@
-use Rattle.std.proofs.Common.{◌≡◌, ◌<◌, ◌++◌, ◌∙◌, [], ◌∷◌, ap, arith, length, map, rules, string_bytes, subst, sym, take}
+use Rattle.std.proofs.Common.{◌≡◌, ◌<◌, ◌++◌, ◌∙◌, [], ◌∷◌, ap, arith, length, map, rules}
+use Rattle.std.proofs.Common.{string_bytes, subst, sym, take}
 use Rattle.fx_edge.specs.Outside.{Rose, rose_later}
 use Rattle.whole_texts.specs.Texts.{IsText}
 use Rattle.command_runs.specs.Statuses.{read_fault_line}

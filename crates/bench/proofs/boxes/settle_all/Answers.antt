@@ -8,7 +8,12 @@ use Rattle.bench.proofs.boxes.settle_all.Goals as goal
 pub settle_in-requires-in-Some-clause-given : goal.settle_in-requires-in-Some-clause-given
 settle_in-requires-in-Some-clause-given c = (
   (c.args.x, c.in-Some.range) ∷ [],
-  ([], refl, subst (λ t. IsTableAt (setting_of c.args.uni.now) 64 [] (fact_at t)) (sym c.table_in-root.ensures) (c.in_ok-top.ensures.table [] refl)),
+  (
+    [],
+    refl,
+    subst (λ t. IsTableAt (setting_of c.args.uni.now) 64 [] (fact_at t))
+        (sym c.table_in-root.ensures) (c.in_ok-top.ensures.table [] refl),
+  ),
 )
 
 pub settle_in-requires-in-Some-clause-marked : goal.settle_in-requires-in-Some-clause-marked

@@ -6,7 +6,9 @@ use Rattle.bench.proofs.universes.assumed_universe.Goals as goal
 
 pub assume-requires-clause-claims : goal.assume-requires-clause-claims
 assume-requires-clause-claims c =
-    subst (AreHypotheses c.args.script.now) (sym c.hypotheses.ensures.value) (all_are c.args.script.now.hypotheses)
+    subst (AreHypotheses c.args.script.now) (sym c.hypotheses.ensures.value)
+    (all_are c.args.script.now.hypotheses)
 
 pub assume-requires-clause-normal : goal.assume-requires-clause-normal
-assume-requires-clause-normal c = recursion_from_All HasNormalBounds c.hypotheses.result.now c.hypotheses.ensures.normal
+assume-requires-clause-normal c =
+    recursion_from_All HasNormalBounds c.hypotheses.result.now c.hypotheses.ensures.normal

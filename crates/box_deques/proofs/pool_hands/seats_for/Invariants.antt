@@ -4,4 +4,5 @@ use Rattle.box_deques.specs.Seen.{IsBare}
 use Rattle.box_deques.proofs.pool_hands.seats_for.Given as goal
 
 abbrev pub invariant-loop : goal.invariant-loop
-invariant-loop g l = (vec_len l.seats ≡ l.counter) × (l.lanes ≤ vec_capacity l.seats) × ((k : ℕ) (d : seen.Seat) → k < l.counter → IsBare l.hand l.room (slice_index_or l.seats.items k d))
+invariant-loop g l = (vec_len l.seats ≡ l.counter) × (l.lanes ≤ vec_capacity l.seats) × ((k : ℕ)
+    (d : seen.Seat) → k < l.counter → IsBare l.hand l.room (slice_index_or l.seats.items k d))

@@ -15,16 +15,22 @@ pub met-requires : goal.met-requires
 met-requires c = c.requires c.in-Some.row c.in-Some.is
 
 pub returns-in-Some-clause-none : goal.returns-in-Some-clause-none
-returns-in-Some-clause-none c = none_map c.met.result c.met.ensures.none (λ s. (c.in-Some.row, c.in-Some.is, s))
+returns-in-Some-clause-none c =
+    none_map c.met.result c.met.ensures.none (λ s. (c.in-Some.row, c.in-Some.is, s))
 
 pub returns-in-Some-clause-some : goal.returns-in-Some-clause-some
-returns-in-Some-clause-some c = subst (λ (o : Option Cited). IfSome c.met.result (λ k. k ≡ joined (fact_of o) c.args.c)) (sym c.in-Some.is) c.met.ensures.some
+returns-in-Some-clause-some c =
+    subst (λ (o : Option Cited). IfSome c.met.result (λ k. k ≡ joined (fact_of o) c.args.c))
+    (sym c.in-Some.is) c.met.ensures.some
 
 pub returns-in-Some-clause-with : goal.returns-in-Some-clause-with
-returns-in-Some-clause-with c = subst (λ (o : Option Cited). IfSome c.met.result (λ k. number_of o ≡ with_by (fact_of o) (number_or o) c.args.c)) (sym c.in-Some.is) c.met.ensures.with
+returns-in-Some-clause-with c = subst (λ (o : Option Cited). IfSome c.met.result (λ k. number_of o
+    ≡ with_by (fact_of o) (number_or o) c.args.c)) (sym c.in-Some.is) c.met.ensures.with
 
 pub returns-in-None-clause-some : goal.returns-in-None-clause-some
-returns-in-None-clause-some c = subst (λ (o : Option Cited). c.args.c ≡ joined (fact_of o) c.args.c) (sym c.in-None.is) refl
+returns-in-None-clause-some c =
+    subst (λ (o : Option Cited). c.args.c ≡ joined (fact_of o) c.args.c) (sym c.in-None.is) refl
 
 pub returns-in-None-clause-with : goal.returns-in-None-clause-with
-returns-in-None-clause-with c = subst (λ (o : Option Cited). number_of o ≡ with_by (fact_of o) (number_or o) c.args.c) (sym c.in-None.is) refl
+returns-in-None-clause-with c = subst (λ (o : Option Cited). number_of o
+    ≡ with_by (fact_of o) (number_or o) c.args.c) (sym c.in-None.is) refl

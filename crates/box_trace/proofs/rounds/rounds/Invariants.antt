@@ -10,7 +10,8 @@ use Rattle.box_trace.proofs.rounds.rounds.Given as goal
 
 abbrev pub invariant-loop : goal.invariant-loop
 invariant-loop l = record {
-  best : IsBestFrom (setting_of l.uni) (known_at l.uni l.initial.log.known) l.counter (known_at l.uni l.log.known);
+  best : IsBestFrom (setting_of l.uni)
+      (known_at l.uni l.initial.log.known) l.counter (known_at l.uni l.log.known);
   no_void : known_at l.uni l.log.known slot.Void ≡ None;
   now : l.now.rows.items ≡ l.log.known.rows.items;
   due : length l.due.items ≡ length l.uni.instances;

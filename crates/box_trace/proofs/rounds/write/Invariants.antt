@@ -16,12 +16,14 @@ use Rattle.box_trace.proofs.rounds.write.Given as goal
 
 abbrev pub invariant-loop-p : goal.invariant-loop-p
 invariant-loop-p l = record {
-  ahead : IsAhead (setting_of l.uni) (known_at l.uni l.now) (known_at l.uni l.log.known) (IsWritten l.uni (known_at l.uni l.now) l.ends l.p);
+  ahead : IsAhead (setting_of l.uni) (known_at l.uni l.now) (known_at l.uni l.log.known)
+      (IsWritten l.uni (known_at l.uni l.now) l.ends l.p);
   listed : IsListed (slots_of l.changed.items) (known_at l.uni l.now) (known_at l.uni l.log.known);
   placed : (x : Placed) → Contains l.changed.items x → IsPlaced (length l.uni.nodes) l.uni.pairs x;
   goes_on : IsWritable (setting_of l.uni) l.uni.hints → GoesOnFrom l.uni l.now l.initial.log l.log;
   rows : HasRows l.uni l.log.known;
   adds : AddsSteps l.uni l.now (2 * beyond_below l.uni l.p) l.initial.log l.log;
   first : l.log.first ≡ l.initial.log.first;
-  few : length l.log.steps.items ≤ length l.initial.log.steps.items + most_for (length l.uni.nodes) l.p;
+  few : length l.log.steps.items
+      ≤ length l.initial.log.steps.items + most_for (length l.uni.nodes) l.p;
 }

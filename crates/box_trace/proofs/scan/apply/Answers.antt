@@ -1,4 +1,5 @@
-use Rattle.std.proofs.Common.{◌≡◌, ◌<◌, ◌+◌, ℕ, [], ◌∷◌, List, length, sym, ap, subst, ◌∙◌, arith, drop, slice_index_or, add-one}
+use Rattle.std.proofs.Common.{◌≡◌, ◌<◌, ◌+◌, ℕ, [], ◌∷◌, List, length, sym, ap, subst, ◌∙◌, arith}
+use Rattle.std.proofs.Common.{drop, slice_index_or, add-one}
 use Rattle.std.proofs.Math.Seq.{drop-cons}
 use Rattle.std.proofs.lemmas.List.{drop_all}
 use Rattle.std.proofs.lemmas.List.Elements.{Contains-get_or}
@@ -18,16 +19,20 @@ none_left = record { slot = slot.Bnd (record { 0 = 0 }); place = 0 }
 abbrev here : List Placed → ℕ → Placed
 here placed i = slice_index_or placed i none_left
 
-rest_is : (placed : List Placed) (i : ℕ) → i < length placed → drop i placed ≡ here placed i ∷ drop (i + 1) placed
+rest_is : (placed : List Placed) (i : ℕ) → i < length placed
+    → drop i placed ≡ here placed i ∷ drop (i + 1) placed
 rest_is placed i h = rw (add-one i) (drop-cons placed i none_left h)
 
 pub loop-p-init : goal.loop-p-init
 loop-p-init c =
     let at = known_at c.args.uni.now c.args.now.now in
-    subst (λ ps. all_at at (slots_of c.args.placed.now) ≡ after ps (all_at at (slots_of c.args.placed.now))) (sym c.clear.ensures.items) (after_none (all_at at (slots_of c.args.placed.now)))
+    subst (λ ps. all_at at (slots_of c.args.placed.now)
+    ≡ after ps (all_at at (slots_of c.args.placed.now))) (sym c.clear.ensures.items)
+    (after_none (all_at at (slots_of c.args.placed.now)))
 
 pub fact_at-requires : goal.fact_at-requires
-fact_at-requires c = c.requires.found (here c.args.placed.now c.loop-p.p-index) (Contains-get_or c.args.placed.now c.loop-p.p-index none_left c.loop-p-test.true)
+fact_at-requires c = c.requires.found (here c.args.placed.now c.loop-p.p-index)
+    (Contains-get_or c.args.placed.now c.loop-p.p-index none_left c.loop-p-test.true)
 
 pub returns-in-None : goal.returns-in-None
 returns-in-None c =
@@ -35,8 +40,10 @@ returns-in-None c =
     let at = known_at c.args.uni.now c.args.now.now in
     let rest = all_at at (slots_of (drop (c.loop-p.p-index + 1) placed)) in
     let ps = c.loop-p.premises.items in
-    let inv = subst (λ l. all_at at (slots_of placed) ≡ after ps (all_at at (slots_of l))) (rest_is placed c.loop-p.p-index c.loop-p-test.true) c.loop-p.invariant in
-    gathered_none (concludes c.args.uni.now.nodes c.args.uni.now.hints) at c.args.instance.now (slots_of placed) c.requires.slots ps rest
+    let inv = subst (λ l. all_at at (slots_of placed) ≡ after ps (all_at at (slots_of l)))
+    (rest_is placed c.loop-p.p-index c.loop-p-test.true) c.loop-p.invariant in
+    gathered_none (concludes c.args.uni.now.nodes c.args.uni.now.hints) at c.args.instance.now
+    (slots_of placed) c.requires.slots ps rest
     (inv ∙ ap (λ o. after ps (with_first o rest)) (sym c.fact_at.ensures ∙ c.in-None.is))
 
 pub loop-p-preserved : goal.loop-p-preserved
@@ -45,17 +52,24 @@ loop-p-preserved c =
     let at = known_at c.args.uni.now c.args.now.now in
     let rest = all_at at (slots_of (drop (c.loop-p.p-index + 1) placed)) in
     let ps = c.loop-p.premises.items in
-    let inv = subst (λ l. all_at at (slots_of placed) ≡ after ps (all_at at (slots_of l))) (rest_is placed c.loop-p.p-index c.loop-p-test.true) c.loop-p.invariant in
-    subst (λ qs. all_at at (slots_of placed) ≡ after qs rest) (sym c.in_ok-push-in-Some.ensures.items)
-    (inv ∙ ap (λ o. after ps (with_first o rest)) (sym c.fact_at.ensures ∙ c.in-Some.is) ∙ after_first ps c.in-Some.f rest)
+    let inv = subst (λ l. all_at at (slots_of placed) ≡ after ps (all_at at (slots_of l)))
+    (rest_is placed c.loop-p.p-index c.loop-p-test.true) c.loop-p.invariant in
+    subst (λ qs. all_at at (slots_of placed) ≡ after qs rest)
+    (sym c.in_ok-push-in-Some.ensures.items)
+    (inv ∙ ap (λ o. after ps (with_first o rest)) (sym c.fact_at.ensures ∙ c.in-Some.is)
+    ∙ after_first ps c.in-Some.f rest)
 
 pub returns : goal.returns
 returns c =
     let placed = c.args.placed.now in
     let at = known_at c.args.uni.now c.args.now.now in
     let ps = c.loop-p.premises.items in
-    let end : drop c.loop-p.p-index placed ≡ [] = drop_all c.loop-p.p-index placed (omega (arith, c.loop-p-test.false)) in
-    let all = subst (λ l. all_at at (slots_of placed) ≡ after ps (all_at at (slots_of l))) end c.loop-p.invariant in
+    let end : drop c.loop-p.p-index placed ≡ [] =
+    drop_all c.loop-p.p-index placed (omega (arith, c.loop-p-test.false)) in
+    let all = subst (λ l. all_at at (slots_of placed)
+    ≡ after ps (all_at at (slots_of l))) end c.loop-p.invariant in
     let i = c.args.instance.now in
-    c.conclude_by.ensures ∙ ap (λ l. concludes c.args.uni.now.nodes c.args.uni.now.hints i.rule i.arg l i.target) c.deref.ensures.value
-    ∙ gathered_all (concludes c.args.uni.now.nodes c.args.uni.now.hints) at i (slots_of placed) c.requires.slots ps all
+    c.conclude_by.ensures ∙ ap (λ l. concludes c.args.uni.now.nodes c.args.uni.now.hints i.rule
+    i.arg l i.target) c.deref.ensures.value
+    ∙ gathered_all (concludes c.args.uni.now.nodes c.args.uni.now.hints) at i
+    (slots_of placed) c.requires.slots ps all

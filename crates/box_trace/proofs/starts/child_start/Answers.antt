@@ -15,7 +15,9 @@ use Rattle.box_trace.proofs.Added.{gives_none, gives_more, same_steps}
 use Rattle.box_trace.proofs.starts.child_start.Goals as goal
 
 pub come-requires-clause-rows : goal.come-requires-clause-rows
-come-requires-clause-rows c = same_rows c.args.uni.now c.args.parent.now c.begin-log.result.known (ap (λ (k : Known). k.rows.items) c.begin-log.ensures.known ∙ c.in_ok-known.ensures) c.requires.rows
+come-requires-clause-rows c = same_rows c.args.uni.now c.args.parent.now c.begin-log.result.known
+    (ap (λ (k : Known). k.rows.items) c.begin-log.ensures.known
+    ∙ c.in_ok-known.ensures) c.requires.rows
 
 pub returns-clause-improves : goal.returns-clause-improves
 returns-clause-improves c =
@@ -24,9 +26,13 @@ returns-clause-improves c =
     let old : Log = c.begin-log.result in
     let same = ap (λ (k : Known). k.rows.items) c.begin-log.ensures.known ∙ c.in_ok-known.ensures in
     let new = c.come.new.self in
-    let i = comes_improves u old new c.given-source.result.rule c.given-source.result.arg c.given-source.result.premises f
-    (same_rows u c.args.parent.now old.known same c.requires.rows).proper c.in_ok-_piece.ensures in
-    (i.0, subst (λ (at : At). Improves at (known_at u new.known) f i.0) (same_known u c.args.parent.now old.known same) i.1)
+    let i = comes_improves u old new c.given-source.result.rule c.given-source.result.arg
+    c.given-source.result.premises f
+    (same_rows u c.args.parent.now old.known same c.requires.rows).proper c.in_ok-_piece.ensures in (
+      i.0,
+      subst (λ (at : At). Improves at (known_at u new.known) f i.0)
+          (same_known u c.args.parent.now old.known same) i.1,
+    )
 
 pub returns-clause-begins : goal.returns-clause-begins
 returns-clause-begins c =
@@ -35,8 +41,11 @@ returns-clause-begins c =
     let old : Log = c.begin-log.result in
     let same = ap (λ (k : Known). k.rows.items) c.begin-log.ensures.known ∙ c.in_ok-known.ensures in
     let new = c.come.new.self in
-    let come : Comes u old 102 0 [] f new = comes_as u old c.given-source.result.rule c.given-source.result.arg c.given-source.result.premises f new 102 0 c.given-source.ensures.rule c.given-source.ensures.arg c.given-source.ensures.premises c.in_ok-_piece.ensures in
-    begins_below u (c.args.piece.0, c.args.piece.1) c.args.parent.now c.args.first old new same c.begin-log.ensures.steps c.begin-log.ensures.first c.requires.rows c.requires.variable come
+    let come : Comes u old 102 0 [] f new = comes_as u old c.given-source.result.rule
+    c.given-source.result.arg c.given-source.result.premises f new 102 0 c.given-source.ensures.rule
+    c.given-source.ensures.arg c.given-source.ensures.premises c.in_ok-_piece.ensures in
+    begins_below u (c.args.piece.0, c.args.piece.1) c.args.parent.now c.args.first old new same
+    c.begin-log.ensures.steps c.begin-log.ensures.first c.requires.rows c.requires.variable come
 
 pub returns-clause-gives : goal.returns-clause-gives
 returns-clause-gives c =

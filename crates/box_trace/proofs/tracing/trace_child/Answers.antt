@@ -11,12 +11,17 @@ pub returns-clause-table : goal.returns-clause-table
 returns-clause-table c = λ above b.
     let u = c.args.uni.now in
     let at = known_at u c.args.parent.now in
-    child_table (setting_of u) c.args.height above (c.args.piece.0, c.args.piece.1) at at (known_at u c.in_ok-log.log.known) c.in_ok-log.ensures.improves.0 b (λ s. refl) c.in_ok-log.ensures.improves.1
-    (c.rules_are_lawful.ensures u.nodes u.hints) c.laws.ensures.universe.closed (known_at u c.rounds.new.log.known) c.in_ok-rounds.ensures.best
+    child_table (setting_of u) c.args.height above (c.args.piece.0, c.args.piece.1) at at
+    (known_at u c.in_ok-log.log.known) c.in_ok-log.ensures.improves.0 b
+    (λ s. refl) c.in_ok-log.ensures.improves.1
+    (c.rules_are_lawful.ensures u.nodes u.hints) c.laws.ensures.universe.closed
+    (known_at u c.rounds.new.log.known) c.in_ok-rounds.ensures.best
 
 pub returns-clause-steps : goal.returns-clause-steps
 returns-clause-steps c =
-    steps_below c.args.uni.now c.args.first 1 _ c.in_ok-log.log c.rounds.new.log c.in_ok-rounds.ensures.longer (c.args.piece.0, c.args.piece.1) c.args.parent.now c.in_ok-log.ensures.begins
+    steps_below c.args.uni.now c.args.first 1 _ c.in_ok-log.log
+    c.rounds.new.log c.in_ok-rounds.ensures.longer
+    (c.args.piece.0, c.args.piece.1) c.args.parent.now c.in_ok-log.ensures.begins
 
 pub returns-clause-rounds : goal.returns-clause-rounds
 returns-clause-rounds c =

@@ -10,13 +10,16 @@ use Rattle.box_trace.proofs.tracing.trace_root.Goals as goal
 pub returns-clause-table : goal.returns-clause-table
 returns-clause-table c =
     let u = c.args.uni.now in
-    root_table (setting_of u) (c.rules_are_lawful.ensures u.nodes u.hints) c.laws.ensures.universe.closed c.args.height (known_at u c.in_ok-log.log.known) (known_at u c.rounds.new.log.known)
+    root_table (setting_of u)
+    (c.rules_are_lawful.ensures u.nodes u.hints) c.laws.ensures.universe.closed c.args.height
+    (known_at u c.in_ok-log.log.known) (known_at u c.rounds.new.log.known)
     c.in_ok-log.ensures.gathered c.in_ok-rounds.ensures.best
 
 pub returns-clause-steps : goal.returns-clause-steps
 returns-clause-steps c =
     let u = c.args.uni.now in
-    root_steps u c.args.first (length u.hypotheses + length u.nodes) _ c.in_ok-log.log c.rounds.new.log c.in_ok-rounds.ensures.longer c.in_ok-log.ensures.begins
+    root_steps u c.args.first (length u.hypotheses + length u.nodes) _ c.in_ok-log.log
+    c.rounds.new.log c.in_ok-rounds.ensures.longer c.in_ok-log.ensures.begins
 
 pub returns-clause-rounds : goal.returns-clause-rounds
 returns-clause-rounds c =

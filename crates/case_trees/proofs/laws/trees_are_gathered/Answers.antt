@@ -12,5 +12,6 @@ returns c = record {
   over = over;
   none = at_none;
   end = at_end;
-  boxes = λ cuts states h. (boxes_from (tree_of cuts states) 36 [], (c.boxes_are_listed.ensures cuts states h).boxes);
+  boxes = λ cuts states h.
+      (boxes_from (tree_of cuts states) 36 [], (c.boxes_are_listed.ensures cuts states h).boxes);
 }

@@ -11,12 +11,15 @@ loop-rest-preserved c =
     record {
       some = l.0;
       room = l.1;
-      spelled = one_written c.loop-rest.out.items c.push.new.self.items _ c.loop-rest.left c.loop-rest.rest t i.room c.in_ok-push.ensures.items i.spelled;
-      front = front_more _ c.loop-rest.out.items ((c.loop-rest.rest % 128 + 128) ∷ []) c.push.new.self.items i.front c.in_ok-push.ensures.items;
+      spelled = one_written c.loop-rest.out.items c.push.new.self.items _ c.loop-rest.left
+          c.loop-rest.rest t i.room c.in_ok-push.ensures.items i.spelled;
+      front = front_more _ c.loop-rest.out.items ((c.loop-rest.rest % 128 + 128) ∷ [])
+          c.push.new.self.items i.front c.in_ok-push.ensures.items;
     }
 
 pub returns-clause-ok : goal.returns-clause-ok
 returns-clause-ok c =
     let t = c.loop-rest-test.false in
     let i = c.loop-rest.invariant in
-    last_written c.loop-rest.out.items c.push-2.new.self.items _ c.loop-rest.left c.loop-rest.rest (omega (arith, t)) i.some c.in_ok-push-2.ensures.items i.spelled
+    last_written c.loop-rest.out.items c.push-2.new.self.items _ c.loop-rest.left c.loop-rest.rest
+    (omega (arith, t)) i.some c.in_ok-push-2.ensures.items i.spelled

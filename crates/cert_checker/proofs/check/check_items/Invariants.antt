@@ -7,7 +7,8 @@ abbrev pub invariant-loop-chain : goal.invariant-loop-chain
 invariant-loop-chain g l = record {
   steady : IsSteady l.fn.subject l.chain l.reader;
   within : l.reader.ahead.at ≤ 2 ^ 44;
-  reaches : (all : List ℕ) → g.F.Folder.told l.fn.folder l.fn.reader.ahead.name ≡ Some all → Reaches l.fn.subject all l.fn.reader l.chain l.reader;
+  reaches : (all : List ℕ) → g.F.Folder.told l.fn.folder l.fn.reader.ahead.name ≡ Some all
+      → Reaches l.fn.subject all l.fn.reader l.chain l.reader;
   agrees : AgreesTold (g.F.Folder.told l.folder l.reader.ahead.name) l.reader.ahead;
   name : l.reader.ahead.name ≡ l.fn.reader.ahead.name;
   told : (other : List ℕ) → g.F.Folder.told l.folder other ≡ g.F.Folder.told l.fn.folder other;

@@ -6,10 +6,18 @@ use Rattle.cert_checker.proofs.judge.judge_step.Goals as goal
 
 pub returns-then-not-is_concluded : goal.returns-then-not-is_concluded
 returns-then-not-is_concluded c =
-    let found : step_facts c.args.steps.now.rows c.args.row.now.premises ≡ Some c.premise_facts.new.premises.items = search (rules, c.in_ok-premise_facts.ensures) in
+    let found : step_facts c.args.steps.now.rows c.args.row.now.premises
+    ≡ Some c.premise_facts.new.premises.items = search (rules, c.in_ok-premise_facts.ensures) in
     let met = c.in-Some.ensures in
     rw (c.refuse-then-not-is_concluded.ensures, c.next-then-not-is_concluded.ensures) (
       refl,
-      cites c.args.steps.now.rows c.args.row.now c.premise_facts.new.premises.items c.in-Some.with found met (search rules),
-      not_concluded (record { facts = case_facts c.args.subject.now.cases c.args.case; hints = c.args.subject.now.hints; nodes = c.args.nodes.now; piece = open_piece c.args.cuts.now }) c.args.steps.now.rows c.args.row.now c.premise_facts.new.premises.items c.in-Some.with found met (search rules),
+      cites c.args.steps.now.rows c.args.row.now c.premise_facts.new.premises.items c.in-Some.with
+          found met (search rules),
+      not_concluded (record {
+        facts = case_facts c.args.subject.now.cases c.args.case;
+        hints = c.args.subject.now.hints;
+        nodes = c.args.nodes.now;
+        piece = open_piece c.args.cuts.now;
+      }) c.args.steps.now.rows c.args.row.now c.premise_facts.new.premises.items c.in-Some.with
+          found met (search rules),
     )

@@ -5,7 +5,9 @@ use Rattle.cert_checker.proofs.Keeping.{all_spelled, spelled_so}
 use Rattle.cert_checker.proofs.keep.accepted_items.Goals as goal
 
 pub returns-clause-exact : goal.returns-clause-exact
-returns-clause-exact g c = λ all h o comes. answered_is_it c.args.subject (cursor_of all c.args.reader.now.ahead) o (lines_of c.keep_items.result) comes (c.keep_items.ensures.checks all h)
+returns-clause-exact g c =
+    λ all h o comes. answered_is_it c.args.subject (cursor_of all c.args.reader.now.ahead) o
+    (lines_of c.keep_items.result) comes (c.keep_items.ensures.checks all h)
 
 pub returns-clause-spells : goal.returns-clause-spells
 returns-clause-spells g c = λ all h bytes.

@@ -1,4 +1,5 @@
-use Rattle.std.proofs.Common.{rules, arith, ◌≡◌, ◌∙◌, ◌++◌, [], List, None, sym, ap, subst, true, false, append-nil}
+use Rattle.std.proofs.Common.{rules, arith, ◌≡◌, ◌∙◌, ◌++◌, [], List, None, sym, ap, subst, true}
+use Rattle.std.proofs.Common.{false, append-nil}
 use Rattle.std.proofs.lemmas.Result.{err_from_is_err_and}
 use Rattle.cert_bytes.specs.declared.item.Item.{Item}
 use Rattle.cert_bytes.specs.declared.order.DueItem.TheVariants.{Head}
@@ -22,7 +23,9 @@ loop-chain-smaller g c =
     let still : c.loop-chain.chain.context.ended ≡ false = search rules in
     let t = c.in_ok-item.ensures in
     let told = g.F.Folder.told c.loop-chain.folder c.loop-chain.reader.ahead.name in
-    fewer_turns told c.loop-chain.chain c.next_item.new.chain c.loop-chain.reader c.next_item.new.reader still (taken told c.loop-chain.chain c.next_item.new.chain c.loop-chain.reader c.next_item.new.reader c.in_ok-item.item t.took) t.within
+    fewer_turns told c.loop-chain.chain c.next_item.new.chain c.loop-chain.reader
+    c.next_item.new.reader still (taken told c.loop-chain.chain c.next_item.new.chain
+    c.loop-chain.reader c.next_item.new.reader c.in_ok-item.item t.took) t.within
 
 pub loop-chain-preserved : goal.loop-chain-preserved
 loop-chain-preserved g c =
@@ -32,22 +35,34 @@ loop-chain-preserved g c =
     let s = c.args.subject in
     let still : c.loop-chain.chain.context.ended ≡ false = search rules in
     let told = g.F.Folder.told c.loop-chain.folder c.loop-chain.reader.ahead.name in
-    let next = taken told c.loop-chain.chain c.next_item.new.chain c.loop-chain.reader c.next_item.new.reader item t.took in
-    let judged : JudgesItem s c.loop-chain.chain.context item None = subst (λ (x : Subject). JudgesItem x c.loop-chain.chain.context item None) i.steady.subject t.took.judged in
+    let next = taken told c.loop-chain.chain c.next_item.new.chain c.loop-chain.reader
+    c.next_item.new.reader item t.took in
+    let judged : JudgesItem s c.loop-chain.chain.context item None = subst (λ (x : Subject).
+    JudgesItem x c.loop-chain.chain.context item None) i.steady.subject t.took.judged in
     let context = ap (λ (x : Standing). x.context) t.took.taken in
     let longer = sym c.in-Ok.ensures.items in
     record {
-      steady = steady_on s told c.loop-chain.chain c.next_item.new.chain c.loop-chain.reader c.next_item.new.reader i.steady.subject next still i.steady;
+      steady = steady_on s told c.loop-chain.chain c.next_item.new.chain c.loop-chain.reader
+          c.next_item.new.reader i.steady.subject next still i.steady;
       within = t.within;
       reaches = λ all h.
-          reaches_on s told c.loop-chain.chain c.next_item.new.chain c.loop-chain.reader c.next_item.new.reader i.steady.subject next all c.args.reader.now
-          (ap (g.F.Folder.told c.loop-chain.folder) i.name ∙ i.told c.args.reader.now.ahead.name ∙ h) still i.steady (i.reaches all h);
+          reaches_on s told c.loop-chain.chain c.next_item.new.chain c.loop-chain.reader
+          c.next_item.new.reader i.steady.subject next all c.args.reader.now
+          (ap (g.F.Folder.told c.loop-chain.folder) i.name ∙ i.told c.args.reader.now.ahead.name
+          ∙ h) still i.steady (i.reaches all h);
       read = λ all h later rest.
-          subst (λ (xs : List Item). AreRead Head (cursor_of all c.args.reader.now.ahead) (xs ++ later)) longer
-          (read_more (cursor_of all c.args.reader.now.ahead) (cursor_of all c.loop-chain.reader.ahead) c.loop-chain.reader.due c.next_item.new.reader.due (cursor_of all c.next_item.new.reader.ahead) c.loop-chain.items.items later item (i.read all h)
-          (t.took.read all (ap (g.F.Folder.told c.loop-chain.folder) i.name ∙ i.told c.args.reader.now.ahead.name ∙ h)) (i.steady.going still) t.took.due rest);
+          subst (λ (xs : List Item).
+          AreRead Head (cursor_of all c.args.reader.now.ahead) (xs ++ later)) longer
+          (read_more (cursor_of all c.args.reader.now.ahead)
+          (cursor_of all c.loop-chain.reader.ahead) c.loop-chain.reader.due
+          c.next_item.new.reader.due (cursor_of all c.next_item.new.reader.ahead)
+          c.loop-chain.items.items later item (i.read all h)
+          (t.took.read all (ap (g.F.Folder.told c.loop-chain.folder) i.name
+          ∙ i.told c.args.reader.now.ahead.name ∙ h)) (i.steady.going still) t.took.due rest);
       led = subst (λ (x : Context). LeadsTo s (first s) c.push.new.self.items x) (sym context)
-          (subst (λ (xs : List Item). LeadsTo s (first s) xs (after c.loop-chain.chain.context item)) longer (led_more s (first s) c.loop-chain.chain.context c.loop-chain.items.items item i.led judged));
+          (subst (λ (xs : List Item).
+          LeadsTo s (first s) xs (after c.loop-chain.chain.context item)) longer (led_more s
+          (first s) c.loop-chain.chain.context c.loop-chain.items.items item i.led judged));
       whole = λ later rest.
           subst (λ (xs : List Item). AreCertificate (xs ++ later)) longer
           (whole_more c.loop-chain.reader.due c.next_item.new.reader.due
@@ -62,28 +77,36 @@ loop-chain-preserved g c =
 
 pub returns-in_err-item-clause-checks : goal.returns-in_err-item-clause-checks
 returns-in_err-item-clause-checks g c = λ all h.
-    let p = err_from_is_err_and c.from_residual-in_err-item.result c.from_residual-in_err-item.ensures.1 in
+    let p = err_from_is_err_and c.from_residual-in_err-item.result
+    c.from_residual-in_err-item.ensures.1 in
     let i = c.loop-chain.invariant in
-    let known = ap (g.F.Folder.told c.loop-chain.folder) i.name ∙ i.told c.args.reader.now.ahead.name ∙ h in
+    let known = ap (g.F.Folder.told c.loop-chain.folder) i.name
+    ∙ i.told c.args.reader.now.ahead.name ∙ h in
     let t = c.in_err-item.ensures.turns in
-    rw (p.1, p.2) (stops c.args.subject all c.args.reader.now c.loop-chain.chain c.loop-chain.reader _ i.steady.subject (i.reaches all h) (λ f e. t.0 f e all known) (λ f e. t.1 f e all known))
+    rw (p.1, p.2) (stops c.args.subject all c.args.reader.now c.loop-chain.chain c.loop-chain.reader
+    _ i.steady.subject (i.reaches all h) (λ f e. t.0 f e all known) (λ f e. t.1 f e all known))
 
 pub returns-in_err-item-clause-cause : goal.returns-in_err-item-clause-cause
 returns-in_err-item-clause-cause g c =
-    let p = err_from_is_err_and c.from_residual-in_err-item.result c.from_residual-in_err-item.ensures.1 in
-    rw (p.1, p.2) (rose_so {X = Item} {Y = Accepted} _ (g.F.Folder.read_faults c.args.folder.now) (g.F.Folder.read_faults c.loop-chain.folder) (g.F.Folder.read_faults c.next_item.new.folder) c.loop-chain.invariant.later c.in_err-item.ensures.cause)
+    let p = err_from_is_err_and c.from_residual-in_err-item.result
+    c.from_residual-in_err-item.ensures.1 in
+    rw (p.1, p.2) (rose_so {X = Item} {Y = Accepted} _ (g.F.Folder.read_faults c.args.folder.now)
+    (g.F.Folder.read_faults c.loop-chain.folder) (g.F.Folder.read_faults c.next_item.new.folder)
+    c.loop-chain.invariant.later c.in_err-item.ensures.cause)
 
 pub returns-clause-checks : goal.returns-clause-checks
 returns-clause-checks g c = λ all h.
     let i = c.loop-chain.invariant in
     let done : c.loop-chain.chain.context.ended ≡ true = search rules in
-    shows c.args.subject c.loop-chain.chain c.loop-chain.reader done i.steady c.into_lines.result c.into_lines.ensures all c.args.reader.now (i.reaches all h)
+    shows c.args.subject c.loop-chain.chain c.loop-chain.reader done i.steady c.into_lines.result
+    c.into_lines.ensures all c.args.reader.now (i.reaches all h)
 
 pub returns-clause-read : goal.returns-clause-read
 returns-clause-read g c = λ all h.
     let i = c.loop-chain.invariant in
     let done : c.loop-chain.chain.context.ended ≡ true = search rules in
-    subst (AreRead Head (cursor_of all c.args.reader.now.ahead)) (append-nil c.loop-chain.items.items) (i.read all h [] (i.steady.ended done))
+    subst (AreRead Head (cursor_of all c.args.reader.now.ahead))
+    (append-nil c.loop-chain.items.items) (i.read all h [] (i.steady.ended done))
 
 pub returns-clause-accepts : goal.returns-clause-accepts
 returns-clause-accepts g c =

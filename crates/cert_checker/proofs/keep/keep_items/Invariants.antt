@@ -13,8 +13,11 @@ abbrev pub invariant-loop-chain : goal.invariant-loop-chain
 invariant-loop-chain g l = record {
   steady : IsSteady l.fn.subject l.chain l.reader;
   within : l.reader.ahead.at ≤ 2 ^ 44;
-  reaches : (all : List ℕ) → g.F.Folder.told l.fn.folder l.fn.reader.ahead.name ≡ Some all → Reaches l.fn.subject all l.fn.reader l.chain l.reader;
-  read : (all : List ℕ) → g.F.Folder.told l.fn.folder l.fn.reader.ahead.name ≡ Some all → (later : List Item) → AreRead l.reader.due (cursor_of all l.reader.ahead) later → AreRead Head (cursor_of all l.fn.reader.ahead) (l.items.items ++ later);
+  reaches : (all : List ℕ) → g.F.Folder.told l.fn.folder l.fn.reader.ahead.name ≡ Some all
+      → Reaches l.fn.subject all l.fn.reader l.chain l.reader;
+  read : (all : List ℕ) → g.F.Folder.told l.fn.folder l.fn.reader.ahead.name ≡ Some all
+      → (later : List Item) → AreRead l.reader.due (cursor_of all l.reader.ahead) later
+      → AreRead Head (cursor_of all l.fn.reader.ahead) (l.items.items ++ later);
   led : LeadsTo l.fn.subject (first l.fn.subject) l.items.items l.chain.context;
   whole : (later : List Item) → AreDue (Some l.reader.due) later
       → AreCertificate (l.items.items ++ later);

@@ -5,6 +5,7 @@ use Rattle.cert_checker.proofs.lines.add_leaf.Given as goal
 
 abbrev pub invariant-loop-k : goal.invariant-loop-k
 invariant-loop-k l = record {
-  lines : so_far l.steps.rows l.lines.items l.refs l.k ≡ lines_with l.steps.rows l.initial.lines.items l.refs;
+  lines : so_far l.steps.rows l.lines.items l.refs l.k
+      ≡ lines_with l.steps.rows l.initial.lines.items l.refs;
   same : length l.lines.items ≡ length l.initial.lines.items;
 }

@@ -8,6 +8,11 @@ returns-in-Ok-clause-ok c =
     let own = c.args.own.now in
     let old = c.args.nodes.now in
     let judged = c.in_ok-judge_node.ensures in
-    let absent = absent_next own old c.args.variables c.args.node judged c.laws.ensures.distinct c.requires.agrees in
-    let last = placed_last own old c.args.variables c.args.node judged c.add.new.self _ absent c.in-Ok.ensures.placed in
-    (last, subst (Agrees own) (sym last) (agrees_next own old c.args.variables c.args.node judged c.requires.agrees))
+    let absent = absent_next own old c.args.variables c.args.node judged
+    c.laws.ensures.distinct c.requires.agrees in
+    let last = placed_last own old c.args.variables c.args.node judged c.add.new.self _ absent
+    c.in-Ok.ensures.placed in (
+      last,
+      subst (Agrees own) (sym last)
+          (agrees_next own old c.args.variables c.args.node judged c.requires.agrees),
+    )

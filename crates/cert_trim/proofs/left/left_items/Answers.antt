@@ -1,4 +1,5 @@
-use Rattle.std.proofs.Common.{◌≡◌, ◌+◌, ◌++◌, ◌∷◌, [], List, length, sym, ap, ◌∙◌, append_assoc, arith, length-append}
+use Rattle.std.proofs.Common.{◌≡◌, ◌+◌, ◌++◌, ◌∷◌, [], List, length, sym, ap, ◌∙◌, append_assoc}
+use Rattle.std.proofs.Common.{arith, length-append}
 use Rattle.cert_bytes.specs.declared.item.Item.{Item}
 use Rattle.cert_trim.specs.Flags.{stays_by, number_of}
 use Rattle.cert_trim.specs.Trimmed.{new_number, number_behind}

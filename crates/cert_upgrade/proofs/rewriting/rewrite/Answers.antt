@@ -3,10 +3,13 @@ use Rattle.std.proofs.Common.{◌∙◌, sym, ap, subst, arith, rules}
 use Rattle.std.proofs.lemmas.Result.{err_from_is_err_and}
 use Rattle.cert_bytes.specs.Pieces.{AgreesTold}
 use Rattle.cert_bytes.specs.Readers.{Progress}
-use Rattle.cert_upgrade.specs.declared.stop.UpgradeStop.TheVariants.{ReadFailed, WriteFailed, OutOfMemory}
+use Rattle.cert_upgrade.specs.declared.stop.UpgradeStop.TheVariants.{ReadFailed, WriteFailed}
+use Rattle.cert_upgrade.specs.declared.stop.UpgradeStop.TheVariants.{OutOfMemory}
 use Rattle.cert_upgrade.proofs.Read.{read_none, read_fault, not_done, items_are_one, fewer_turns}
-use Rattle.cert_upgrade.proofs.Rewritten.{rewritten_none, rewritten_turn, rewritten_all, nothing_taken, broken_reading, broken_turn}
-use Rattle.cert_upgrade.proofs.Stopped.{broken_so, not_long, of_reads, of_no_writes, no_cause, no_stop, of_write}
+use Rattle.cert_upgrade.proofs.Rewritten.{rewritten_none, rewritten_turn, rewritten_all}
+use Rattle.cert_upgrade.proofs.Rewritten.{nothing_taken, broken_reading, broken_turn}
+use Rattle.cert_upgrade.proofs.Stopped.{broken_so, not_long, of_reads, of_no_writes, no_cause}
+use Rattle.cert_upgrade.proofs.Stopped.{no_stop, of_write}
 use Rattle.cert_upgrade.proofs.rewriting.rewrite.Goals as goal
 
 pub returns-in_err-reader-clause-err : goal.returns-in_err-reader-clause-err

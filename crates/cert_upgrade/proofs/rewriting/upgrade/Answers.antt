@@ -2,9 +2,11 @@ use Rattle.std.specs.Prelude.{◌≡◌, ◌⊎◌, Some, [], Err}
 use Rattle.std.proofs.Common.{◌∙◌, ap, subst, arith, ltb-true, ltb-false}
 use Rattle.std.proofs.lemmas.Result.{err_from_is_err_and}
 use Rattle.fx_edge.specs.Outside.{Empties}
-use Rattle.cert_upgrade.specs.declared.stop.UpgradeStop.TheVariants.{NewTooLong, ReadFailed, WriteFailed}
+use Rattle.cert_upgrade.specs.declared.stop.UpgradeStop.TheVariants.{NewTooLong, ReadFailed}
+use Rattle.cert_upgrade.specs.declared.stop.UpgradeStop.TheVariants.{WriteFailed}
 use Rattle.cert_upgrade.proofs.Stopped.{cause_later, of_reads, of_no_writes, no_cause, of_write}
-use Rattle.cert_upgrade.proofs.Upgraded.{comes_unread, any_unread, too_long, comes_unmade, any_unmade, may_become, comes_rewritten, any_rewritten}
+use Rattle.cert_upgrade.proofs.Upgraded.{comes_unread, any_unread, too_long, comes_unmade}
+use Rattle.cert_upgrade.proofs.Upgraded.{any_unmade, may_become, comes_rewritten, any_rewritten}
 use Rattle.cert_upgrade.proofs.rewriting.upgrade.Goals as goal
 
 -- ---- the first reading stopped

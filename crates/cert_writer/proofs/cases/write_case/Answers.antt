@@ -9,7 +9,8 @@ use Rattle.answer_certificates.specs.universe.Cases.{AreHypotheses}
 use Rattle.answer_certificates.specs.universe.Universes.{facts_of}
 use Rattle.cert_writer.specs.Files.{on_err}
 use Rattle.cert_writer.specs.Cases.{bare, task, target_of, StandsAt, OfStanding, GrewFront}
-use Rattle.cert_writer.proofs.NextCase.{drop_there, still, is_course, is_before, past_case, front_case}
+use Rattle.cert_writer.proofs.NextCase.{drop_there, still, is_course, is_before, past_case}
+use Rattle.cert_writer.proofs.NextCase.{front_case}
 use Rattle.cert_writer.proofs.cases.write_case.Goals as goal
 
 pub assume-requires-clause-claims : goal.assume-requires-clause-claims

@@ -5,7 +5,8 @@ use Rattle.answer_certificates.specs.script_grammar.Cases.{cases_of}
 use Rattle.answer_certificates.specs.settler.Cases.{as_many}
 use Rattle.cert_trim.specs.cert_bytes.Styles.{none_seen}
 use Rattle.cert_writer.specs.Files.{on_err}
-use Rattle.cert_writer.specs.Cases.{bare, task, whole_aim, StandsAt, StandsBefore, OfStanding, GrewFront}
+use Rattle.cert_writer.specs.Cases.{bare, task, whole_aim, StandsAt, StandsBefore, OfStanding}
+use Rattle.cert_writer.specs.Cases.{GrewFront}
 use Rattle.cert_writer.proofs.NextCase.{grew_none}
 use Rattle.cert_writer.proofs.Turn.{begun_later, grew_both}
 use Rattle.cert_writer.proofs.cases.write_cases.Goals as goal

@@ -4,4 +4,5 @@ use Rattle.cert_trim.specs.cert_bytes.Spelling.{certificate_of}
 use Rattle.cert_writer.proofs.head.spell_marks.Given as goal
 
 abbrev pub invariant-loop-mark : goal.invariant-loop-mark
-invariant-loop-mark l = l.out.items ≡ l.initial.out.items ++ certificate_of (map item.Mark (take l.mark-index l.marks))
+invariant-loop-mark l =
+    l.out.items ≡ l.initial.out.items ++ certificate_of (map item.Mark (take l.mark-index l.marks))

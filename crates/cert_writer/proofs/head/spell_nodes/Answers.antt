@@ -8,4 +8,5 @@ pub put-requires : goal.put-requires
 put-requires c = (c.laws.ensures.lawful _ c.node.result c.node.ensures.at).limits
 
 pub loop-k-preserved : goal.loop-k-preserved
-loop-k-preserved c = spelled_next (λ n. item.Node n) (nodes_seen none_seen) c.args.nodes.now c.loop-k.k c.node.result _ _ _ c.node.ensures.at c.loop-k.invariant c.in_ok-put.ensures
+loop-k-preserved c = spelled_next (λ n. item.Node n) (nodes_seen none_seen) c.args.nodes.now
+    c.loop-k.k c.node.result _ _ _ c.node.ensures.at c.loop-k.invariant c.in_ok-put.ensures

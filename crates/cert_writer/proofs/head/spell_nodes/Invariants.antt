@@ -4,4 +4,5 @@ use Rattle.cert_trim.specs.cert_bytes.Spelling.{certificate_of}
 use Rattle.cert_writer.proofs.head.spell_nodes.Given as goal
 
 abbrev pub invariant-loop-k : goal.invariant-loop-k
-invariant-loop-k l = l.out.items ≡ l.initial.out.items ++ certificate_of (map item.Node (take l.k l.nodes))
+invariant-loop-k l =
+    l.out.items ≡ l.initial.out.items ++ certificate_of (map item.Node (take l.k l.nodes))

@@ -1,4 +1,5 @@
-use Rattle.cert_writer.proofs.GoesOn.{begun, ended, enters, settles, voids, follows, ends, next_case, whole}
+use Rattle.cert_writer.proofs.GoesOn.{begun, ended, enters, settles, voids, follows, ends}
+use Rattle.cert_writer.proofs.GoesOn.{next_case, whole}
 use Rattle.cert_writer.proofs.Begun.{begins}
 use Rattle.cert_writer.proofs.Trimmed.{trims}
 use Rattle.cert_writer.proofs.laws.writing_goes_on.Goals as goal
@@ -16,5 +17,6 @@ returns c = record {
   follows = follows c.certificates_exist.ensures.walks c.walks_move.ensures;
   ends = ends c.certificates_exist.ensures.walks c.walks_move.ensures;
   next_case = next_case c.certificates_exist.ensures.walks c.walks_move.ensures;
-  whole = whole c.certificates_exist.ensures.walks c.walks_move.ensures c.spellings_are_short.ensures;
+  whole =
+      whole c.certificates_exist.ensures.walks c.walks_move.ensures c.spellings_are_short.ensures;
 }

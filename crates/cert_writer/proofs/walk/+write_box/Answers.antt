@@ -11,23 +11,41 @@ write_box-requires g t c κs within =
     let s = c.requires.1.1.1 in
     let x = course c.args.uni.now c.args.plan.now c.args.rounds s.0 s.1 s.2 in
     let w = (c.loop-i.invariant.done s.0 s.1 s.2 s.3 s.4 s.5).0 c.loop-i-test.true in
-    let there : length c.args.path < 36 = let l = c.loop-i-test.true in c.in_ok-own.ensures.room (omega (arith, l)) in
-    let longer : length c.child.result ≡ length c.args.path + 1 = ap length c.child.ensures ∙ length-append c.args.path (c.loop-i.i ∷ []) in
+    let there : length c.args.path < 36 = let l = c.loop-i-test.true in
+    c.in_ok-own.ensures.room (omega (arith, l)) in
+    let longer : length c.child.result ≡ length c.args.path + 1 =
+    ap length c.child.ensures ∙ length-append c.args.path (c.loop-i.i ∷ []) in
     let first : 36 - length c.args.path ≡ t = c.requires.1.0 in
-    let falls : 36 - length c.child.result < t = omega (arith, there, longer, first) in
-    (falls, (within, (s.0, s.1, s.2, w.place, s.4, child_of x c.args.path c.in_ok-own.own.known s.3 _ c.in_ok-own.own.pieces c.loop-i.i c.loop-i.next _ w c.child.result c.child.ensures _ refl)))
+    let falls : 36 - length c.child.result < t = omega (arith, there, longer, first) in (
+      falls,
+      (
+        within,
+        (
+          s.0,
+          s.1,
+          s.2,
+          w.place,
+          s.4,
+          child_of x c.args.path c.in_ok-own.own.known s.3 _ c.in_ok-own.own.pieces c.loop-i.i
+              c.loop-i.next _ w c.child.result c.child.ensures _ refl,
+        ),
+      ),
+    )
 
 pub returns-in_err-next-clause-err : goal.returns-in_err-next-clause-err
 returns-in_err-next-clause-err g t c =
     let old = g.F.Folder.told c.args.folder.now c.args.name.now in
     let mid = g.F.Folder.told c.loop-i.folder c.args.name.now in
     let new = g.F.Folder.told c.write_box.new.folder c.args.name.now in
-    on_err c.from_residual-in_err-next.result (OnCourses c.args.uni.now c.args.plan.now c.args.rounds c.args.path c.args.parent c.args.seen (λ x p. GrewToFront x.aim p.items old new))
+    on_err c.from_residual-in_err-next.result (OnCourses c.args.uni.now c.args.plan.now
+    c.args.rounds c.args.path c.args.parent c.args.seen (λ x p. GrewToFront x.aim p.items old new))
     (λ q lines states p is before.
     let x = course c.args.uni.now c.args.plan.now c.args.rounds q lines states in
     let w = (c.loop-i.invariant.done q lines states p is before).0 c.loop-i-test.true in
     begun_later x.aim p.items w.place.items old mid new w.grew
-    (c.in_err-next.ensures.err q lines states w.place is (child_of x c.args.path c.in_ok-own.own.known p old c.in_ok-own.own.pieces c.loop-i.i c.loop-i.next mid w c.child.result c.child.ensures _ refl)))
+    (c.in_err-next.ensures.err q lines states w.place is
+    (child_of x c.args.path c.in_ok-own.own.known p old c.in_ok-own.own.pieces c.loop-i.i
+    c.loop-i.next mid w c.child.result c.child.ensures _ refl)))
 
 pub loop-i-preserved : goal.loop-i-preserved
 loop-i-preserved g t c = record {
@@ -38,10 +56,15 @@ loop-i-preserved g t c = record {
       let x = course c.args.uni.now c.args.plan.now c.args.rounds q lines states in
       let laws = c.walk_goes_on.ensures in
       let w = (c.loop-i.invariant.done q lines states p is before).0 c.loop-i-test.true in
-      turn laws.tables laws.writing x is (laws.best x is) laws.one_more c.args.path c.in_ok-own.own.known p old mid c.in_ok-own.own.pieces c.loop-i.i c.loop-i.next w c.loop-i-test.true c.in_ok-next.next new
-      (c.in_ok-next.ensures.ok q lines states w.place is (child_of x c.args.path c.in_ok-own.own.known p old c.in_ok-own.own.pieces c.loop-i.i c.loop-i.next mid w c.child.result c.child.ensures _ refl));
+      turn laws.tables laws.writing x is
+      (laws.best x is) laws.one_more c.args.path c.in_ok-own.own.known p old mid
+      c.in_ok-own.own.pieces c.loop-i.i c.loop-i.next w c.loop-i-test.true c.in_ok-next.next new
+      (c.in_ok-next.ensures.ok q lines states w.place is
+      (child_of x c.args.path c.in_ok-own.own.known p old c.in_ok-own.own.pieces c.loop-i.i
+      c.loop-i.next mid w c.child.result c.child.ensures _ refl));
   others = λ other n. c.in_ok-next.ensures.others other n ∙ c.loop-i.invariant.others other n;
-  later = let a = c.in_ok-next.ensures.cause.later in let b = c.loop-i.invariant.later in omega (arith, a, b);
+  later = let a = c.in_ok-next.ensures.cause.later in
+      let b = c.loop-i.invariant.later in omega (arith, a, b);
   quiet = c.in_ok-next.ensures.quiet ∙ c.loop-i.invariant.quiet;
 }
 

@@ -8,7 +8,8 @@ use Rattle.whole_texts.specs.Pieces.{AppendsFront}
 use Rattle.cert_writer.specs.Cases.{bare, subject_in, task}
 use Rattle.cert_writer.specs.Written.{OfProved, HoldsFront}
 use Rattle.cert_writer.proofs.Start.{is_subject, as_planned, start, head_of}
-use Rattle.cert_writer.proofs.Held.{head_spelled, not_fresh, not_headed, half_headed, broken_off, not_ended, completed}
+use Rattle.cert_writer.proofs.Held.{head_spelled, not_fresh, not_headed, half_headed, broken_off}
+use Rattle.cert_writer.proofs.Held.{not_ended, completed}
 use Rattle.cert_writer.proofs.whole.write_cert.Goals as goal
 
 pub returns-in_err-fresh-clause-err : goal.returns-in_err-fresh-clause-err

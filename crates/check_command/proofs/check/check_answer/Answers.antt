@@ -19,7 +19,8 @@ returns-in-Ok-clause-accepted g c = λ all known p.
 pub returns-in-Ok-clause-script : goal.returns-in-Ok-clause-script
 returns-in-Ok-clause-script g c = λ e. (c.in-Ok.script, c.in-Ok.ensures.spelled)
 
-pub returns-in_ok-refusal_line-in-Err-Refused-clause-accepted : goal.returns-in_ok-refusal_line-in-Err-Refused-clause-accepted
+pub returns-in_ok-refusal_line-in-Err-Refused-clause-accepted :
+    goal.returns-in_ok-refusal_line-in-Err-Refused-clause-accepted
 returns-in_ok-refusal_line-in-Err-Refused-clause-accepted g c = λ all known p.
     absurd
     (c.script_or_refusal.ensures.never_both c.args.text.now p.script c.in-Err-Refused.refusal

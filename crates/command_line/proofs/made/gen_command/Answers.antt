@@ -4,4 +4,5 @@ use Rattle.clap.specs.Words.{with_rule}
 use Rattle.command_line.proofs.made.gen_command.Goals as goal
 
 pub returns : goal.returns
-returns c = IfOk-weaker c.arg.result _ _ (λ m h. h.shape c.name.ensures.local ∙ ap₂ with_rule c.bare.ensures c.name.ensures.rule) c.arg.ensures
+returns c = IfOk-weaker c.arg.result _ _ (λ m h. h.shape c.name.ensures.local
+    ∙ ap₂ with_rule c.bare.ensures c.name.ensures.rule) c.arg.ensures

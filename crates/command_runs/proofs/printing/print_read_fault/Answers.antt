@@ -8,7 +8,8 @@ pub returns-in-Ok : goal.returns-in-Ok
 returns-in-Ok g c = inr (
   refl,
   subst
-      (λ lines. IsPut ReadFault lines (g.O.Sink.taken c.args.out.now) (g.O.Sink.taken c.print.new.out)
+      (λ lines. IsPut ReadFault lines (g.O.Sink.taken c.args.out.now)
+      (g.O.Sink.taken c.print.new.out)
       (g.O.Sink.faults c.args.out.now) (g.O.Sink.faults c.print.new.out) c.print.result)
       (search rules) c.print.ensures,
 )

@@ -5,4 +5,5 @@ pub returns-in-Low : goal.returns-in-Low
 returns-in-Low c = λ x h l. absurd (c.in-Low.ensures x h)
 
 pub returns-in-High : goal.returns-in-High
-returns-in-High c = λ x h l. absurd (c.in-High.ensures x h (value_of c.args.high) (on_grid c.args.high) l)
+returns-in-High c =
+    λ x h l. absurd (c.in-High.ensures x h (value_of c.args.high) (on_grid c.args.high) l)

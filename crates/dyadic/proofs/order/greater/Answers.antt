@@ -9,7 +9,8 @@ use Rattle.dyadic.proofs.order.greater.Goals as goal
 
 pub returns-then-is_at_most : goal.returns-then-is_at_most
 returns-then-is_at_most c = let a = c.args.a in let b = c.args.b in
-    let is : b ≡ greater_end a b = taken_then _ b a (sym c.is_at_most.ensures.is ∙ c.if-is_at_most.true) in
+    let is : b ≡ greater_end a b =
+    taken_then _ b a (sym c.is_at_most.ensures.is ∙ c.if-is_at_most.true) in
     let above = greater_above a b in
     record {
       one = inr refl;
@@ -20,7 +21,8 @@ returns-then-is_at_most c = let a = c.args.a in let b = c.args.b in
 
 pub returns-else-is_at_most : goal.returns-else-is_at_most
 returns-else-is_at_most c = let a = c.args.a in let b = c.args.b in
-    let is : a ≡ greater_end a b = taken_else _ b a (sym c.is_at_most.ensures.is ∙ c.if-is_at_most.false) in
+    let is : a ≡ greater_end a b =
+    taken_else _ b a (sym c.is_at_most.ensures.is ∙ c.if-is_at_most.false) in
     let above = greater_above a b in
     record {
       one = inl refl;

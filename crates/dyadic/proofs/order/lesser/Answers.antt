@@ -9,7 +9,8 @@ use Rattle.dyadic.proofs.order.lesser.Goals as goal
 
 pub returns-then-is_at_most : goal.returns-then-is_at_most
 returns-then-is_at_most c = let a = c.args.a in let b = c.args.b in
-    let is : a ≡ lesser_end a b = taken_then _ a b (sym c.is_at_most.ensures.is ∙ c.if-is_at_most.true) in
+    let is : a ≡ lesser_end a b =
+    taken_then _ a b (sym c.is_at_most.ensures.is ∙ c.if-is_at_most.true) in
     let below = lesser_below a b in
     record {
       one = inl refl;
@@ -20,7 +21,8 @@ returns-then-is_at_most c = let a = c.args.a in let b = c.args.b in
 
 pub returns-else-is_at_most : goal.returns-else-is_at_most
 returns-else-is_at_most c = let a = c.args.a in let b = c.args.b in
-    let is : b ≡ lesser_end a b = taken_else _ a b (sym c.is_at_most.ensures.is ∙ c.if-is_at_most.false) in
+    let is : b ≡ lesser_end a b =
+    taken_else _ a b (sym c.is_at_most.ensures.is ∙ c.if-is_at_most.false) in
     let below = lesser_below a b in
     record {
       one = inr refl;

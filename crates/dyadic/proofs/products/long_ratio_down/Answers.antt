@@ -4,4 +4,5 @@ use Rattle.dyadic.proofs.GridLemmas.{same_scaled}
 use Rattle.dyadic.proofs.products.long_ratio_down.Goals as goal
 
 pub returns : goal.returns
-returns c = λ x h. c.down.ensures x (c.ratio.ensures.cuts x (h ∙ sym (same_scaled c.args.n c.args.two _ _ (omega (arith, ints)) (omega (arith, ints)))))
+returns c = λ x h. c.down.ensures x (c.ratio.ensures.cuts x (h
+    ∙ sym (same_scaled c.args.n c.args.two _ _ (omega (arith, ints)) (omega (arith, ints)))))

@@ -4,4 +4,5 @@ use Rattle.fx_model.specs.Cut.{on_grid}
 use Rattle.dyadic.proofs.rounding.exact_number.Goals as goal
 
 pub canonical-requires : goal.canonical-requires
-canonical-requires c = on_grid c.args.cut.digits _ (omega arith) (omega (arith, ints)) (omega (arith, ints))
+canonical-requires c =
+    on_grid c.args.cut.digits _ (omega arith) (omega (arith, ints)) (omega (arith, ints))

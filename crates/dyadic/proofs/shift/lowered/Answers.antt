@@ -10,6 +10,8 @@ returns c =
     let kept : to_z w64 (of_z w64 c.args.number) ≡ c.args.number = omega (arith, ints) in
     let fits : FitsSigned w64 c.args.number = search rules in
     let small = shr_size c.args.number (2 ^ c.args.places) in
-    let value : to_z w64 (of_z w64 (shr_z (to_z w64 (of_z w64 c.args.number)) (2 ^ c.args.places))) ≡ shr_z c.args.number (2 ^ c.args.places)
-    = ap (λ (m : ℤ). to_z w64 (of_z w64 (shr_z m (2 ^ c.args.places)))) kept ∙ to_z-of_z w64 _ (shr_fits c.args.number (2 ^ c.args.places) fits) in
+    let value : to_z w64 (of_z w64 (shr_z (to_z w64 (of_z w64 c.args.number)) (2 ^ c.args.places)))
+    ≡ shr_z c.args.number (2 ^ c.args.places)
+    = ap (λ (m : ℤ). to_z w64 (of_z w64 (shr_z m (2 ^ c.args.places)))) kept
+    ∙ to_z-of_z w64 _ (shr_fits c.args.number (2 ^ c.args.places) fits) in
     record { value = value; size = rw value small }

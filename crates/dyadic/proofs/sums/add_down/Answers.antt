@@ -9,4 +9,5 @@ pub returns-in-Some : goal.returns-in-Some
 returns-in-Some c = c.rounded.ensures (value_of c.args.a +ℚ value_of c.args.b) c.in-Some.ensures
 
 pub returns-in-None : goal.returns-in-None
-returns-in-None c = subst (λ e. IsDown (value_of c.args.a +ℚ value_of c.args.b) (bound_of e)) (sym c.again.ensures) c.long_sum_down.ensures
+returns-in-None c = subst (λ e. IsDown (value_of c.args.a +ℚ value_of c.args.b) (bound_of e))
+    (sym c.again.ensures) c.long_sum_down.ensures

@@ -10,4 +10,7 @@ pub returns : goal.returns
 returns c =
     let size = c.sum.result.size in
     c.down.ensures (value_of c.args.a +ℚ value_of c.args.b)
-    (subst (λ (x : Fraction). Cuts (signed c.sum.result.negative x) size.digits size.two size.inexact) (terms_are c.args.a c.args.b _ _ _ _ c.term_of.ensures.mantissa c.term_of.ensures.exponent c.term_of-2.ensures.mantissa c.term_of-2.ensures.exponent) c.sum.ensures.cuts)
+    (subst (λ (x : Fraction).
+    Cuts (signed c.sum.result.negative x) size.digits size.two size.inexact)
+    (terms_are c.args.a c.args.b _ _ _ _ c.term_of.ensures.mantissa c.term_of.ensures.exponent
+    c.term_of-2.ensures.mantissa c.term_of-2.ensures.exponent) c.sum.ensures.cuts)

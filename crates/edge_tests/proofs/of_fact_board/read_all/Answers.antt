@@ -7,4 +7,5 @@ use Rattle.fact_board.proofs.Sent.{token_send}
 use Rattle.edge_tests.proofs.of_fact_board.read_all.Goals as goal
 
 pub map_vec-requires-send-J : goal.map_vec-requires-send-J
-map_vec-requires-send-J g c κs within = param_send _ _ (arg_send _ yes (the_row (UInt w32)) (token_send (UInt w32) (search sendable) (search sendable)))
+map_vec-requires-send-J g c κs within = param_send _ _ (arg_send _ yes (the_row (UInt w32))
+    (token_send (UInt w32) (search sendable) (search sendable)))

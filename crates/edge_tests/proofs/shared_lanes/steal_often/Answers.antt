@@ -5,4 +5,5 @@ pub loop-init : goal.loop-init
 loop-init g c = same_itself c.args.hand.now
 
 pub steal-requires-clause-pass : goal.steal-requires-clause-pass
-steal-requires-clause-pass g c = still_has c.args.hand.now c.loop.hand c.args.thief.now.number c.args.thief.now.name g.Q.Naming.capacity c.loop.invariant c.requires.pass
+steal-requires-clause-pass g c = still_has c.args.hand.now c.loop.hand c.args.thief.now.number
+    c.args.thief.now.name g.Q.Naming.capacity c.loop.invariant c.requires.pass

@@ -7,4 +7,5 @@ use Rattle.fact_board.proofs.threads.token_is_sent.Goals as goal
 
 pub sends-requires-send-X : goal.sends-requires-send-X
 sends-requires-send-X g c κs within =
-    param_send _ _ (arg_send _ yes (the_row (param 0 g.row.E)) (token_send (param 0 g.row.E) c.type_bounds.send-E c.type_bounds.sync-E))
+    param_send _ _ (arg_send _ yes (the_row (param 0 g.row.E))
+    (token_send (param 0 g.row.E) c.type_bounds.send-E c.type_bounds.sync-E))

@@ -6,7 +6,8 @@ use Rattle.fixprog.specs.Finding.{earlier}
 use Rattle.fixprog.specs.Views.{standing_of, answer_of}
 use Rattle.fixprog.specs.Read.{IsTaken, IsRead}
 use Rattle.fixprog.specs.Standing.{stands_after}
-use Rattle.fixprog.proofs.Runs.{RunsTo, runs_from, runs_on, read_stuck, read_bad, read_short, read_whole}
+use Rattle.fixprog.proofs.Runs.{RunsTo, runs_from, runs_on, read_stuck, read_bad, read_short}
+use Rattle.fixprog.proofs.Runs.{read_whole}
 use Rattle.fixprog.proofs.reader.read.Goals as goal
 use Rattle.fixprog.proofs.reader.read.Goals.{in-Some, in-None, in-None+else-not-is_whole}
 

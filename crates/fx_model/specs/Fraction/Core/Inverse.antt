@@ -6,7 +6,8 @@ use mathlib.Core.Quot.{mk, sound, lift, Quot-set}
 use mathlib.Core.HLevel.{→_prop}
 use Rattle.std.proofs.Common.{⊎_elim, zero, suc}
 use Rattle.std.proofs.lemmas.Bool.{cases_lt}
-use Rattle.fx_model.specs.Fraction.Core.{Ratio, Same, Fraction, ◌*ℚ◌, neg_ℚ, le_ℚ, ◌≤ℚ◌, ◌<ℚ◌, by_ratio, Fraction-set, of_ratio, zero_ℚ, one_ℚ}
+use Rattle.fx_model.specs.Fraction.Core.{Ratio, Same, Fraction, ◌*ℚ◌, neg_ℚ, le_ℚ, ◌≤ℚ◌, ◌<ℚ◌}
+use Rattle.fx_model.specs.Fraction.Core.{by_ratio, Fraction-set, of_ratio, zero_ℚ, one_ℚ}
 use Rattle.fx_model.specs.Fraction.Core.Ring.{mul_comm, mul_assoc, one-mul}
 use Rattle.fx_model.specs.Fraction.Core.Order.{le_refl, le_antisymm}
 

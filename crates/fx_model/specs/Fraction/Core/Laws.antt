@@ -1,9 +1,13 @@
 -- What follows at once from the laws of a ring and of its order.
 use Rattle.std.specs.Prelude.{◌≡◌}
 use Rattle.std.proofs.Common.{sym, ap, ◌∙◌, subst}
-use Rattle.fx_model.specs.Fraction.Core.{Fraction, ◌+ℚ◌, ◌*ℚ◌, neg_ℚ, ◌≤ℚ◌, ◌<ℚ◌, zero_ℚ, one_ℚ, ◌-ℚ◌}
-use Rattle.fx_model.specs.Fraction.Core.Ring.{add_comm, add_assoc, zero-add, add-neg, mul_comm, mul_assoc, one-mul, zero-mul, mul-add, neg-mul, neg-neg}
-use Rattle.fx_model.specs.Fraction.Core.Order.{add-le, lt_by, lt_not, lt_le, mul-le, mul-le_cancel, neg-le}
+use Rattle.fx_model.specs.Fraction.Core.{Fraction, ◌+ℚ◌, ◌*ℚ◌, neg_ℚ, ◌≤ℚ◌, ◌<ℚ◌, zero_ℚ, one_ℚ}
+use Rattle.fx_model.specs.Fraction.Core.{◌-ℚ◌}
+use Rattle.fx_model.specs.Fraction.Core.Ring.{add_comm, add_assoc, zero-add, add-neg, mul_comm}
+use Rattle.fx_model.specs.Fraction.Core.Ring.{mul_assoc, one-mul, zero-mul, mul-add, neg-mul}
+use Rattle.fx_model.specs.Fraction.Core.Ring.{neg-neg}
+use Rattle.fx_model.specs.Fraction.Core.Order.{add-le, lt_by, lt_not, lt_le, mul-le, mul-le_cancel}
+use Rattle.fx_model.specs.Fraction.Core.Order.{neg-le}
 
 -- ---- sums
 pub add-zero : (x : Fraction) → x +ℚ zero_ℚ ≡ x

@@ -1,12 +1,16 @@
 -- The order of fractions, and what sums, products and negations do to it.
-use Rattle.std.specs.Prelude.{◌≡◌, ◌⊎◌, ℕ, ◌*◌, ◌+◌, ◌-◌, ◌≤◌, ◌<◌, Bool, true, false, IsFalse, not, refl}
+use Rattle.std.specs.Prelude.{◌≡◌, ◌⊎◌, ℕ, ◌*◌, ◌+◌, ◌-◌, ◌≤◌, ◌<◌, Bool, true, false, IsFalse, not}
+use Rattle.std.specs.Prelude.{refl}
 use Rattle.std.proofs.Common.{arith, sym, ◌∙◌, subst, inl, inr}
 use Rattle.std.proofs.Math.Nat.{mul-le-mul_left, mul-le-mul_right}
 use mathlib.Core.Quot.{mk, sound}
 use mathlib.Core.Bool.{Bool-set}
 use mathlib.Core.HLevel.{Π_prop, →_prop}
 use lib.Dec.{T, leb, le→leb, leb→le, nleb→lt}
-use Rattle.fx_model.specs.Fraction.Core.{Ratio, Same, Fraction, positive-mul, add_ratio, mul_ratio, neg_ratio, ◌+ℚ◌, ◌*ℚ◌, neg_ℚ, ◌-ℚ◌, cancel_le, le_ratio, LeRatio, le_ℚ, ◌≤ℚ◌, ◌<ℚ◌, by_ratio, Fraction-set, same_2, zero_ℚ, one_ℚ, T_true}
+use Rattle.fx_model.specs.Fraction.Core.{Ratio, Same, Fraction, positive-mul, add_ratio, mul_ratio}
+use Rattle.fx_model.specs.Fraction.Core.{neg_ratio, ◌+ℚ◌, ◌*ℚ◌, neg_ℚ, ◌-ℚ◌, cancel_le, le_ratio}
+use Rattle.fx_model.specs.Fraction.Core.{LeRatio, le_ℚ, ◌≤ℚ◌, ◌<ℚ◌, by_ratio, Fraction-set, same_2}
+use Rattle.fx_model.specs.Fraction.Core.{zero_ℚ, one_ℚ, T_true}
 use Rattle.fx_model.specs.Fraction.Core.Ring.{add_comm}
 
 -- ---- the order

@@ -2,7 +2,8 @@
 use Rattle.std.specs.Prelude.{◌≡◌}
 use Rattle.std.proofs.Common.{arith}
 use mathlib.Core.Quot.{sound}
-use Rattle.fx_model.specs.Fraction.Core.{Same, Fraction, ◌+ℚ◌, ◌*ℚ◌, neg_ℚ, same_1, same_2, same_3, zero_ℚ, one_ℚ}
+use Rattle.fx_model.specs.Fraction.Core.{Same, Fraction, ◌+ℚ◌, ◌*ℚ◌, neg_ℚ, same_1, same_2, same_3}
+use Rattle.fx_model.specs.Fraction.Core.{zero_ℚ, one_ℚ}
 
 pub add_comm : (x y : Fraction) → x +ℚ y ≡ y +ℚ x
 unfolding ◌+ℚ◌

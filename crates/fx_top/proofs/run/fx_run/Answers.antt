@@ -10,7 +10,8 @@ returns-in-Err-Usage g c =
     let none : reading (map string_bytes c.args.words.now) ≡ None = search rules in
     record {
       run = usage_run (reading (map string_bytes c.args.words.now)) _ none (λ n. refl) (subst
-          (λ lines. IsPut Usage lines (g.O.Sink.taken c.args.out.now) (g.O.Sink.taken c.print.new.out)
+          (λ lines. IsPut Usage lines (g.O.Sink.taken c.args.out.now)
+          (g.O.Sink.taken c.print.new.out)
           (g.O.Sink.faults c.args.out.now) (g.O.Sink.faults c.print.new.out) c.print.result)
           c.usage.ensures c.print.ensures);
     }

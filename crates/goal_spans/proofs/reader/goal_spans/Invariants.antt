@@ -6,7 +6,8 @@ use Rattle.goal_spans.proofs.reader.goal_spans.Given as goal
 
 abbrev pub invariant-loop-roles : goal.invariant-loop-roles
 invariant-loop-roles l = record {
-  read : spec.read_leaves (leaves_of l.fn.roles (words_in l.fn.words)) spec.start ≡ spec.read_leaves (leaves_of l.roles (words_in l.words)) l.reader;
+  read : spec.read_leaves (leaves_of l.fn.roles (words_in l.fn.words)) spec.start
+      ≡ spec.read_leaves (leaves_of l.roles (words_in l.words)) l.reader;
   counted : l.reader.at + length l.roles ≡ length l.fn.roles;
 }
 

@@ -4,4 +4,5 @@ use Rattle.interval.specs.Results.{point_only}
 use Rattle.interval.proofs.literals.enclose.Goals as goal
 
 pub returns-clause-is : goal.returns-clause-is
-returns-clause-is c = point_only (signed c.args.negative (literal_value c.args.lit.now)) c.around_literal.result c.around_literal.ensures
+returns-clause-is c = point_only (signed c.args.negative (literal_value c.args.lit.now))
+    c.around_literal.result c.around_literal.ensures

@@ -4,4 +4,7 @@ use Rattle.interval.proofs.order.not_negative.Goals as goal
 use Rattle.dyadic.specs.fx_model.Powers.{scaled_up, scaled_up_out}
 
 pub returns : goal.returns
-returns c = (λ t. scaled_up c.args.a.mantissa c.args.a.exponent (omega (arith, ints)), λ h. let k = scaled_up_out c.args.a.mantissa c.args.a.exponent h in grind (arith, ints))
+returns c = (
+  λ t. scaled_up c.args.a.mantissa c.args.a.exponent (omega (arith, ints)),
+  λ h. let k = scaled_up_out c.args.a.mantissa c.args.a.exponent h in grind (arith, ints),
+)

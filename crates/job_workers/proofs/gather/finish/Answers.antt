@@ -12,7 +12,8 @@ loop-number-preserved g c =
     let n = c.loop-number.number in
     let outs = c.loop-number.outs.items in
     let here : IfSome c.result_of.new.slot (P c.loop-number.number) =
-    subst (λ (o : Option _). IfSome o (P c.loop-number.number)) (sym c.in_ok-out.ensures.taken) tt in
+    subst (λ (o : Option _). IfSome o (P c.loop-number.number))
+    (sym c.in_ok-out.ensures.taken) tt in
     let long = length-set c.loop-number.slots c.loop-number.number c.result_of.new.slot in
     let inside : c.loop-number.number < length c.loop-number.slots = omega arith in (
       first_of (omega arith, grind (arith, common_steps)),

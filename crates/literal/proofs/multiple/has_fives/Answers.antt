@@ -8,4 +8,5 @@ pub pow-requires : goal.pow-requires
 pow-requires c = five_fits c.unsigned_abs.result (omega (arith, ints, c.unsigned_abs.ensures.value))
 
 pub nonzero_rem-result : goal.nonzero_rem-result
-nonzero_rem-result c = subst (λ (n : ℕ). 0 < n) (sym c.pow.ensures) (pow_positive 5 c.unsigned_abs.result (lit< tt))
+nonzero_rem-result c =
+    subst (λ (n : ℕ). 0 < n) (sym c.pow.ensures) (pow_positive 5 c.unsigned_abs.result (lit< tt))

@@ -6,7 +6,8 @@ use Rattle.literal.proofs.number.lowered.Goals as goal
 
 pub returns : goal.returns
 returns c =
-    let e : c.in_ok-exponent.field-0 ≡ exponent_value (power_of c.args.power) = c.in_ok-exponent.ensures.0 in
+    let e : c.in_ok-exponent.field-0 ≡ exponent_value (power_of c.args.power) =
+    c.in_ok-exponent.ensures.0 in
     let low = c.in_ok-exponent.ensures.1 in
     let high = c.in_ok-exponent.ensures.2 in
     let p = c.requires.places.0 in

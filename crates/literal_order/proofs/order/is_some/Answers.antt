@@ -6,5 +6,9 @@ pub returns : goal.returns
 returns c =
     let l = c.args.lit.now in
     let r = c.ratio_of.result in
-    let a : IsRatio (literal_value l) r.number r.divisor l.two = record { value = c.ratio_of.ensures.value; some = c.ratio_of.ensures.some } in
-    record { some = tested r.number _ (some_size _ r.number r.divisor l.two a); from_zero = from_zero _ r.number r.divisor l.two a }
+    let a : IsRatio (literal_value l) r.number r.divisor l.two =
+    record { value = c.ratio_of.ensures.value; some = c.ratio_of.ensures.some } in
+    record {
+      some = tested r.number _ (some_size _ r.number r.divisor l.two a);
+      from_zero = from_zero _ r.number r.divisor l.two a;
+    }

@@ -9,5 +9,7 @@ use Rattle.pair_closure.proofs.order.add_sides.Goals as goal
 
 pub returns-in-Sub : goal.returns-in-Sub
 returns-in-Sub c =
-    subst (λ n. OnOk c.add.result (IsGrown c.args.pairs.now c.add.new.self (Has (sides_of n)))) (sym c.in-Sub.is)
-    (on_ok_weaker c.add.result (grown_one c.args.pairs.now c.add.new.self (c.in-Sub.a, c.in-Sub.b)) c.add.ensures)
+    subst (λ n. OnOk c.add.result (IsGrown c.args.pairs.now c.add.new.self (Has (sides_of n))))
+    (sym c.in-Sub.is)
+    (on_ok_weaker c.add.result
+    (grown_one c.args.pairs.now c.add.new.self (c.in-Sub.a, c.in-Sub.b)) c.add.ensures)

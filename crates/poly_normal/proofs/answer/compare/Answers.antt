@@ -4,5 +4,7 @@ use Rattle.poly_normal.proofs.answer.compare.Goals as goal
 
 pub returns : goal.returns
 returns c =
-    let l = rw c.in-Some.is at c.in_ok-left.ensures in let r = rw c.in-Some-2.is at c.in_ok-right.ensures in
-    c.compare_sides.ensures (product (side_of c.args.f.now.top) (side_of c.args.g.now.bottom)) (product (side_of c.args.g.now.top) (side_of c.args.f.now.bottom)) l.1 r.1
+    let l = rw c.in-Some.is at c.in_ok-left.ensures in
+    let r = rw c.in-Some-2.is at c.in_ok-right.ensures in
+    c.compare_sides.ensures (product (side_of c.args.f.now.top) (side_of c.args.g.now.bottom))
+    (product (side_of c.args.g.now.top) (side_of c.args.f.now.bottom)) l.1 r.1

@@ -3,7 +3,9 @@ use Rattle.poly_normal.proofs.Tables.{compared_same, compared_differs, false_not
 use Rattle.poly_normal.proofs.answer.compare_sides.Goals as goal
 
 pub returns-then-is_equal : goal.returns-then-is_equal
-returns-then-is_equal c s t a b = compared_same c.args.left.now c.args.right.now s t a b (c.is_equal.ensures.0 c.if-is_equal.true)
+returns-then-is_equal c s t a b =
+    compared_same c.args.left.now c.args.right.now s t a b (c.is_equal.ensures.0 c.if-is_equal.true)
 
 pub returns-else-is_equal : goal.returns-else-is_equal
-returns-else-is_equal c s t a b = compared_differs c.args.left.now c.args.right.now s t a b (λ e. false_not_true (sym c.if-is_equal.false ∙ c.is_equal.ensures.1 e))
+returns-else-is_equal c s t a b = compared_differs c.args.left.now c.args.right.now s t a b
+    (λ e. false_not_true (sym c.if-is_equal.false ∙ c.is_equal.ensures.1 e))

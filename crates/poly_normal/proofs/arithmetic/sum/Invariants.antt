@@ -8,7 +8,8 @@ invariant-loop-i l = record {
   left : l.i ≤ length (polynomial_of l.p);
   right : l.j ≤ length (polynomial_of l.q);
   width : l.out.width ≡ l.p.width;
-  done : polynomial_of l.out ++ merge (drop l.i (polynomial_of l.p)) (drop l.j (polynomial_of l.q)) ≡ merge (polynomial_of l.p) (polynomial_of l.q);
+  done : polynomial_of l.out ++ merge (drop l.i (polynomial_of l.p)) (drop l.j (polynomial_of l.q))
+      ≡ merge (polynomial_of l.p) (polynomial_of l.q);
 }
 
 abbrev pub decreases-loop-i : goal.decreases-loop-i

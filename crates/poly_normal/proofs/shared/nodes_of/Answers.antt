@@ -7,4 +7,7 @@ pub loop-i-preserved : goal.loop-i-preserved
 loop-i-preserved c =
     let n = c.node.result in
     let h = slice_get_within c.args.dag.now c.loop-i.i n c.node.ensures.at in
-    c.in_ok-push.ensures.items ∙ ap (λ l. l ++ (n ∷ [])) c.loop-i.invariant ∙ ap (λ x. take c.loop-i.i c.args.dag.now ++ (x ∷ [])) (sym (get_or_from_slice_get c.args.dag.now c.loop-i.i n n c.node.ensures.at)) ∙ sym (take_more c.args.dag.now c.loop-i.i n h)
+    c.in_ok-push.ensures.items ∙ ap (λ l. l ++ (n ∷ [])) c.loop-i.invariant
+    ∙ ap (λ x. take c.loop-i.i c.args.dag.now ++ (x ∷ []))
+    (sym (get_or_from_slice_get c.args.dag.now c.loop-i.i n n c.node.ensures.at))
+    ∙ sym (take_more c.args.dag.now c.loop-i.i n h)

@@ -5,7 +5,8 @@ use Rattle.std.proofs.lemmas.Option.{slice_get-get_or}
 use Rattle.expr_dag.specs.fx_model.declared.ExprId.{ExprId}
 use Rattle.expr_dag.specs.fx_model.declared.Literal.{Literal}
 use Rattle.expr_dag.specs.fx_model.declared.Node.{Node}
-use Rattle.expr_dag.specs.fx_model.declared.Node.TheVariants.{Var, Lit, Neg, Add, Sub, Mul, Div, Abs, Round}
+use Rattle.expr_dag.specs.fx_model.declared.Node.TheVariants.{Var, Lit, Neg, Add, Sub, Mul, Div}
+use Rattle.expr_dag.specs.fx_model.declared.Node.TheVariants.{Abs, Round}
 use Rattle.expr_dag.specs.literal.Normal.{IsNormal}
 use Rattle.expr_dag.specs.literal.Limits.{bounded}
 use Rattle.expr_dag.specs.Nodes.{IsInLimits}
@@ -31,4 +32,5 @@ plain_node (Round r x) h = tt
 pub returns-clause-plain : goal.returns-clause-plain
 returns-clause-plain c = λ i n h.
     let x : ExprId = record { 0 = i } in
-    plain_node (slice_index_or c.args.dag.now i n) (c.laws.ensures.lawful x (slice_index_or c.args.dag.now i n) (slice_get-get_or c.args.dag.now i n h)).limits
+    plain_node (slice_index_or c.args.dag.now i n) (c.laws.ensures.lawful x
+    (slice_index_or c.args.dag.now i n) (slice_get-get_or c.args.dag.now i n h)).limits

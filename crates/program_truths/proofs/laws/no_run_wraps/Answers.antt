@@ -1,4 +1,5 @@
-use Rattle.program_truths.proofs.Promised.{scripts_tell_runs, scripts_are_scripts, no_run_wraps, outputs_lie}
+use Rattle.program_truths.proofs.Promised.{scripts_tell_runs, scripts_are_scripts, no_run_wraps}
+use Rattle.program_truths.proofs.Promised.{outputs_lie}
 use Rattle.program_truths.proofs.laws.no_run_wraps.Goals as goal
 
 pub returns-clause-tells : goal.returns-clause-tells

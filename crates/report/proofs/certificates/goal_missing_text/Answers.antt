@@ -4,4 +4,5 @@ use Rattle.std.proofs.Common.{List, ℕ, ◌++◌, ◌∙◌, append_assoc, ap, 
 use Rattle.report.proofs.certificates.goal_missing_text.Goals as goal
 
 pub returns : goal.returns
-returns c = c.in_ok-text.ensures.ok ∙ sym (ap (λ (t : List ℕ). codes "GoalMissing " ++ t) (append_assoc (decimal c.args.section) (codes " ") (decimal c.args.goal)))
+returns c = c.in_ok-text.ensures.ok ∙ sym (ap (λ (t : List ℕ). codes "GoalMissing " ++ t)
+    (append_assoc (decimal c.args.section) (codes " ") (decimal c.args.goal)))

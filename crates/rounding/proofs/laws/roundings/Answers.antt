@@ -3,4 +3,9 @@ use Rattle.rounding.specs.OnGrid.{rounded_on_grid}
 use Rattle.rounding.proofs.laws.roundings.Goals as goal
 
 pub returns : goal.returns
-returns c = record { monotone = rounded-le; multiple = rounded_multiple; kept = rounded-finer; on_grid = rounded_on_grid }
+returns c = record {
+  monotone = rounded-le;
+  multiple = rounded_multiple;
+  kept = rounded-finer;
+  on_grid = rounded_on_grid;
+}

@@ -10,8 +10,12 @@ loop-b-init c = start (one_left c.args.nodes.now c.args.x c.args.a c.args.c) c.a
 
 pub loop-b-preserved : goal.loop-b-preserved
 loop-b-preserved c =
-    more (one_left c.args.nodes.now c.args.x c.args.a c.args.c) c.args.rows.now c.loop-b.rows c.add_one_left.new.rows c.args.row.now c.loop-b.b-index (slice_index_or c.args.row.now c.loop-b.b-index (id_at 0))
-    (slice_get-get_or c.args.row.now c.loop-b.b-index (id_at 0) (omega (arith, c.loop-b-test.true))) c.loop-b.invariant c.in_ok-add_one_left.ensures
+    more (one_left c.args.nodes.now c.args.x c.args.a c.args.c)
+    c.args.rows.now c.loop-b.rows c.add_one_left.new.rows c.args.row.now c.loop-b.b-index
+    (slice_index_or c.args.row.now c.loop-b.b-index (id_at 0))
+    (slice_get-get_or c.args.row.now c.loop-b.b-index (id_at 0)
+    (omega (arith, c.loop-b-test.true))) c.loop-b.invariant c.in_ok-add_one_left.ensures
 
 pub returns : goal.returns
-returns c = end (one_left c.args.nodes.now c.args.x c.args.a c.args.c) c.args.rows.now c.loop-b.rows c.args.row.now c.loop-b.b-index (omega (arith, c.loop-b-test.false)) c.loop-b.invariant
+returns c = end (one_left c.args.nodes.now c.args.x c.args.a c.args.c) c.args.rows.now c.loop-b.rows
+    c.args.row.now c.loop-b.b-index (omega (arith, c.loop-b-test.false)) c.loop-b.invariant

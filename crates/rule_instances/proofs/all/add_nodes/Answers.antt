@@ -7,7 +7,9 @@ pub loop-i-init : goal.loop-i-init
 loop-i-init c = start of_node c.args.rows.now
 
 pub loop-i-preserved : goal.loop-i-preserved
-loop-i-preserved c = more of_node c.args.rows.now c.loop-i.rows c.add_node.new.rows c.args.nodes.now c.loop-i.i c.node.result c.node.ensures.at c.loop-i.invariant c.in_ok-add_node.ensures
+loop-i-preserved c = more of_node c.args.rows.now c.loop-i.rows c.add_node.new.rows c.args.nodes.now
+    c.loop-i.i c.node.result c.node.ensures.at c.loop-i.invariant c.in_ok-add_node.ensures
 
 pub returns : goal.returns
-returns c = end of_node c.args.rows.now c.loop-i.rows c.args.nodes.now c.loop-i.i (omega (arith, c.loop-i-test.false, c.len-i-end.ensures.len)) c.loop-i.invariant
+returns c = end of_node c.args.rows.now c.loop-i.rows c.args.nodes.now c.loop-i.i
+    (omega (arith, c.loop-i-test.false, c.len-i-end.ensures.len)) c.loop-i.invariant

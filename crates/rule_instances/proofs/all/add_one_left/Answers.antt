@@ -5,4 +5,6 @@ use Rattle.rule_instances.proofs.all.add_one_left.Goals as goal
 
 pub returns-then-are_apart : goal.returns-then-are_apart
 returns-then-are_apart c =
-    subst (λ t. OnOk c.add_past_left.result (c.add_past_left.new.rows ≡ c.args.rows.now ++ (if t then past_left c.args.nodes.now c.args.x c.args.a c.args.c c.args.b else []))) (sym c.if-are_apart.true ∙ c.are_apart.ensures) c.add_past_left.ensures
+    subst (λ t. OnOk c.add_past_left.result (c.add_past_left.new.rows ≡ c.args.rows.now ++ (if t
+    then past_left c.args.nodes.now c.args.x c.args.a c.args.c c.args.b else [])))
+    (sym c.if-are_apart.true ∙ c.are_apart.ensures) c.add_past_left.ensures

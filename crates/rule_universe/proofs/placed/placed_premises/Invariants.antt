@@ -7,5 +7,6 @@ use Rattle.rule_universe.proofs.placed.placed_premises.Given as goal
 abbrev pub invariant-loop-k : goal.invariant-loop-k
 invariant-loop-k l = record {
   full : IsFull (length l.items.items) l.starts.items;
-  rows : ArePremises (length l.nodes) l.pairs (take l.k l.instances) (rows_in l.items.items l.starts.items);
+  rows : ArePremises (length l.nodes) l.pairs (take l.k l.instances)
+      (rows_in l.items.items l.starts.items);
 }

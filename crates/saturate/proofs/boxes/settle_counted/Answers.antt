@@ -16,8 +16,10 @@ pub returns-clause-state : goal.returns-clause-state
 returns-clause-state g c = λ pieces b.
     let u = setting_by g.C.Concludes.rules c.args.uni.now in
     let at = fact_at c.in_ok-table.table in
-    subst (IsState u c.args.uni.now.goals c.args.rounds pieces) (sym (c.judge.ensures.state ∙ ap (state_in at) c.goals.ensures))
-    (c.boxes_come_to_one_state.ensures.decided u c.args.uni.now.goals c.args.rounds pieces at (c.in_ok-table.ensures.table pieces b))
+    subst (IsState u c.args.uni.now.goals c.args.rounds pieces)
+    (sym (c.judge.ensures.state ∙ ap (state_in at) c.goals.ensures))
+    (c.boxes_come_to_one_state.ensures.decided u c.args.uni.now.goals c.args.rounds pieces at
+    (c.in_ok-table.ensures.table pieces b))
 
 pub returns-clause-marked : goal.returns-clause-marked
 returns-clause-marked g c =

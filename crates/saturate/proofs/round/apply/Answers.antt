@@ -1,4 +1,5 @@
-use Rattle.std.proofs.Common.{◌≡◌, ◌<◌, ◌+◌, ℕ, [], ◌∷◌, List, length, sym, ap, subst, ◌∙◌, arith, drop, slice_index_or, add-one}
+use Rattle.std.proofs.Common.{◌≡◌, ◌<◌, ◌+◌, ℕ, [], ◌∷◌, List, length, sym, ap, subst, ◌∙◌, arith}
+use Rattle.std.proofs.Common.{drop, slice_index_or, add-one}
 use Rattle.std.proofs.Math.Seq.{drop-cons}
 use Rattle.std.proofs.lemmas.List.{drop_all}
 use Rattle.std.proofs.lemmas.List.Elements.{Contains-get_or}
@@ -17,16 +18,19 @@ none_left = record { slot = slot.Bnd (record { 0 = 0 }); place = 0 }
 abbrev here : List Placed → ℕ → Placed
 here placed i = slice_index_or placed i none_left
 
-rest_is : (placed : List Placed) (i : ℕ) → i < length placed → drop i placed ≡ here placed i ∷ drop (i + 1) placed
+rest_is : (placed : List Placed) (i : ℕ) → i < length placed
+    → drop i placed ≡ here placed i ∷ drop (i + 1) placed
 rest_is placed i h = rw (add-one i) (drop-cons placed i none_left h)
 
 pub loop-p-init : goal.loop-p-init
 loop-p-init g c =
-    subst (λ ps. all_at (fact_at c.args.now.now) (slots_of c.args.placed.now) ≡ after ps (all_at (fact_at c.args.now.now) (slots_of c.args.placed.now))) (sym c.clear.ensures.items)
+    subst (λ ps. all_at (fact_at c.args.now.now) (slots_of c.args.placed.now) ≡ after ps
+    (all_at (fact_at c.args.now.now) (slots_of c.args.placed.now))) (sym c.clear.ensures.items)
     (after_none (all_at (fact_at c.args.now.now) (slots_of c.args.placed.now)))
 
 pub strongest_at-requires : goal.strongest_at-requires
-strongest_at-requires g c = c.requires.found (here c.args.placed.now c.loop-p.p-index) (Contains-get_or c.args.placed.now c.loop-p.p-index none_left c.loop-p-test.true)
+strongest_at-requires g c = c.requires.found (here c.args.placed.now c.loop-p.p-index)
+    (Contains-get_or c.args.placed.now c.loop-p.p-index none_left c.loop-p-test.true)
 
 pub returns-in-None-clause-is : goal.returns-in-None-clause-is
 returns-in-None-clause-is g c =
@@ -34,7 +38,8 @@ returns-in-None-clause-is g c =
     let at = fact_at c.args.now.now in
     let rest = all_at at (slots_of (drop (c.loop-p.p-index + 1) placed)) in
     let ps = c.loop-p.premises.items in
-    let inv = subst (λ l. all_at at (slots_of placed) ≡ after ps (all_at at (slots_of l))) (rest_is placed c.loop-p.p-index c.loop-p-test.true) c.loop-p.invariant in
+    let inv = subst (λ l. all_at at (slots_of placed) ≡ after ps (all_at at (slots_of l)))
+    (rest_is placed c.loop-p.p-index c.loop-p-test.true) c.loop-p.invariant in
     gathered_none (g.C.Concludes.rules c.args.dag.now c.args.hints.now) at c.args.instance.now
     (slots_of placed) c.requires.slots ps rest
     (inv ∙ ap (λ o. after ps (with_first o rest)) (sym c.strongest_at.ensures ∙ c.in-None.is))
@@ -45,17 +50,22 @@ loop-p-preserved g c =
     let at = fact_at c.args.now.now in
     let rest = all_at at (slots_of (drop (c.loop-p.p-index + 1) placed)) in
     let ps = c.loop-p.premises.items in
-    let inv = subst (λ l. all_at at (slots_of placed) ≡ after ps (all_at at (slots_of l))) (rest_is placed c.loop-p.p-index c.loop-p-test.true) c.loop-p.invariant in
-    subst (λ qs. all_at at (slots_of placed) ≡ after qs rest) (sym c.in_ok-push-in-Some.ensures.items)
-    (inv ∙ ap (λ o. after ps (with_first o rest)) (sym c.strongest_at.ensures ∙ c.in-Some.is) ∙ after_first ps c.in-Some.f rest)
+    let inv = subst (λ l. all_at at (slots_of placed) ≡ after ps (all_at at (slots_of l)))
+    (rest_is placed c.loop-p.p-index c.loop-p-test.true) c.loop-p.invariant in
+    subst (λ qs. all_at at (slots_of placed) ≡ after qs rest)
+    (sym c.in_ok-push-in-Some.ensures.items)
+    (inv ∙ ap (λ o. after ps (with_first o rest)) (sym c.strongest_at.ensures ∙ c.in-Some.is)
+    ∙ after_first ps c.in-Some.f rest)
 
 pub returns-clause-is : goal.returns-clause-is
 returns-clause-is g c =
     let placed = c.args.placed.now in
     let at = fact_at c.args.now.now in
     let ps = c.loop-p.premises.items in
-    let end : drop c.loop-p.p-index placed ≡ [] = drop_all c.loop-p.p-index placed (omega (arith, c.loop-p-test.false)) in
-    let all = subst (λ l. all_at at (slots_of placed) ≡ after ps (all_at at (slots_of l))) end c.loop-p.invariant in
+    let end : drop c.loop-p.p-index placed ≡ [] =
+    drop_all c.loop-p.p-index placed (omega (arith, c.loop-p-test.false)) in
+    let all = subst (λ l. all_at at (slots_of placed)
+    ≡ after ps (all_at at (slots_of l))) end c.loop-p.invariant in
     let i = c.args.instance.now in
     c.conclude.ensures.is ∙ ap (λ l. g.C.Concludes.rules c.args.dag.now c.args.hints.now i.rule
     i.arg l i.target) c.deref.ensures.value

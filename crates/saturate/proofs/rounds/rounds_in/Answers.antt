@@ -1,4 +1,6 @@
-use Rattle.std.proofs.Common.{arith, ◌≡◌, None, suc, false, true, ◌+◌, ◌<◌, ◌≤◌, length, sym, ap, subst, ◌∙◌, add-one, refl, Option, count_by, List, Bool, take, drop, ◌++◌, inl, inr}
+use Rattle.std.proofs.Common.{arith, ◌≡◌, None, suc, false, true, ◌+◌, ◌<◌, ◌≤◌, length, sym, ap}
+use Rattle.std.proofs.Common.{subst, ◌∙◌, add-one, refl, Option, count_by, List, Bool, take, drop}
+use Rattle.std.proofs.Common.{◌++◌, inl, inr}
 use Rattle.std.proofs.lemmas.Bool.{eqb-true}
 use Rattle.std.proofs.lemmas.List.{length-map}
 use Rattle.std.proofs.lemmas.List.Sums.{count_by-le-length}
@@ -14,7 +16,8 @@ use Rattle.rule_universe.specs.derivation.Heights.{best_start, best_void, best_s
 use Rattle.rule_universe.specs.derivation.Derivations.{At}
 use Rattle.rule_universe.specs.derivation.Changes.{IsQuiet, IsListed, AreDue, AreUsers, quiet_after}
 use Rattle.rule_universe.specs.derivation.Counted.{touched}
-use Rattle.rule_universe.specs.derivation.Counts.{IsRisen, AreRisen, due_touched, spent, round_cost, spent_more, spent_within}
+use Rattle.rule_universe.specs.derivation.Counts.{IsRisen, AreRisen, due_touched, spent, round_cost}
+use Rattle.rule_universe.specs.derivation.Counts.{spent_more, spent_within}
 use Rattle.saturate.specs.declared.kept.Table.{Table}
 use Rattle.saturate.specs.Tables.{fact_at}
 use Rattle.rule_universe.specs.declared.placed.Placed.{Placed}
@@ -51,7 +54,9 @@ returns-then-area-clause-best g c =
     let P : Table → Type 0 = λ t. IsBest u G c.args.height (fact_at t) in
     subst P (sym c.swap.ensures.x_after)
     (best_void u G (suc c.loop.counter) c.args.height (fact_at c.round.new.next) fact.Void
-    (next_best u (c.rules_are_lawful.ensures c.args.uni.now.nodes c.args.uni.now.hints) c.laws.ensures.universe.closed G c.loop.counter (fact_at c.loop.now) (fact_at c.round.new.next) c.loop.invariant.best c.loop.invariant.no_void c.in_ok-round.ensures.ahead)
+    (next_best u (c.rules_are_lawful.ensures c.args.uni.now.nodes c.args.uni.now.hints)
+    c.laws.ensures.universe.closed G c.loop.counter (fact_at c.loop.now) (fact_at c.round.new.next)
+    c.loop.invariant.best c.loop.invariant.no_void c.in_ok-round.ensures.ahead)
     (rw c.if-area.true refl) (omega (arith, c.loop-test.true)))
 
 pub round-requires-clause-quiet : goal.round-requires-clause-quiet
@@ -60,36 +65,51 @@ round-requires-clause-quiet g c = subst (λ l. IsQuiet
     (sym c.deref.ensures.value) c.loop.invariant.quiet
 
 pub catch_up-requires-clause-listed : goal.catch_up-requires-clause-listed
-catch_up-requires-clause-listed g c = subst (λ l. IsListed (slots_of l) (fact_at c.loop.now) (fact_at c.round.new.next)) (sym c.deref-in-loop.ensures.value) c.in_ok-round.ensures.listed
+catch_up-requires-clause-listed g c = subst (λ l. IsListed (slots_of l) (fact_at c.loop.now)
+    (fact_at c.round.new.next)) (sym c.deref-in-loop.ensures.value) c.in_ok-round.ensures.listed
 
 -- What changed has its places where VOID isn't known.
-placed_all : (u : World) (changed : List Placed) (at new : At) → at slot.Void ≡ None → new slot.Void ≡ None → AreKnown u changed → AreRisen (slots_of changed) at new → (p : Placed) → Contains changed p → IsPlaced (length u.nodes) u.pairs p
+placed_all : (u : World) (changed : List Placed) (at new : At) → at slot.Void ≡ None
+    → new slot.Void ≡ None → AreKnown u changed → AreRisen (slots_of changed) at new → (p : Placed)
+    → Contains changed p → IsPlaced (length u.nodes) u.pairs p
 placed_all u changed at new before after known risen p w =
     elim (known p w) [
       | inl h ↦ h
       | inr v ↦
-          let r : IsRisen (at slot.Void) (new slot.Void) = subst (λ s. IsRisen (at s) (new s)) v (risen p.slot (contains_slot changed p w)) in
-          absurd (subst (λ o. IsRisen None o) after (subst (λ o. IsRisen o (new slot.Void)) before r))
+          let r : IsRisen (at slot.Void) (new slot.Void) =
+          subst (λ s. IsRisen (at s) (new s)) v (risen p.slot (contains_slot changed p w)) in
+          absurd (subst (λ o. IsRisen None o) after
+          (subst (λ o. IsRisen o (new slot.Void)) before r))
     ]
 
 pub catch_up-requires-clause-there : goal.catch_up-requires-clause-there
 catch_up-requires-clause-there g c = λ p w.
-    let at = placed_all c.args.uni.now c.round.new.changed.items (fact_at c.loop.now) (fact_at c.round.new.next) c.loop.invariant.no_void (rw c.if-area.false refl) c.in_ok-round.ensures.known c.in_ok-round.ensures.risen p
+    let at = placed_all c.args.uni.now c.round.new.changed.items (fact_at c.loop.now)
+    (fact_at c.round.new.next) c.loop.invariant.no_void
+    (rw c.if-area.false refl) c.in_ok-round.ensures.known c.in_ok-round.ensures.risen p
     (subst (λ l. Contains l p) c.deref-in-loop.ensures.value w) in
-    room_place (length c.args.uni.now.nodes) c.args.uni.now.pairs c.loop.now c.loop.invariant.places_now p.slot (placed_slot (length c.args.uni.now.nodes) c.args.uni.now.pairs p.slot p.place at)
+    room_place (length c.args.uni.now.nodes)
+    c.args.uni.now.pairs c.loop.now c.loop.invariant.places_now p.slot
+    (placed_slot (length c.args.uni.now.nodes) c.args.uni.now.pairs p.slot p.place at)
 
 pub catch_up-requires-clause-found : goal.catch_up-requires-clause-found
 catch_up-requires-clause-found g c = λ p w.
     let n = length c.args.uni.now.nodes in
     let pairs = c.args.uni.now.pairs in
     let once = c.laws.ensures.universe.once in
-    let at = placed_all c.args.uni.now c.round.new.changed.items (fact_at c.loop.now) (fact_at c.round.new.next) c.loop.invariant.no_void (rw c.if-area.false refl) c.in_ok-round.ensures.known c.in_ok-round.ensures.risen p
-    (subst (λ l. Contains l p) c.deref-in-loop.ensures.value w) in
-    (room_found n pairs c.loop.now once c.loop.invariant.places_now p.slot p.place at, room_found n pairs c.round.new.next once c.round.ensures.places p.slot p.place at)
+    let at = placed_all c.args.uni.now c.round.new.changed.items (fact_at c.loop.now)
+    (fact_at c.round.new.next) c.loop.invariant.no_void
+    (rw c.if-area.false refl) c.in_ok-round.ensures.known c.in_ok-round.ensures.risen p
+    (subst (λ l. Contains l p) c.deref-in-loop.ensures.value w) in (
+      room_found n pairs c.loop.now once c.loop.invariant.places_now p.slot p.place at,
+      room_found n pairs c.round.new.next once c.round.ensures.places p.slot p.place at,
+    )
 
 pub mark-requires-clause-placed : goal.mark-requires-clause-placed
 mark-requires-clause-placed g c = λ p w.
-    placed_all c.args.uni.now c.round.new.changed.items (fact_at c.loop.now) (fact_at c.round.new.next) c.loop.invariant.no_void (rw c.if-area.false refl) c.in_ok-round.ensures.known c.in_ok-round.ensures.risen p
+    placed_all c.args.uni.now c.round.new.changed.items (fact_at c.loop.now)
+    (fact_at c.round.new.next) c.loop.invariant.no_void
+    (rw c.if-area.false refl) c.in_ok-round.ensures.known c.in_ok-round.ensures.risen p
     (subst (λ l. Contains l p) c.deref-in-loop-2.ensures.value w)
 
 pub loop-preserved : goal.loop-preserved
@@ -99,30 +119,50 @@ loop-preserved g c =
     let next = fact_at c.round.new.next in
     let no_void : next slot.Void ≡ None = rw c.if-area.false refl in
     let same : next ≡ fact_at c.catch_up.new.now = (λ k s. c.catch_up.ensures.same s k) in
-    let marked = subst (λ l. AreDue c.args.uni.now.instances (slots_of l) c.mark.new.due) c.deref-in-loop-2.ensures.value c.mark.ensures.marked in
-    let only = subst (λ l. AreUsers c.args.uni.now.instances (slots_of l) c.mark.new.due) c.deref-in-loop-2.ensures.value c.mark.ensures.only in
-    let after_best = next_best u (c.rules_are_lawful.ensures c.args.uni.now.nodes c.args.uni.now.hints) c.laws.ensures.universe.closed G c.loop.counter (fact_at c.loop.now) next c.loop.invariant.best c.loop.invariant.no_void c.in_ok-round.ensures.ahead in
-    let long : length c.mark.new.due ≡ length c.loop.area.due.items = omega (arith, c.mark.auto.due, ap length c.deref_mut.ensures.value) in
-    let len : c.loop.area.due.len ≡ length c.loop.area.due.items = omega (arith, c.deref_mut.ensures.len, ap length c.deref_mut.ensures.value) in
-    let due : List Bool = take c.loop.area.due.len (c.mark.new.due ++ drop (length c.mark.new.due) c.loop.area.due.items) in
-    let back : due ≡ c.mark.new.due = written_back c.mark.new.due c.loop.area.due.items c.loop.area.due.len long len in
+    let marked = subst (λ l. AreDue c.args.uni.now.instances (slots_of l) c.mark.new.due)
+    c.deref-in-loop-2.ensures.value c.mark.ensures.marked in
+    let only = subst (λ l. AreUsers c.args.uni.now.instances (slots_of l) c.mark.new.due)
+    c.deref-in-loop-2.ensures.value c.mark.ensures.only in
+    let after_best = next_best u (c.rules_are_lawful.ensures c.args.uni.now.nodes
+    c.args.uni.now.hints) c.laws.ensures.universe.closed G c.loop.counter (fact_at c.loop.now) next
+    c.loop.invariant.best c.loop.invariant.no_void c.in_ok-round.ensures.ahead in
+    let long : length c.mark.new.due ≡ length c.loop.area.due.items =
+    omega (arith, c.mark.auto.due, ap length c.deref_mut.ensures.value) in
+    let len : c.loop.area.due.len ≡ length c.loop.area.due.items =
+    omega (arith, c.deref_mut.ensures.len, ap length c.deref_mut.ensures.value) in
+    let due : List Bool = take c.loop.area.due.len
+    (c.mark.new.due ++ drop (length c.mark.new.due) c.loop.area.due.items) in
+    let back : due ≡ c.mark.new.due =
+    written_back c.mark.new.due c.loop.area.due.items c.loop.area.due.len long len in
     record {
-      best = subst (λ n. IsBest u G n (fact_at c.catch_up.new.now)) (sym (add-one c.loop.counter)) (subst (IsBest u G (suc c.loop.counter)) same after_best);
+      best = subst (λ n. IsBest u G n (fact_at c.catch_up.new.now)) (sym (add-one c.loop.counter))
+          (subst (IsBest u G (suc c.loop.counter)) same after_best);
       no_void = subst (λ (at : Slot → Option Fact). at slot.Void ≡ None) same no_void;
       same = c.catch_up.ensures.same;
       due = ap length back ∙ (long ∙ c.loop.invariant.due);
       quiet = subst (IsQuiet u _) same (subst (λ l. IsQuiet u l next) (sym back)
-          (quiet_after u c.mark.new.due (slots_of c.round.new.changed.items) (fact_at c.loop.now) next c.in_ok-round.ensures.ahead no_void c.in_ok-round.ensures.listed marked));
+          (quiet_after u c.mark.new.due (slots_of c.round.new.changed.items) (fact_at c.loop.now)
+          next c.in_ok-round.ensures.ahead no_void c.in_ok-round.ensures.listed marked));
       due_few = λ best b l.
           (let more : suc c.loop.counter < c.args.height = omega (arith, l) in
-          let before : fact_at c.loop.now ≡ best c.loop.counter = (λ k s. sym (b c.loop.counter (fact_at c.loop.now) (omega (arith, l)) c.loop.invariant.best c.loop.invariant.no_void s) k) in
-          let after : next ≡ best (suc c.loop.counter) = (λ k s. sym (b (suc c.loop.counter) next more after_best no_void s) k) in
-          let few = due_touched c.args.uni.now.instances (slots_of c.round.new.changed.items) c.mark.new.due (fact_at c.loop.now) next (long ∙ c.loop.invariant.due) only c.in_ok-round.ensures.risen in
-          let there : count_by (λ b. b) c.mark.new.due ≤ touched c.args.uni.now.instances (best c.loop.counter) (best (suc c.loop.counter)) =
-          subst (λ (at : Slot → Option Fact). count_by (λ b. b) c.mark.new.due ≤ touched c.args.uni.now.instances at (best (suc c.loop.counter))) before
-          (subst (λ (at : Slot → Option Fact). count_by (λ b. b) c.mark.new.due ≤ touched c.args.uni.now.instances (fact_at c.loop.now) at) after few) in
-          subst (λ n. count_by (λ b. b) due ≤ round_cost c.args.uni.now.instances best n) (sym (add-one c.loop.counter))
-          (subst (λ l. count_by (λ b. b) l ≤ touched c.args.uni.now.instances (best c.loop.counter) (best (suc c.loop.counter))) (sym back) there));
+          let before : fact_at c.loop.now ≡ best c.loop.counter =
+          (λ k s. sym (b c.loop.counter (fact_at c.loop.now)
+          (omega (arith, l)) c.loop.invariant.best c.loop.invariant.no_void s) k) in
+          let after : next ≡ best (suc c.loop.counter) =
+          (λ k s. sym (b (suc c.loop.counter) next more after_best no_void s) k) in
+          let few = due_touched c.args.uni.now.instances
+          (slots_of c.round.new.changed.items) c.mark.new.due (fact_at c.loop.now) next
+          (long ∙ c.loop.invariant.due) only c.in_ok-round.ensures.risen in
+          let there : count_by (λ b. b) c.mark.new.due
+          ≤ touched c.args.uni.now.instances (best c.loop.counter) (best (suc c.loop.counter)) =
+          subst (λ (at : Slot → Option Fact). count_by (λ b. b) c.mark.new.due
+          ≤ touched c.args.uni.now.instances at (best (suc c.loop.counter))) before
+          (subst (λ (at : Slot → Option Fact). count_by (λ b. b) c.mark.new.due
+          ≤ touched c.args.uni.now.instances (fact_at c.loop.now) at) after few) in
+          subst (λ n. count_by (λ b. b) due ≤ round_cost c.args.uni.now.instances best n)
+          (sym (add-one c.loop.counter))
+          (subst (λ l. count_by (λ b. b) l ≤ touched c.args.uni.now.instances (best c.loop.counter)
+          (best (suc c.loop.counter))) (sym back) there));
       cost = λ best b.
           (let few = c.loop.invariant.due_few best b c.loop-test.true in
           let so_far = c.loop.invariant.cost best b in
@@ -131,7 +171,8 @@ loop-preserved g c =
           subst (λ n. g.C.Concludes.asked c.round.new.steps ≤ g.C.Concludes.asked c.args.steps.now +
           spent c.args.uni.now.instances best n) (sym (add-one c.loop.counter))
           (omega (arith, few, so_far, spend, same_due, c.round.ensures.cost)));
-      places_now = shaped_room (length c.args.uni.now.nodes) c.args.uni.now.pairs c.loop.now c.catch_up.new.now c.catch_up.ensures.shape c.loop.invariant.places_now;
+      places_now = shaped_room (length c.args.uni.now.nodes) c.args.uni.now.pairs c.loop.now
+          c.catch_up.new.now c.catch_up.ensures.shape c.loop.invariant.places_now;
       places_next = c.round.ensures.places;
     }
 

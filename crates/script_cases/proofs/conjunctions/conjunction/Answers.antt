@@ -10,7 +10,8 @@ nothing_taken end from xs h = ap (λ n. take n xs) (none end from h)
 
 pub returns-then-from-end : goal.returns-then-from-end
 returns-then-from-end g c =
-    rw c.start_at-from.ensures (sym (conjunction_at 0 c.args.items.now c.args.ends.now c.args.number c.requires.number))
+    rw c.start_at-from.ensures
+    (sym (conjunction_at 0 c.args.items.now c.args.ends.now c.args.number c.requires.number))
 
 pub returns-else-from-end : goal.returns-else-from-end
 returns-else-from-end g c =

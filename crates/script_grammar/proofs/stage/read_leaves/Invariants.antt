@@ -6,7 +6,8 @@ use Rattle.script_grammar.specs.Views.{step_of}
 use Rattle.script_grammar.proofs.stage.read_leaves.Given as goal
 
 abbrev pub invariant-loop-roles : goal.invariant-loop-roles
-invariant-loop-roles l = spec.read_leaves (leaves_of l.fn.roles (words_in l.fn.words)) spec.start ≡ spec.read_leaves (leaves_of l.roles (words_in l.words)) (step_of l.stage)
+invariant-loop-roles l = spec.read_leaves (leaves_of l.fn.roles (words_in l.fn.words)) spec.start
+    ≡ spec.read_leaves (leaves_of l.roles (words_in l.words)) (step_of l.stage)
 
 abbrev pub decreases-loop-roles : goal.decreases-loop-roles
 decreases-loop-roles l = length l.roles

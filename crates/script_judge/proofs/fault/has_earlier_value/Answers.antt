@@ -9,5 +9,6 @@ pub returns : goal.returns
 returns c =
     let words = words_in c.args.words in
     let less : c.saturating_sub.result ≡ length c.args.roles.now - 1 = omega arith in
-    c.has_value.ensures ∙ ap (λ k. spec.has_value c.args.name.now (leaves_of (take k c.args.roles.now) words)) less
+    c.has_value.ensures
+    ∙ ap (λ k. spec.has_value c.args.name.now (leaves_of (take k c.args.roles.now) words)) less
     ∙ earlier c.args.name.now c.args.roles.now words (omega arith)

@@ -6,4 +6,5 @@ pub returns-in-Some : goal.returns-in-Some
 returns-in-Some c = unread c.in-Some.ensures
 
 pub refusal_of-requires-clause-readable : goal.refusal_of-requires-clause-readable
-refusal_of-requires-clause-readable c = readable_of c.args.text.now c.text_refusal.result c.text_refusal.ensures c.in_default.is
+refusal_of-requires-clause-readable c =
+    readable_of c.args.text.now c.text_refusal.result c.text_refusal.ensures c.in_default.is

@@ -5,4 +5,5 @@ use Rattle.script_judge.proofs.Judging.{JudgedTo}
 use Rattle.script_judge.proofs.judge.judge.Given as goal
 
 abbrev pub invariant-loop-number : goal.invariant-loop-number
-invariant-loop-number l = JudgedTo (leaves_of l.roles (words_in l.words)) l.number l.seen (leaves_of (drop l.number l.roles) (drop l.number (words_in l.words))) l.arrows
+invariant-loop-number l = JudgedTo (leaves_of l.roles (words_in l.words)) l.number l.seen
+    (leaves_of (drop l.number l.roles) (drop l.number (words_in l.words))) l.arrows

@@ -9,6 +9,11 @@ use Rattle.script_judge.proofs.judge.limit_refusal.Goals as goal
 
 pub returns : goal.returns
 returns c = λ stands h.
-    let opened : c.len.result ≡ length stands.opened = omega (arith, ap length h.opened, length-reverse c.args.seen.now.opened.items) in
-    limit_told stands c.args.role (word_of c.args.word) c.len.result c.halved.result c.args.seen.now.counts c.is_past_lsb.result c.is_past_pieces.result c.is_past_cases.result c.limit_kind.result opened (c.halved.ensures stands.names h.names)
-    h.counts c.is_past_lsb.ensures c.is_past_pieces.ensures (c.is_past_cases.ensures ∙ ap (λ (x : SplitsSeen). is_past_cases c.args.role (word_of c.args.word) (begun_cases x.ranges)) h.splits) c.limit_kind.ensures
+    let opened : c.len.result ≡ length stands.opened =
+    omega (arith, ap length h.opened, length-reverse c.args.seen.now.opened.items) in
+    limit_told stands c.args.role (word_of c.args.word) c.len.result c.halved.result
+    c.args.seen.now.counts c.is_past_lsb.result c.is_past_pieces.result c.is_past_cases.result
+    c.limit_kind.result opened (c.halved.ensures stands.names h.names)
+    h.counts c.is_past_lsb.ensures c.is_past_pieces.ensures (c.is_past_cases.ensures
+    ∙ ap (λ (x : SplitsSeen). is_past_cases c.args.role (word_of c.args.word)
+    (begun_cases x.ranges)) h.splits) c.limit_kind.ensures

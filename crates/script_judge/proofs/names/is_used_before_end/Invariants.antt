@@ -6,7 +6,8 @@ use Rattle.script_judge.proofs.names.is_used_before_end.Given as goal
 
 abbrev pub invariant-loop-roles : goal.invariant-loop-roles
 invariant-loop-roles l =
-    spec.is_used_before_end l.name (leaves_of l.fn.roles (words_in l.fn.words)) ≡ spec.is_used_before_end l.name (leaves_of l.roles (words_in l.words))
+    spec.is_used_before_end l.name (leaves_of l.fn.roles (words_in l.fn.words))
+    ≡ spec.is_used_before_end l.name (leaves_of l.roles (words_in l.words))
 
 abbrev pub decreases-loop-roles : goal.decreases-loop-roles
 decreases-loop-roles l = length l.roles

@@ -15,26 +15,45 @@ returns-in_default c =
     let len = c.args.len in
     let roles = c.as_slice-roles.result.now in
     let ws = words_in c.list-words.result in
-    let none : slice_get ws (length roles) ≡ None = sym c.get.ensures ∙ ap (option_map word_of) c.in_default.is in
-    ends_whole len (tokens_in c.list-words.result) read.words.bad ws roles read.shape.whole c.end_fault.result none c.end_fault.ensures
-    ∙ ap (λ ts. fault len (reading ts read.words.bad ws roles read.shape.whole)) c.list-words.ensures.tokens
-    ∙ ap (λ x. fault len (reading (all_tokens read.words) read.words.bad x roles read.shape.whole)) c.list-words.ensures.words
-    ∙ ap (λ rs. fault len (reading (all_tokens read.words) read.words.bad (all_words read.words) rs read.shape.whole)) c.as_slice-roles.ensures.value
+    let none : slice_get ws (length roles) ≡ None =
+    sym c.get.ensures ∙ ap (option_map word_of) c.in_default.is in
+    ends_whole len (tokens_in c.list-words.result) read.words.bad ws roles read.shape.whole
+    c.end_fault.result none c.end_fault.ensures
+    ∙ ap (λ ts. fault len (reading ts read.words.bad ws roles read.shape.whole))
+    c.list-words.ensures.tokens
+    ∙ ap (λ x. fault len (reading (all_tokens read.words) read.words.bad x roles read.shape.whole))
+    c.list-words.ensures.words
+    ∙ ap (λ rs. fault len (reading (all_tokens read.words) read.words.bad
+    (all_words read.words) rs read.shape.whole)) c.as_slice-roles.ensures.value
 
 pub front-requires : goal.front-requires
-front-requires c = omega (arith, ap length c.list-words.ensures.words, ap length c.as_slice-roles.ensures.value)
+front-requires c =
+    omega (arith, ap length c.list-words.ensures.words, ap length c.as_slice-roles.ensures.value)
 
 pub fault_of-requires : goal.fault_of-requires
 fault_of-requires c =
-    omega (arith, ap length c.front.ensures.words, length-take (length c.as_slice-roles.result.now) (words_in c.list-words.result), ap length c.list-words.ensures.words, ap length c.as_slice-roles.ensures.value)
+    omega (
+      arith,
+      ap length c.front.ensures.words,
+      length-take (length c.as_slice-roles.result.now) (words_in c.list-words.result),
+      ap length c.list-words.ensures.words,
+      ap length c.as_slice-roles.ensures.value,
+    )
 
 pub at_word-requires : goal.at_word-requires
 at_word-requires c =
     let roles = c.as_slice-roles.result.now in
     let ws = words_in c.list-words.result in
-    let found : slice_get ws (length roles) ≡ Some (word_of c.in-Some.word) = sym c.get.ensures ∙ ap (option_map word_of) c.in-Some.is in
-    let taken : length roles < length ws = slice_get_within ws (length roles) (word_of c.in-Some.word) found in
-    omega (arith, c.in_ok-fault.ensures.within, ap length c.front.ensures.words, length-take (length roles) ws)
+    let found : slice_get ws (length roles) ≡ Some (word_of c.in-Some.word) =
+    sym c.get.ensures ∙ ap (option_map word_of) c.in-Some.is in
+    let taken : length roles < length ws =
+    slice_get_within ws (length roles) (word_of c.in-Some.word) found in
+    omega (
+      arith,
+      c.in_ok-fault.ensures.within,
+      ap length c.front.ensures.words,
+      length-take (length roles) ws,
+    )
 
 pub returns : goal.returns
 returns c =
@@ -42,9 +61,15 @@ returns c =
     let len = c.args.len in
     let roles = c.as_slice-roles.result.now in
     let ws = words_in c.list-words.result in
-    let found : slice_get ws (length roles) ≡ Some (word_of c.in-Some.word) = sym c.get.ensures ∙ ap (option_map word_of) c.in-Some.is in
-    ends_at len (tokens_in c.list-words.result) read.words.bad ws roles read.shape.whole (words_in c.front.result) (word_of c.in-Some.word) (option_map word_of c.get-next.result) c.in_ok-fault.fault c.at_word.result
+    let found : slice_get ws (length roles) ≡ Some (word_of c.in-Some.word) =
+    sym c.get.ensures ∙ ap (option_map word_of) c.in-Some.is in
+    ends_at len (tokens_in c.list-words.result) read.words.bad ws roles read.shape.whole
+    (words_in c.front.result) (word_of c.in-Some.word)
+    (option_map word_of c.get-next.result) c.in_ok-fault.fault c.at_word.result
     c.front.ensures.words found c.get-next.ensures c.in_ok-fault.ensures.fault c.at_word.ensures
-    ∙ ap (λ ts. fault len (reading ts read.words.bad ws roles read.shape.whole)) c.list-words.ensures.tokens
-    ∙ ap (λ x. fault len (reading (all_tokens read.words) read.words.bad x roles read.shape.whole)) c.list-words.ensures.words
-    ∙ ap (λ rs. fault len (reading (all_tokens read.words) read.words.bad (all_words read.words) rs read.shape.whole)) c.as_slice-roles.ensures.value
+    ∙ ap (λ ts. fault len (reading ts read.words.bad ws roles read.shape.whole))
+    c.list-words.ensures.tokens
+    ∙ ap (λ x. fault len (reading (all_tokens read.words) read.words.bad x roles read.shape.whole))
+    c.list-words.ensures.words
+    ∙ ap (λ rs. fault len (reading (all_tokens read.words) read.words.bad
+    (all_words read.words) rs read.shape.whole)) c.as_slice-roles.ensures.value

@@ -9,8 +9,10 @@ returns-clause-reading c =
     let ws = all_words c.in_ok-words.words in
     let shape = c.in_ok-shape.shape in
     let taken = length shape.roles.items in
-    let fits : IsShapeOf ws taken shape.whole = subst (λ x. IsShapeOf x taken shape.whole) c.list.ensures.words c.in_ok-shape.ensures.shape in
-    let roles : AreRolesOf ws taken shape.roles.items = subst (λ x. AreRolesOf x taken shape.roles.items) c.list.ensures.words c.in_ok-shape.ensures.roles in
+    let fits : IsShapeOf ws taken shape.whole =
+    subst (λ x. IsShapeOf x taken shape.whole) c.list.ensures.words c.in_ok-shape.ensures.shape in
+    let roles : AreRolesOf ws taken shape.roles.items = subst
+    (λ x. AreRolesOf x taken shape.roles.items) c.list.ensures.words c.in_ok-shape.ensures.roles in
     record {
       lexed = c.in_ok-words.ensures.tokens;
       words = sym c.in_ok-words.ensures.words;
@@ -19,4 +21,5 @@ returns-clause-reading c =
     }
 
 pub returns-clause-taken : goal.returns-clause-taken
-returns-clause-taken c = omega (arith, c.in_ok-shape.ensures.shape.within, ap length c.list.ensures.words)
+returns-clause-taken c =
+    omega (arith, c.in_ok-shape.ensures.shape.within, ap length c.list.ensures.words)

@@ -10,4 +10,5 @@ returns-in-Some c = unread c.in-Some.ensures
 pub returns : goal.returns
 returns c =
     IfOk-weaker c.fault.result _ (IsFaultOf c.args.text.now)
-    (read_fault c.args.text.now _ _ (readable_of c.args.text.now c.text_refusal.result c.text_refusal.ensures c.in_default.is) c.in_ok-read.ensures.reading refl) c.fault.ensures
+    (read_fault c.args.text.now _ _ (readable_of c.args.text.now c.text_refusal.result
+    c.text_refusal.ensures c.in_default.is) c.in_ok-read.ensures.reading refl) c.fault.ensures

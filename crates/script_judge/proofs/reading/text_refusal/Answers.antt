@@ -11,4 +11,5 @@ returns-in-Ok c = readable (omega arith, c.in-Ok.ensures.cases.1)
 
 pub returns-in-Err : goal.returns-in-Err
 returns-in-Err c =
-    subst (λ at. IsTextRefusal c.args.text.now (Some (refusal kind.NotText at))) (sym c.valid_up_to.ensures) (not_text (omega arith) c.in-Err.ensures.cases.1)
+    subst (λ at. IsTextRefusal c.args.text.now (Some (refusal kind.NotText at)))
+    (sym c.valid_up_to.ensures) (not_text (omega arith) c.in-Err.ensures.cases.1)

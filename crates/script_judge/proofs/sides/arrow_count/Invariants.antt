@@ -6,7 +6,8 @@ use Rattle.script_judge.proofs.sides.arrow_count.Given as goal
 
 abbrev pub invariant-loop-roles : goal.invariant-loop-roles
 invariant-loop-roles l = record {
-  counted : spec.arrow_count (leaves_of l.fn.roles (words_in l.fn.words)) ≡ l.count + spec.arrow_count (leaves_of l.roles (words_in l.words));
+  counted : spec.arrow_count (leaves_of l.fn.roles (words_in l.fn.words))
+      ≡ l.count + spec.arrow_count (leaves_of l.roles (words_in l.words));
   room : l.count + length l.roles ≤ length l.fn.roles;
 }
 

@@ -5,7 +5,8 @@ use Rattle.script_judge.specs.Judge as spec
 use Rattle.script_judge.proofs.sides.begins_bound.Given as goal
 
 abbrev pub invariant-loop-roles : goal.invariant-loop-roles
-invariant-loop-roles l = spec.begins_bound (leaves_of l.fn.roles (words_in l.fn.words)) ≡ spec.begins_bound (leaves_of l.roles (words_in l.words))
+invariant-loop-roles l = spec.begins_bound (leaves_of l.fn.roles (words_in l.fn.words))
+    ≡ spec.begins_bound (leaves_of l.roles (words_in l.words))
 
 abbrev pub decreases-loop-roles : goal.decreases-loop-roles
 decreases-loop-roles l = length l.roles

@@ -4,4 +4,5 @@ use Rattle.script_judge.proofs.LastLeaf.{empty_leaves}
 use Rattle.script_judge.proofs.sides.is_last.Goals as goal
 
 pub returns : goal.returns
-returns c = c.is_empty.ensures ∙ sym (empty_leaves c.args.roles.now (words_in c.args.words) c.requires)
+returns c =
+    c.is_empty.ensures ∙ sym (empty_leaves c.args.roles.now (words_in c.args.words) c.requires)

@@ -22,5 +22,12 @@ loop-number-preserved c =
 
 pub returns : goal.returns
 returns c =
-    let all : c.loop-number.number ≡ case_count c.args.ranges.now.before = omega (arith, c.loop-number-test.false, c.loop-number.auto.number-end, c.case_count-number-end.ensures.count) in
-    c.loop-number.invariant ∙ ap (λ n. take n (spec.case_ranges (map_parts range_seen c.args.ranges.now) c.args.name.now)) all ∙ all_ranges c.args.ranges.now c.args.name.now
+    let all : c.loop-number.number ≡ case_count c.args.ranges.now.before = omega (
+      arith,
+      c.loop-number-test.false,
+      c.loop-number.auto.number-end,
+      c.case_count-number-end.ensures.count,
+    ) in
+    c.loop-number.invariant ∙ ap (λ n.
+    take n (spec.case_ranges (map_parts range_seen c.args.ranges.now) c.args.name.now)) all
+    ∙ all_ranges c.args.ranges.now c.args.name.now

@@ -7,5 +7,7 @@ use Rattle.expr_dag.specs.Faults.{passed}
 
 pub returns-in_err-token-clause-full : goal.returns-in_err-token-clause-full
 returns-in_err-token-clause-full c = λ e.
-    word_past c.loop-roles.roles.now _ (words_in c.in-Some.later_words) _ (word_of c.in-Some.word) c.loop-roles.read _ (omega (arith, c.in-len1-up.len_at_least)) c.in-Some.ensures.words (sym c.opens_formula.ensures ∙ c.if-opens_formula.false) c.loop-roles.invariant
+    word_past c.loop-roles.roles.now _ (words_in c.in-Some.later_words) _ (word_of c.in-Some.word)
+    c.loop-roles.read _ (omega (arith, c.in-len1-up.len_at_least)) c.in-Some.ensures.words
+    (sym c.opens_formula.ensures ∙ c.if-opens_formula.false) c.loop-roles.invariant
     (c.in_err-token.ensures.full (passed c.from_residual.result _ c.from_residual.ensures.1 e))

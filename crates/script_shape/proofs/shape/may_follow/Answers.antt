@@ -18,7 +18,8 @@ returns-in_default c =
     let within : n < length ws = omega arith in
     let none = steps_none _ left _ c.in_ok-step.field-0 c.in_ok-step.ensures c.in_default.is in
     refused_front ws _ c.args.next
-    (one_more ws n (get_or ws n any_word) left (take_more ws n any_word within) c.loop-number.invariant ∙ ap (λ x. spec.step x left) (c.class_at.ensures any_word) ∙ none)
+    (one_more ws n (get_or ws n any_word) left (take_more ws n any_word within)
+    c.loop-number.invariant ∙ ap (λ x. spec.step x left) (c.class_at.ensures any_word) ∙ none)
 
 pub loop-number-preserved : goal.loop-number-preserved
 loop-number-preserved c =
@@ -26,5 +27,7 @@ loop-number-preserved c =
     let n = c.loop-number.number in
     let left = reverse c.loop-number.stack.items in
     let within : n < length ws = omega arith in
-    let taken = steps_some c.class_at.result left (reverse c.step.new.stack.items) c.in_ok-step.field-0 _ c.in_ok-step.ensures c.in-Some.is in
-    one_more ws n (get_or ws n any_word) left (take_more ws n any_word within) c.loop-number.invariant ∙ ap (λ x. spec.step x left) (c.class_at.ensures any_word) ∙ taken.0
+    let taken = steps_some c.class_at.result left
+    (reverse c.step.new.stack.items) c.in_ok-step.field-0 _ c.in_ok-step.ensures c.in-Some.is in
+    one_more ws n (get_or ws n any_word) left (take_more ws n any_word within)
+    c.loop-number.invariant ∙ ap (λ x. spec.step x left) (c.class_at.ensures any_word) ∙ taken.0

@@ -4,4 +4,5 @@ use Rattle.script_shape.specs.Shape.{run, start}
 use Rattle.script_shape.proofs.shape.may_follow.Given as goal
 
 abbrev pub invariant-loop-number : goal.invariant-loop-number
-invariant-loop-number l = run (take l.number (words_in l.words)) start ≡ Some (reverse l.stack.items)
+invariant-loop-number l =
+    run (take l.number (words_in l.words)) start ≡ Some (reverse l.stack.items)

@@ -4,4 +4,5 @@ use Rattle.script_words.proofs.LexedOnce.{lexed_once}
 use Rattle.script_words.proofs.words.words_once.Goals as goal
 
 pub returns : goal.returns
-returns c = λ text ws vs h k. sym h.words ∙ ap (words_of text) (lexed_once h.lexed k.lexed).tokens ∙ k.words
+returns c =
+    λ text ws vs h k. sym h.words ∙ ap (words_of text) (lexed_once h.lexed k.lexed).tokens ∙ k.words

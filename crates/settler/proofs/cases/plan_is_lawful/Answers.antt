@@ -17,7 +17,9 @@ returns c = record {
       let t = tree_of (cut_at plan) states in
       let sound = c.rules_are_sound_for.ensures u.nodes u.hints a ordered meets.rows in
       let leaf = c.leaves_cover.ensures.some states (value u.nodes a) meets.inside in
-      let hold : (f : Fact) → Known (setting_of u) rounds (pieces_at plan leaf.0) f → Holds u.nodes a f =
-      c.known_facts_hold.ensures.known (setting_of u) a sound ordered meets.hypotheses rounds (pieces_at plan leaf.0) (c.covers.ensures.pieces (value u.nodes a) leaf.0 leaf.2) in
+      let hold : (f : Fact) → Known (setting_of u) rounds (pieces_at plan leaf.0) f
+      → Holds u.nodes a f =
+      c.known_facts_hold.ensures.known (setting_of u) a sound ordered meets.hypotheses rounds
+      (pieces_at plan leaf.0) (c.covers.ensures.pieces (value u.nodes a) leaf.0 leaf.2) in
       held_leaf u plan rounds t a leaf.0 leaf.1 closed hold (states leaf.0) refl (are leaf.0);
 }

@@ -6,7 +6,8 @@ use Rattle.std.proofs.lemmas.List.Elements.{recursion_from_All}
 use Rattle.case_trees.specs.script_claims.declared.claim.Claim.{Claim}
 use Rattle.case_trees.specs.script_claims.Facts.{HasNormalBounds}
 use Rattle.script_truths.specs.script_grammar.Cases.{cases_of}
-use Rattle.script_truths.specs.universe.Cases.{AreHypotheses, cases_have_hypotheses, case_has_hypotheses}
+use Rattle.script_truths.specs.universe.Cases.{AreHypotheses, cases_have_hypotheses}
+use Rattle.script_truths.specs.universe.Cases.{case_has_hypotheses}
 use Rattle.case_trees.specs.box_tree.Root.{plan_by}
 use Rattle.settler.specs.declared.cases.Case.{Case}
 use Rattle.settler.specs.Cases.{AreCases, IsCaseOf}
@@ -16,11 +17,13 @@ use Rattle.settler.proofs.cases.planned_cases.Goals as goal
 pub loop-number-init : goal.loop-number-init
 loop-number-init c =
     let s = c.args.script.now in
-    subst (λ (xs : List (List Claim)). AreCases s c.args.depth xs c.new-cases.result.items) (sym (take_none (cases_of s)))
+    subst (λ (xs : List (List Claim)). AreCases s c.args.depth xs c.new-cases.result.items)
+    (sym (take_none (cases_of s)))
     (subst (λ (ys : List Case). AreCases s c.args.depth [] ys) (sym c.new-cases.ensures.items) tt)
 
 pub new-requires-clause-normal : goal.new-requires-clause-normal
-new-requires-clause-normal c = subst (AllByRecursion HasNormalBounds) (sym c.deref.ensures.value) (recursion_from_All HasNormalBounds c.in_ok-claims.claims.items c.in_ok-claims.ensures.normal)
+new-requires-clause-normal c = subst (AllByRecursion HasNormalBounds) (sym c.deref.ensures.value)
+    (recursion_from_All HasNormalBounds c.in_ok-claims.claims.items c.in_ok-claims.ensures.normal)
 
 pub loop-number-preserved : goal.loop-number-preserved
 loop-number-preserved c =
@@ -30,18 +33,26 @@ loop-number-preserved c =
     let claims = c.in_ok-claims.claims.items in
     let case : Case = record { claims = c.from_vec.result; plan = c.in_ok-plan.plan } in
     let is : IsCaseOf s d case = record {
-      claims = subst (AreHypotheses s) (sym c.from_vec.ensures) (case_has_hypotheses s (cases_of s) (cases_have_hypotheses s c.laws.ensures.cases) i claims c.in_ok-claims.ensures.value);
-      normal = subst (AllByRecursion HasNormalBounds) (sym c.from_vec.ensures) (recursion_from_All HasNormalBounds claims c.in_ok-claims.ensures.normal);
-      plan = c.in_ok-plan.ensures ∙ (λ j. plan_by ((c.deref.ensures.value ∙ sym c.from_vec.ensures) j) (c.hints.ensures.value j) d);
+      claims = subst (AreHypotheses s) (sym c.from_vec.ensures) (case_has_hypotheses s (cases_of s)
+          (cases_have_hypotheses s c.laws.ensures.cases) i claims c.in_ok-claims.ensures.value);
+      normal = subst (AllByRecursion HasNormalBounds) (sym c.from_vec.ensures)
+          (recursion_from_All HasNormalBounds claims c.in_ok-claims.ensures.normal);
+      plan = c.in_ok-plan.ensures ∙ (λ j.
+          plan_by ((c.deref.ensures.value ∙ sym c.from_vec.ensures) j) (c.hints.ensures.value j) d);
       lawful = c.plan_is_lawful.ensures;
     } in
-    subst (λ (xs : List (List Claim)). AreCases s d xs c.push.new.self.items) (sym (take_more (cases_of s) i claims c.in_ok-claims.ensures.value))
-    (subst (λ (ys : List Case). AreCases s d (take i (cases_of s) ++ claims ∷ []) ys) (sym c.in_ok-push.ensures.items)
-    (one_more s d (take i (cases_of s)) c.loop-number.cases.items claims case c.loop-number.invariant c.from_vec.ensures is))
+    subst (λ (xs : List (List Claim)). AreCases s d xs c.push.new.self.items)
+    (sym (take_more (cases_of s) i claims c.in_ok-claims.ensures.value))
+    (subst (λ (ys : List Case). AreCases s d (take i (cases_of s) ++ claims ∷ []) ys)
+    (sym c.in_ok-push.ensures.items)
+    (one_more s d (take i (cases_of s)) c.loop-number.cases.items claims case
+    c.loop-number.invariant c.from_vec.ensures is))
 
 pub returns : goal.returns
 returns c =
     let s = c.args.script.now in
     let count = c.case_count-number-end.ensures.value in
     let done = c.loop-number-test.false in
-    subst (λ (xs : List (List Claim)). AreCases s c.args.depth xs c.loop-number.cases.items) (take_all c.loop-number.number (cases_of s) (omega (arith, count, done))) c.loop-number.invariant
+    subst (λ (xs : List (List Claim)). AreCases s c.args.depth xs c.loop-number.cases.items)
+    (take_all c.loop-number.number (cases_of s)
+    (omega (arith, count, done))) c.loop-number.invariant

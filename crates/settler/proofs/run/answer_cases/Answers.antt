@@ -13,7 +13,9 @@ use Rattle.case_trees.specs.Gathered.{Seen, EndsAs, IsWithin}
 use Rattle.settler.specs.Cases.{trees_in}
 use Rattle.settler.specs.Decided.{state_at}
 use Rattle.settler.specs.Frames.{Fits}
-use Rattle.settler.proofs.Onward.{ArePlanned, planned_at, planned_drop, drop_at, drop_none, drop_all, none_left, too_many, joins, same_limit, one_more_case, stays_within}
+use Rattle.settler.proofs.Onward.{ArePlanned, planned_at, planned_drop, drop_at, drop_none}
+use Rattle.settler.proofs.Onward.{drop_all, none_left, too_many, joins, same_limit, one_more_case}
+use Rattle.settler.proofs.Onward.{stays_within}
 use Rattle.settler.proofs.run.answer_cases.Goals as goal
 
 pub loop-case-init : goal.loop-case-init
@@ -21,7 +23,8 @@ loop-case-init g c = record {
   ends = λ found e.
       let u = c.args.universe.now in
       subst (λ w. EndsAs w (trees_in u c.args.rounds c.args.cases.now) found) c.new-gathered.ensures
-      (subst (λ xs. EndsAs c.new-gathered.result (trees_in u c.args.rounds xs) found) (drop_none c.args.cases.now) e);
+      (subst (λ xs. EndsAs c.new-gathered.result (trees_in u c.args.rounds xs) found)
+      (drop_none c.args.cases.now) e);
   limit = ap (λ w. w.limit) c.new-gathered.ensures;
   few = let e = ap (λ w. w.cases) c.new-gathered.ensures in omega (arith, e);
   room = let e = ap (λ w. w.boxes) c.new-gathered.ensures in omega (arith, e);
@@ -38,9 +41,11 @@ returns-then-left-eq0 g c =
     let i = c.loop-case.case-index in
     let case = c.case-item.result in
     let w = c.loop-case.gathered in
-    let item : slice_get cs i ≡ Some case = slice_get-get_or cs i case (omega (arith, c.loop-case-test.true)) ∙ ap Some (sym c.case-item.is) in
+    let item : slice_get cs i ≡ Some case = slice_get-get_or cs i case
+    (omega (arith, c.loop-case-test.true)) ∙ ap Some (sym c.case-item.is) in
     let split : drop i cs ≡ case ∷ drop (i + 1) cs = drop_at cs i case item in
-    let planned : ArePlanned s (case ∷ drop (i + 1) cs) = subst (ArePlanned s) split (planned_drop s cs c.requires.cases i) in
+    let planned : ArePlanned s (case ∷ drop (i + 1) cs) =
+    subst (ArePlanned s) split (planned_drop s cs c.requires.cases i) in
     let left = c.left-left.ensures.left in
     let none = c.if-left-eq0.true in
     record {
@@ -60,26 +65,36 @@ assume-requires-clause-claims g c =
     let s = c.args.script.now in
     let cs = c.args.cases.now in
     let case = c.case-item.result in
-    let item : slice_get cs c.loop-case.case-index ≡ Some case = slice_get-get_or cs c.loop-case.case-index case (omega (arith, c.loop-case-test.true)) ∙ ap Some (sym c.case-item.is) in
-    subst (AreHypotheses s) (sym c.as_slice.ensures) (planned_at s cs c.requires.cases c.loop-case.case-index case item).1.claims
+    let item : slice_get cs c.loop-case.case-index ≡ Some case =
+    slice_get-get_or cs c.loop-case.case-index case (omega (arith, c.loop-case-test.true))
+    ∙ ap Some (sym c.case-item.is) in
+    subst (AreHypotheses s) (sym c.as_slice.ensures)
+    (planned_at s cs c.requires.cases c.loop-case.case-index case item).1.claims
 
 pub assume-requires-clause-normal : goal.assume-requires-clause-normal
 assume-requires-clause-normal g c =
     let s = c.args.script.now in
     let cs = c.args.cases.now in
     let case = c.case-item.result in
-    let item : slice_get cs c.loop-case.case-index ≡ Some case = slice_get-get_or cs c.loop-case.case-index case (omega (arith, c.loop-case-test.true)) ∙ ap Some (sym c.case-item.is) in
-    subst (AllByRecursion HasNormalBounds) (sym c.as_slice.ensures) (planned_at s cs c.requires.cases c.loop-case.case-index case item).1.normal
+    let item : slice_get cs c.loop-case.case-index ≡ Some case =
+    slice_get-get_or cs c.loop-case.case-index case (omega (arith, c.loop-case-test.true))
+    ∙ ap Some (sym c.case-item.is) in
+    subst (AllByRecursion HasNormalBounds) (sym c.as_slice.ensures)
+    (planned_at s cs c.requires.cases c.loop-case.case-index case item).1.normal
 
 pub answered-requires-clause-fits : goal.answered-requires-clause-fits
 answered-requires-clause-fits g c =
     let s = c.args.script.now in
     let cs = c.args.cases.now in
     let case = c.case-item.result in
-    let item : slice_get cs c.loop-case.case-index ≡ Some case = slice_get-get_or cs c.loop-case.case-index case (omega (arith, c.loop-case-test.true)) ∙ ap Some (sym c.case-item.is) in
+    let item : slice_get cs c.loop-case.case-index ≡ Some case =
+    slice_get-get_or cs c.loop-case.case-index case (omega (arith, c.loop-case-test.true))
+    ∙ ap Some (sym c.case-item.is) in
     let is = planned_at s cs c.requires.cases c.loop-case.case-index case item in
-    let universe : IsUniverse s case.claims c.assume.new.universe = subst (λ claims. IsUniverse s claims c.assume.new.universe) c.as_slice.ensures c.in_ok-assume.ensures.universe in
-    subst (Fits c.assume.new.universe) (sym is.1.plan) (c.plans_fit.ensures s case.claims is.0 universe)
+    let universe : IsUniverse s case.claims c.assume.new.universe = subst (λ claims.
+    IsUniverse s claims c.assume.new.universe) c.as_slice.ensures c.in_ok-assume.ensures.universe in
+    subst (Fits c.assume.new.universe) (sym is.1.plan)
+    (c.plans_fit.ensures s case.claims is.0 universe)
 
 pub answered-requires-clause-boxes : goal.answered-requires-clause-boxes
 answered-requires-clause-boxes g c =
@@ -98,7 +113,8 @@ pub add-requires-clause-within : goal.add-requires-clause-within
 add-requires-clause-within g c =
     let case = c.case-item.result in
     subst (λ n. IsWithin n c.in_ok-outcome.outcome) c.left-left.ensures.left
-    (c.trees_are_gathered.ensures.within (tree_of (cut_at case.plan) (state_at c.assume.new.universe case.plan c.args.rounds)) c.left-left.result c.in_ok-outcome.outcome c.in_ok-outcome.ensures)
+    (c.trees_are_gathered.ensures.within (tree_of (cut_at case.plan) (state_at c.assume.new.universe
+    case.plan c.args.rounds)) c.left-left.result c.in_ok-outcome.outcome c.in_ok-outcome.ensures)
 
 pub returns-then-not-branch : goal.returns-then-not-branch
 returns-then-not-branch g c =
@@ -110,13 +126,18 @@ returns-then-not-branch g c =
     let case = c.case-item.result in
     let w = c.loop-case.gathered in
     let inv = c.loop-case.invariant in
-    let item : slice_get cs i ≡ Some case = slice_get-get_or cs i case (omega (arith, c.loop-case-test.true)) ∙ ap Some (sym c.case-item.is) in
+    let item : slice_get cs i ≡ Some case = slice_get-get_or cs i case
+    (omega (arith, c.loop-case-test.true)) ∙ ap Some (sym c.case-item.is) in
     let split : drop i cs ≡ case ∷ drop (i + 1) cs = drop_at cs i case item in
-    let planned : ArePlanned s (case ∷ drop (i + 1) cs) = subst (ArePlanned s) split (planned_drop s cs c.requires.cases i) in
-    let universe : c.assume.new.universe ≡ assuming u (facts_of case.claims) = c.in_ok-assume.ensures.assumed ∙ ap (λ claims. assuming c.loop-case.universe (facts_of claims)) c.as_slice.ensures ∙ inv.same (facts_of case.claims) in
+    let planned : ArePlanned s (case ∷ drop (i + 1) cs) =
+    subst (ArePlanned s) split (planned_drop s cs c.requires.cases i) in
+    let universe : c.assume.new.universe ≡ assuming u (facts_of case.claims) =
+    c.in_ok-assume.ensures.assumed ∙ ap (λ claims. assuming c.loop-case.universe
+    (facts_of claims)) c.as_slice.ensures ∙ inv.same (facts_of case.claims) in
     record {
       comes = c.trees_are_gathered.ensures.starts (trees_in u r cs) c.args.boxes cases.BoxLimit
-          (inv.ends cases.BoxLimit (subst (λ xs. EndsAs w (trees_in u r xs) cases.BoxLimit) (sym split)
+          (inv.ends cases.BoxLimit
+          (subst (λ xs. EndsAs w (trees_in u r xs) cases.BoxLimit) (sym split)
           (too_many c.trees_are_gathered.ensures.boxes s u r c.trees_are_gathered.ensures.over
           w c.assume.new.universe case (drop (i + 1) cs) c.left-left.result c.in_ok-outcome.outcome
           planned c.left-left.ensures.within universe c.left-left.ensures.left
@@ -135,15 +156,20 @@ loop-case-preserved g c =
     let w = c.loop-case.gathered in
     let o = c.in_ok-outcome.outcome in
     let inv = c.loop-case.invariant in
-    let item : slice_get cs i ≡ Some case = slice_get-get_or cs i case (omega (arith, c.loop-case-test.true)) ∙ ap Some (sym c.case-item.is) in
+    let item : slice_get cs i ≡ Some case = slice_get-get_or cs i case
+    (omega (arith, c.loop-case-test.true)) ∙ ap Some (sym c.case-item.is) in
     let split : drop i cs ≡ case ∷ drop (i + 1) cs = drop_at cs i case item in
-    let universe : c.assume.new.universe ≡ assuming u (facts_of case.claims) = c.in_ok-assume.ensures.assumed ∙ ap (λ claims. assuming c.loop-case.universe (facts_of claims)) c.as_slice.ensures ∙ inv.same (facts_of case.claims) in
+    let universe : c.assume.new.universe ≡ assuming u (facts_of case.claims) =
+    c.in_ok-assume.ensures.assumed ∙ ap (λ claims. assuming c.loop-case.universe
+    (facts_of claims)) c.as_slice.ensures ∙ inv.same (facts_of case.claims) in
     let more = c.in_ok-add.ensures.added c.if-not-branch.false in
     record {
       ends = λ found e.
           inv.ends found (subst (λ xs. EndsAs w (trees_in u r xs) found) (sym split)
-          (joins c.trees_are_gathered.ensures.boxes s u r c.trees_are_gathered.ensures.goes_on w c.add.new.self c.assume.new.universe case (drop (i + 1) cs) c.left-left.result o
-          c.left-left.ensures.within universe c.left-left.ensures.left c.in_ok-outcome.ensures (c.in_ok-add.ensures.all c.if-not-branch.false) more found e));
+          (joins c.trees_are_gathered.ensures.boxes s u r c.trees_are_gathered.ensures.goes_on w
+          c.add.new.self c.assume.new.universe case (drop (i + 1) cs) c.left-left.result o
+          c.left-left.ensures.within universe c.left-left.ensures.left c.in_ok-outcome.ensures
+          (c.in_ok-add.ensures.all c.if-not-branch.false) more found e));
       limit = ap (λ x. x.limit) more ∙ same_limit w o ∙ inv.limit;
       few =
           let e = ap (λ x. x.cases) more in
@@ -153,7 +179,8 @@ loop-case-preserved g c =
       room = subst (λ (x : Seen). x.boxes ≤ x.limit) (sym more)
           (stays_within w o c.left-left.ensures.within
           (subst (λ n. IsWithin n o) c.left-left.ensures.left
-          (c.trees_are_gathered.ensures.within (tree_of (cut_at case.plan) (state_at c.assume.new.universe case.plan r)) c.left-left.result o c.in_ok-outcome.ensures)));
+          (c.trees_are_gathered.ensures.within (tree_of (cut_at case.plan) (state_at
+          c.assume.new.universe case.plan r)) c.left-left.result o c.in_ok-outcome.ensures)));
       universe = (c.as_slice.result.now, c.in_ok-assume.ensures.universe);
       same = λ facts. ap (λ v. assuming v facts) c.in_ok-assume.ensures.assumed ∙ inv.same facts;
     }
@@ -170,6 +197,7 @@ returns g c =
       comes = c.trees_are_gathered.ensures.starts (trees_in u r cs) c.args.boxes c.finish.result
           (inv.ends c.finish.result (subst (λ xs. EndsAs w (trees_in u r xs) c.finish.result)
           (sym (drop_all cs i (omega (arith, c.loop-case-test.false))))
-          (subst (EndsAs w []) (sym c.finish.ensures) (c.trees_are_gathered.ensures.end w inv.room))));
+          (subst (EndsAs w []) (sym c.finish.ensures)
+          (c.trees_are_gathered.ensures.end w inv.room))));
       universe = inv.universe;
     }

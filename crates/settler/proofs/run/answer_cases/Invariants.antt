@@ -12,7 +12,8 @@ abbrev pub invariant-loop-case : goal.invariant-loop-case
 invariant-loop-case g l = record {
   -- what the cases that are left come to behind what was seen, all come to
   ends :
-      (found : CaseOutcome) → EndsAs l.gathered (trees_in l.fn.universe l.rounds (drop l.case-index l.cases)) found
+      (found : CaseOutcome)
+      → EndsAs l.gathered (trees_in l.fn.universe l.rounds (drop l.case-index l.cases)) found
       → EndsAs (nothing_seen l.boxes) (trees_in l.fn.universe l.rounds l.cases) found;
   limit : l.gathered.limit ≡ l.boxes;
   few : l.gathered.cases ≤ l.case-index;

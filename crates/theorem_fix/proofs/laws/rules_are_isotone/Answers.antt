@@ -1,6 +1,17 @@
-use Rattle.theorem_fix.specs.Isotone.{literal_multiple_rule-isotone, multiple_of_negation_rule-isotone, multiple_of_sum_rule-isotone, multiple_of_product_rule-isotone, rounded_multiple_rule-isotone, untouched_multiple_rule-isotone, number_multiple_rule-isotone}
-use Rattle.theorem_fix.specs.IsotoneNonzero.{nonzero_bound_rule-isotone, nonzero_size_rule-isotone, nonzero_product_rule-isotone, nonzero_quotient_rule-isotone, nonzero_negation_rule-isotone, nonzero_side_rule-isotone}
-use Rattle.theorem_fix.specs.IsotoneRoundings.{rounded_bound_rule-isotone, error_rule-isotone, signed_error_rule-isotone, multiple_error_rule-isotone}
+use Rattle.theorem_fix.specs.Isotone.{literal_multiple_rule-isotone}
+use Rattle.theorem_fix.specs.Isotone.{multiple_of_negation_rule-isotone}
+use Rattle.theorem_fix.specs.Isotone.{multiple_of_sum_rule-isotone}
+use Rattle.theorem_fix.specs.Isotone.{multiple_of_product_rule-isotone}
+use Rattle.theorem_fix.specs.Isotone.{rounded_multiple_rule-isotone}
+use Rattle.theorem_fix.specs.Isotone.{untouched_multiple_rule-isotone, number_multiple_rule-isotone}
+use Rattle.theorem_fix.specs.IsotoneNonzero.{nonzero_bound_rule-isotone, nonzero_size_rule-isotone}
+use Rattle.theorem_fix.specs.IsotoneNonzero.{nonzero_product_rule-isotone}
+use Rattle.theorem_fix.specs.IsotoneNonzero.{nonzero_quotient_rule-isotone}
+use Rattle.theorem_fix.specs.IsotoneNonzero.{nonzero_negation_rule-isotone}
+use Rattle.theorem_fix.specs.IsotoneNonzero.{nonzero_side_rule-isotone}
+use Rattle.theorem_fix.specs.IsotoneRoundings.{rounded_bound_rule-isotone, error_rule-isotone}
+use Rattle.theorem_fix.specs.IsotoneRoundings.{signed_error_rule-isotone}
+use Rattle.theorem_fix.specs.IsotoneRoundings.{multiple_error_rule-isotone}
 use Rattle.theorem_fix.specs.Shrinking.{no_multiple_rule-isotone, shrinking_rule-isotone}
 use Rattle.theorem_fix.proofs.laws.rules_are_isotone.Goals as goal
 

@@ -1,6 +1,15 @@
-use Rattle.theorem_fix.specs.SoundMultiples.{literal_multiple_rule-sound, multiple_of_negation_rule-sound, multiple_of_sum_rule-sound, multiple_of_product_rule-sound, rounded_multiple_rule-sound, untouched_multiple_rule-sound, number_multiple_rule-sound}
-use Rattle.theorem_fix.specs.SoundNonzero.{nonzero_bound_rule-sound, nonzero_size_rule-sound, nonzero_product_rule-sound, nonzero_quotient_rule-sound, nonzero_negation_rule-sound, nonzero_side_rule-sound}
-use Rattle.theorem_fix.specs.SoundRoundings.{rounded_bound_rule-sound, error_rule-sound, signed_error_rule-sound, multiple_error_rule-sound}
+use Rattle.theorem_fix.specs.SoundMultiples.{literal_multiple_rule-sound}
+use Rattle.theorem_fix.specs.SoundMultiples.{multiple_of_negation_rule-sound}
+use Rattle.theorem_fix.specs.SoundMultiples.{multiple_of_sum_rule-sound}
+use Rattle.theorem_fix.specs.SoundMultiples.{multiple_of_product_rule-sound}
+use Rattle.theorem_fix.specs.SoundMultiples.{rounded_multiple_rule-sound}
+use Rattle.theorem_fix.specs.SoundMultiples.{untouched_multiple_rule-sound}
+use Rattle.theorem_fix.specs.SoundMultiples.{number_multiple_rule-sound}
+use Rattle.theorem_fix.specs.SoundNonzero.{nonzero_bound_rule-sound, nonzero_size_rule-sound}
+use Rattle.theorem_fix.specs.SoundNonzero.{nonzero_product_rule-sound, nonzero_quotient_rule-sound}
+use Rattle.theorem_fix.specs.SoundNonzero.{nonzero_negation_rule-sound, nonzero_side_rule-sound}
+use Rattle.theorem_fix.specs.SoundRoundings.{rounded_bound_rule-sound, error_rule-sound}
+use Rattle.theorem_fix.specs.SoundRoundings.{signed_error_rule-sound, multiple_error_rule-sound}
 use Rattle.theorem_fix.specs.Shrinking.{no_multiple_rule-sound, shrinking_rule-sound}
 use Rattle.theorem_fix.proofs.laws.rules_are_sound.Goals as goal
 

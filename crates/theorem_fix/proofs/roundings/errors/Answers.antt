@@ -8,5 +8,6 @@ use Rattle.theorem_fix.proofs.roundings.errors.Goals as goal
 pub returns-in-Some : goal.returns-in-Some
 returns-in-Some c =
     let r = c.in-Some.r in
-    outward_of_only (error_range r.dir r.lsb c.args.sign c.args.fix) c.error_interval.result (error_range_ordered r.dir r.lsb c.args.sign c.args.fix) c.error_interval.ensures.cases
+    outward_of_only (error_range r.dir r.lsb c.args.sign c.args.fix) c.error_interval.result
+    (error_range_ordered r.dir r.lsb c.args.sign c.args.fix) c.error_interval.ensures.cases
     ∙ ap (λ o. errors_of o c.args.sign c.args.fix) (sym c.in-Some.is)

@@ -6,4 +6,5 @@ use Rattle.universe.proofs.world.assume.Goals as goal
 pub assume-requires : goal.assume-requires
 assume-requires c =
     let u = c.args.universe.now in
-    subst (HaveSlots u) (sym c.in_ok-facts.ensures) (hypotheses_slots c.args.script.now u c.laws.ensures.names c.args.claims.now c.requires.claims c.requires.universe.1.closure)
+    subst (HaveSlots u) (sym c.in_ok-facts.ensures) (hypotheses_slots c.args.script.now u
+    c.laws.ensures.names c.args.claims.now c.requires.claims c.requires.universe.1.closure)

@@ -14,13 +14,18 @@ use Rattle.universe.proofs.world.build.Goals as goal
 pub closure_of-requires : goal.closure_of-requires
 closure_of-requires c =
     subst (λ ns. AreKnown ns c.as_slice.result.now) (sym c.nodes.ensures)
-    (subst (λ ps. AreKnown c.args.script.now.nodes ps) (sym (c.as_slice.ensures.value ∙ c.in_ok-starts.ensures)) (starts_known c.args.script.now c.laws.ensures.ordered c.laws.ensures.names))
+    (subst (λ ps. AreKnown c.args.script.now.nodes ps)
+    (sym (c.as_slice.ensures.value ∙ c.in_ok-starts.ensures))
+    (starts_known c.args.script.now c.laws.ensures.ordered c.laws.ensures.names))
 
 pub instances_of-requires-clause-few : goal.instances_of-requires-clause-few
 instances_of-requires-clause-few c =
-    let rewrites : c.as_slice-2.result.now ≡ c.args.script.now.hints.rewrites = c.as_slice-2.ensures ∙ ap (λ (h : HintList). h.rewrites) c.hints.ensures.value in
-    let count : length c.in_ok-rows.rows.items ≡ length c.args.script.now.hints.rewrites = c.in_ok-rows.ensures.count ∙ ap length rewrites in
-    let seen : length c.as_slice-3.result.now ≡ length c.in_ok-rows.rows.items = ap length c.as_slice-3.ensures.value in
+    let rewrites : c.as_slice-2.result.now ≡ c.args.script.now.hints.rewrites =
+    c.as_slice-2.ensures ∙ ap (λ (h : HintList). h.rewrites) c.hints.ensures.value in
+    let count : length c.in_ok-rows.rows.items ≡ length c.args.script.now.hints.rewrites =
+    c.in_ok-rows.ensures.count ∙ ap length rewrites in
+    let seen : length c.as_slice-3.result.now ≡ length c.in_ok-rows.rows.items =
+    ap length c.as_slice-3.ensures.value in
     let few : length c.args.script.now.hints.rewrites ≤ 64 = c.laws.ensures.few.rewrites in
     omega arith
 
@@ -43,10 +48,15 @@ new-requires-clause-whole c =
       hints = c.in_ok-rows.rows.items;
       instances = c.in_ok-instances.instances.items;
     } in
-    built c.args.script.now u c.laws.ensures.names c.laws-2.ensures.ordered c.in_ok-nodes.ensures.known c.in_ok-nodes.ensures.short []
-    (universe_of c.args.script.now u c.nodes.result.now c.nodes-2.result.now c.as_slice.result.now c.as_slice-2.result.now c.as_slice-3.result.now c.goals.result.now
-    c.nodes.ensures (c.as_slice.ensures.value ∙ c.in_ok-starts.ensures) c.in_ok-nodes.ensures.closed c.nodes-2.ensures (c.as_slice-2.ensures ∙ ap (λ (h : HintList). h.rewrites) c.hints.ensures.value) c.in_ok-rows.ensures
-    c.as_slice-3.ensures.value c.in_ok-instances.ensures.exactly c.in_ok-instances.ensures.order c.goals.ensures.value c.in_ok-goals.ensures c.new-nothing.ensures.items)
+    built c.args.script.now u c.laws.ensures.names c.laws-2.ensures.ordered
+    c.in_ok-nodes.ensures.known c.in_ok-nodes.ensures.short []
+    (universe_of c.args.script.now u c.nodes.result.now c.nodes-2.result.now c.as_slice.result.now
+    c.as_slice-2.result.now c.as_slice-3.result.now c.goals.result.now
+    c.nodes.ensures (c.as_slice.ensures.value
+    ∙ c.in_ok-starts.ensures) c.in_ok-nodes.ensures.closed c.nodes-2.ensures (c.as_slice-2.ensures
+    ∙ ap (λ (h : HintList). h.rewrites) c.hints.ensures.value) c.in_ok-rows.ensures
+    c.as_slice-3.ensures.value c.in_ok-instances.ensures.exactly c.in_ok-instances.ensures.order
+    c.goals.ensures.value c.in_ok-goals.ensures c.new-nothing.ensures.items)
 
 pub returns-clause-universe : goal.returns-clause-universe
 returns-clause-universe c =
@@ -59,14 +69,22 @@ returns-clause-universe c =
       instances = c.in_ok-instances.instances.items;
     } in
     subst (IsUniverse c.args.script.now []) (sym c.in_ok-universe.ensures)
-    (universe_of c.args.script.now u c.nodes.result.now c.nodes-2.result.now c.as_slice.result.now c.as_slice-2.result.now c.as_slice-3.result.now c.goals.result.now
-    c.nodes.ensures (c.as_slice.ensures.value ∙ c.in_ok-starts.ensures) c.in_ok-nodes.ensures.closed c.nodes-2.ensures (c.as_slice-2.ensures ∙ ap (λ (h : HintList). h.rewrites) c.hints.ensures.value) c.in_ok-rows.ensures
-    c.as_slice-3.ensures.value c.in_ok-instances.ensures.exactly c.in_ok-instances.ensures.order c.goals.ensures.value c.in_ok-goals.ensures c.new-nothing.ensures.items)
+    (universe_of c.args.script.now u c.nodes.result.now c.nodes-2.result.now c.as_slice.result.now
+    c.as_slice-2.result.now c.as_slice-3.result.now c.goals.result.now
+    c.nodes.ensures (c.as_slice.ensures.value
+    ∙ c.in_ok-starts.ensures) c.in_ok-nodes.ensures.closed c.nodes-2.ensures (c.as_slice-2.ensures
+    ∙ ap (λ (h : HintList). h.rewrites) c.hints.ensures.value) c.in_ok-rows.ensures
+    c.as_slice-3.ensures.value c.in_ok-instances.ensures.exactly c.in_ok-instances.ensures.order
+    c.goals.ensures.value c.in_ok-goals.ensures c.new-nothing.ensures.items)
 
 pub rows_of-requires-clause-known : goal.rows_of-requires-clause-known
 rows_of-requires-clause-known c =
-    let rewrites : c.as_slice-2.result.now ≡ c.args.script.now.hints.rewrites = c.as_slice-2.ensures ∙ ap (λ (h : HintList). h.rewrites) c.hints.ensures.value in
-    subst (λ ns. AreKnownSides ns c.as_slice-2.result.now) (sym c.nodes-2.ensures) (subst (AreKnownSides c.args.script.now.nodes) (sym rewrites) (sides_named c.args.script.now c.laws.ensures.names))
+    let rewrites : c.as_slice-2.result.now ≡ c.args.script.now.hints.rewrites =
+    c.as_slice-2.ensures ∙ ap (λ (h : HintList). h.rewrites) c.hints.ensures.value in
+    subst (λ ns. AreKnownSides ns c.as_slice-2.result.now)
+    (sym c.nodes-2.ensures) (subst (AreKnownSides c.args.script.now.nodes) (sym rewrites)
+    (sides_named c.args.script.now c.laws.ensures.names))
 
 pub rows_of-requires-clause-normal : goal.rows_of-requires-clause-normal
-rows_of-requires-clause-normal c = subst (All HasNormalBounds) (sym c.as_slice-2.ensures) c.hints.ensures.normal
+rows_of-requires-clause-normal c =
+    subst (All HasNormalBounds) (sym c.as_slice-2.ensures) c.hints.ensures.normal

@@ -2,7 +2,8 @@ use Rattle.std.proofs.Common.{refl, subst, rules}
 use Rattle.command_runs.specs.Ends.{IsPut}
 use Rattle.command_runs.specs.declared.status.Status.TheVariants.{Certificate}
 use Rattle.command_line.specs.Upgrade.{upgrade_of}
-use Rattle.upgrade_command.proofs.Comes.{whole, caused, kept_same, done_runs, faulty_runs, long_runs, unread_runs, unwritten_so, starved_so}
+use Rattle.upgrade_command.proofs.Comes.{whole, caused, kept_same, done_runs, faulty_runs}
+use Rattle.upgrade_command.proofs.Comes.{long_runs, unread_runs, unwritten_so, starved_so}
 use Rattle.upgrade_command.proofs.run.run_upgrade.Goals as goal
 
 pub returns-in-Ok : goal.returns-in-Ok
@@ -27,7 +28,8 @@ pub returns-in-Err-ReadFailed : goal.returns-in-Err-ReadFailed
 returns-in-Err-ReadFailed g c = whole c.items_are_one.ensures (upgrade_of c.args.request) _
     (unread_runs (upgrade_of c.args.request) _ c.upgrade.ensures.others c.upgrade.result
     (c.upgrade.ensures.comes, c.upgrade.ensures.any) (search rules)
-    (caused _ c.upgrade.result _ (search rules) c.upgrade.ensures.reads.failed) c.print_stop.ensures)
+    (caused _ c.upgrade.result _
+    (search rules) c.upgrade.ensures.reads.failed) c.print_stop.ensures)
 
 pub returns-in-Err-WriteFailed : goal.returns-in-Err-WriteFailed
 returns-in-Err-WriteFailed g c = whole c.items_are_one.ensures (upgrade_of c.args.request) _

@@ -5,8 +5,10 @@ use Rattle.whole_texts.proofs.write.append_all.Given as goal
 abbrev pub invariant-loop-done : goal.invariant-loop-done
 invariant-loop-done g l = record {
   within : l.done ≤ length l.bytes;
-  taken : Appends (g.F.Folder.told l.initial.folder l.name) (g.F.Folder.told l.folder l.name) (take l.done l.bytes);
-  others : (other : List ℕ) → other ≢ l.name → g.F.Folder.told l.folder other ≡ g.F.Folder.told l.initial.folder other;
+  taken : Appends (g.F.Folder.told l.initial.folder l.name)
+      (g.F.Folder.told l.folder l.name) (take l.done l.bytes);
+  others : (other : List ℕ) → other ≢ l.name
+      → g.F.Folder.told l.folder other ≡ g.F.Folder.told l.initial.folder other;
   later : g.F.Folder.write_faults l.initial.folder ≤ g.F.Folder.write_faults l.folder;
   quiet : g.F.Folder.read_faults l.folder ≡ g.F.Folder.read_faults l.initial.folder;
 }

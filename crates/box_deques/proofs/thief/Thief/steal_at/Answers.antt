@@ -12,4 +12,5 @@ returns-in-Some-take_first-clause-first g c =
       party = i.0.1 ∙ ap (λ (s : seen.Seat). s.hand + 1) c.seat.view_is;
       takes = i.0.2 ∙ ap (λ (s : seen.Seat). s.takes) c.seat.view_is;
     } in
-    takes_first _ (view c.in-Some.pass) c.args.seat.now _ c.in-Some-take_first.placed.place _ own r.3 r.4 (search rules)
+    takes_first _ (view c.in-Some.pass) c.args.seat.now _ c.in-Some-take_first.placed.place _
+    own r.3 r.4 (search rules)

@@ -4,4 +4,5 @@ use Rattle.box_trace.proofs.Rows.{read_at}
 use Rattle.box_trace.proofs.known.Known.fact_at.Goals as goal
 
 pub returns : goal.returns
-returns c = c.fact_of.ensures ∙ ap fact_of (c.at.ensures ∙ read_at c.args.uni.now c.laws.ensures.universe.once c.args.self.now c.args.placed.slot c.args.placed.place c.requires)
+returns c = c.fact_of.ensures ∙ ap fact_of (c.at.ensures ∙ read_at c.args.uni.now
+    c.laws.ensures.universe.once c.args.self.now c.args.placed.slot c.args.placed.place c.requires)

@@ -13,13 +13,18 @@ returns-in-Some c =
     let u = c.args.uni.now in
     let k = c.args.self.now in
     let here : known_at u k slot.Void ≡ Some c.in-Some.field-0.fact =
-    ap fact_of (sym (read_at u c.laws.ensures.universe.once k slot.Void c.place.result c.place.ensures) ∙ (sym c.at.ensures ∙ c.in-Some.is)) in
-    (λ h. here ∙ ap Some (void_is c.in-Some.field-0.fact (c.requires.proper slot.Void c.in-Some.field-0.fact here)), λ e. refl)
+    ap fact_of (sym (read_at u c.laws.ensures.universe.once k slot.Void c.place.result
+    c.place.ensures) ∙ (sym c.at.ensures ∙ c.in-Some.is)) in (
+      λ h. here ∙ ap Some (void_is c.in-Some.field-0.fact
+          (c.requires.proper slot.Void c.in-Some.field-0.fact here)),
+      λ e. refl,
+    )
 
 pub returns-in-None : goal.returns-in-None
 returns-in-None c =
     let u = c.args.uni.now in
     let k = c.args.self.now in
     let here : known_at u k slot.Void ≡ None =
-    ap fact_of (sym (read_at u c.laws.ensures.universe.once k slot.Void c.place.result c.place.ensures) ∙ (sym c.at.ensures ∙ c.in-None.is)) in
+    ap fact_of (sym (read_at u c.laws.ensures.universe.once k slot.Void c.place.result
+    c.place.ensures) ∙ (sym c.at.ensures ∙ c.in-None.is)) in
     (λ h. cc, λ e. absurd (none_some fact.Void (known_at u k slot.Void) here e))

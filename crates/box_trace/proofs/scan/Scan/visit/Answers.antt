@@ -11,4 +11,6 @@ returns-in-None-clause-visited c = λ s.
     let u = c.args.uni.now in
     let at = known_at u c.args.now.now in
     let i = c.instance_at-instance.result.now in
-    scanned_beaten u at c.args.self.now.ends.items c.args.k i c.instance_at-instance.ensures s (λ x e. absurd (none_some x (conclusion (concludes u.nodes u.hints) at i) (sym c.in_ok-concluded.ensures ∙ c.in-None.is) e))
+    scanned_beaten u at c.args.self.now.ends.items c.args.k i c.instance_at-instance.ensures s
+    (λ x e. absurd (none_some x (conclusion (concludes u.nodes u.hints) at i)
+    (sym c.in_ok-concluded.ensures ∙ c.in-None.is) e))

@@ -1,4 +1,5 @@
-use Rattle.std.proofs.Common.{◌≡◌, List, [], ◌∷◌, take, Option, Some, None, IfSome, sym, ap, subst, ◌∙◌}
+use Rattle.std.proofs.Common.{◌≡◌, List, [], ◌∷◌, take, Option, Some, None, IfSome, sym, ap, subst}
+use Rattle.std.proofs.Common.{◌∙◌}
 use Rattle.std.specs.List.{AllByRecursion}
 use Rattle.script_hints.specs.dyadic.declared.number.Dyadic.{Dyadic}
 use Rattle.box_tree.specs.declared.range.SplitRange.{SplitRange}

@@ -8,13 +8,20 @@ use Rattle.box_workers.proofs.site.Site.visit.Goals as goal
 pub returns-clause-all : goal.returns-clause-all
 returns-clause-all g c =
     let t : Tree = tree_of g.S.Entry.Posted.cut_at g.S.Entry.Posted.state_at in
-    let old : Seen = seen_by c.args.walk.now.boxes c.args.walk.now.first c.args.walk.now.leaves.items in
-    let new : Seen = seen_by c.visit.new.walk.boxes c.visit.new.walk.first c.visit.new.walk.leaves.items in
+    let old : Seen =
+    seen_by c.args.walk.now.boxes c.args.walk.now.first c.args.walk.now.leaves.items in
+    let new : Seen =
+    seen_by c.visit.new.walk.boxes c.visit.new.walk.first c.visit.new.walk.leaves.items in
     let paths : List (List ℕ) = boxes_from t (36 - length c.args.path) c.args.path in
-    IfOk-weaker c.visit.result (λ (all : Bool). IsTrue all → new ≡ after t old (boxes_from t (36 - length c.args.path) c.args.path)) _ (λ v f e. visited t c.args.path old new (c.walks_see.ensures.boxes t old paths) (c.walks_see.ensures.leaves t old paths) (f e)) c.visit.ensures.seen
+    IfOk-weaker c.visit.result (λ (all : Bool). IsTrue all
+    → new ≡ after t old (boxes_from t (36 - length c.args.path) c.args.path)) _
+    (λ v f e. visited t c.args.path old new (c.walks_see.ensures.boxes t old paths)
+    (c.walks_see.ensures.leaves t old paths) (f e)) c.visit.ensures.seen
 
 pub returns-clause-over : goal.returns-clause-over
 returns-clause-over g c =
     let t : Tree = tree_of g.S.Entry.Posted.cut_at g.S.Entry.Posted.state_at in
     let ones = total_ones (boxes_from t (36 - length c.args.path) c.args.path) in
-    IfOk-weaker c.visit.result (λ (all : Bool). all ≡ false → c.args.walk.now.limit < c.args.walk.now.boxes + length (boxes_from t (36 - length c.args.path) c.args.path)) _ (λ v f e. let l = f e in omega arith) c.visit.ensures.over
+    IfOk-weaker c.visit.result (λ (all : Bool). all ≡ false → c.args.walk.now.limit
+    < c.args.walk.now.boxes + length (boxes_from t (36 - length c.args.path) c.args.path)) _
+    (λ v f e. let l = f e in omega arith) c.visit.ensures.over

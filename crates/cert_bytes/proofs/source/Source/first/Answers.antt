@@ -6,5 +6,8 @@ use Rattle.cert_bytes.proofs.source.Source.first.Goals as goal
 pub returns : goal.returns
 returns c =
     let view = ap (λ (a : Ahead). a.ahead) (sym c.self.view_is) in
-    let s = some_range c.self.inside.buffer c.self.inside.begin c.self.inside.end (λ e. c.requires.some (view ∙ e)) in
-    subst (λ (l : List ℕ). IsFirst (slice_index_or c.self.inside.buffer c.self.inside.begin 0) l) (sym view) (range_first c.self.inside.buffer c.self.inside.begin c.self.inside.end s c.self.invariant.1)
+    let s = some_range c.self.inside.buffer c.self.inside.begin c.self.inside.end
+    (λ e. c.requires.some (view ∙ e)) in
+    subst (λ (l : List ℕ). IsFirst
+    (slice_index_or c.self.inside.buffer c.self.inside.begin 0) l) (sym view)
+    (range_first c.self.inside.buffer c.self.inside.begin c.self.inside.end s c.self.invariant.1)

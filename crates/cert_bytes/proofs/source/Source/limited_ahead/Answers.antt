@@ -1,9 +1,11 @@
-use Rattle.std.proofs.Common.{◌≡◌, ◌≤◌, ◌<◌, ◌+◌, ◌-◌, ◌*◌, ◌^◌, ℕ, suc, List, length, refl, sym, ap, subst, ◌∙◌, arith, rules}
+use Rattle.std.proofs.Common.{◌≡◌, ◌≤◌, ◌<◌, ◌+◌, ◌-◌, ◌*◌, ◌^◌, ℕ, suc, List, length, refl, sym}
+use Rattle.std.proofs.Common.{ap, subst, ◌∙◌, arith, rules}
 use Rattle.cert_bytes.specs.Reading.{limited_at}
 use Rattle.cert_bytes.specs.Pieces.{Agrees, cursor_of}
 use Rattle.cert_bytes.proofs.Filled.{next_is}
 use Rattle.cert_bytes.proofs.Told.{name_in, style_in, agrees_for, agrees_told}
-use Rattle.cert_bytes.proofs.Limits.{one_digit, digit_ends, digit_fits, near_fits, near_moves, far_fits}
+use Rattle.cert_bytes.proofs.Limits.{one_digit, digit_ends, digit_fits, near_fits, near_moves}
+use Rattle.cert_bytes.proofs.Limits.{far_fits}
 use Rattle.cert_bytes.proofs.source.Source.limited_ahead.Goals as goal
 
 pub loop-have-init : goal.loop-have-init
@@ -11,7 +13,8 @@ loop-have-init g c = record {
   within = omega arith;
   weight = refl;
   value = omega arith;
-  gives = λ all h. ap (λ (k : ℕ). limited_at k c.args.most 1 0 (cursor_of all c.args.self.now)) (let e : c.args.bytes - 0 ≡ c.args.bytes = omega arith in e);
+  gives = λ all h. ap (λ (k : ℕ). limited_at k c.args.most 1 0 (cursor_of all c.args.self.now))
+      (let e : c.args.bytes - 0 ≡ c.args.bytes = omega arith in e);
   agrees = c.requires.agrees;
   kept = refl;
   at = omega arith;
@@ -23,25 +26,41 @@ loop-have-preserved g c =
     let t = c.loop-have-test.true in
     let i = c.loop-have.invariant in
     let many = c.requires.many in
-    let left : c.args.bytes - c.loop-have.have ≡ suc (c.args.bytes - (c.loop-have.have + 1)) = omega (arith, t, many) in
+    let left : c.args.bytes - c.loop-have.have ≡ suc (c.args.bytes - (c.loop-have.have + 1)) =
+    omega (arith, t, many) in
     let small : c.advance-byte.result < 256 = search (arith, rules) in
     let high = c.if-byte-lt128.false in
-    let size : length c.loop-have.self.ahead ≡ suc (length c.advance-byte.new.self.ahead) = ap length c.advance-byte.ensures.byte in
-    let next = λ (all : List ℕ) (h : Agrees all c.loop-have.self). next_is all c.loop-have.self.style c.loop-have.self.at c.loop-have.self c.advance-byte.new.self c.advance-byte.result h refl
-    (λ l. let a = i.at in let r = c.requires.room in omega (arith, t, l, a, r)) c.advance-byte.ensures.byte c.advance-byte.ensures.at (ap style_in c.advance-byte.ensures.kept) in
+    let size : length c.loop-have.self.ahead ≡ suc (length c.advance-byte.new.self.ahead) =
+    ap length c.advance-byte.ensures.byte in
+    let next = λ (all : List ℕ) (h : Agrees all c.loop-have.self).
+    next_is all c.loop-have.self.style c.loop-have.self.at c.loop-have.self c.advance-byte.new.self
+    c.advance-byte.result h refl
+    (λ l. let a = i.at in let r = c.requires.room in
+    omega (arith, t, l, a, r)) c.advance-byte.ensures.byte c.advance-byte.ensures.at
+    (ap style_in c.advance-byte.ensures.kept) in
     record {
       within = omega (arith, t);
       weight = ap (λ (w : ℕ). w * 128) i.weight ∙ near_moves c.loop-have.have;
-      value = subst (λ (n : ℕ). c.loop-have.value + c.loop-have.weight * n < c.loop-have.weight * 128) (sym c.from.ensures) (digit_fits c.loop-have.value c.loop-have.weight c.advance-byte.result i.value small);
+      value = subst (λ (n : ℕ). c.loop-have.value + c.loop-have.weight * n
+          < c.loop-have.weight * 128) (sym c.from.ensures)
+          (digit_fits c.loop-have.value c.loop-have.weight c.advance-byte.result i.value small);
       gives = λ all h.
           let known = ap (g.F.Folder.told c.args.folder.now) (ap name_in i.kept) ∙ h in
-          subst (λ (n : ℕ). limited_at (c.args.bytes - (c.loop-have.have + 1)) c.args.most (c.loop-have.weight * 128) (c.loop-have.value + c.loop-have.weight * n) (cursor_of all c.advance-byte.new.self) ≡ limited_at c.args.bytes c.args.most 1 0 (cursor_of all c.args.self.now)) (sym c.from.ensures)
-          (one_digit (cursor_of all c.loop-have.self) (cursor_of all c.advance-byte.new.self) (c.args.bytes - (c.loop-have.have + 1)) c.args.most c.loop-have.weight c.loop-have.value c.advance-byte.result _
-          (subst (λ (k : ℕ). limited_at k c.args.most c.loop-have.weight c.loop-have.value (cursor_of all c.loop-have.self) ≡ limited_at c.args.bytes c.args.most 1 0 (cursor_of all c.args.self.now)) left (i.gives all h))
+          subst (λ (n : ℕ). limited_at (c.args.bytes - (c.loop-have.have + 1)) c.args.most
+          (c.loop-have.weight * 128) (c.loop-have.value + c.loop-have.weight * n)
+          (cursor_of all c.advance-byte.new.self) ≡ limited_at c.args.bytes c.args.most 1 0
+          (cursor_of all c.args.self.now)) (sym c.from.ensures)
+          (one_digit (cursor_of all c.loop-have.self) (cursor_of all c.advance-byte.new.self)
+          (c.args.bytes - (c.loop-have.have + 1)) c.args.most c.loop-have.weight
+          c.loop-have.value c.advance-byte.result _
+          (subst (λ (k : ℕ). limited_at k c.args.most c.loop-have.weight c.loop-have.value
+          (cursor_of all c.loop-have.self) ≡ limited_at c.args.bytes c.args.most 1 0
+          (cursor_of all c.args.self.now)) left (i.gives all h))
           (next all (agrees_for _ c.loop-have.self i.agrees all known)).0
           (λ l. omega (arith, l, high)));
       agrees = agrees_told _ c.advance-byte.new.self (λ all h.
-          let known = ap (g.F.Folder.told c.args.folder.now) (sym (ap name_in c.advance-byte.ensures.kept)) ∙ h in
+          let known = ap (g.F.Folder.told c.args.folder.now)
+          (sym (ap name_in c.advance-byte.ensures.kept)) ∙ h in
           (next all (agrees_for _ c.loop-have.self i.agrees all known)).1);
       kept = c.advance-byte.ensures.kept ∙ i.kept;
       at = let a = i.at in let b = c.advance-byte.ensures.at in omega (arith, a, b);
@@ -57,41 +76,54 @@ advance-byte-requires g c =
     let a = i.at in
     let l = i.left in
     record {
-      some = λ e. let z : length c.loop-have.self.ahead ≡ 0 = ap length e in omega (arith, t, w, l, z);
+      some = λ e. let z : length c.loop-have.self.ahead ≡ 0 = ap length e in
+          omega (arith, t, w, l, z);
       room = omega (arith, t, a, r);
     }
 
 pub overflow_mul-weight : goal.overflow_mul-weight
-overflow_mul-weight g c = let m = near_fits c.loop-have.have c.loop-have-test.true in let w = c.loop-have.invariant.weight in omega (arith, m, w)
+overflow_mul-weight g c = let m = near_fits c.loop-have.have c.loop-have-test.true in
+    let w = c.loop-have.invariant.weight in omega (arith, m, w)
 
 pub overflow_add-value : goal.overflow_add-value
 overflow_add-value g c =
-    let m = near_fits c.loop-have.have c.loop-have-test.true in let w = c.loop-have.invariant.weight in
-    let s = subst (λ (n : ℕ). c.loop-have.value + c.loop-have.weight * n < c.loop-have.weight * 128) (sym c.from.ensures) (digit_fits c.loop-have.value c.loop-have.weight c.advance-byte.result c.loop-have.invariant.value (search (arith, rules))) in
+    let m = near_fits c.loop-have.have c.loop-have-test.true in
+    let w = c.loop-have.invariant.weight in
+    let s = subst (λ (n : ℕ). c.loop-have.value + c.loop-have.weight * n < c.loop-have.weight * 128)
+    (sym c.from.ensures) (digit_fits c.loop-have.value c.loop-have.weight c.advance-byte.result
+    c.loop-have.invariant.value (search (arith, rules))) in
     omega (arith, m, w, s)
 
 pub overflow_mul-value : goal.overflow_mul-value
 overflow_mul-value g c =
-    let m = near_fits c.loop-have.have c.loop-have-test.true in let w = c.loop-have.invariant.weight in
-    let s = subst (λ (n : ℕ). c.loop-have.value + c.loop-have.weight * n < c.loop-have.weight * 128) (sym c.from.ensures) (digit_fits c.loop-have.value c.loop-have.weight c.advance-byte.result c.loop-have.invariant.value (search (arith, rules))) in
+    let m = near_fits c.loop-have.have c.loop-have-test.true in
+    let w = c.loop-have.invariant.weight in
+    let s = subst (λ (n : ℕ). c.loop-have.value + c.loop-have.weight * n < c.loop-have.weight * 128)
+    (sym c.from.ensures) (digit_fits c.loop-have.value c.loop-have.weight c.advance-byte.result
+    c.loop-have.invariant.value (search (arith, rules))) in
     omega (arith, m, w, s)
 
 pub ended_near-requires : goal.ended_near-requires
 ended_near-requires g c = record {
-  weight = let m = near_fits c.loop-have.have c.loop-have-test.true in let w = c.loop-have.invariant.weight in omega (arith, m, w);
+  weight = let m = near_fits c.loop-have.have c.loop-have-test.true in
+      let w = c.loop-have.invariant.weight in omega (arith, m, w);
   value = c.loop-have.invariant.value;
   digit = c.if-byte-lt128.true;
 }
 
 pub limited_far-requires : goal.limited_far-requires
 limited_far-requires g c =
-    let t = c.loop-have-test.false in let i = c.loop-have.invariant in let within = i.within in let many = c.requires.many in
+    let t = c.loop-have-test.false in let i = c.loop-have.invariant in let within = i.within in
+    let many = c.requires.many in
     let nine : c.loop-have.have ≡ 9 = omega (arith, t, within) in
-    let weight : c.from-2.result ≡ 128 ^ 9 = c.from-2.ensures ∙ i.weight ∙ ap (λ (k : ℕ). 128 ^ k) nine in
+    let weight : c.from-2.result ≡ 128 ^ 9 =
+    c.from-2.ensures ∙ i.weight ∙ ap (λ (k : ℕ). 128 ^ k) nine in
     record {
       some = omega (arith, many);
-      before = let v = i.value in let a = c.from-2.ensures in let b = c.from-3.ensures in omega (arith, v, a, b);
-      room = subst (λ (w : ℕ). w * 128 ^ (c.args.bytes - 9) ≤ 128 ^ 19) (sym weight) (far_fits c.args.bytes many c.requires.few);
+      before = let v = i.value in let a = c.from-2.ensures in
+          let b = c.from-3.ensures in omega (arith, v, a, b);
+      room = subst (λ (w : ℕ). w * 128 ^ (c.args.bytes - 9) ≤ 128 ^ 19) (sym weight)
+          (far_fits c.args.bytes many c.requires.few);
       agrees = i.agrees;
     }
 
@@ -100,18 +132,31 @@ returns-then-byte-lt128-clause-gives g c = λ all h.
     let t = c.loop-have-test.true in
     let i = c.loop-have.invariant in
     let many = c.requires.many in
-    let left : c.args.bytes - c.loop-have.have ≡ suc (c.args.bytes - (c.loop-have.have + 1)) = omega (arith, t, many) in
+    let left : c.args.bytes - c.loop-have.have ≡ suc (c.args.bytes - (c.loop-have.have + 1)) =
+    omega (arith, t, many) in
     let known = ap (g.F.Folder.told c.args.folder.now) (ap name_in i.kept) ∙ h in
-    let next = next_is all c.loop-have.self.style c.loop-have.self.at c.loop-have.self c.advance-byte.new.self c.advance-byte.result (agrees_for _ c.loop-have.self i.agrees all known) refl
-    (λ l. let a = i.at in let r = c.requires.room in omega (arith, t, l, a, r)) c.advance-byte.ensures.byte c.advance-byte.ensures.at (ap style_in c.advance-byte.ensures.kept) in
-    rw c.ended_near.ensures (digit_ends (cursor_of all c.loop-have.self) (cursor_of all c.advance-byte.new.self) (c.args.bytes - (c.loop-have.have + 1)) c.args.most c.loop-have.weight c.loop-have.value c.advance-byte.result _
-    (subst (λ (k : ℕ). limited_at k c.args.most c.loop-have.weight c.loop-have.value (cursor_of all c.loop-have.self) ≡ limited_at c.args.bytes c.args.most 1 0 (cursor_of all c.args.self.now)) left (i.gives all h))
+    let next = next_is all c.loop-have.self.style c.loop-have.self.at c.loop-have.self
+    c.advance-byte.new.self c.advance-byte.result
+    (agrees_for _ c.loop-have.self i.agrees all known) refl
+    (λ l. let a = i.at in let r = c.requires.room in
+    omega (arith, t, l, a, r)) c.advance-byte.ensures.byte c.advance-byte.ensures.at
+    (ap style_in c.advance-byte.ensures.kept) in
+    rw c.ended_near.ensures (digit_ends (cursor_of all c.loop-have.self)
+    (cursor_of all c.advance-byte.new.self) (c.args.bytes - (c.loop-have.have + 1)) c.args.most
+    c.loop-have.weight c.loop-have.value c.advance-byte.result _
+    (subst (λ (k : ℕ). limited_at k c.args.most c.loop-have.weight c.loop-have.value
+    (cursor_of all c.loop-have.self)
+    ≡ limited_at c.args.bytes c.args.most 1 0 (cursor_of all c.args.self.now)) left (i.gives all h))
     next.0 c.if-byte-lt128.true)
 
 pub returns-then-byte-lt128-clause-agrees : goal.returns-then-byte-lt128-clause-agrees
 returns-then-byte-lt128-clause-agrees g c = agrees_told _ c.advance-byte.new.self (λ all h.
     let t = c.loop-have-test.true in
     let i = c.loop-have.invariant in
-    let known = ap (g.F.Folder.told c.args.folder.now) (sym (ap name_in c.advance-byte.ensures.kept)) ∙ h in
-    (next_is all c.loop-have.self.style c.loop-have.self.at c.loop-have.self c.advance-byte.new.self c.advance-byte.result (agrees_for _ c.loop-have.self i.agrees all known) refl
-    (λ l. let a = i.at in let r = c.requires.room in omega (arith, t, l, a, r)) c.advance-byte.ensures.byte c.advance-byte.ensures.at (ap style_in c.advance-byte.ensures.kept)).1)
+    let known = ap (g.F.Folder.told c.args.folder.now)
+    (sym (ap name_in c.advance-byte.ensures.kept)) ∙ h in
+    (next_is all c.loop-have.self.style c.loop-have.self.at c.loop-have.self c.advance-byte.new.self
+    c.advance-byte.result (agrees_for _ c.loop-have.self i.agrees all known) refl
+    (λ l. let a = i.at in let r = c.requires.room in
+    omega (arith, t, l, a, r)) c.advance-byte.ensures.byte c.advance-byte.ensures.at
+    (ap style_in c.advance-byte.ensures.kept)).1)

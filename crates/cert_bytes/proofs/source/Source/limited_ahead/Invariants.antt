@@ -8,7 +8,9 @@ invariant-loop-have g l = record {
   within : l.have ≤ 9;
   weight : l.weight ≡ 128 ^ l.have;
   value : l.value < l.weight;
-  gives : (all : List ℕ) → g.F.Folder.told l.initial.folder l.initial.self.name ≡ Some all → limited_at (l.bytes - l.have) l.most l.weight l.value (cursor_of all l.self) ≡ limited_at l.bytes l.most 1 0 (cursor_of all l.initial.self);
+  gives : (all : List ℕ) → g.F.Folder.told l.initial.folder l.initial.self.name ≡ Some all
+      → limited_at (l.bytes - l.have) l.most l.weight l.value (cursor_of all l.self)
+      ≡ limited_at l.bytes l.most 1 0 (cursor_of all l.initial.self);
   agrees : AgreesTold (g.F.Folder.told l.initial.folder l.self.name) l.self;
   kept : kept_of l.self ≡ kept_of l.initial.self;
   at : l.self.at ≡ l.initial.self.at + l.have;

@@ -1,9 +1,11 @@
-use Rattle.std.proofs.Common.{◌≡◌, ◌<◌, ◌+◌, ◌-◌, ◌*◌, ℕ, suc, refl, sym, ap, subst, ◌∙◌, arith, rules}
+use Rattle.std.proofs.Common.{◌≡◌, ◌<◌, ◌+◌, ◌-◌, ◌*◌, ℕ, suc, refl, sym, ap, subst, ◌∙◌, arith}
+use Rattle.std.proofs.Common.{rules}
 use Rattle.std.proofs.lemmas.Result.{err_from_is_err_and}
 use Rattle.cert_bytes.specs.Reading.{limited_at}
 use Rattle.cert_bytes.specs.Pieces.{cursor_of}
 use Rattle.cert_bytes.proofs.Told.{name_in, agrees_told}
-use Rattle.cert_bytes.proofs.Limits.{one_digit, digit_ends, digit_stops, no_digit, digit_fits, weight_fits, weight_moves}
+use Rattle.cert_bytes.proofs.Limits.{one_digit, digit_ends, digit_stops, no_digit, digit_fits}
+use Rattle.cert_bytes.proofs.Limits.{weight_fits, weight_moves}
 use Rattle.cert_bytes.proofs.source.Source.limited_far.Goals as goal
 
 pub loop-left-init : goal.loop-left-init
@@ -30,15 +32,26 @@ loop-left-preserved g c =
     record {
       some = omega (arith, t);
       worth = weight_moves c.loop-left.worth c.loop-left.left t i.worth;
-      sum = subst (λ (n : ℕ). c.loop-left.sum + c.loop-left.worth * n < c.loop-left.worth * 128) (sym c.from.ensures) (digit_fits c.loop-left.sum c.loop-left.worth c.in_ok-byte.byte i.sum small);
+      sum = subst (λ (n : ℕ). c.loop-left.sum + c.loop-left.worth * n
+          < c.loop-left.worth * 128) (sym c.from.ensures)
+          (digit_fits c.loop-left.sum c.loop-left.worth c.in_ok-byte.byte i.sum small);
       gives = λ all h.
-          let known = ap (g.F.Folder.told c.loop-left.folder) (ap name_in i.kept) ∙ i.told c.args.self.now.name ∙ h in
-          subst (λ (n : ℕ). limited_at (c.loop-left.left - 1) c.args.most (c.loop-left.worth * 128) (c.loop-left.sum + c.loop-left.worth * n) (cursor_of all c.byte.new.self) ≡ limited_at c.args.bytes c.args.most c.args.weight c.args.value (cursor_of all c.args.self.now)) (sym c.from.ensures)
-          (one_digit (cursor_of all c.loop-left.self) (cursor_of all c.byte.new.self) (c.loop-left.left - 1) c.args.most c.loop-left.worth c.loop-left.sum c.in_ok-byte.byte _
-          (subst (λ (k : ℕ). limited_at k c.args.most c.loop-left.worth c.loop-left.sum (cursor_of all c.loop-left.self) ≡ limited_at c.args.bytes c.args.most c.args.weight c.args.value (cursor_of all c.args.self.now)) left (i.gives all h))
+          let known = ap (g.F.Folder.told c.loop-left.folder) (ap name_in i.kept)
+          ∙ i.told c.args.self.now.name ∙ h in
+          subst (λ (n : ℕ). limited_at (c.loop-left.left - 1) c.args.most (c.loop-left.worth * 128)
+          (c.loop-left.sum + c.loop-left.worth * n) (cursor_of all c.byte.new.self)
+          ≡ limited_at c.args.bytes c.args.most c.args.weight c.args.value
+          (cursor_of all c.args.self.now)) (sym c.from.ensures)
+          (one_digit (cursor_of all c.loop-left.self) (cursor_of all c.byte.new.self)
+          (c.loop-left.left - 1) c.args.most c.loop-left.worth c.loop-left.sum c.in_ok-byte.byte _
+          (subst (λ (k : ℕ). limited_at k c.args.most c.loop-left.worth c.loop-left.sum
+          (cursor_of all c.loop-left.self) ≡ limited_at c.args.bytes c.args.most c.args.weight
+          c.args.value (cursor_of all c.args.self.now)) left (i.gives all h))
           (c.in_ok-byte.ensures.gives all known)
           (λ l. omega (arith, l, high)));
-      agrees = agrees_told _ c.byte.new.self (λ all h. c.in_ok-byte.ensures.agrees all (ap (g.F.Folder.told c.loop-left.folder) (sym (ap name_in c.in_ok-byte.ensures.kept)) ∙ sym (c.in_ok-byte.ensures.told c.byte.new.self.name) ∙ h));
+      agrees = agrees_told _ c.byte.new.self (λ all h. c.in_ok-byte.ensures.agrees all
+          (ap (g.F.Folder.told c.loop-left.folder) (sym (ap name_in c.in_ok-byte.ensures.kept))
+          ∙ sym (c.in_ok-byte.ensures.told c.byte.new.self.name) ∙ h));
       kept = c.in_ok-byte.ensures.kept ∙ i.kept;
       grows = omega (arith, c.in_ok-byte.ensures.moves, i.grows);
       told = λ other. c.in_ok-byte.ensures.told other ∙ i.told other;
@@ -47,18 +60,25 @@ loop-left-preserved g c =
     }
 
 pub overflow_mul-worth : goal.overflow_mul-worth
-overflow_mul-worth g c = let m = weight_fits c.loop-left.worth c.loop-left.left c.loop-left-test.true c.loop-left.invariant.worth in omega (arith, m)
+overflow_mul-worth g c = let m = weight_fits c.loop-left.worth c.loop-left.left
+    c.loop-left-test.true c.loop-left.invariant.worth in omega (arith, m)
 
 pub overflow_add-sum : goal.overflow_add-sum
 overflow_add-sum g c =
-    let m = weight_fits c.loop-left.worth c.loop-left.left c.loop-left-test.true c.loop-left.invariant.worth in
-    let s = subst (λ (n : ℕ). c.loop-left.sum + c.loop-left.worth * n < c.loop-left.worth * 128) (sym c.from.ensures) (digit_fits c.loop-left.sum c.loop-left.worth c.in_ok-byte.byte c.loop-left.invariant.sum (search (arith, rules))) in
+    let m = weight_fits c.loop-left.worth c.loop-left.left c.loop-left-test.true
+    c.loop-left.invariant.worth in
+    let s = subst (λ (n : ℕ). c.loop-left.sum + c.loop-left.worth * n < c.loop-left.worth * 128)
+    (sym c.from.ensures) (digit_fits c.loop-left.sum c.loop-left.worth c.in_ok-byte.byte
+    c.loop-left.invariant.sum (search (arith, rules))) in
     omega (arith, m, s)
 
 pub overflow_mul-sum : goal.overflow_mul-sum
 overflow_mul-sum g c =
-    let m = weight_fits c.loop-left.worth c.loop-left.left c.loop-left-test.true c.loop-left.invariant.worth in
-    let s = subst (λ (n : ℕ). c.loop-left.sum + c.loop-left.worth * n < c.loop-left.worth * 128) (sym c.from.ensures) (digit_fits c.loop-left.sum c.loop-left.worth c.in_ok-byte.byte c.loop-left.invariant.sum (search (arith, rules))) in
+    let m = weight_fits c.loop-left.worth c.loop-left.left c.loop-left-test.true
+    c.loop-left.invariant.worth in
+    let s = subst (λ (n : ℕ). c.loop-left.sum + c.loop-left.worth * n < c.loop-left.worth * 128)
+    (sym c.from.ensures) (digit_fits c.loop-left.sum c.loop-left.worth c.in_ok-byte.byte
+    c.loop-left.invariant.sum (search (arith, rules))) in
     omega (arith, m, s)
 
 pub returns-in_err-byte-clause-gives : goal.returns-in_err-byte-clause-gives
@@ -67,9 +87,13 @@ returns-in_err-byte-clause-gives g c = λ all h.
     let t = c.loop-left-test.true in
     let i = c.loop-left.invariant in
     let left : c.loop-left.left ≡ suc (c.loop-left.left - 1) = omega (arith, t) in
-    let known = ap (g.F.Folder.told c.loop-left.folder) (ap name_in i.kept) ∙ i.told c.args.self.now.name ∙ h in
-    rw (p.1, p.2) (λ f q. digit_stops (cursor_of all c.loop-left.self) (c.loop-left.left - 1) c.args.most c.loop-left.worth c.loop-left.sum f _
-    (subst (λ (k : ℕ). limited_at k c.args.most c.loop-left.worth c.loop-left.sum (cursor_of all c.loop-left.self) ≡ limited_at c.args.bytes c.args.most c.args.weight c.args.value (cursor_of all c.args.self.now)) left (i.gives all h))
+    let known = ap (g.F.Folder.told c.loop-left.folder) (ap name_in i.kept)
+    ∙ i.told c.args.self.now.name ∙ h in
+    rw (p.1, p.2) (λ f q. digit_stops (cursor_of all c.loop-left.self)
+    (c.loop-left.left - 1) c.args.most c.loop-left.worth c.loop-left.sum f _
+    (subst (λ (k : ℕ). limited_at k c.args.most c.loop-left.worth c.loop-left.sum
+    (cursor_of all c.loop-left.self) ≡ limited_at c.args.bytes c.args.most c.args.weight
+    c.args.value (cursor_of all c.args.self.now)) left (i.gives all h))
     (c.in_err-byte.ensures.gives all known f q))
 
 pub returns-then-byte-lt128-clause-gives : goal.returns-then-byte-lt128-clause-gives
@@ -77,21 +101,31 @@ returns-then-byte-lt128-clause-gives g c = λ all h.
     let t = c.loop-left-test.true in
     let i = c.loop-left.invariant in
     let left : c.loop-left.left ≡ suc (c.loop-left.left - 1) = omega (arith, t) in
-    let known = ap (g.F.Folder.told c.loop-left.folder) (ap name_in i.kept) ∙ i.told c.args.self.now.name ∙ h in
-    rw c.ended_with.ensures (digit_ends (cursor_of all c.loop-left.self) (cursor_of all c.byte.new.self) (c.loop-left.left - 1) c.args.most c.loop-left.worth c.loop-left.sum c.in_ok-byte.byte _
-    (subst (λ (k : ℕ). limited_at k c.args.most c.loop-left.worth c.loop-left.sum (cursor_of all c.loop-left.self) ≡ limited_at c.args.bytes c.args.most c.args.weight c.args.value (cursor_of all c.args.self.now)) left (i.gives all h))
+    let known = ap (g.F.Folder.told c.loop-left.folder) (ap name_in i.kept)
+    ∙ i.told c.args.self.now.name ∙ h in
+    rw c.ended_with.ensures (digit_ends (cursor_of all c.loop-left.self)
+    (cursor_of all c.byte.new.self)
+    (c.loop-left.left - 1) c.args.most c.loop-left.worth c.loop-left.sum c.in_ok-byte.byte _
+    (subst (λ (k : ℕ). limited_at k c.args.most c.loop-left.worth c.loop-left.sum
+    (cursor_of all c.loop-left.self) ≡ limited_at c.args.bytes c.args.most c.args.weight
+    c.args.value (cursor_of all c.args.self.now)) left (i.gives all h))
     (c.in_ok-byte.ensures.gives all known) c.if-byte-lt128.true)
 
 pub returns-in_err-byte-2-clause-gives : goal.returns-in_err-byte-2-clause-gives
 returns-in_err-byte-2-clause-gives g c = λ all h.
-    let p = err_from_is_err_and c.from_residual-in_err-byte-2.result c.from_residual-in_err-byte-2.ensures.1 in
+    let p = err_from_is_err_and c.from_residual-in_err-byte-2.result
+    c.from_residual-in_err-byte-2.ensures.1 in
     let t = c.loop-left-test.false in
     let i = c.loop-left.invariant in
     let some = i.some in
     let last : c.loop-left.left ≡ 1 = omega (arith, t, some) in
-    let known = ap (g.F.Folder.told c.loop-left.folder) (ap name_in i.kept) ∙ i.told c.args.self.now.name ∙ h in
-    rw (p.1, p.2) (λ f q. digit_stops (cursor_of all c.loop-left.self) 0 c.args.most c.loop-left.worth c.loop-left.sum f _
-    (subst (λ (k : ℕ). limited_at k c.args.most c.loop-left.worth c.loop-left.sum (cursor_of all c.loop-left.self) ≡ limited_at c.args.bytes c.args.most c.args.weight c.args.value (cursor_of all c.args.self.now)) last (i.gives all h))
+    let known = ap (g.F.Folder.told c.loop-left.folder) (ap name_in i.kept)
+    ∙ i.told c.args.self.now.name ∙ h in
+    rw (p.1, p.2) (λ f q. digit_stops
+    (cursor_of all c.loop-left.self) 0 c.args.most c.loop-left.worth c.loop-left.sum f _
+    (subst (λ (k : ℕ). limited_at k c.args.most c.loop-left.worth c.loop-left.sum
+    (cursor_of all c.loop-left.self) ≡ limited_at c.args.bytes c.args.most c.args.weight
+    c.args.value (cursor_of all c.args.self.now)) last (i.gives all h))
     (c.in_err-byte-2.ensures.gives all known f q))
 
 pub returns-then-byte-lt128-2-clause-gives : goal.returns-then-byte-lt128-2-clause-gives
@@ -100,9 +134,14 @@ returns-then-byte-lt128-2-clause-gives g c = λ all h.
     let i = c.loop-left.invariant in
     let some = i.some in
     let last : c.loop-left.left ≡ 1 = omega (arith, t, some) in
-    let known = ap (g.F.Folder.told c.loop-left.folder) (ap name_in i.kept) ∙ i.told c.args.self.now.name ∙ h in
-    rw c.ended_with-then-byte-lt128-2.ensures (digit_ends (cursor_of all c.loop-left.self) (cursor_of all c.byte-2.new.self) 0 c.args.most c.loop-left.worth c.loop-left.sum c.in_ok-byte-2.byte _
-    (subst (λ (k : ℕ). limited_at k c.args.most c.loop-left.worth c.loop-left.sum (cursor_of all c.loop-left.self) ≡ limited_at c.args.bytes c.args.most c.args.weight c.args.value (cursor_of all c.args.self.now)) last (i.gives all h))
+    let known = ap (g.F.Folder.told c.loop-left.folder) (ap name_in i.kept)
+    ∙ i.told c.args.self.now.name ∙ h in
+    rw c.ended_with-then-byte-lt128-2.ensures
+    (digit_ends (cursor_of all c.loop-left.self) (cursor_of all c.byte-2.new.self) 0 c.args.most
+    c.loop-left.worth c.loop-left.sum c.in_ok-byte-2.byte _
+    (subst (λ (k : ℕ). limited_at k c.args.most c.loop-left.worth c.loop-left.sum
+    (cursor_of all c.loop-left.self) ≡ limited_at c.args.bytes c.args.most c.args.weight
+    c.args.value (cursor_of all c.args.self.now)) last (i.gives all h))
     (c.in_ok-byte-2.ensures.gives all known) c.if-byte-lt128-2.true)
 
 pub returns-clause-gives : goal.returns-clause-gives
@@ -112,8 +151,13 @@ returns-clause-gives g c = λ all h.
     let some = i.some in
     let high = c.if-byte-lt128-2.false in
     let last : c.loop-left.left ≡ 1 = omega (arith, t, some) in
-    let known = ap (g.F.Folder.told c.loop-left.folder) (ap name_in i.kept) ∙ i.told c.args.self.now.name ∙ h in
-    no_digit (cursor_of all c.byte-2.new.self) c.args.most (c.loop-left.worth * 128) (c.loop-left.sum + c.loop-left.worth * (c.in_ok-byte-2.byte - 128)) _
-    (one_digit (cursor_of all c.loop-left.self) (cursor_of all c.byte-2.new.self) 0 c.args.most c.loop-left.worth c.loop-left.sum c.in_ok-byte-2.byte _
-    (subst (λ (k : ℕ). limited_at k c.args.most c.loop-left.worth c.loop-left.sum (cursor_of all c.loop-left.self) ≡ limited_at c.args.bytes c.args.most c.args.weight c.args.value (cursor_of all c.args.self.now)) last (i.gives all h))
+    let known = ap (g.F.Folder.told c.loop-left.folder) (ap name_in i.kept)
+    ∙ i.told c.args.self.now.name ∙ h in
+    no_digit (cursor_of all c.byte-2.new.self) c.args.most (c.loop-left.worth * 128)
+    (c.loop-left.sum + c.loop-left.worth * (c.in_ok-byte-2.byte - 128)) _
+    (one_digit (cursor_of all c.loop-left.self) (cursor_of all c.byte-2.new.self) 0 c.args.most
+    c.loop-left.worth c.loop-left.sum c.in_ok-byte-2.byte _
+    (subst (λ (k : ℕ). limited_at k c.args.most c.loop-left.worth c.loop-left.sum
+    (cursor_of all c.loop-left.self) ≡ limited_at c.args.bytes c.args.most c.args.weight
+    c.args.value (cursor_of all c.args.self.now)) last (i.gives all h))
     (c.in_ok-byte-2.ensures.gives all known) (λ l. omega (arith, l, high)))

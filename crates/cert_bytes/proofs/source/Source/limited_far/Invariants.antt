@@ -8,7 +8,9 @@ invariant-loop-left g l = record {
   some : 1 ≤ l.left;
   worth : l.worth * 128 ^ l.left ≤ 128 ^ 19;
   sum : l.sum < l.worth;
-  gives : (all : List ℕ) → g.F.Folder.told l.initial.folder l.initial.self.name ≡ Some all → limited_at l.left l.most l.worth l.sum (cursor_of all l.self) ≡ limited_at l.bytes l.most l.weight l.value (cursor_of all l.initial.self);
+  gives : (all : List ℕ) → g.F.Folder.told l.initial.folder l.initial.self.name ≡ Some all
+      → limited_at l.left l.most l.worth l.sum (cursor_of all l.self)
+      ≡ limited_at l.bytes l.most l.weight l.value (cursor_of all l.initial.self);
   agrees : AgreesTold (g.F.Folder.told l.folder l.self.name) l.self;
   kept : kept_of l.self ≡ kept_of l.initial.self;
   grows : l.initial.self.at ≤ l.self.at;

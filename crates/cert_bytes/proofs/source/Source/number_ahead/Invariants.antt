@@ -9,7 +9,9 @@ invariant-loop-have l = record {
   small : l.value + 1 ≤ 256 ^ l.have;
   at : l.self.at ≡ l.initial.self.at + l.have;
   left : l.have + length l.self.ahead ≡ length l.initial.self.ahead;
-  gives : (all : List ℕ) → Agrees all l.initial.self → bytes_at (l.width - l.have) l.value (cursor_of all l.self) ≡ number_at l.width (cursor_of all l.initial.self);
+  gives : (all : List ℕ) → Agrees all l.initial.self
+      → bytes_at (l.width - l.have) l.value (cursor_of all l.self)
+      ≡ number_at l.width (cursor_of all l.initial.self);
   agrees : (all : List ℕ) → Agrees all l.initial.self → Agrees all l.self;
   kept : kept_of l.self ≡ kept_of l.initial.self;
 }

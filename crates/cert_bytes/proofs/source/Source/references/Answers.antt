@@ -9,15 +9,22 @@ use Rattle.cert_bytes.proofs.source.Source.references.Goals as goal
 pub loop-have-preserved : goal.loop-have-preserved
 loop-have-preserved g c =
     let t = c.loop-have-test.true in
-    let left : c.args.count - c.loop-have.have ≡ suc (c.args.count - (c.loop-have.have + 1)) = omega (arith, t) in
+    let left : c.args.count - c.loop-have.have
+    ≡ suc (c.args.count - (c.loop-have.have + 1)) = omega (arith, t) in
     record {
       within = omega (arith, t);
       many = search (rules, arith);
       gives = λ all h.
-          let known = ap (g.F.Folder.told c.loop-have.folder) (ap name_in c.loop-have.invariant.kept) ∙ c.loop-have.invariant.told c.args.self.now.name ∙ h in
+          let known =
+          ap (g.F.Folder.told c.loop-have.folder) (ap name_in c.loop-have.invariant.kept)
+          ∙ c.loop-have.invariant.told c.args.self.now.name ∙ h in
           let read = c.in_ok-read.ensures.gives all known in
-          let step = one_reference (cursor_of all c.loop-have.self) (cursor_of all c.read.new.source) (c.args.count - (c.loop-have.have + 1)) c.in_ok-read.field-0 c.loop-have.numbers.items _
-          (subst (λ (k : ℕ). references_at k c.loop-have.numbers.items (cursor_of all c.loop-have.self) ≡ references_at c.args.count [] (cursor_of all c.args.self.now)) left (c.loop-have.invariant.gives all h)) read in
+          let step = one_reference (cursor_of all c.loop-have.self)
+          (cursor_of all c.read.new.source)
+          (c.args.count - (c.loop-have.have + 1)) c.in_ok-read.field-0 c.loop-have.numbers.items _
+          (subst (λ (k : ℕ). references_at k c.loop-have.numbers.items
+          (cursor_of all c.loop-have.self) ≡ references_at c.args.count []
+          (cursor_of all c.args.self.now)) left (c.loop-have.invariant.gives all h)) read in
           rw c.in_ok-push.ensures.items step;
       agrees = c.in_ok-read.ensures.agrees;
       kept = c.in_ok-read.ensures.kept ∙ c.loop-have.invariant.kept;
@@ -29,15 +36,23 @@ loop-have-preserved g c =
 
 pub returns-clause-gives : goal.returns-clause-gives
 returns-clause-gives g c = λ all h.
-    let e = references_end (cursor_of all c.loop-have.self) (c.args.count - c.loop-have.have) c.loop-have.numbers.items _ (let t = c.loop-have-test.false in omega (arith, t)) (c.loop-have.invariant.gives all h) in
+    let e = references_end (cursor_of all c.loop-have.self)
+    (c.args.count - c.loop-have.have) c.loop-have.numbers.items _ (let t = c.loop-have-test.false in
+    omega (arith, t)) (c.loop-have.invariant.gives all h) in
     rw c.from_vec.ensures e
 
 pub returns-in_err-read-clause-gives : goal.returns-in_err-read-clause-gives
 returns-in_err-read-clause-gives g c = λ all h.
     let p = err_from_is_err_and c.from_residual.result c.from_residual.ensures.1 in
     let t = c.loop-have-test.true in
-    let known = ap (g.F.Folder.told c.loop-have.folder) (ap name_in c.loop-have.invariant.kept) ∙ c.loop-have.invariant.told c.args.self.now.name ∙ h in
-    let left : c.args.count - c.loop-have.have ≡ suc (c.args.count - (c.loop-have.have + 1)) = omega (arith, t) in
-    rw (p.1, p.2) (λ f q. references_stop (cursor_of all c.loop-have.self) (c.args.count - (c.loop-have.have + 1)) c.loop-have.numbers.items f (references_at c.args.count [] (cursor_of all c.args.self.now))
-    (subst (λ (k : ℕ). references_at k c.loop-have.numbers.items (cursor_of all c.loop-have.self) ≡ references_at c.args.count [] (cursor_of all c.args.self.now)) left (c.loop-have.invariant.gives all h))
+    let known = ap (g.F.Folder.told c.loop-have.folder) (ap name_in c.loop-have.invariant.kept)
+    ∙ c.loop-have.invariant.told c.args.self.now.name ∙ h in
+    let left : c.args.count - c.loop-have.have
+    ≡ suc (c.args.count - (c.loop-have.have + 1)) = omega (arith, t) in
+    rw (p.1, p.2) (λ f q. references_stop (cursor_of all c.loop-have.self)
+    (c.args.count - (c.loop-have.have + 1)) c.loop-have.numbers.items f
+    (references_at c.args.count [] (cursor_of all c.args.self.now))
+    (subst (λ (k : ℕ). references_at k c.loop-have.numbers.items (cursor_of all c.loop-have.self)
+    ≡ references_at c.args.count [] (cursor_of all c.args.self.now)) left
+    (c.loop-have.invariant.gives all h))
     (c.in_err-read.ensures.gives all known f q))

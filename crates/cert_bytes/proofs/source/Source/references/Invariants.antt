@@ -7,7 +7,9 @@ abbrev pub invariant-loop-have : goal.invariant-loop-have
 invariant-loop-have g l = record {
   within : l.have ≤ l.count;
   many : length l.numbers.items ≡ l.have;
-  gives : (all : List ℕ) → g.F.Folder.told l.initial.folder l.initial.self.name ≡ Some all → references_at (l.count - l.have) l.numbers.items (cursor_of all l.self) ≡ references_at l.count [] (cursor_of all l.initial.self);
+  gives : (all : List ℕ) → g.F.Folder.told l.initial.folder l.initial.self.name ≡ Some all
+      → references_at (l.count - l.have) l.numbers.items (cursor_of all l.self)
+      ≡ references_at l.count [] (cursor_of all l.initial.self);
   agrees : AgreesTold (g.F.Folder.told l.folder l.self.name) l.self;
   kept : kept_of l.self ≡ kept_of l.initial.self;
   grows : l.initial.self.at ≤ l.self.at;

@@ -5,4 +5,6 @@ use Rattle.dyadic.specs.Values.{value_of}
 use Rattle.dyadic.proofs.floor.Floor.sum.Goals as goal
 
 pub returns-else-exponent : goal.returns-else-exponent
-returns-else-exponent c = subst (λ (x : Fraction). IfSome c.ordered_sum-else-exponent.result (IsFloor x)) (add_comm (value_of c.args.b) (value_of c.args.a)) c.ordered_sum-else-exponent.ensures
+returns-else-exponent c =
+    subst (λ (x : Fraction). IfSome c.ordered_sum-else-exponent.result (IsFloor x))
+    (add_comm (value_of c.args.b) (value_of c.args.a)) c.ordered_sum-else-exponent.ensures

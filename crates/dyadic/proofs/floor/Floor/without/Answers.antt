@@ -13,13 +13,22 @@ reduced-requires c =
     let k = to_z w64 (of_z w64 c.args.self.digits) in
     let d : k ≡ c.args.self.digits = omega (arith, ints) in
     let r : to_z w64 (of_z w64 c.lowered.result) ≡ c.lowered.result = omega (arith, ints) in
-    whole_grid k c.args.self.two (to_z w64 (of_z w64 c.lowered.result)) _ c.args.lost (omega (arith, ints)) (r ∙ c.lowered.ensures.value) (subst (λ k. unsigned_abs k < 1152921504606846976 * 2 ^ c.args.lost) (sym d) c.requires.below) (subst (λ k. (c.args.lost ≡ 0) ⊎ (576460752303423488 * 2 ^ c.args.lost ≤ unsigned_abs k)) (sym d) c.requires.above) c.requires.low (omega (arith, ints))
+    whole_grid k c.args.self.two (to_z w64 (of_z w64 c.lowered.result)) _ c.args.lost
+    (omega (arith, ints)) (r ∙ c.lowered.ensures.value)
+    (subst (λ k. unsigned_abs k < 1152921504606846976 * 2 ^ c.args.lost) (sym d) c.requires.below)
+    (subst (λ k. (c.args.lost ≡ 0) ⊎ (576460752303423488 * 2 ^ c.args.lost ≤ unsigned_abs k))
+    (sym d) c.requires.above) c.requires.low (omega (arith, ints))
 
 pub returns : goal.returns
 returns c = λ x h.
     let k = to_z w64 (of_z w64 c.args.self.digits) in
     let d : k ≡ c.args.self.digits = omega (arith, ints) in
     let r : to_z w64 (of_z w64 c.lowered.result) ≡ c.lowered.result = omega (arith, ints) in
-    floor_down x (value_of c.reduced.result) k c.args.self.two (subst (λ k. Floored x k c.args.self.two) (sym d) h.value)
+    floor_down x (value_of c.reduced.result) k c.args.self.two
+    (subst (λ k. Floored x k c.args.self.two) (sym d) h.value)
     (subst (λ y. IsDown (scaled k c.args.self.two) (At y)) (sym c.reduced.ensures)
-    (whole_down k c.args.self.two (to_z w64 (of_z w64 c.lowered.result)) _ c.args.lost (omega (arith, ints)) (r ∙ c.lowered.ensures.value) (subst (λ k. unsigned_abs k < 1152921504606846976 * 2 ^ c.args.lost) (sym d) c.requires.below) (subst (λ k. (c.args.lost ≡ 0) ⊎ (576460752303423488 * 2 ^ c.args.lost ≤ unsigned_abs k)) (sym d) c.requires.above) c.requires.low (omega (arith, ints))))
+    (whole_down k c.args.self.two (to_z w64 (of_z w64 c.lowered.result)) _ c.args.lost
+    (omega (arith, ints)) (r ∙ c.lowered.ensures.value)
+    (subst (λ k. unsigned_abs k < 1152921504606846976 * 2 ^ c.args.lost) (sym d) c.requires.below)
+    (subst (λ k. (c.args.lost ≡ 0) ⊎ (576460752303423488 * 2 ^ c.args.lost ≤ unsigned_abs k))
+    (sym d) c.requires.above) c.requires.low (omega (arith, ints))))

@@ -4,4 +4,9 @@ use Rattle.dyadic.proofs.number.Dyadic.is_from_zero.Goals as goal
 use Rattle.fx_model.specs.Powers.{scaled_up, scaled_up_out}
 
 pub returns : goal.returns
-returns c = (λ t. scaled_up c.args.self.mantissa c.args.self.exponent (omega (arith, ints, c.mantissa.ensures.value)), λ h. let k = scaled_up_out c.args.self.mantissa c.args.self.exponent h in let v = c.mantissa.ensures.value in grind (arith, ints))
+returns c = (
+  λ t. scaled_up c.args.self.mantissa c.args.self.exponent
+      (omega (arith, ints, c.mantissa.ensures.value)),
+  λ h. let k = scaled_up_out c.args.self.mantissa c.args.self.exponent h in
+      let v = c.mantissa.ensures.value in grind (arith, ints),
+)

@@ -4,4 +4,9 @@ use Rattle.dyadic.proofs.number.Dyadic.is_up_to_zero.Goals as goal
 use Rattle.fx_model.specs.Powers.{scaled_down, scaled_down_out}
 
 pub returns : goal.returns
-returns c = (λ t. scaled_down c.args.self.mantissa c.args.self.exponent (omega (arith, ints, c.mantissa.ensures.value)), λ h. let k = scaled_down_out c.args.self.mantissa c.args.self.exponent h in let v = c.mantissa.ensures.value in grind (arith, ints))
+returns c = (
+  λ t. scaled_down c.args.self.mantissa c.args.self.exponent
+      (omega (arith, ints, c.mantissa.ensures.value)),
+  λ h. let k = scaled_down_out c.args.self.mantissa c.args.self.exponent h in
+      let v = c.mantissa.ensures.value in grind (arith, ints),
+)

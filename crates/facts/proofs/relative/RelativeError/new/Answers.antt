@@ -9,4 +9,6 @@ pub returns-then-is_above_minus_one-clause-is : goal.returns-then-is_above_minus
 returns-then-is_above_minus_one-clause-is c = error_from_self _
 
 pub returns-else-is_above_minus_one-clause-is : goal.returns-else-is_above_minus_one-clause-is
-returns-else-is_above_minus_one-clause-is c = sym (error_from-none c.args.interval (λ a. let e = c.is_above_minus_one.ensures.1 (subst (λ e. IsBelow (neg_ℚ one_ℚ) (bound_of e)) (sym c.lo.ensures) a) in let f = c.if-is_above_minus_one.false in cc))
+returns-else-is_above_minus_one-clause-is c = sym (error_from-none c.args.interval
+    (λ a. let e = c.is_above_minus_one.ensures.1 (subst (λ e. IsBelow (neg_ℚ one_ℚ) (bound_of e))
+    (sym c.lo.ensures) a) in let f = c.if-is_above_minus_one.false in cc))

@@ -10,4 +10,6 @@ pub returns-then-is_from_zero-clause-is : goal.returns-then-is_from_zero-clause-
 returns-then-is_from_zero-clause-is c = size_from_self _
 
 pub returns-else-is_from_zero-clause-is : goal.returns-else-is_from_zero-clause-is
-returns-else-is_from_zero-clause-is c = sym (size_from-none c.args.interval (λ a. let e = c.is_from_zero.ensures.from.1 (subst (λ e. BoundLe (grid.At zero_ℚ) (bound_of e)) (sym c.lo.ensures) a) in let f = c.if-is_from_zero.false in cc))
+returns-else-is_from_zero-clause-is c = sym (size_from-none c.args.interval
+    (λ a. let e = c.is_from_zero.ensures.from.1 (subst (λ e. BoundLe (grid.At zero_ℚ) (bound_of e))
+    (sym c.lo.ensures) a) in let f = c.if-is_from_zero.false in cc))

@@ -7,14 +7,26 @@ use Rattle.interval.specs.Enclosures.{negation_exact, negation_ordered, exact_en
 use Rattle.interval.proofs.interval.Interval.neg.Goals as goal
 
 pub invariant_of-result : goal.invariant_of-result
-invariant_of-result c = record { ordered = negation_ordered (range_of c.args.self) (range_from c.opposite.result c.opposite-2.result) c.args.self.ordered c.opposite.ensures c.opposite-2.ensures }
+invariant_of-result c = record {
+  ordered = negation_ordered (range_of c.args.self) (range_from c.opposite.result
+      c.opposite-2.result) c.args.self.ordered c.opposite.ensures c.opposite-2.ensures;
+}
 
 pub returns-clause-exact : goal.returns-clause-exact
-returns-clause-exact c = negation_exact (range_of c.args.self) _ c.args.self.ordered c.opposite.ensures c.opposite-2.ensures
+returns-clause-exact c = negation_exact
+    (range_of c.args.self) _ c.args.self.ordered c.opposite.ensures c.opposite-2.ensures
 
 pub returns-clause-best : goal.returns-clause-best
-returns-clause-best c = let t = range_from c.opposite.result c.opposite-2.result in exact_enclosure (Negations (range_of c.args.self)) t (negation_exact (range_of c.args.self) t c.args.self.ordered c.opposite.ensures c.opposite-2.ensures)
-    (negation_ordered (range_of c.args.self) t c.args.self.ordered c.opposite.ensures c.opposite-2.ensures) (grid_bound c.opposite.result) (grid_bound c.opposite-2.result)
+returns-clause-best c = let t = range_from c.opposite.result c.opposite-2.result in
+    exact_enclosure (Negations (range_of c.args.self)) t (negation_exact
+    (range_of c.args.self) t c.args.self.ordered c.opposite.ensures c.opposite-2.ensures)
+    (negation_ordered (range_of c.args.self) t c.args.self.ordered c.opposite.ensures
+    c.opposite-2.ensures) (grid_bound c.opposite.result) (grid_bound c.opposite-2.result)
 
 pub returns-clause-is : goal.returns-clause-is
-returns-clause-is c = negation_only c.args.self _ (let t = range_from c.opposite.result c.opposite-2.result in exact_enclosure (Negations (range_of c.args.self)) t (negation_exact (range_of c.args.self) t c.args.self.ordered c.opposite.ensures c.opposite-2.ensures) (negation_ordered (range_of c.args.self) t c.args.self.ordered c.opposite.ensures c.opposite-2.ensures) (grid_bound c.opposite.result) (grid_bound c.opposite-2.result))
+returns-clause-is c =
+    negation_only c.args.self _ (let t = range_from c.opposite.result c.opposite-2.result in
+    exact_enclosure (Negations (range_of c.args.self)) t (negation_exact (range_of c.args.self)
+    t c.args.self.ordered c.opposite.ensures c.opposite-2.ensures) (negation_ordered
+    (range_of c.args.self) t c.args.self.ordered c.opposite.ensures c.opposite-2.ensures)
+    (grid_bound c.opposite.result) (grid_bound c.opposite-2.result))

@@ -8,4 +8,5 @@ use Rattle.dyadic.specs.fx_model.Powers.{scaled-zero}
 use Rattle.interval.proofs.interval.Interval.not_negative.Goals as goal
 
 pub returns : goal.returns
-returns c = same_ends _ half_line (same_bound c.zero.result half_line.lo (c.zero.ensures ∙ ap grid.At (sym (scaled-zero (pos 0))))) refl
+returns c = same_ends _ half_line (same_bound c.zero.result half_line.lo (c.zero.ensures
+    ∙ ap grid.At (sym (scaled-zero (pos 0))))) refl

@@ -12,8 +12,12 @@ returns c =
     let floor_small = c.floor_of-2.ensures.small in
     let near_small = c.near_high_of.ensures.small in
     record {
-      floor_is = omega (arith, ints) ∙ c.floor_of.ensures.value ∙ ap (λ (m : ℤ). floor (scaled m (neg_ℤ (pos c.args.places)))) kept;
-      ceiling_is = omega (arith, ints) ∙ ceiling_by c.args.m _ c.floor_of-2.result _ (omega (arith, ints)) c.floor_of-2.ensures.value;
-      near_low_is = omega (arith, ints) ∙ near_low_by c.args.m _ c.near_high_of.result _ (omega (arith, ints)) c.near_high_of.ensures.value;
-      near_high_is = omega (arith, ints) ∙ c.near_high_of-2.ensures.value ∙ ap (λ (m : ℤ). near_high (scaled m (neg_ℤ (pos c.args.places)))) kept;
+      floor_is = omega (arith, ints) ∙ c.floor_of.ensures.value
+          ∙ ap (λ (m : ℤ). floor (scaled m (neg_ℤ (pos c.args.places)))) kept;
+      ceiling_is = omega (arith, ints) ∙ ceiling_by c.args.m _ c.floor_of-2.result _
+          (omega (arith, ints)) c.floor_of-2.ensures.value;
+      near_low_is = omega (arith, ints) ∙ near_low_by c.args.m _ c.near_high_of.result _
+          (omega (arith, ints)) c.near_high_of.ensures.value;
+      near_high_is = omega (arith, ints) ∙ c.near_high_of-2.ensures.value
+          ∙ ap (λ (m : ℤ). near_high (scaled m (neg_ℤ (pos c.args.places)))) kept;
     }

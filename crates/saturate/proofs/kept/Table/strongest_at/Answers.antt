@@ -11,5 +11,7 @@ pub returns-in-Rel : goal.returns-in-Rel
 returns-in-Rel c =
     let t = c.args.self.now in
     let q = rw c.in-Rel.is at c.requires in
-    let k : c.pair_number.result ≡ place_of c.in-Rel.x c.in-Rel.y t.pairs.items = omega (arith, q, c.pair_number.ensures) in
-    rw c.in-Rel.is (c.related_at.ensures ∙ ap (λ n. rel_fact c.in-Rel.x c.in-Rel.y (slice_get t.rel.items n)) k)
+    let k : c.pair_number.result ≡ place_of c.in-Rel.x c.in-Rel.y t.pairs.items =
+    omega (arith, q, c.pair_number.ensures) in
+    rw c.in-Rel.is (c.related_at.ensures
+    ∙ ap (λ n. rel_fact c.in-Rel.x c.in-Rel.y (slice_get t.rel.items n)) k)

@@ -1,4 +1,5 @@
-use Rattle.std.proofs.Common.{◌+◌, ◌<◌, [], ◌∷◌, get_or, length, take, drop, ◌-◌, sym, ap, ◌∙◌, subst, arith}
+use Rattle.std.proofs.Common.{◌+◌, ◌<◌, [], ◌∷◌, get_or, length, take, drop, ◌-◌, sym, ap, ◌∙◌}
+use Rattle.std.proofs.Common.{subst, arith}
 use Rattle.script_cases.specs.Choice.{left_by}
 use Rattle.script_cases.specs.Marks.{pieces}
 use Rattle.script_cases.proofs.Chosen.{next_of, same_left}

@@ -13,7 +13,10 @@ has_one p = omega (arith, length-append p.ended (p.last ∷ []))
 
 pub invariant_of-self-2 : goal.invariant_of-self-2
 invariant_of-self-2 g c = rw (c.in_ok-push.ensures.items, c.len.ensures, long c.self.inside.ends)
-    (part_marks _ _ _ c.self.invariant (subst (λ (p : spec.Parts _). 0 < length p.ended) (sym (c.self.view_is ∙ c.in_ok-end_conjunction.ensures.ended)) (has_one c.args.self.now)))
+    (part_marks _ _ _ c.self.invariant (subst (λ (p : spec.Parts _). 0 < length p.ended)
+    (sym (c.self.view_is ∙ c.in_ok-end_conjunction.ensures.ended)) (has_one c.args.self.now)))
 
 pub returns-clause-ended : goal.returns-clause-ended
-returns-clause-ended g c = rw (c.in_ok-push.ensures.items, c.len.ensures, long c.self.inside.ends) (part_parts _ _ _ c.self.invariant c.args.self.now (c.self.view_is ∙ c.in_ok-end_conjunction.ensures.ended))
+returns-clause-ended g c = rw (c.in_ok-push.ensures.items, c.len.ensures, long c.self.inside.ends)
+    (part_parts _ _ _ c.self.invariant c.args.self.now (c.self.view_is
+    ∙ c.in_ok-end_conjunction.ensures.ended))

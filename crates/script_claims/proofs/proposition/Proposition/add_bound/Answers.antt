@@ -7,4 +7,5 @@ use Rattle.script_claims.proofs.proposition.Proposition.add_bound.Goals as goal
 pub returns-clause-normal : goal.returns-clause-normal
 returns-clause-normal c = λ n.
     let b : Written = record { literal = c.literal_of.result; negative = c.args.negative } in
-    subst IsNormalPart (sym c.bounded-part.ensures) (bounded_normal b c.args.self.now.part c.literal_of.ensures.normal n)
+    subst IsNormalPart (sym c.bounded-part.ensures)
+    (bounded_normal b c.args.self.now.part c.literal_of.ensures.normal n)

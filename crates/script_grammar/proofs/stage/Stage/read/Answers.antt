@@ -8,6 +8,8 @@ use Rattle.node_counts.specs.expr_dag.Faults.{passed}
 
 pub returns-in_err-token-in-Formula-clause-full : goal.returns-in_err-token-in-Formula-clause-full
 returns-in_err-token-in-Formula-clause-full c = λ e.
-    subst (λ s. 1024 < count (read_word c.args.role (word_of c.args.word) (step_of s))) (sym c.in-Formula.is)
+    subst (λ s. 1024 < count (read_word c.args.role (word_of c.args.word) (step_of s)))
+    (sym c.in-Formula.is)
     (formula_past c.args.role (word_of c.args.word) c.in-Formula.claims
-    (c.in_err-token-in-Formula.ensures.full (passed c.from_residual-in_err-token-in-Formula.result _ c.from_residual-in_err-token-in-Formula.ensures.1 e)))
+    (c.in_err-token-in-Formula.ensures.full (passed c.from_residual-in_err-token-in-Formula.result _
+    c.from_residual-in_err-token-in-Formula.ensures.1 e)))

@@ -10,4 +10,6 @@ returns c =
     let f = word_at c.args.self.text.now in
     let n = c.args.number in
     let within : n < length all = omega (arith, length-map all f) in
-    drop-map f n all ∙ ap (map f) (drop_more all n _ within) ∙ ap (λ w. w ∷ map f (drop (n + 1) all)) (sym c.word_at.ensures) ∙ ap (λ ws. word_of c.word_at.result ∷ ws) (sym (drop-map f (n + 1) all))
+    drop-map f n all ∙ ap (map f) (drop_more all n _ within)
+    ∙ ap (λ w. w ∷ map f (drop (n + 1) all)) (sym c.word_at.ensures)
+    ∙ ap (λ ws. word_of c.word_at.result ∷ ws) (sym (drop-map f (n + 1) all))

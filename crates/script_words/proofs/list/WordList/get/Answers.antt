@@ -9,7 +9,8 @@ pub returns-then-number-self : goal.returns-then-number-self
 returns-then-number-self c =
     let all = c.args.self.placed.now in
     let f = word_at c.args.self.text.now in
-    sym (slice_get-map f all c.args.number ∙ ap (option_map f) (slice_get-get_or all c.args.number _ (omega arith)) ∙ ap Some (sym c.word_at.ensures))
+    sym (slice_get-map f all c.args.number ∙ ap (option_map f)
+    (slice_get-get_or all c.args.number _ (omega arith)) ∙ ap Some (sym c.word_at.ensures))
 
 pub returns-else-number-self : goal.returns-else-number-self
 returns-else-number-self c =

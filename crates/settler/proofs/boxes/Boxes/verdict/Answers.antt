@@ -12,7 +12,9 @@ use Rattle.settler.proofs.Stands.{stands_as_decided}
 use Rattle.settler.proofs.boxes.Boxes.verdict.Goals as goal
 
 pub new-requires-clause-right : goal.new-requires-clause-right
-new-requires-clause-right g c = subst (λ t. IsTableAt (setting_of g.F.Frame.universe) g.F.Frame.rounds (pieces_at g.F.Frame.plan c.args.path) (fact_at t)) (sym c.into_table.ensures) c.requires.table
+new-requires-clause-right g c =
+    subst (λ t. IsTableAt (setting_of g.F.Frame.universe) g.F.Frame.rounds
+    (pieces_at g.F.Frame.plan c.args.path) (fact_at t)) (sym c.into_table.ensures) c.requires.table
 
 pub new-requires-clause-marked : goal.new-requires-clause-marked
 new-requires-clause-marked g c =
@@ -22,9 +24,14 @@ pub returns-clause-state : goal.returns-clause-state
 returns-clause-state g c =
     let v = g.F.Frame.universe in
     let at = fact_at (table_of c.args.settled) in
-    let goals : c.goals.result.now ≡ v.goals = c.goals.ensures ∙ ap (λ (w : World). w.goals) c.self.invariant.0 in
-    let closed = subst (λ (w : World). IsClosed w.instances) c.self.invariant.0 c.laws.ensures.universe.closed in
+    let goals : c.goals.result.now ≡ v.goals =
+    c.goals.ensures ∙ ap (λ (w : World). w.goals) c.self.invariant.0 in
+    let closed =
+    subst (λ (w : World). IsClosed w.instances) c.self.invariant.0 c.laws.ensures.universe.closed in
     c.in_ok-state.ensures
     ∙ (ap (λ gs. state_with (state_of c.args.settled) (goal_facts at gs)) goals
-    ∙ stands_as_decided c.best_tables_exist.ensures.exist c.boxes_come_to_one_state.ensures c.settling_facts.ensures.stronger (setting_of v) (c.rules_are_lawful.ensures v.nodes v.hints) closed v.goals
-    g.F.Frame.rounds (pieces_at g.F.Frame.plan c.args.path) at c.requires.table (state_of c.args.settled) c.requires.state)
+    ∙ stands_as_decided c.best_tables_exist.ensures.exist
+    c.boxes_come_to_one_state.ensures c.settling_facts.ensures.stronger (setting_of v)
+    (c.rules_are_lawful.ensures v.nodes v.hints) closed v.goals
+    g.F.Frame.rounds (pieces_at g.F.Frame.plan c.args.path) at c.requires.table
+    (state_of c.args.settled) c.requires.state)

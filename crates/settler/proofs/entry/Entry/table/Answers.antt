@@ -6,4 +6,6 @@ use Rattle.case_trees.specs.box_tree.Plans.{pieces_at}
 use Rattle.settler.proofs.entry.Entry.table.Goals as goal
 
 pub returns-clause-right : goal.returns-clause-right
-returns-clause-right g c = subst (λ (p : List ℕ). IsTableAt (setting_of g.F.Frame.universe) g.F.Frame.rounds (pieces_at g.F.Frame.plan p) (fact_at c.self.inside.table)) c.self.view_is c.self.invariant.0
+returns-clause-right g c =
+    subst (λ (p : List ℕ). IsTableAt (setting_of g.F.Frame.universe) g.F.Frame.rounds
+    (pieces_at g.F.Frame.plan p) (fact_at c.self.inside.table)) c.self.view_is c.self.invariant.0
