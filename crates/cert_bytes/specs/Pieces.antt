@@ -1,6 +1,6 @@
 -- Reading through a folder, in whatever pieces it gives the bytes.
-use Rattle.std.specs.Prelude.{◌≡◌, ◌≤◌, ◌<◌, ◌∷◌, ◌++◌, ℕ, Bool, true, false, List, [], length}
-use Rattle.std.specs.Prelude.{drop, Option, Some, None, Result, Ok, Err, ⊤}
+use Rattle.std.specs.Prelude.{◌≡◌, ◌≤◌, ◌<◌, ◌+◌, ◌^◌, ◌∷◌, ◌++◌, ℕ, Bool, true, false, List, []}
+use Rattle.std.specs.Prelude.{length, drop, Option, Some, None, Result, Ok, Err, ⊤}
 use Rattle.cert_bytes.specs.declared.fault.CertFault.{CertFault}
 use Rattle.cert_bytes.specs.declared.fault.Stop.{Stop}
 use Rattle.cert_bytes.specs.declared.fault.Stop.TheVariants.{Fault}
@@ -18,6 +18,10 @@ pub record Ahead : Type 0 where
 abbrev pub kept_of : Ahead → List ℕ × Style
 kept_of s = (s.name, s.style)
 
+-- what reading the version leaves as it is: that tells the style
+abbrev pub name_of : Ahead → List ℕ
+name_of s = s.name
+
 -- the place in the bytes that are told
 abbrev pub cursor_of : List ℕ → Ahead → Cursor
 cursor_of all s = cursor s.style all s.at
@@ -32,6 +36,11 @@ pub record Agrees (all : List ℕ) (s : Ahead) : Type 0 where
 abbrev pub AgreesTold : Option (List ℕ) → Ahead → Type 0
 AgreesTold None s = ⊤
 AgreesTold (Some all) s = Agrees all s
+
+-- So many bytes were read ahead, and byte 2^44 isn't one of them.
+pub record HasAhead (n : ℕ) (s : Ahead) : Type 0 where
+  pub there : n ≤ length s.ahead
+  pub room : s.at + n ≤ 2 ^ 44
 
 -- the same, and something was read ahead unless the bytes end there
 pub record IsFilled (all : List ℕ) (s : Ahead) : Type 0 where

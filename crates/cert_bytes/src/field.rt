@@ -1,8 +1,8 @@
 //! What the values of a type are read as, said once for all of them.
-ghost use Rattle.std.specs.Prelude.{◌≡◌, ◌≤◌, ◌<◌, ℕ, List, Some, IfOk, IsErrOf};
-ghost use Rattle.fx_edge.specs.Outside.{Rose};
+ghost use Rattle.std.specs.Prelude.{◌≡◌, ◌<◌, ℕ, List, Some, IfOk, IsErrOf};
 ghost use Rattle.cert_bytes.specs.Reading.{Cursor, Read, both_at};
 ghost use Rattle.cert_bytes.specs.Pieces.{Gives, AgreesTold, kept_of};
+ghost use Rattle.cert_bytes.specs.Calls.{OnlyReads, ReadsOn};
 
 use crate::fault::Stop;
 use crate::source::Source;
@@ -21,16 +21,11 @@ pub trait Field: Sized {
         requires agrees { AgreesTold (F.told folder.old source.old.name) source.old }
         ensures gives { (all : List ℕ) → F.told folder.old source.old.name ≡ Some all
             → Gives (λ x. x) all source.old source.new result read_at }
-        ensures agrees { AgreesTold (F.told folder.new source.new.name) source.new }
+        ensures reads_on { ReadsOn kept_of (F.told folder.new) source.old source.new }
         ensures keeps { IfOk result Keeps }
-        ensures kept { kept_of source.new ≡ kept_of source.old }
-        ensures grows { source.old.at ≤ source.new.at }
         ensures moves { IfOk result (λ _. source.old.at < source.new.at) }
-        ensures told { (other : List ℕ) → F.told folder.new other ≡ F.told folder.old other }
-        ensures later { F.read_faults folder.old ≤ F.read_faults folder.new }
-        ensures quiet { F.write_faults folder.new ≡ F.write_faults folder.old }
-        ensures cause { IsErrOf result Stop.Failed
-            → Rose (F.read_faults folder.old) (F.read_faults folder.new) };
+        ensures only_reads { OnlyReads F.Folder folder.old folder.new
+            (IsErrOf result Stop.Failed) };
 }
 
 /// One field behind another.

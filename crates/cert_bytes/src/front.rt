@@ -1,11 +1,11 @@
 //! What stands before the first section and behind the last, read through a folder.
-ghost use Rattle.std.specs.Prelude.{◌<◌, ◌≡◌, ◌≤◌, ℕ, List, Some, length, IsErrOf, IfOk, true};
-ghost use Rattle.fx_edge.specs.Outside.{Rose};
+ghost use Rattle.std.specs.Prelude.{◌<◌, ◌≡◌, ℕ, List, Some, IsErrOf, IfOk, true};
 ghost use Rattle.cert_bytes.specs.Reading.{magic_at, version_at, preamble_at, head_at, mark_at};
 ghost use Rattle.cert_bytes.specs.Certificates.{HasSpelling};
 ghost use Rattle.cert_bytes.specs.Due.{is_nodes, is_mark};
 ghost use Rattle.cert_bytes.specs.Styles.{Opens};
-ghost use Rattle.cert_bytes.specs.Pieces.{Gives, AgreesTold, kept_of};
+ghost use Rattle.cert_bytes.specs.Pieces.{Gives, AgreesTold, kept_of, name_of};
+ghost use Rattle.cert_bytes.specs.Calls.{OnlyReads, ReadsOn};
 
 use crate::fault::{CertKind, Stop, fault};
 use crate::field::Field;
@@ -21,14 +21,8 @@ impl Source {
         requires agrees { AgreesTold (F.told folder.old self.old.name) self.old }
         ensures gives { (all : List ℕ) → F.told folder.old self.old.name ≡ Some all
             → Gives (λ _. tt) all self.old self.new result magic_at }
-        ensures agrees { AgreesTold (F.told folder.new self.new.name) self.new }
-        ensures kept { kept_of self.new ≡ kept_of self.old }
-        ensures grows { self.old.at ≤ self.new.at }
-        ensures told { (other : List ℕ) → F.told folder.new other ≡ F.told folder.old other }
-        ensures later { F.read_faults folder.old ≤ F.read_faults folder.new }
-        ensures quiet { F.write_faults folder.new ≡ F.write_faults folder.old }
-        ensures cause { IsErrOf result Stop.Failed
-            → Rose (F.read_faults folder.old) (F.read_faults folder.new) }
+        ensures reads_on { ReadsOn kept_of (F.told folder.new) self.old self.new }
+        ensures only_reads { OnlyReads F.Folder folder.old folder.new (IsErrOf result Stop.Failed) }
     {
         let start = self.at();
         let magic = self.digits(folder, 4)?;
@@ -43,16 +37,10 @@ impl Source {
         requires agrees { AgreesTold (F.told folder.old self.old.name) self.old }
         ensures gives { (all : List ℕ) → F.told folder.old self.old.name ≡ Some all
             → Gives (λ _. tt) all self.old self.new result version_at }
-        ensures agrees { AgreesTold (F.told folder.new self.new.name) self.new }
-        ensures name { self.new.name ≡ self.old.name }
+        ensures reads_on { ReadsOn name_of (F.told folder.new) self.old self.new }
         ensures opens { IfOk result (λ _. Opens self.new.style) }
-        ensures grows { self.old.at ≤ self.new.at }
         ensures moves { IfOk result (λ _. self.old.at < self.new.at) }
-        ensures told { (other : List ℕ) → F.told folder.new other ≡ F.told folder.old other }
-        ensures later { F.read_faults folder.old ≤ F.read_faults folder.new }
-        ensures quiet { F.write_faults folder.new ≡ F.write_faults folder.old }
-        ensures cause { IsErrOf result Stop.Failed
-            → Rose (F.read_faults folder.old) (F.read_faults folder.new) }
+        ensures only_reads { OnlyReads F.Folder folder.old folder.new (IsErrOf result Stop.Failed) }
     {
         let start = self.at();
         match u8::read(self, folder)? {
@@ -68,16 +56,10 @@ impl Source {
         requires agrees { AgreesTold (F.told folder.old self.old.name) self.old }
         ensures gives { (all : List ℕ) → F.told folder.old self.old.name ≡ Some all
             → Gives (λ _. tt) all self.old self.new result preamble_at }
-        ensures agrees { AgreesTold (F.told folder.new self.new.name) self.new }
-        ensures name { self.new.name ≡ self.old.name }
+        ensures reads_on { ReadsOn name_of (F.told folder.new) self.old self.new }
         ensures opens { IfOk result (λ _. Opens self.new.style) }
-        ensures grows { self.old.at ≤ self.new.at }
         ensures moves { IfOk result (λ _. self.old.at < self.new.at) }
-        ensures told { (other : List ℕ) → F.told folder.new other ≡ F.told folder.old other }
-        ensures later { F.read_faults folder.old ≤ F.read_faults folder.new }
-        ensures quiet { F.write_faults folder.new ≡ F.write_faults folder.old }
-        ensures cause { IsErrOf result Stop.Failed
-            → Rose (F.read_faults folder.old) (F.read_faults folder.new) }
+        ensures only_reads { OnlyReads F.Folder folder.old folder.new (IsErrOf result Stop.Failed) }
     {
         self.magic(folder)?;
         self.version(folder)?;
@@ -90,18 +72,12 @@ impl Source {
         requires agrees { AgreesTold (F.told folder.old self.old.name) self.old }
         ensures gives { (all : List ℕ) → F.told folder.old self.old.name ≡ Some all
             → Gives (λ x. x) all self.old self.new result head_at }
-        ensures agrees { AgreesTold (F.told folder.new self.new.name) self.new }
-        ensures name { self.new.name ≡ self.old.name }
+        ensures reads_on { ReadsOn name_of (F.told folder.new) self.old self.new }
         ensures opens { IfOk result (λ _. Opens self.new.style) }
-        ensures grows { self.old.at ≤ self.new.at }
         ensures moves { IfOk result (λ _. self.old.at < self.new.at) }
         ensures kind { IfOk result (λ i. is_nodes i ≡ true) }
         ensures spelled { IfOk result HasSpelling }
-        ensures told { (other : List ℕ) → F.told folder.new other ≡ F.told folder.old other }
-        ensures later { F.read_faults folder.old ≤ F.read_faults folder.new }
-        ensures quiet { F.write_faults folder.new ≡ F.write_faults folder.old }
-        ensures cause { IsErrOf result Stop.Failed
-            → Rose (F.read_faults folder.old) (F.read_faults folder.new) }
+        ensures only_reads { OnlyReads F.Folder folder.old folder.new (IsErrOf result Stop.Failed) }
     {
         self.preamble(folder)?;
         let count = u16::read(self, folder)?;
@@ -114,17 +90,11 @@ impl Source {
         requires agrees { AgreesTold (F.told folder.old self.old.name) self.old }
         ensures gives { (all : List ℕ) → F.told folder.old self.old.name ≡ Some all
             → Gives (λ x. x) all self.old self.new result mark_at }
-        ensures agrees { AgreesTold (F.told folder.new self.new.name) self.new }
-        ensures kept { kept_of self.new ≡ kept_of self.old }
-        ensures grows { self.old.at ≤ self.new.at }
+        ensures reads_on { ReadsOn kept_of (F.told folder.new) self.old self.new }
         ensures moves { IfOk result (λ _. self.old.at < self.new.at) }
         ensures kind { IfOk result (λ i. is_mark i ≡ true) }
         ensures spelled { IfOk result HasSpelling }
-        ensures told { (other : List ℕ) → F.told folder.new other ≡ F.told folder.old other }
-        ensures later { F.read_faults folder.old ≤ F.read_faults folder.new }
-        ensures quiet { F.write_faults folder.new ≡ F.write_faults folder.old }
-        ensures cause { IsErrOf result Stop.Failed
-            → Rose (F.read_faults folder.old) (F.read_faults folder.new) }
+        ensures only_reads { OnlyReads F.Folder folder.old folder.new (IsErrOf result Stop.Failed) }
     {
         let start = self.at();
         let tag = u8::read(self, folder)?;

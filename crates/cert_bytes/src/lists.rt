@@ -1,10 +1,10 @@
 //! Lists of numbers and of points, read through a folder.
 ghost use Rattle.std.specs.Prelude.{◌≡◌, ◌≤◌, ◌<◌, ◌+◌, ℕ, [], List, Some, length, IsErrOf, IfOk};
-ghost use Rattle.fx_edge.specs.Outside.{Rose};
 ghost use Rattle.cert_bytes.specs.Reading.{references_at, counted_at, optional_at, count_at};
 ghost use Rattle.cert_bytes.specs.Reading.{rising_at, points_at};
 ghost use Rattle.cert_bytes.specs.Certificates.{IsCounted};
 ghost use Rattle.cert_bytes.specs.Pieces.{Gives, AgreesTold, kept_of};
+ghost use Rattle.cert_bytes.specs.Calls.{OnlyReads, ReadsOn};
 
 use crate::fault::{CertKind, Stop, fault};
 use crate::field::Field;
@@ -19,15 +19,9 @@ impl Source {
         requires agrees { AgreesTold (F.told folder.old self.old.name) self.old }
         ensures gives { (all : List ℕ) → F.told folder.old self.old.name ≡ Some all
             → Gives (λ x. x) all self.old self.new result (references_at count []) }
-        ensures agrees { AgreesTold (F.told folder.new self.new.name) self.new }
-        ensures kept { kept_of self.new ≡ kept_of self.old }
-        ensures grows { self.old.at ≤ self.new.at }
+        ensures reads_on { ReadsOn kept_of (F.told folder.new) self.old self.new }
         ensures many { IfOk result (λ numbers. length numbers ≡ count) }
-        ensures told { (other : List ℕ) → F.told folder.new other ≡ F.told folder.old other }
-        ensures later { F.read_faults folder.old ≤ F.read_faults folder.new }
-        ensures quiet { F.write_faults folder.new ≡ F.write_faults folder.old }
-        ensures cause { IsErrOf result Stop.Failed
-            → Rose (F.read_faults folder.old) (F.read_faults folder.new) }
+        ensures only_reads { OnlyReads F.Folder folder.old folder.new (IsErrOf result Stop.Failed) }
     {
         let mut numbers = Vec::new(self.alloc());
         let mut have = 0;
@@ -44,15 +38,9 @@ impl Source {
         requires agrees { AgreesTold (F.told folder.old self.old.name) self.old }
         ensures gives { (all : List ℕ) → F.told folder.old self.old.name ≡ Some all
             → Gives (λ x. x) all self.old self.new result count_at }
-        ensures agrees { AgreesTold (F.told folder.new self.new.name) self.new }
-        ensures kept { kept_of self.new ≡ kept_of self.old }
-        ensures grows { self.old.at ≤ self.new.at }
+        ensures reads_on { ReadsOn kept_of (F.told folder.new) self.old self.new }
         ensures within { IfOk result (λ n. (1 ≤ n) × (n ≤ 63)) }
-        ensures told { (other : List ℕ) → F.told folder.new other ≡ F.told folder.old other }
-        ensures later { F.read_faults folder.old ≤ F.read_faults folder.new }
-        ensures quiet { F.write_faults folder.new ≡ F.write_faults folder.old }
-        ensures cause { IsErrOf result Stop.Failed
-            → Rose (F.read_faults folder.old) (F.read_faults folder.new) }
+        ensures only_reads { OnlyReads F.Folder folder.old folder.new (IsErrOf result Stop.Failed) }
     {
         let start = self.at();
         let count = self.tiny(folder)?;
@@ -72,15 +60,9 @@ impl Source {
         requires agrees { AgreesTold (F.told folder.old self.old.name) self.old }
         ensures gives { (all : List ℕ) → F.told folder.old self.old.name ≡ Some all
             → Gives (λ x. x) all self.old self.new result (rising_at points) }
-        ensures agrees { AgreesTold (F.told folder.new self.new.name) self.new }
-        ensures kept { kept_of self.new ≡ kept_of self.old }
-        ensures grows { self.old.at ≤ self.new.at }
+        ensures reads_on { ReadsOn kept_of (F.told folder.new) self.old self.new }
         ensures many { IfOk result (λ more. length more ≡ length points + 1) }
-        ensures told { (other : List ℕ) → F.told folder.new other ≡ F.told folder.old other }
-        ensures later { F.read_faults folder.old ≤ F.read_faults folder.new }
-        ensures quiet { F.write_faults folder.new ≡ F.write_faults folder.old }
-        ensures cause { IsErrOf result Stop.Failed
-            → Rose (F.read_faults folder.old) (F.read_faults folder.new) }
+        ensures only_reads { OnlyReads F.Folder folder.old folder.new (IsErrOf result Stop.Failed) }
     {
         let start = self.at();
         let point = Dyadic::read(self, folder)?;
@@ -96,15 +78,9 @@ impl Source {
         requires agrees { AgreesTold (F.told folder.old self.old.name) self.old }
         ensures gives { (all : List ℕ) → F.told folder.old self.old.name ≡ Some all
             → Gives (λ x. x) all self.old self.new result (points_at count []) }
-        ensures agrees { AgreesTold (F.told folder.new self.new.name) self.new }
-        ensures kept { kept_of self.new ≡ kept_of self.old }
-        ensures grows { self.old.at ≤ self.new.at }
+        ensures reads_on { ReadsOn kept_of (F.told folder.new) self.old self.new }
         ensures many { IfOk result (λ points. length points ≡ count) }
-        ensures told { (other : List ℕ) → F.told folder.new other ≡ F.told folder.old other }
-        ensures later { F.read_faults folder.old ≤ F.read_faults folder.new }
-        ensures quiet { F.write_faults folder.new ≡ F.write_faults folder.old }
-        ensures cause { IsErrOf result Stop.Failed
-            → Rose (F.read_faults folder.old) (F.read_faults folder.new) }
+        ensures only_reads { OnlyReads F.Folder folder.old folder.new (IsErrOf result Stop.Failed) }
     {
         let mut points = Points::new();
         let mut have = 0;

@@ -1,13 +1,12 @@
 //! Nodes, read through a folder.
-ghost use Rattle.std.specs.Prelude.{◌<◌, ◌≡◌, ◌≤◌, pos, negsuc, ℕ, List, Some, length, IsErrOf};
-ghost use Rattle.std.specs.Prelude.{IfOk};
+ghost use Rattle.std.specs.Prelude.{◌≡◌, pos, negsuc, ℕ, List, Some, IsErrOf, IfOk};
 ghost use Rattle.expr_dag.specs.literal.Spelling.{IsBetween};
 ghost use Rattle.expr_dag.specs.literal.Normal.{IsNormal};
 ghost use Rattle.expr_dag.specs.Nodes.{IsInLimits};
-ghost use Rattle.fx_edge.specs.Outside.{Rose};
 ghost use Rattle.cert_bytes.specs.Reading.{direction_from, direction_at, lsb_at, literal_at};
 ghost use Rattle.cert_bytes.specs.Reading.{rounding_at, late_node_at, node_by, node_at};
 ghost use Rattle.cert_bytes.specs.Pieces.{Gives, AgreesTold, kept_of};
+ghost use Rattle.cert_bytes.specs.Calls.{OnlyReads, ReadsOn};
 
 use crate::fault::{CertKind, Stop, fault};
 use crate::field::Field;
@@ -41,15 +40,9 @@ impl Source {
         requires agrees { AgreesTold (F.told folder.old self.old.name) self.old }
         ensures gives { (all : List ℕ) → F.told folder.old self.old.name ≡ Some all
             → Gives (λ x. x) all self.old self.new result lsb_at }
-        ensures agrees { AgreesTold (F.told folder.new self.new.name) self.new }
+        ensures reads_on { ReadsOn kept_of (F.told folder.new) self.old self.new }
         ensures within { IfOk result (λ lsb. IsBetween (negsuc 511) (pos 512) lsb) }
-        ensures kept { kept_of self.new ≡ kept_of self.old }
-        ensures grows { self.old.at ≤ self.new.at }
-        ensures told { (other : List ℕ) → F.told folder.new other ≡ F.told folder.old other }
-        ensures later { F.read_faults folder.old ≤ F.read_faults folder.new }
-        ensures quiet { F.write_faults folder.new ≡ F.write_faults folder.old }
-        ensures cause { IsErrOf result Stop.Failed
-            → Rose (F.read_faults folder.old) (F.read_faults folder.new) }
+        ensures only_reads { OnlyReads F.Folder folder.old folder.new (IsErrOf result Stop.Failed) }
     {
         let start = self.at();
         let lsb = i16::read(self, folder)?;
@@ -67,15 +60,9 @@ impl Source {
         requires agrees { AgreesTold (F.told folder.old self.old.name) self.old }
         ensures gives { (all : List ℕ) → F.told folder.old self.old.name ≡ Some all
             → Gives (λ x. x) all self.old self.new result (late_node_at start tag) }
-        ensures agrees { AgreesTold (F.told folder.new self.new.name) self.new }
+        ensures reads_on { ReadsOn kept_of (F.told folder.new) self.old self.new }
         ensures limits { IfOk result IsInLimits }
-        ensures kept { kept_of self.new ≡ kept_of self.old }
-        ensures grows { self.old.at ≤ self.new.at }
-        ensures told { (other : List ℕ) → F.told folder.new other ≡ F.told folder.old other }
-        ensures later { F.read_faults folder.old ≤ F.read_faults folder.new }
-        ensures quiet { F.write_faults folder.new ≡ F.write_faults folder.old }
-        ensures cause { IsErrOf result Stop.Failed
-            → Rose (F.read_faults folder.old) (F.read_faults folder.new) }
+        ensures only_reads { OnlyReads F.Folder folder.old folder.new (IsErrOf result Stop.Failed) }
     {
         match tag {
             5 => {
@@ -100,15 +87,9 @@ impl Source {
         requires agrees { AgreesTold (F.told folder.old self.old.name) self.old }
         ensures gives { (all : List ℕ) → F.told folder.old self.old.name ≡ Some all
             → Gives (λ x. x) all self.old self.new result (node_by start tag) }
-        ensures agrees { AgreesTold (F.told folder.new self.new.name) self.new }
+        ensures reads_on { ReadsOn kept_of (F.told folder.new) self.old self.new }
         ensures limits { IfOk result IsInLimits }
-        ensures kept { kept_of self.new ≡ kept_of self.old }
-        ensures grows { self.old.at ≤ self.new.at }
-        ensures told { (other : List ℕ) → F.told folder.new other ≡ F.told folder.old other }
-        ensures later { F.read_faults folder.old ≤ F.read_faults folder.new }
-        ensures quiet { F.write_faults folder.new ≡ F.write_faults folder.old }
-        ensures cause { IsErrOf result Stop.Failed
-            → Rose (F.read_faults folder.old) (F.read_faults folder.new) }
+        ensures only_reads { OnlyReads F.Folder folder.old folder.new (IsErrOf result Stop.Failed) }
     {
         match tag {
             0 => Ok(Node::Var(u16::read(self, folder)?)),

@@ -1,11 +1,11 @@
 //! Numbers, read through a folder.
-ghost use Rattle.std.specs.Prelude.{◌+◌, ◌*◌, ◌≡◌, ◌≤◌, ◌<◌, ◌^◌, ℕ, List, Some, length, IfOk};
-ghost use Rattle.std.specs.Prelude.{IfSome, IsErrOf};
-ghost use Rattle.fx_edge.specs.Outside.{Rose};
+ghost use Rattle.std.specs.Prelude.{◌+◌, ◌≡◌, ◌≤◌, ◌<◌, ◌^◌, ℕ, List, Some, IfOk, IfSome, IsErrOf};
 ghost use Rattle.cert_bytes.specs.Reading.{byte_at, number_at, limited_at, based_at, sized_at};
 ghost use Rattle.cert_bytes.specs.Reading.{tiny_at, short_at, long_at, reference_at, wide_at};
 ghost use Rattle.cert_bytes.specs.Reading.{signed_short_at, signed_long_at, expr_at};
-ghost use Rattle.cert_bytes.specs.Pieces.{Gives, Agrees, AgreesTold, kept_of, cursor_of};
+ghost use Rattle.cert_bytes.specs.Pieces.{Gives, Agrees, AgreesTold, kept_of, cursor_of, HasAhead};
+ghost use Rattle.cert_bytes.specs.Widths.{IsSpan, IsSized, HasBegun};
+ghost use Rattle.cert_bytes.specs.Calls.{OnlyReads, ReadsOn};
 
 use crate::based::{ended_near, ended_with, signed_long_by, signed_short_by, step_by};
 use crate::fault::{CertKind, Stop, fault};
@@ -20,8 +20,7 @@ impl Source {
     #[inline(always)]
     fn number_ahead(&mut self, width: usize) -> u128
         requires width { width ≤ 16 }
-        requires ahead { width ≤ length self.old.ahead }
-        requires room { self.old.at + width ≤ 2 ^ 44 }
+        requires ahead { HasAhead width self.old }
         ensures gives { (all : List ℕ) → Agrees all self.old
             → number_at width (cursor_of all self.old) ≡ Ok (result, cursor_of all self.new) }
         ensures agrees { (all : List ℕ) → Agrees all self.old → Agrees all self.new }
@@ -43,21 +42,13 @@ impl Source {
     #[inline(never)]
     fn number_over<F: Folder>(&mut self, folder: &mut F, width: usize) -> Result<u128, Stop>
         requires width { width ≤ 16 }
-        requires agrees { (all : List ℕ)
-            → F.told folder.old self.old.name ≡ Some all → Agrees all self.old }
+        requires agrees { AgreesTold (F.told folder.old self.old.name) self.old }
         ensures gives { (all : List ℕ) → F.told folder.old self.old.name ≡ Some all
             → Gives (λ x. x) all self.old self.new result (number_at width) }
-        ensures agrees { (all : List ℕ)
-            → F.told folder.old self.old.name ≡ Some all → Agrees all self.new }
+        ensures reads_on { ReadsOn kept_of (F.told folder.new) self.old self.new }
         ensures small { IfOk result (λ n. n < 256 ^ width) }
-        ensures kept { kept_of self.new ≡ kept_of self.old }
-        ensures grows { self.old.at ≤ self.new.at }
         ensures moves { IfOk result (λ _. self.old.at + width ≤ self.new.at) }
-        ensures told { (other : List ℕ) → F.told folder.new other ≡ F.told folder.old other }
-        ensures later { F.read_faults folder.old ≤ F.read_faults folder.new }
-        ensures quiet { F.write_faults folder.new ≡ F.write_faults folder.old }
-        ensures cause { IsErrOf result Stop.Failed
-            → Rose (F.read_faults folder.old) (F.read_faults folder.new) }
+        ensures only_reads { OnlyReads F.Folder folder.old folder.new (IsErrOf result Stop.Failed) }
     {
         let mut value = 0u128;
         let mut have = 0usize;
@@ -75,16 +66,10 @@ impl Source {
         requires agrees { AgreesTold (F.told folder.old self.old.name) self.old }
         ensures gives { (all : List ℕ) → F.told folder.old self.old.name ≡ Some all
             → Gives (λ x. x) all self.old self.new result (number_at width) }
-        ensures agrees { AgreesTold (F.told folder.new self.new.name) self.new }
+        ensures reads_on { ReadsOn kept_of (F.told folder.new) self.old self.new }
         ensures small { IfOk result (λ n. n < 256 ^ width) }
-        ensures kept { kept_of self.new ≡ kept_of self.old }
-        ensures grows { self.old.at ≤ self.new.at }
         ensures moves { IfOk result (λ _. self.old.at + width ≤ self.new.at) }
-        ensures told { (other : List ℕ) → F.told folder.new other ≡ F.told folder.old other }
-        ensures later { F.read_faults folder.old ≤ F.read_faults folder.new }
-        ensures quiet { F.write_faults folder.new ≡ F.write_faults folder.old }
-        ensures cause { IsErrOf result Stop.Failed
-            → Rose (F.read_faults folder.old) (F.read_faults folder.new) }
+        ensures only_reads { OnlyReads F.Folder folder.old folder.new (IsErrOf result Stop.Failed) }
     {
         if self.has(width) {
             return Ok(self.number_ahead(width));
@@ -104,22 +89,14 @@ impl Source {
         weight: u128,
         value: u128,
     ) -> Result<Option<u128>, Stop>
-        requires some { 1 ≤ bytes }
-        requires before { value < weight }
-        requires room { weight * 128 ^ bytes ≤ 128 ^ 19 }
+        requires begun { HasBegun bytes weight value }
         requires agrees { AgreesTold (F.told folder.old self.old.name) self.old }
         ensures gives { (all : List ℕ) → F.told folder.old self.old.name ≡ Some all
             → Gives (λ x. x) all self.old self.new result (limited_at bytes most weight value) }
-        ensures agrees { AgreesTold (F.told folder.new self.new.name) self.new }
-        ensures kept { kept_of self.new ≡ kept_of self.old }
-        ensures grows { self.old.at ≤ self.new.at }
+        ensures reads_on { ReadsOn kept_of (F.told folder.new) self.old self.new }
         ensures small { IfOk result (λ o. IfSome o (λ n. n ≤ most)) }
         ensures moves { IfOk result (λ _. self.old.at < self.new.at) }
-        ensures told { (other : List ℕ) → F.told folder.new other ≡ F.told folder.old other }
-        ensures later { F.read_faults folder.old ≤ F.read_faults folder.new }
-        ensures quiet { F.write_faults folder.new ≡ F.write_faults folder.old }
-        ensures cause { IsErrOf result Stop.Failed
-            → Rose (F.read_faults folder.old) (F.read_faults folder.new) }
+        ensures only_reads { OnlyReads F.Folder folder.old folder.new (IsErrOf result Stop.Failed) }
     {
         let mut sum = value;
         let mut worth = weight;
@@ -149,21 +126,14 @@ impl Source {
         bytes: usize,
         most: u128,
     ) -> Result<Option<u128>, Stop>
-        requires many { 10 ≤ bytes }
-        requires few { bytes ≤ 19 }
+        requires span { IsSpan bytes }
         requires agrees { AgreesTold (F.told folder.old self.old.name) self.old }
         ensures gives { (all : List ℕ) → F.told folder.old self.old.name ≡ Some all
             → Gives (λ x. x) all self.old self.new result (limited_at bytes most 1 0) }
-        ensures agrees { AgreesTold (F.told folder.new self.new.name) self.new }
-        ensures kept { kept_of self.new ≡ kept_of self.old }
-        ensures grows { self.old.at ≤ self.new.at }
+        ensures reads_on { ReadsOn kept_of (F.told folder.new) self.old self.new }
         ensures small { IfOk result (λ o. IfSome o (λ n. n ≤ most)) }
         ensures moves { IfOk result (λ _. self.old.at < self.new.at) }
-        ensures told { (other : List ℕ) → F.told folder.new other ≡ F.told folder.old other }
-        ensures later { F.read_faults folder.old ≤ F.read_faults folder.new }
-        ensures quiet { F.write_faults folder.new ≡ F.write_faults folder.old }
-        ensures cause { IsErrOf result Stop.Failed
-            → Rose (F.read_faults folder.old) (F.read_faults folder.new) }
+        ensures only_reads { OnlyReads F.Folder folder.old folder.new (IsErrOf result Stop.Failed) }
     {
         let mut value = 0u64;
         let mut weight = 1u64;
@@ -194,23 +164,15 @@ impl Source {
         bytes: usize,
         most: u128,
     ) -> Result<Option<u128>, Stop>
-        requires many { 10 ≤ bytes }
-        requires few { bytes ≤ 19 }
-        requires ahead { 9 ≤ length self.old.ahead }
-        requires room { self.old.at + 9 ≤ 2 ^ 44 }
+        requires span { IsSpan bytes }
+        requires ahead { HasAhead 9 self.old }
         requires agrees { AgreesTold (F.told folder.old self.old.name) self.old }
         ensures gives { (all : List ℕ) → F.told folder.old self.old.name ≡ Some all
             → Gives (λ x. x) all self.old self.new result (limited_at bytes most 1 0) }
-        ensures agrees { AgreesTold (F.told folder.new self.new.name) self.new }
-        ensures kept { kept_of self.new ≡ kept_of self.old }
-        ensures grows { self.old.at ≤ self.new.at }
+        ensures reads_on { ReadsOn kept_of (F.told folder.new) self.old self.new }
         ensures small { IfOk result (λ o. IfSome o (λ n. n ≤ most)) }
         ensures moves { IfOk result (λ _. self.old.at < self.new.at) }
-        ensures told { (other : List ℕ) → F.told folder.new other ≡ F.told folder.old other }
-        ensures later { F.read_faults folder.old ≤ F.read_faults folder.new }
-        ensures quiet { F.write_faults folder.new ≡ F.write_faults folder.old }
-        ensures cause { IsErrOf result Stop.Failed
-            → Rose (F.read_faults folder.old) (F.read_faults folder.new) }
+        ensures only_reads { OnlyReads F.Folder folder.old folder.new (IsErrOf result Stop.Failed) }
     {
         let mut value = 0u64;
         let mut weight = 1u64;
@@ -241,21 +203,14 @@ impl Source {
         bytes: usize,
         most: u128,
     ) -> Result<Option<u128>, Stop>
-        requires many { 10 ≤ bytes }
-        requires few { bytes ≤ 19 }
+        requires span { IsSpan bytes }
         requires agrees { AgreesTold (F.told folder.old self.old.name) self.old }
         ensures gives { (all : List ℕ) → F.told folder.old self.old.name ≡ Some all
             → Gives (λ x. x) all self.old self.new result (limited_at bytes most 1 0) }
-        ensures agrees { AgreesTold (F.told folder.new self.new.name) self.new }
-        ensures kept { kept_of self.new ≡ kept_of self.old }
-        ensures grows { self.old.at ≤ self.new.at }
+        ensures reads_on { ReadsOn kept_of (F.told folder.new) self.old self.new }
         ensures small { IfOk result (λ o. IfSome o (λ n. n ≤ most)) }
         ensures moves { IfOk result (λ _. self.old.at < self.new.at) }
-        ensures told { (other : List ℕ) → F.told folder.new other ≡ F.told folder.old other }
-        ensures later { F.read_faults folder.old ≤ F.read_faults folder.new }
-        ensures quiet { F.write_faults folder.new ≡ F.write_faults folder.old }
-        ensures cause { IsErrOf result Stop.Failed
-            → Rose (F.read_faults folder.old) (F.read_faults folder.new) }
+        ensures only_reads { OnlyReads F.Folder folder.old folder.new (IsErrOf result Stop.Failed) }
     {
         if self.has(9) {
             return Ok(self.limited_ahead(folder, bytes, most)?);
@@ -272,21 +227,14 @@ impl Source {
         bytes: usize,
         most: u128,
     ) -> Result<u128, Stop>
-        requires many { 10 ≤ bytes }
-        requires few { bytes ≤ 19 }
+        requires span { IsSpan bytes }
         requires agrees { AgreesTold (F.told folder.old self.old.name) self.old }
         ensures gives { (all : List ℕ) → F.told folder.old self.old.name ≡ Some all
             → Gives (λ x. x) all self.old self.new result (based_at bytes most) }
-        ensures agrees { AgreesTold (F.told folder.new self.new.name) self.new }
-        ensures kept { kept_of self.new ≡ kept_of self.old }
-        ensures grows { self.old.at ≤ self.new.at }
+        ensures reads_on { ReadsOn kept_of (F.told folder.new) self.old self.new }
         ensures small { IfOk result (λ n. n ≤ most) }
         ensures moves { IfOk result (λ _. self.old.at < self.new.at) }
-        ensures told { (other : List ℕ) → F.told folder.new other ≡ F.told folder.old other }
-        ensures later { F.read_faults folder.old ≤ F.read_faults folder.new }
-        ensures quiet { F.write_faults folder.new ≡ F.write_faults folder.old }
-        ensures cause { IsErrOf result Stop.Failed
-            → Rose (F.read_faults folder.old) (F.read_faults folder.new) }
+        ensures only_reads { OnlyReads F.Folder folder.old folder.new (IsErrOf result Stop.Failed) }
     {
         let start = self.at();
         match self.limited_either(folder, bytes, most)? {
@@ -298,22 +246,15 @@ impl Source {
     // The next number in base 128, of so many bytes at most.
     #[inline(always)]
     fn based<F: Folder>(&mut self, folder: &mut F, bytes: usize, most: u128) -> Result<u128, Stop>
-        requires many { 10 ≤ bytes }
-        requires few { bytes ≤ 19 }
+        requires span { IsSpan bytes }
         requires low { 127 ≤ most }
         requires agrees { AgreesTold (F.told folder.old self.old.name) self.old }
         ensures gives { (all : List ℕ) → F.told folder.old self.old.name ≡ Some all
             → Gives (λ x. x) all self.old self.new result (based_at bytes most) }
-        ensures agrees { AgreesTold (F.told folder.new self.new.name) self.new }
-        ensures kept { kept_of self.new ≡ kept_of self.old }
-        ensures grows { self.old.at ≤ self.new.at }
+        ensures reads_on { ReadsOn kept_of (F.told folder.new) self.old self.new }
         ensures small { IfOk result (λ n. n ≤ most) }
         ensures moves { IfOk result (λ _. self.old.at < self.new.at) }
-        ensures told { (other : List ℕ) → F.told folder.new other ≡ F.told folder.old other }
-        ensures later { F.read_faults folder.old ≤ F.read_faults folder.new }
-        ensures quiet { F.write_faults folder.new ≡ F.write_faults folder.old }
-        ensures cause { IsErrOf result Stop.Failed
-            → Rose (F.read_faults folder.old) (F.read_faults folder.new) }
+        ensures only_reads { OnlyReads F.Folder folder.old folder.new (IsErrOf result Stop.Failed) }
     {
         if self.has_low() {
             return Ok(u128::from(self.advance()));
@@ -332,25 +273,14 @@ impl Source {
         bytes: usize,
         most: u128,
     ) -> Result<u128, Stop>
-        requires wide { 1 ≤ width }
-        requires width { width ≤ 16 }
-        requires many { 10 ≤ bytes }
-        requires few { bytes ≤ 19 }
-        requires room { 256 ^ width ≤ most + 1 }
-        requires low { 127 ≤ most }
+        requires sized { IsSized width bytes most }
         requires agrees { AgreesTold (F.told folder.old self.old.name) self.old }
         ensures gives { (all : List ℕ) → F.told folder.old self.old.name ≡ Some all
             → Gives (λ x. x) all self.old self.new result (sized_at width bytes most) }
-        ensures agrees { AgreesTold (F.told folder.new self.new.name) self.new }
-        ensures kept { kept_of self.new ≡ kept_of self.old }
-        ensures grows { self.old.at ≤ self.new.at }
+        ensures reads_on { ReadsOn kept_of (F.told folder.new) self.old self.new }
         ensures small { IfOk result (λ n. n ≤ most) }
         ensures moves { IfOk result (λ _. self.old.at < self.new.at) }
-        ensures told { (other : List ℕ) → F.told folder.new other ≡ F.told folder.old other }
-        ensures later { F.read_faults folder.old ≤ F.read_faults folder.new }
-        ensures quiet { F.write_faults folder.new ≡ F.write_faults folder.old }
-        ensures cause { IsErrOf result Stop.Failed
-            → Rose (F.read_faults folder.old) (F.read_faults folder.new) }
+        ensures only_reads { OnlyReads F.Folder folder.old folder.new (IsErrOf result Stop.Failed) }
     {
         match self.style() {
             Style::First => Ok(self.digits(folder, width)?),
@@ -364,15 +294,9 @@ impl Source {
         requires agrees { AgreesTold (F.told folder.old self.old.name) self.old }
         ensures gives { (all : List ℕ) → F.told folder.old self.old.name ≡ Some all
             → Gives (λ x. x) all self.old self.new result tiny_at }
-        ensures agrees { AgreesTold (F.told folder.new self.new.name) self.new }
-        ensures kept { kept_of self.new ≡ kept_of self.old }
-        ensures grows { self.old.at ≤ self.new.at }
+        ensures reads_on { ReadsOn kept_of (F.told folder.new) self.old self.new }
         ensures moves { IfOk result (λ _. self.old.at < self.new.at) }
-        ensures told { (other : List ℕ) → F.told folder.new other ≡ F.told folder.old other }
-        ensures later { F.read_faults folder.old ≤ F.read_faults folder.new }
-        ensures quiet { F.write_faults folder.new ≡ F.write_faults folder.old }
-        ensures cause { IsErrOf result Stop.Failed
-            → Rose (F.read_faults folder.old) (F.read_faults folder.new) }
+        ensures only_reads { OnlyReads F.Folder folder.old folder.new (IsErrOf result Stop.Failed) }
     {
         Ok(self.sized(folder, 1, 10, 255)? as u8)
     }
@@ -383,15 +307,9 @@ impl Source {
         requires agrees { AgreesTold (F.told folder.old self.old.name) self.old }
         ensures gives { (all : List ℕ) → F.told folder.old self.old.name ≡ Some all
             → Gives (λ x. x) all self.old self.new result long_at }
-        ensures agrees { AgreesTold (F.told folder.new self.new.name) self.new }
-        ensures kept { kept_of self.new ≡ kept_of self.old }
-        ensures grows { self.old.at ≤ self.new.at }
+        ensures reads_on { ReadsOn kept_of (F.told folder.new) self.old self.new }
         ensures moves { IfOk result (λ _. self.old.at < self.new.at) }
-        ensures told { (other : List ℕ) → F.told folder.new other ≡ F.told folder.old other }
-        ensures later { F.read_faults folder.old ≤ F.read_faults folder.new }
-        ensures quiet { F.write_faults folder.new ≡ F.write_faults folder.old }
-        ensures cause { IsErrOf result Stop.Failed
-            → Rose (F.read_faults folder.old) (F.read_faults folder.new) }
+        ensures only_reads { OnlyReads F.Folder folder.old folder.new (IsErrOf result Stop.Failed) }
     {
         Ok(self.sized(folder, 8, 10, 18446744073709551615)? as u64)
     }

@@ -1,6 +1,5 @@
 //! The item that is due, read through a folder.
-ghost use Rattle.std.specs.Prelude.{◌≡◌, ◌≤◌, ◌<◌, ℕ, List, Some, length, IsErrOf, IfOk, true};
-ghost use Rattle.fx_edge.specs.Outside.{Rose};
+ghost use Rattle.std.specs.Prelude.{◌≡◌, ◌<◌, ℕ, List, Some, IsErrOf, IfOk, true};
 ghost use Rattle.cert_bytes.specs.Reading.{more_at, end_item_at, same_count_at, counts_at};
 ghost use Rattle.cert_bytes.specs.Reading.{trailer_at, closed_at, node_or_marks_at};
 ghost use Rattle.cert_bytes.specs.Reading.{mark_or_section_at, section_or_end_at, entry_at};
@@ -8,7 +7,8 @@ ghost use Rattle.cert_bytes.specs.Styles.{IsStyleFor};
 ghost use Rattle.cert_bytes.specs.declared.item.Item.TheVariants as item;
 ghost use Rattle.cert_bytes.specs.Due.{is_due, is_end};
 ghost use Rattle.cert_bytes.specs.Certificates.{HasSpelling};
-ghost use Rattle.cert_bytes.specs.Pieces.{Gives, AgreesTold, kept_of};
+ghost use Rattle.cert_bytes.specs.Pieces.{Gives, AgreesTold, kept_of, name_of};
+ghost use Rattle.cert_bytes.specs.Calls.{OnlyReads, ReadsOn};
 
 use crate::fault::{CertKind, Stop, fault};
 use crate::field::Field;
@@ -25,14 +25,8 @@ impl Source {
         requires agrees { AgreesTold (F.told folder.old self.old.name) self.old }
         ensures gives { (all : List ℕ) → F.told folder.old self.old.name ≡ Some all
             → Gives (λ x. x) all self.old self.new result more_at }
-        ensures agrees { AgreesTold (F.told folder.new self.new.name) self.new }
-        ensures kept { kept_of self.new ≡ kept_of self.old }
-        ensures grows { self.old.at ≤ self.new.at }
-        ensures told { (other : List ℕ) → F.told folder.new other ≡ F.told folder.old other }
-        ensures later { F.read_faults folder.old ≤ F.read_faults folder.new }
-        ensures quiet { F.write_faults folder.new ≡ F.write_faults folder.old }
-        ensures cause { IsErrOf result Stop.Failed
-            → Rose (F.read_faults folder.old) (F.read_faults folder.new) }
+        ensures reads_on { ReadsOn kept_of (F.told folder.new) self.old self.new }
+        ensures only_reads { OnlyReads F.Folder folder.old folder.new (IsErrOf result Stop.Failed) }
     {
         Ok(self.ready(folder)?)
     }
@@ -42,17 +36,11 @@ impl Source {
         requires agrees { AgreesTold (F.told folder.old self.old.name) self.old }
         ensures gives { (all : List ℕ) → F.told folder.old self.old.name ≡ Some all
             → Gives (λ x. x) all self.old self.new result end_item_at }
-        ensures agrees { AgreesTold (F.told folder.new self.new.name) self.new }
-        ensures kept { kept_of self.new ≡ kept_of self.old }
-        ensures grows { self.old.at ≤ self.new.at }
+        ensures reads_on { ReadsOn kept_of (F.told folder.new) self.old self.new }
         ensures reads { IfOk result (λ i. ¬ (i ≡ item.End) → self.old.at < self.new.at) }
         ensures kind { IfOk result (λ i. is_end i ≡ true) }
         ensures spelled { IfOk result HasSpelling }
-        ensures told { (other : List ℕ) → F.told folder.new other ≡ F.told folder.old other }
-        ensures later { F.read_faults folder.old ≤ F.read_faults folder.new }
-        ensures quiet { F.write_faults folder.new ≡ F.write_faults folder.old }
-        ensures cause { IsErrOf result Stop.Failed
-            → Rose (F.read_faults folder.old) (F.read_faults folder.new) }
+        ensures only_reads { OnlyReads F.Folder folder.old folder.new (IsErrOf result Stop.Failed) }
     {
         let start = self.at();
         if self.more(folder)? {
@@ -66,14 +54,8 @@ impl Source {
         requires agrees { AgreesTold (F.told folder.old self.old.name) self.old }
         ensures gives { (all : List ℕ) → F.told folder.old self.old.name ≡ Some all
             → Gives (λ _. tt) all self.old self.new result (same_count_at wanted) }
-        ensures agrees { AgreesTold (F.told folder.new self.new.name) self.new }
-        ensures kept { kept_of self.new ≡ kept_of self.old }
-        ensures grows { self.old.at ≤ self.new.at }
-        ensures told { (other : List ℕ) → F.told folder.new other ≡ F.told folder.old other }
-        ensures later { F.read_faults folder.old ≤ F.read_faults folder.new }
-        ensures quiet { F.write_faults folder.new ≡ F.write_faults folder.old }
-        ensures cause { IsErrOf result Stop.Failed
-            → Rose (F.read_faults folder.old) (F.read_faults folder.new) }
+        ensures reads_on { ReadsOn kept_of (F.told folder.new) self.old self.new }
+        ensures only_reads { OnlyReads F.Folder folder.old folder.new (IsErrOf result Stop.Failed) }
     {
         let start = self.at();
         let count = self.long(folder)?;
@@ -88,14 +70,8 @@ impl Source {
         requires agrees { AgreesTold (F.told folder.old self.old.name) self.old }
         ensures gives { (all : List ℕ) → F.told folder.old self.old.name ≡ Some all
             → Gives (λ _. tt) all self.old self.new result (counts_at seen) }
-        ensures agrees { AgreesTold (F.told folder.new self.new.name) self.new }
-        ensures kept { kept_of self.new ≡ kept_of self.old }
-        ensures grows { self.old.at ≤ self.new.at }
-        ensures told { (other : List ℕ) → F.told folder.new other ≡ F.told folder.old other }
-        ensures later { F.read_faults folder.old ≤ F.read_faults folder.new }
-        ensures quiet { F.write_faults folder.new ≡ F.write_faults folder.old }
-        ensures cause { IsErrOf result Stop.Failed
-            → Rose (F.read_faults folder.old) (F.read_faults folder.new) }
+        ensures reads_on { ReadsOn kept_of (F.told folder.new) self.old self.new }
+        ensures only_reads { OnlyReads F.Folder folder.old folder.new (IsErrOf result Stop.Failed) }
     {
         self.same_count(folder, seen.sections)?;
         self.same_count(folder, seen.steps)?;
@@ -107,14 +83,8 @@ impl Source {
         requires agrees { AgreesTold (F.told folder.old self.old.name) self.old }
         ensures gives { (all : List ℕ) → F.told folder.old self.old.name ≡ Some all
             → Gives (λ _. tt) all self.old self.new result (trailer_at seen) }
-        ensures agrees { AgreesTold (F.told folder.new self.new.name) self.new }
-        ensures kept { kept_of self.new ≡ kept_of self.old }
-        ensures grows { self.old.at ≤ self.new.at }
-        ensures told { (other : List ℕ) → F.told folder.new other ≡ F.told folder.old other }
-        ensures later { F.read_faults folder.old ≤ F.read_faults folder.new }
-        ensures quiet { F.write_faults folder.new ≡ F.write_faults folder.old }
-        ensures cause { IsErrOf result Stop.Failed
-            → Rose (F.read_faults folder.old) (F.read_faults folder.new) }
+        ensures reads_on { ReadsOn kept_of (F.told folder.new) self.old self.new }
+        ensures only_reads { OnlyReads F.Folder folder.old folder.new (IsErrOf result Stop.Failed) }
     {
         let start = self.at();
         let tag = u8::read(self, folder)?;
@@ -130,17 +100,11 @@ impl Source {
         requires agrees { AgreesTold (F.told folder.old self.old.name) self.old }
         ensures gives { (all : List ℕ) → F.told folder.old self.old.name ≡ Some all
             → Gives (λ x. x) all self.old self.new result closed_at }
-        ensures agrees { AgreesTold (F.told folder.new self.new.name) self.new }
-        ensures kept { kept_of self.new ≡ kept_of self.old }
-        ensures grows { self.old.at ≤ self.new.at }
+        ensures reads_on { ReadsOn kept_of (F.told folder.new) self.old self.new }
         ensures reads { IfOk result (λ i. ¬ (i ≡ item.End) → self.old.at < self.new.at) }
         ensures kind { IfOk result (λ i. is_end i ≡ true) }
         ensures spelled { IfOk result HasSpelling }
-        ensures told { (other : List ℕ) → F.told folder.new other ≡ F.told folder.old other }
-        ensures later { F.read_faults folder.old ≤ F.read_faults folder.new }
-        ensures quiet { F.write_faults folder.new ≡ F.write_faults folder.old }
-        ensures cause { IsErrOf result Stop.Failed
-            → Rose (F.read_faults folder.old) (F.read_faults folder.new) }
+        ensures only_reads { OnlyReads F.Folder folder.old folder.new (IsErrOf result Stop.Failed) }
     {
         match self.style() {
             Style::First => Ok(self.end_item(folder)?),
@@ -156,17 +120,11 @@ impl Source {
         requires agrees { AgreesTold (F.told folder.old self.old.name) self.old }
         ensures gives { (all : List ℕ) → F.told folder.old self.old.name ≡ Some all
             → Gives (λ x. x) all self.old self.new result (node_or_marks_at nodes) }
-        ensures agrees { AgreesTold (F.told folder.new self.new.name) self.new }
-        ensures kept { kept_of self.new ≡ kept_of self.old }
-        ensures grows { self.old.at ≤ self.new.at }
+        ensures reads_on { ReadsOn kept_of (F.told folder.new) self.old self.new }
         ensures reads { IfOk result (λ i. ¬ (i ≡ item.End) → self.old.at < self.new.at) }
         ensures due { IfOk result (λ i. is_due (DueItem.Nodes nodes) i ≡ true) }
         ensures spelled { IfOk result HasSpelling }
-        ensures told { (other : List ℕ) → F.told folder.new other ≡ F.told folder.old other }
-        ensures later { F.read_faults folder.old ≤ F.read_faults folder.new }
-        ensures quiet { F.write_faults folder.new ≡ F.write_faults folder.old }
-        ensures cause { IsErrOf result Stop.Failed
-            → Rose (F.read_faults folder.old) (F.read_faults folder.new) }
+        ensures only_reads { OnlyReads F.Folder folder.old folder.new (IsErrOf result Stop.Failed) }
     {
         if nodes == 0 {
             return Ok(Item::Marks(u16::read(self, folder)?));
@@ -179,17 +137,11 @@ impl Source {
         requires agrees { AgreesTold (F.told folder.old self.old.name) self.old }
         ensures gives { (all : List ℕ) → F.told folder.old self.old.name ≡ Some all
             → Gives (λ x. x) all self.old self.new result (mark_or_section_at marks) }
-        ensures agrees { AgreesTold (F.told folder.new self.new.name) self.new }
-        ensures kept { kept_of self.new ≡ kept_of self.old }
-        ensures grows { self.old.at ≤ self.new.at }
+        ensures reads_on { ReadsOn kept_of (F.told folder.new) self.old self.new }
         ensures reads { IfOk result (λ i. ¬ (i ≡ item.End) → self.old.at < self.new.at) }
         ensures due { IfOk result (λ i. is_due (DueItem.Marks marks) i ≡ true) }
         ensures spelled { IfOk result HasSpelling }
-        ensures told { (other : List ℕ) → F.told folder.new other ≡ F.told folder.old other }
-        ensures later { F.read_faults folder.old ≤ F.read_faults folder.new }
-        ensures quiet { F.write_faults folder.new ≡ F.write_faults folder.old }
-        ensures cause { IsErrOf result Stop.Failed
-            → Rose (F.read_faults folder.old) (F.read_faults folder.new) }
+        ensures only_reads { OnlyReads F.Folder folder.old folder.new (IsErrOf result Stop.Failed) }
     {
         if marks == 0 {
             return Ok(self.root_item(folder)?);
@@ -203,17 +155,11 @@ impl Source {
         requires agrees { AgreesTold (F.told folder.old self.old.name) self.old }
         ensures gives { (all : List ℕ) → F.told folder.old self.old.name ≡ Some all
             → Gives (λ x. x) all self.old self.new result (section_or_end_at sections) }
-        ensures agrees { AgreesTold (F.told folder.new self.new.name) self.new }
-        ensures kept { kept_of self.new ≡ kept_of self.old }
-        ensures grows { self.old.at ≤ self.new.at }
+        ensures reads_on { ReadsOn kept_of (F.told folder.new) self.old self.new }
         ensures reads { IfOk result (λ i. ¬ (i ≡ item.End) → self.old.at < self.new.at) }
         ensures due { IfOk result (λ i. is_due (DueItem.Sections sections) i ≡ true) }
         ensures spelled { IfOk result HasSpelling }
-        ensures told { (other : List ℕ) → F.told folder.new other ≡ F.told folder.old other }
-        ensures later { F.read_faults folder.old ≤ F.read_faults folder.new }
-        ensures quiet { F.write_faults folder.new ≡ F.write_faults folder.old }
-        ensures cause { IsErrOf result Stop.Failed
-            → Rose (F.read_faults folder.old) (F.read_faults folder.new) }
+        ensures only_reads { OnlyReads F.Folder folder.old folder.new (IsErrOf result Stop.Failed) }
     {
         if sections == 0 {
             return Ok(self.closed(folder)?);
@@ -228,18 +174,12 @@ impl Source {
         requires agrees { AgreesTold (F.told folder.old self.old.name) self.old }
         ensures gives { (all : List ℕ) → F.told folder.old self.old.name ≡ Some all
             → Gives (λ x. x) all self.old self.new result (entry_at due) }
-        ensures agrees { AgreesTold (F.told folder.new self.new.name) self.new }
-        ensures name { self.new.name ≡ self.old.name }
+        ensures reads_on { ReadsOn name_of (F.told folder.new) self.old self.new }
         ensures style { IfOk result (λ _. IsStyleFor due self.old.style self.new.style) }
-        ensures grows { self.old.at ≤ self.new.at }
         ensures reads { IfOk result (λ i. ¬ (i ≡ item.End) → self.old.at < self.new.at) }
         ensures due { IfOk result (λ i. is_due due i ≡ true) }
         ensures spelled { IfOk result HasSpelling }
-        ensures told { (other : List ℕ) → F.told folder.new other ≡ F.told folder.old other }
-        ensures later { F.read_faults folder.old ≤ F.read_faults folder.new }
-        ensures quiet { F.write_faults folder.new ≡ F.write_faults folder.old }
-        ensures cause { IsErrOf result Stop.Failed
-            → Rose (F.read_faults folder.old) (F.read_faults folder.new) }
+        ensures only_reads { OnlyReads F.Folder folder.old folder.new (IsErrOf result Stop.Failed) }
     {
         match due {
             DueItem::Head => Ok(self.head(folder)?),

@@ -1,13 +1,11 @@
 //! A certificate, read item by item.
-ghost use Rattle.std.specs.Prelude.{◌^◌, ◌≡◌, ◌≤◌, ◌<◌, [], ℕ, List, Option, Some, None, IfOk};
-ghost use Rattle.std.specs.Prelude.{IsErr, IsErrOf, length, true};
-ghost use Rattle.fx_edge.specs.Outside.{Rose};
-ghost use Rattle.cert_bytes.specs.declared.item.Item.TheVariants as item;
+ghost use Rattle.std.specs.Prelude.{◌≡◌, [], ℕ, List, Option, Some, None, IfOk, IsErrOf, true};
 ghost use Rattle.cert_bytes.specs.Reading.{item_at};
 ghost use Rattle.cert_bytes.specs.Pieces.{Gives, AgreesTold};
-ghost use Rattle.cert_bytes.specs.Due.{due_behind, is_due};
-ghost use Rattle.cert_bytes.specs.Readers.{Progress, Answers, IsUnmoved};
+ghost use Rattle.cert_bytes.specs.Due.{is_due};
+ghost use Rattle.cert_bytes.specs.Readers.{Progress, Answers, Stands};
 ghost use Rattle.cert_bytes.specs.Certificates.{HasSpelling};
+ghost use Rattle.cert_bytes.specs.Calls.{OnlyReads};
 
 use crate::fault::{CertFault, Stop};
 use crate::item::Item;
@@ -67,19 +65,8 @@ impl Reader {
         ensures due { IfOk result (λ i. is_due self.old.due i ≡ true) }
         ensures spelled { IfOk result HasSpelling }
         ensures answers { Answers self.old result self.new }
-        ensures grows { self.old.ahead.at ≤ self.new.ahead.at }
-        ensures reads { IfOk result (λ i. ¬ (i ≡ item.End)
-            → self.old.ahead.at < self.new.ahead.at) }
-        ensures within { self.new.ahead.at ≤ 2 ^ 44 }
-        ensures few { length self.new.ahead.ahead ≤ 4096 }
-        ensures agrees { AgreesTold (F.told folder.new self.new.ahead.name) self.new.ahead }
-        ensures name { self.new.ahead.name ≡ self.old.ahead.name }
-        ensures style { IsErr result → self.new.ahead.style ≡ self.old.ahead.style }
-        ensures told { (other : List ℕ) → F.told folder.new other ≡ F.told folder.old other }
-        ensures later { F.read_faults folder.old ≤ F.read_faults folder.new }
-        ensures quiet { F.write_faults folder.new ≡ F.write_faults folder.old }
-        ensures cause { IsErrOf result Stop.Failed
-            → Rose (F.read_faults folder.old) (F.read_faults folder.new) }
+        ensures stands { Stands (F.told folder.new) self.old result self.new }
+        ensures only_reads { OnlyReads F.Folder folder.old folder.new (IsErrOf result Stop.Failed) }
     {
         let start = self.source.at();
         let style = self.source.style();
@@ -121,19 +108,8 @@ impl Reader {
         ensures due { IfOk result (λ i. is_due self.old.due i ≡ true) }
         ensures spelled { IfOk result HasSpelling }
         ensures answers { Answers self.old result self.new }
-        ensures grows { self.old.ahead.at ≤ self.new.ahead.at }
-        ensures reads { IfOk result (λ i. ¬ (i ≡ item.End)
-            → self.old.ahead.at < self.new.ahead.at) }
-        ensures within { self.new.ahead.at ≤ 2 ^ 44 }
-        ensures few { length self.new.ahead.ahead ≤ 4096 }
-        ensures agrees { AgreesTold (F.told folder.new self.new.ahead.name) self.new.ahead }
-        ensures name { self.new.ahead.name ≡ self.old.ahead.name }
-        ensures style { IsErr result → self.new.ahead.style ≡ self.old.ahead.style }
-        ensures told { (other : List ℕ) → F.told folder.new other ≡ F.told folder.old other }
-        ensures later { F.read_faults folder.old ≤ F.read_faults folder.new }
-        ensures quiet { F.write_faults folder.new ≡ F.write_faults folder.old }
-        ensures cause { IsErrOf result Stop.Failed
-            → Rose (F.read_faults folder.old) (F.read_faults folder.new) }
+        ensures stands { Stands (F.told folder.new) self.old result self.new }
+        ensures only_reads { OnlyReads F.Folder folder.old folder.new (IsErrOf result Stop.Failed) }
     {
         self.source.bounded();
         if let Some(fault) = self.fault {

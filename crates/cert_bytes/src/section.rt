@@ -1,12 +1,11 @@
 //! Items of sections, read through a folder.
-ghost use Rattle.std.specs.Prelude.{◌≡◌, ◌≤◌, ◌<◌, ℕ, List, Some, length, IsErrOf, IfOk, true};
-ghost use Rattle.fx_edge.specs.Outside.{Rose};
+ghost use Rattle.std.specs.Prelude.{◌≡◌, ◌≤◌, ◌<◌, ℕ, List, Some, IsErrOf, IfOk, true};
 ghost use Rattle.cert_bytes.specs.Reading.{step_at, cut_head_at, cut_at, section_by};
-ghost use Rattle.cert_bytes.specs.Reading.{section_item_at, case_count_at, cases_at, root_by};
-ghost use Rattle.cert_bytes.specs.Reading.{root_item_at};
+ghost use Rattle.cert_bytes.specs.Reading.{section_item_at, case_count_at, root_by, root_item_at};
 ghost use Rattle.cert_bytes.specs.Due.{is_of_section, is_of_root};
 ghost use Rattle.cert_bytes.specs.Certificates.{HasSpelling, IsCounted};
 ghost use Rattle.cert_bytes.specs.Pieces.{Gives, AgreesTold, kept_of};
+ghost use Rattle.cert_bytes.specs.Calls.{OnlyReads, ReadsOn};
 
 use crate::cut_points::CutPoints;
 use crate::fault::{CertKind, Stop, fault};
@@ -43,15 +42,9 @@ impl Source {
         requires agrees { AgreesTold (F.told folder.old self.old.name) self.old }
         ensures gives { (all : List ℕ) → F.told folder.old self.old.name ≡ Some all
             → Gives (λ x. x) all self.old self.new result cut_head_at }
-        ensures agrees { AgreesTold (F.told folder.new self.new.name) self.new }
-        ensures kept { kept_of self.new ≡ kept_of self.old }
-        ensures grows { self.old.at ≤ self.new.at }
+        ensures reads_on { ReadsOn kept_of (F.told folder.new) self.old self.new }
         ensures within { IfOk result (λ head. (1 ≤ head.1) × (head.1 ≤ 63)) }
-        ensures told { (other : List ℕ) → F.told folder.new other ≡ F.told folder.old other }
-        ensures later { F.read_faults folder.old ≤ F.read_faults folder.new }
-        ensures quiet { F.write_faults folder.new ≡ F.write_faults folder.old }
-        ensures cause { IsErrOf result Stop.Failed
-            → Rose (F.read_faults folder.old) (F.read_faults folder.new) }
+        ensures only_reads { OnlyReads F.Folder folder.old folder.new (IsErrOf result Stop.Failed) }
     {
         let x = ExprId::read(self, folder)?;
         let count = self.count(folder)?;
@@ -63,16 +56,10 @@ impl Source {
         requires agrees { AgreesTold (F.told folder.old self.old.name) self.old }
         ensures gives { (all : List ℕ) → F.told folder.old self.old.name ≡ Some all
             → Gives (λ x. x) all self.old self.new result cut_at }
-        ensures agrees { AgreesTold (F.told folder.new self.new.name) self.new }
-        ensures kept { kept_of self.new ≡ kept_of self.old }
-        ensures grows { self.old.at ≤ self.new.at }
+        ensures reads_on { ReadsOn kept_of (F.told folder.new) self.old self.new }
         ensures kind { IfOk result (λ i. is_of_section i ≡ true) }
         ensures spelled { IfOk result HasSpelling }
-        ensures told { (other : List ℕ) → F.told folder.new other ≡ F.told folder.old other }
-        ensures later { F.read_faults folder.old ≤ F.read_faults folder.new }
-        ensures quiet { F.write_faults folder.new ≡ F.write_faults folder.old }
-        ensures cause { IsErrOf result Stop.Failed
-            → Rose (F.read_faults folder.old) (F.read_faults folder.new) }
+        ensures only_reads { OnlyReads F.Folder folder.old folder.new (IsErrOf result Stop.Failed) }
     {
         let (x, count) = self.cut_head(folder)?;
         let points = self.points(folder, count)?;
@@ -85,16 +72,10 @@ impl Source {
         requires agrees { AgreesTold (F.told folder.old self.old.name) self.old }
         ensures gives { (all : List ℕ) → F.told folder.old self.old.name ≡ Some all
             → Gives (λ x. x) all self.old self.new result (section_by start tag) }
-        ensures agrees { AgreesTold (F.told folder.new self.new.name) self.new }
-        ensures kept { kept_of self.new ≡ kept_of self.old }
-        ensures grows { self.old.at ≤ self.new.at }
+        ensures reads_on { ReadsOn kept_of (F.told folder.new) self.old self.new }
         ensures kind { IfOk result (λ i. is_of_section i ≡ true) }
         ensures spelled { IfOk result HasSpelling }
-        ensures told { (other : List ℕ) → F.told folder.new other ≡ F.told folder.old other }
-        ensures later { F.read_faults folder.old ≤ F.read_faults folder.new }
-        ensures quiet { F.write_faults folder.new ≡ F.write_faults folder.old }
-        ensures cause { IsErrOf result Stop.Failed
-            → Rose (F.read_faults folder.old) (F.read_faults folder.new) }
+        ensures only_reads { OnlyReads F.Folder folder.old folder.new (IsErrOf result Stop.Failed) }
     {
         match tag {
             1 => Ok(Item::Step(StepRow::read(self, folder)?)),
@@ -112,17 +93,11 @@ impl Source {
         requires agrees { AgreesTold (F.told folder.old self.old.name) self.old }
         ensures gives { (all : List ℕ) → F.told folder.old self.old.name ≡ Some all
             → Gives (λ x. x) all self.old self.new result section_item_at }
-        ensures agrees { AgreesTold (F.told folder.new self.new.name) self.new }
-        ensures kept { kept_of self.new ≡ kept_of self.old }
-        ensures grows { self.old.at ≤ self.new.at }
+        ensures reads_on { ReadsOn kept_of (F.told folder.new) self.old self.new }
         ensures kind { IfOk result (λ i. is_of_section i ≡ true) }
         ensures spelled { IfOk result HasSpelling }
         ensures moves { IfOk result (λ _. self.old.at < self.new.at) }
-        ensures told { (other : List ℕ) → F.told folder.new other ≡ F.told folder.old other }
-        ensures later { F.read_faults folder.old ≤ F.read_faults folder.new }
-        ensures quiet { F.write_faults folder.new ≡ F.write_faults folder.old }
-        ensures cause { IsErrOf result Stop.Failed
-            → Rose (F.read_faults folder.old) (F.read_faults folder.new) }
+        ensures only_reads { OnlyReads F.Folder folder.old folder.new (IsErrOf result Stop.Failed) }
     {
         let start = self.at();
         let tag = u8::read(self, folder)?;
@@ -134,15 +109,9 @@ impl Source {
         requires agrees { AgreesTold (F.told folder.old self.old.name) self.old }
         ensures gives { (all : List ℕ) → F.told folder.old self.old.name ≡ Some all
             → Gives (λ x. x) all self.old self.new result case_count_at }
-        ensures agrees { AgreesTold (F.told folder.new self.new.name) self.new }
-        ensures kept { kept_of self.new ≡ kept_of self.old }
-        ensures grows { self.old.at ≤ self.new.at }
+        ensures reads_on { ReadsOn kept_of (F.told folder.new) self.old self.new }
         ensures within { IfOk result (λ n. (2 ≤ n) × (n ≤ 64)) }
-        ensures told { (other : List ℕ) → F.told folder.new other ≡ F.told folder.old other }
-        ensures later { F.read_faults folder.old ≤ F.read_faults folder.new }
-        ensures quiet { F.write_faults folder.new ≡ F.write_faults folder.old }
-        ensures cause { IsErrOf result Stop.Failed
-            → Rose (F.read_faults folder.old) (F.read_faults folder.new) }
+        ensures only_reads { OnlyReads F.Folder folder.old folder.new (IsErrOf result Stop.Failed) }
     {
         let start = self.at();
         let count = self.tiny(folder)?;
@@ -160,16 +129,10 @@ impl Source {
         requires agrees { AgreesTold (F.told folder.old self.old.name) self.old }
         ensures gives { (all : List ℕ) → F.told folder.old self.old.name ≡ Some all
             → Gives (λ x. x) all self.old self.new result (root_by start tag) }
-        ensures agrees { AgreesTold (F.told folder.new self.new.name) self.new }
-        ensures kept { kept_of self.new ≡ kept_of self.old }
-        ensures grows { self.old.at ≤ self.new.at }
+        ensures reads_on { ReadsOn kept_of (F.told folder.new) self.old self.new }
         ensures kind { IfOk result (λ i. is_of_root i ≡ true) }
         ensures spelled { IfOk result HasSpelling }
-        ensures told { (other : List ℕ) → F.told folder.new other ≡ F.told folder.old other }
-        ensures later { F.read_faults folder.old ≤ F.read_faults folder.new }
-        ensures quiet { F.write_faults folder.new ≡ F.write_faults folder.old }
-        ensures cause { IsErrOf result Stop.Failed
-            → Rose (F.read_faults folder.old) (F.read_faults folder.new) }
+        ensures only_reads { OnlyReads F.Folder folder.old folder.new (IsErrOf result Stop.Failed) }
     {
         if tag == 5 {
             return Ok(Item::Cases(self.case_count(folder)?));
@@ -184,17 +147,11 @@ impl Source {
         requires agrees { AgreesTold (F.told folder.old self.old.name) self.old }
         ensures gives { (all : List ℕ) → F.told folder.old self.old.name ≡ Some all
             → Gives (λ x. x) all self.old self.new result root_item_at }
-        ensures agrees { AgreesTold (F.told folder.new self.new.name) self.new }
-        ensures kept { kept_of self.new ≡ kept_of self.old }
-        ensures grows { self.old.at ≤ self.new.at }
+        ensures reads_on { ReadsOn kept_of (F.told folder.new) self.old self.new }
         ensures kind { IfOk result (λ i. is_of_root i ≡ true) }
         ensures spelled { IfOk result HasSpelling }
         ensures moves { IfOk result (λ _. self.old.at < self.new.at) }
-        ensures told { (other : List ℕ) → F.told folder.new other ≡ F.told folder.old other }
-        ensures later { F.read_faults folder.old ≤ F.read_faults folder.new }
-        ensures quiet { F.write_faults folder.new ≡ F.write_faults folder.old }
-        ensures cause { IsErrOf result Stop.Failed
-            → Rose (F.read_faults folder.old) (F.read_faults folder.new) }
+        ensures only_reads { OnlyReads F.Folder folder.old folder.new (IsErrOf result Stop.Failed) }
     {
         let start = self.at();
         let tag = u8::read(self, folder)?;

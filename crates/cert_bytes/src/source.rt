@@ -1,10 +1,10 @@
 //! The bytes of a name, read through a folder one after the other.
 ghost use Rattle.std.specs.Prelude.{◌≡◌, ◌≤◌, ◌<◌, ◌+◌, ◌^◌, ◌↔◌, ◌∷◌, ℕ, List, [], Some, length};
-ghost use Rattle.std.specs.Prelude.{IfOk, IsTrue, IsErrOf};
-ghost use Rattle.fx_edge.specs.Outside.{Rose, HasCause};
+ghost use Rattle.std.specs.Prelude.{IfOk, IsTrue, IsErrOf, IsErr};
 ghost use Rattle.cert_bytes.specs.Reading.{byte_at};
-ghost use Rattle.cert_bytes.specs.Pieces.{Gives, Agrees, IsFilled, IsReady, IsEnd, IsFirst, IsLow};
-ghost use Rattle.cert_bytes.specs.Pieces.{kept_of};
+ghost use Rattle.cert_bytes.specs.Pieces.{Gives, IsFilled, IsReady, IsEnd, IsFirst, IsLow, kept_of};
+ghost use Rattle.cert_bytes.specs.Pieces.{AgreesTold, HasAhead};
+ghost use Rattle.cert_bytes.specs.Calls.{OnlyReads, ReadsOn};
 
 use crate::fault::{CertFault, CertKind, Stop};
 use crate::style::Style;
@@ -151,17 +151,12 @@ impl Source {
     #[cold]
     #[inline(never)]
     fn fill<F: Folder>(&mut self, folder: &mut F) -> Result<(), Failed>
-        requires agrees { (all : List ℕ)
-            → F.told folder.old self.old.name ≡ Some all → Agrees all self.old }
+        requires agrees { AgreesTold (F.told folder.old self.old.name) self.old }
         ensures filled { IfOk result (λ _. (all : List ℕ)
             → F.told folder.old self.old.name ≡ Some all → IsFilled all self.new) }
-        ensures agrees { (all : List ℕ)
-            → F.told folder.old self.old.name ≡ Some all → Agrees all self.new }
-        ensures kept { kept_of self.new ≡ kept_of self.old }
+        ensures reads_on { ReadsOn kept_of (F.told folder.new) self.old self.new }
         ensures at { self.new.at ≡ self.old.at }
-        ensures told { (other : List ℕ) → F.told folder.new other ≡ F.told folder.old other }
-        ensures quiet { F.write_faults folder.new ≡ F.write_faults folder.old }
-        ensures cause { HasCause (F.read_faults folder.old) (F.read_faults folder.new) result }
+        ensures only_reads { OnlyReads F.Folder folder.old folder.new (IsErr result) }
     {
         self.begin = 0;
         self.end = 0;
@@ -173,18 +168,13 @@ impl Source {
     /// Whether a further byte is there, which is then read ahead. It fails where the folder does.
     #[inline(always)]
     pub fn ready<F: Folder>(&mut self, folder: &mut F) -> Result<bool, Failed>
-        requires agrees { (all : List ℕ)
-            → F.told folder.old self.old.name ≡ Some all → Agrees all self.old }
+        requires agrees { AgreesTold (F.told folder.old self.old.name) self.old }
         ensures ready { IfOk result (λ more. IsReady self.new more) }
         ensures end { IfOk result (λ more. (all : List ℕ)
             → F.told folder.old self.old.name ≡ Some all → IsEnd all self.new more) }
-        ensures agrees { (all : List ℕ)
-            → F.told folder.old self.old.name ≡ Some all → Agrees all self.new }
-        ensures kept { kept_of self.new ≡ kept_of self.old }
+        ensures reads_on { ReadsOn kept_of (F.told folder.new) self.old self.new }
         ensures at { self.new.at ≡ self.old.at }
-        ensures told { (other : List ℕ) → F.told folder.new other ≡ F.told folder.old other }
-        ensures quiet { F.write_faults folder.new ≡ F.write_faults folder.old }
-        ensures cause { HasCause (F.read_faults folder.old) (F.read_faults folder.new) result }
+        ensures only_reads { OnlyReads F.Folder folder.old folder.new (IsErr result) }
     {
         if !self.is_dry() {
             return Ok(true);
@@ -197,8 +187,7 @@ impl Source {
     #[inline(always)]
     pub fn has(&self, width: usize) -> bool
         requires { width ≤ 16 }
-        ensures ahead { IsTrue result → width ≤ length self.now.ahead }
-        ensures room { IsTrue result → self.now.at + width ≤ 2 ^ 44 }
+        ensures { IsTrue result → HasAhead width self.now }
     {
         width <= self.end - self.begin && self.at <= LIMIT - 16
     }
@@ -244,20 +233,12 @@ impl Source {
     #[inline(always)]
     #[tactic(auto, unfolding(crate::specs::Reading::byte_at))]
     pub fn byte<F: Folder>(&mut self, folder: &mut F) -> Result<u8, Stop>
-        requires agrees { (all : List ℕ)
-            → F.told folder.old self.old.name ≡ Some all → Agrees all self.old }
+        requires agrees { AgreesTold (F.told folder.old self.old.name) self.old }
         ensures gives { (all : List ℕ) → F.told folder.old self.old.name ≡ Some all
             → Gives (λ n. n) all self.old self.new result byte_at }
-        ensures agrees { (all : List ℕ)
-            → F.told folder.old self.old.name ≡ Some all → Agrees all self.new }
-        ensures kept { kept_of self.new ≡ kept_of self.old }
-        ensures grows { self.old.at ≤ self.new.at }
+        ensures reads_on { ReadsOn kept_of (F.told folder.new) self.old self.new }
         ensures moves { IfOk result (λ _. self.old.at < self.new.at) }
-        ensures told { (other : List ℕ) → F.told folder.new other ≡ F.told folder.old other }
-        ensures later { F.read_faults folder.old ≤ F.read_faults folder.new }
-        ensures quiet { F.write_faults folder.new ≡ F.write_faults folder.old }
-        ensures cause { IsErrOf result Stop.Failed
-            → Rose (F.read_faults folder.old) (F.read_faults folder.new) }
+        ensures only_reads { OnlyReads F.Folder folder.old folder.new (IsErrOf result Stop.Failed) }
     {
         if !self.ready(folder)? {
             return Err(is_truncated(self.at));

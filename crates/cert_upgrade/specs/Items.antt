@@ -1,5 +1,6 @@
 -- The items of a certificate under some name, as far as they were read.
-use Rattle.std.specs.Prelude.{◌≡◌, ◌++◌, ℕ, List, [], ◌∷◌, Bool, true, Option, Some, None, Ok}
+use Rattle.std.specs.Prelude.{◌≡◌, ◌≤◌, ◌^◌, ◌++◌, ℕ, List, [], ◌∷◌, Bool, true, Option, Some, None}
+use Rattle.std.specs.Prelude.{Ok}
 use Rattle.cert_bytes.specs.declared.item.Item.{Item}
 use Rattle.cert_bytes.specs.declared.order.DueItem.{DueItem}
 use Rattle.cert_bytes.specs.declared.order.DueItem.TheVariants.{Head, Done}
@@ -55,6 +56,15 @@ pub record AreItemsFor (told : Option (List ℕ)) (items : List Item) : Type 0 w
   pub certificate : AreCertificate items
 
 -- ---- of a reader
+
+-- One more item can be read and spelled, where this was seen before it.
+pub record CanRespell (seen : Seen) (r : Progress) : Type 0 where
+  -- no fault was met, and the end wasn't read
+  pub sound : r.fault ≡ None
+  pub due : ¬ (r.due ≡ Done)
+  -- what was seen has a byte each, and there are at most 2^44
+  pub few : IsFew (Second seen) r.ahead.at
+  pub within : r.ahead.at ≤ 2 ^ 44
 
 -- A reader of a name whose bytes may be told read one more item, which is the end or isn't, and
 -- what that spells in version 2 was added to the bytes.

@@ -1,20 +1,17 @@
 //! Items of a certificate, read in either version and spelled in version 2.
-ghost use Rattle.std.specs.Prelude.{◌≡◌, ◌≤◌, ◌<◌, ◌^◌, ℕ, List, Some, None, Err, IfOk, IsErrOf};
-ghost use Rattle.std.specs.Prelude.{false};
-ghost use Rattle.fx_edge.specs.Outside.{Rose};
+ghost use Rattle.std.specs.Prelude.{◌≡◌, ◌≤◌, ◌<◌, ◌^◌, ℕ, List, Some, Err, IfOk, IsErrOf, false};
 ghost use Rattle.cert_bytes.specs.declared.item.Item.{Item};
 ghost use Rattle.cert_bytes.specs.declared.fault.CertFault.{CertFault};
 ghost use Rattle.cert_bytes.specs.declared.fault.Stop.TheVariants as CertStop;
-ghost use Rattle.cert_bytes.specs.declared.order.DueItem.TheVariants.{Done};
-ghost use Rattle.cert_bytes.specs.declared.style.Style.TheVariants.{Second};
-ghost use Rattle.cert_bytes.specs.Pieces.{AgreesTold, cursor_of};
+ghost use Rattle.cert_bytes.specs.Pieces.{AgreesTold, cursor_of, name_of};
 ghost use Rattle.cert_bytes.specs.Due.{is_end};
 ghost use Rattle.cert_bytes.specs.ReadOut.{HasFault};
 ghost use Rattle.cert_bytes.specs.Reading.{item_at};
 ghost use Rattle.cert_bytes.specs.Styles.{IsFew, seen_in};
-ghost use Rattle.cert_upgrade.specs.Items.{AreItemsFor, Respells};
-ghost use Rattle.cert_upgrade.specs.Spelled.{told_length};
 ghost use Rattle.cert_bytes.specs.Spelling.{certificate_of};
+ghost use Rattle.cert_bytes.specs.Calls.{OnlyReads, ReadsOn};
+ghost use Rattle.cert_upgrade.specs.Items.{AreItemsFor, Respells, CanRespell};
+ghost use Rattle.cert_upgrade.specs.Spelled.{told_length};
 
 use cert_bytes::{Item, Reader, Seen, Stop, certificates_are_spelled_once, item_fits, write_item2};
 use fx_edge::Folder;
@@ -38,26 +35,17 @@ pub(crate) fn respell<F: Folder>(
     seen: Seen,
     out: &mut Vec<u8>,
 ) -> Result<(Seen, bool), Stop>
-    requires sound { reader.old.fault ≡ None }
-    requires due { ¬ (reader.old.due ≡ Done) }
+    requires can_respell { CanRespell seen reader.old }
     requires agrees { AgreesTold (F.told folder.old reader.old.ahead.name) reader.old.ahead }
-    requires few { IsFew (Second seen) reader.old.ahead.at }
-    requires within { reader.old.ahead.at ≤ 2 ^ 44 }
     ensures ok { IfOk result (λ r. Respells (F.told folder.old reader.old.ahead.name) reader.old
         reader.new seen r.0 r.1 out.old.items out.new.items) }
     ensures fault { (all : List ℕ) → F.told folder.old reader.old.ahead.name ≡ Some all
         → (f : CertFault) → IsErrOf result (CertStop.Fault f)
         → item_at reader.old.due (cursor_of all reader.old.ahead) ≡ Err f }
     ensures grows { IfOk result (λ r. r.1 ≡ false → reader.old.ahead.at < reader.new.ahead.at) }
-    ensures later { IfOk result (λ r. reader.old.ahead.at ≤ reader.new.ahead.at) }
+    ensures reads_on { ReadsOn name_of (F.told folder.new) reader.old.ahead reader.new.ahead }
     ensures within { reader.new.ahead.at ≤ 2 ^ 44 }
-    ensures agrees { AgreesTold (F.told folder.new reader.new.ahead.name) reader.new.ahead }
-    ensures name { reader.new.ahead.name ≡ reader.old.ahead.name }
-    ensures told { (other : List ℕ) → F.told folder.new other ≡ F.told folder.old other }
-    ensures reads { F.read_faults folder.old ≤ F.read_faults folder.new }
-    ensures cause { IsErrOf result CertStop.Failed
-        → Rose (F.read_faults folder.old) (F.read_faults folder.new) }
-    ensures quiet { F.write_faults folder.new ≡ F.write_faults folder.old }
+    ensures only_reads { OnlyReads F.Folder folder.old folder.new (IsErrOf result CertStop.Failed) }
 {
     let item = reader.next(folder)?;
     item_fits(&item);
@@ -77,11 +65,7 @@ pub(crate) fn measure<F: Folder>(
         × (r.0 ≡ seen_in items) × (r.1 ≡ told_length (certificate_of items))) }
     ensures fault { (all : List ℕ) → F.told folder.old name.now ≡ Some all
         → (f : CertFault) → IsErrOf result (CertStop.Fault f) → HasFault all f }
-    ensures told { (other : List ℕ) → F.told folder.new other ≡ F.told folder.old other }
-    ensures reads { F.read_faults folder.old ≤ F.read_faults folder.new }
-    ensures cause { IsErrOf result CertStop.Failed
-        → Rose (F.read_faults folder.old) (F.read_faults folder.new) }
-    ensures quiet { F.write_faults folder.new ≡ F.write_faults folder.old }
+    ensures only_reads { OnlyReads F.Folder folder.old folder.new (IsErrOf result CertStop.Failed) }
 {
     certificates_are_spelled_once();
     let mut reader = Reader::new(alloc, name)?;

@@ -1,7 +1,7 @@
 use Rattle.std.specs.Prelude.{◌≡◌, false, true, Err, refl}
 use Rattle.std.proofs.Common.{◌∙◌, ap, arith, rules}
 use Rattle.std.proofs.lemmas.Result.{err_from_is_err_and}
-use Rattle.fx_edge.specs.Outside.{rose_later}
+use Rattle.cert_bytes.specs.Calls.{only_reads_none, only_reads_on, only_reads_then, told_of}
 use Rattle.cert_bytes.specs.Readers.{Progress}
 use Rattle.cert_upgrade.proofs.Measured.{measured_none, measured_turn, measured_all}
 use Rattle.cert_upgrade.proofs.Read.{read_none, read_fault, not_done, fewer_turns}
@@ -20,24 +20,27 @@ loop-ended-init g c =
       within = omega (arith, at);
       agrees = c.in_ok-reader.ensures.agrees _;
       name = ap (λ (p : Progress). p.ahead.name) b;
-      told = λ other. refl;
-      later = omega arith;
-      quiet = refl;
+      only_reads = only_reads_none;
     }
 
-pub respell-requires-clause-due : goal.respell-requires-clause-due
-respell-requires-clause-due g c =
+pub respell-requires-clause-can_respell : goal.respell-requires-clause-can_respell
+respell-requires-clause-can_respell g c =
     let i = c.loop-ended.invariant in
     let open_on : c.loop-ended.ended ≡ false = search rules in
-    not_done (g.F.Folder.told c.args.folder.now c.args.name.now) i.measured.items
-    c.loop-ended.reader c.loop-ended.seen c.loop-ended.ended i.measured.read open_on
+    record {
+      sound = i.measured.read.sound;
+      due = not_done (g.F.Folder.told c.args.folder.now c.args.name.now) i.measured.items
+          c.loop-ended.reader c.loop-ended.seen c.loop-ended.ended i.measured.read open_on;
+      few = i.measured.read.few;
+      within = i.within;
+    }
 
 pub loop-ended-preserved : goal.loop-ended-preserved
 loop-ended-preserved g c =
     let i = c.loop-ended.invariant in
     let r = c.in_ok-next.ensures in
     let open_on : c.loop-ended.ended ≡ false = search rules in
-    let there = ap (g.F.Folder.told c.loop-ended.folder) i.name ∙ i.told c.args.name.now in
+    let there = told_of i.only_reads i.name refl in
     record {
       measured = measured_turn (g.F.Folder.told c.args.folder.now c.args.name.now)
           (g.F.Folder.told c.loop-ended.folder c.loop-ended.reader.ahead.name)
@@ -47,11 +50,9 @@ loop-ended-preserved g c =
           c.clear.ensures.items i.measured r.ok
           (omega (arith, c.saturating_add.ensures)) c.min-length.ensures;
       within = r.within;
-      agrees = r.agrees;
-      name = r.name ∙ i.name;
-      told = λ other. r.told other ∙ i.told other;
-      later = let a = r.reads in let b = i.later in omega (arith, a, b);
-      quiet = r.quiet ∙ i.quiet;
+      agrees = r.reads_on.agrees;
+      name = r.reads_on.kept ∙ i.name;
+      only_reads = only_reads_on i.only_reads r.only_reads;
     }
 
 pub loop-ended-smaller : goal.loop-ended-smaller
@@ -61,45 +62,32 @@ loop-ended-smaller g c =
     rw open_on (fewer_turns c.in_ok-next.last c.loop-ended.reader.ahead.at
     c.respell.new.reader.ahead.at r.grows r.within)
 
-pub respell-requires-clause-sound : goal.respell-requires-clause-sound
-respell-requires-clause-sound g c = c.loop-ended.invariant.measured.read.sound
-
-pub respell-requires-clause-few : goal.respell-requires-clause-few
-respell-requires-clause-few g c = c.loop-ended.invariant.measured.read.few
-
 pub returns-in_err-reader-clause-fault : goal.returns-in_err-reader-clause-fault
 returns-in_err-reader-clause-fault g c = λ all t f.
     let p = err_from_is_err_and c.from_residual.result c.from_residual.ensures.1 in
     rw (p.1, p.2) (λ e. cc e)
 
-pub returns-in_err-reader-clause-cause : goal.returns-in_err-reader-clause-cause
-returns-in_err-reader-clause-cause g c =
+pub returns-in_err-reader-clause-only_reads : goal.returns-in_err-reader-clause-only_reads
+returns-in_err-reader-clause-only_reads g c =
     let p = err_from_is_err_and c.from_residual.result c.from_residual.ensures.1 in
-    rw (p.1, p.2) (λ e. cc e)
+    rw (p.1, p.2) (only_reads_then only_reads_none only_reads_none (λ e. cc e))
 
 pub returns-in_err-next-clause-fault : goal.returns-in_err-next-clause-fault
 returns-in_err-next-clause-fault g c = λ all t f.
     let p = err_from_is_err_and c.from_residual-in_err-next.result
     c.from_residual-in_err-next.ensures.1 in
     let i = c.loop-ended.invariant in
-    let there = ap (g.F.Folder.told c.loop-ended.folder) i.name ∙ i.told c.args.name.now ∙ t in
+    let there = told_of i.only_reads i.name t in
     rw (p.1, p.2) (λ e. read_fault (g.F.Folder.told c.args.folder.now c.args.name.now) all
     i.measured.items c.loop-ended.reader c.loop-ended.seen c.loop-ended.ended f t i.measured.read
     (c.in_err-next.ensures.fault all there f (ap Err (same_stop _ _ e))))
 
-pub returns-in_err-next-clause-cause : goal.returns-in_err-next-clause-cause
-returns-in_err-next-clause-cause g c =
+pub returns-in_err-next-clause-only_reads : goal.returns-in_err-next-clause-only_reads
+returns-in_err-next-clause-only_reads g c =
     let p = err_from_is_err_and c.from_residual-in_err-next.result
     c.from_residual-in_err-next.ensures.1 in
-    rw (p.1, p.2) (λ e. rose_later _ (g.F.Folder.read_faults c.loop-ended.folder) _
-    c.loop-ended.invariant.later (c.in_err-next.ensures.cause (ap Err (same_stop _ _ e))))
-
-pub returns-in_err-next-clause-told : goal.returns-in_err-next-clause-told
-returns-in_err-next-clause-told g c = λ other.
-    c.in_err-next.ensures.told other ∙ c.loop-ended.invariant.told other
-
-pub returns-in_err-next-clause-quiet : goal.returns-in_err-next-clause-quiet
-returns-in_err-next-clause-quiet g c = c.in_err-next.ensures.quiet ∙ c.loop-ended.invariant.quiet
+    rw (p.1, p.2) (only_reads_then c.loop-ended.invariant.only_reads
+    c.in_err-next.ensures.only_reads (λ e. ap Err (same_stop _ _ e)))
 
 pub returns-clause-ok : goal.returns-clause-ok
 returns-clause-ok g c =

@@ -1,5 +1,6 @@
-use Rattle.std.proofs.Common.{◌≡◌, ◌≤◌, ◌^◌, ℕ, List}
+use Rattle.std.proofs.Common.{◌≡◌, ◌≤◌, ◌^◌}
 use Rattle.cert_bytes.specs.Pieces.{AgreesTold}
+use Rattle.cert_bytes.specs.Calls.{OnlyReads}
 use Rattle.cert_upgrade.proofs.Measured.{HasMeasured}
 use Rattle.cert_upgrade.proofs.Read.{turns_left}
 use Rattle.cert_upgrade.proofs.respell.measure.Given as goal
@@ -10,9 +11,7 @@ invariant-loop-ended g l = record {
   within : l.reader.ahead.at ≤ 2 ^ 44;
   agrees : AgreesTold (g.F.Folder.told l.folder l.reader.ahead.name) l.reader.ahead;
   name : l.reader.ahead.name ≡ l.fn.name;
-  told : (other : List ℕ) → g.F.Folder.told l.folder other ≡ g.F.Folder.told l.fn.folder other;
-  later : g.F.Folder.read_faults l.fn.folder ≤ g.F.Folder.read_faults l.folder;
-  quiet : g.F.Folder.write_faults l.folder ≡ g.F.Folder.write_faults l.fn.folder;
+  only_reads : OnlyReads g.F.Folder l.fn.folder l.folder ⊥;
 }
 
 abbrev pub decreases-loop-ended : goal.decreases-loop-ended

@@ -59,25 +59,24 @@ loop-ended-init g c =
       writes = omega arith;
     }
 
-pub respell-requires-clause-due : goal.respell-requires-clause-due
-respell-requires-clause-due g c =
+pub respell-requires-clause-can_respell : goal.respell-requires-clause-can_respell
+respell-requires-clause-can_respell g c =
     let i = c.loop-ended.invariant in
     let open_on : c.loop-ended.ended ≡ false = search rules in
-    not_done (g.F.Folder.told c.args.folder.now c.args.cert.now) i.rewritten.items
-    c.loop-ended.reader c.loop-ended.seen c.loop-ended.ended i.rewritten.read open_on
-
-pub respell-requires-clause-sound : goal.respell-requires-clause-sound
-respell-requires-clause-sound g c = c.loop-ended.invariant.rewritten.read.sound
-
-pub respell-requires-clause-few : goal.respell-requires-clause-few
-respell-requires-clause-few g c = c.loop-ended.invariant.rewritten.read.few
+    record {
+      sound = i.rewritten.read.sound;
+      due = not_done (g.F.Folder.told c.args.folder.now c.args.cert.now) i.rewritten.items
+          c.loop-ended.reader c.loop-ended.seen c.loop-ended.ended i.rewritten.read open_on;
+      few = i.rewritten.read.few;
+      within = i.within;
+    }
 
 pub returns-in_err-next-clause-err : goal.returns-in_err-next-clause-err
 returns-in_err-next-clause-err g c =
     let p = err_from_is_err_and c.from_residual-in_err-next.result
     c.from_residual-in_err-next.ensures.1 in
     let i = c.loop-ended.invariant in
-    rw (p.1, c.in_err-next.ensures.told c.args.new.now)
+    rw (p.1, c.in_err-next.ensures.only_reads.told c.args.new.now)
     (broken_reading (g.F.Folder.told c.args.folder.now c.args.cert.now) c.loop-ended.reader
     c.loop-ended.seen c.loop-ended.ended (g.F.Folder.told c.args.folder.now c.args.new.now)
     (g.F.Folder.told c.loop-ended.folder c.args.new.now) c.loop-ended.bytes.items i.rewritten)
@@ -106,15 +105,15 @@ returns-in_err-next-clause-reads g c =
     c.from_residual-in_err-next.ensures.1 in
     rw (p.1, p.2) (of_reads c.in_err-next.field-0.0 (g.F.Folder.read_faults c.args.folder.now)
     (g.F.Folder.read_faults c.loop-ended.folder) (g.F.Folder.read_faults c.respell.new.folder)
-    c.loop-ended.invariant.reads c.in_err-next.ensures.reads
-    (λ e. c.in_err-next.ensures.cause (ap Err e)))
+    c.loop-ended.invariant.reads c.in_err-next.ensures.only_reads.later
+    (λ e. c.in_err-next.ensures.only_reads.cause (ap Err e)))
 
 pub returns-in_err-next-clause-writes : goal.returns-in_err-next-clause-writes
 returns-in_err-next-clause-writes g c =
     let p = err_from_is_err_and c.from_residual-in_err-next.result
     c.from_residual-in_err-next.ensures.1 in
     let a = c.loop-ended.invariant.writes in
-    let b = c.in_err-next.ensures.quiet in
+    let b = c.in_err-next.ensures.only_reads.quiet in
     rw (p.1, p.2) (of_no_writes c.in_err-next.field-0.0
     (g.F.Folder.write_faults c.args.folder.now) (g.F.Folder.write_faults c.respell.new.folder)
     (omega (arith, a, b)))
@@ -135,7 +134,8 @@ returns-in_err-pass_on-clause-err g c =
     (g.F.Folder.told c.loop-ended.folder c.args.new.now)
     (g.F.Folder.told c.respell.new.folder c.args.new.now)
     (g.F.Folder.told c.pass_on.new.folder c.args.new.now)
-    c.loop-ended.bytes.items c.respell.new.out.items there open_on (r.told c.args.new.now)
+    c.loop-ended.bytes.items c.respell.new.out.items there open_on
+    (r.only_reads.told c.args.new.now)
     i.rewritten r.ok c.in_err-pass_on.ensures.err)
 
 pub returns-in_err-pass_on-clause-sound : goal.returns-in_err-pass_on-clause-sound
@@ -155,7 +155,7 @@ returns-in_err-pass_on-clause-reads g c =
     let p = err_from_is_err_and c.from_residual-in_err-pass_on.result
     c.from_residual-in_err-pass_on.ensures.1 in
     let a = c.loop-ended.invariant.reads in
-    let b = c.in_ok-next.ensures.reads in
+    let b = c.in_ok-next.ensures.only_reads.later in
     let q = c.in_err-pass_on.ensures.quiet in
     rw (p.1, p.2) (no_cause ReadFailed WriteFailed (g.F.Folder.read_faults c.args.folder.now)
     (g.F.Folder.read_faults c.pass_on.new.folder) (λ e. cc e) (omega (arith, a, b, q)))
@@ -165,7 +165,7 @@ returns-in_err-pass_on-clause-writes g c =
     let p = err_from_is_err_and c.from_residual-in_err-pass_on.result
     c.from_residual-in_err-pass_on.ensures.1 in
     let a = c.loop-ended.invariant.writes in
-    let q = c.in_ok-next.ensures.quiet in
+    let q = c.in_ok-next.ensures.only_reads.quiet in
     rw (p.1, p.2) (of_write (g.F.Folder.write_faults c.args.folder.now)
     (g.F.Folder.write_faults c.respell.new.folder) (g.F.Folder.write_faults c.pass_on.new.folder)
     (omega (arith, a, q)) c.in_err-pass_on.ensures.cause.later
@@ -188,15 +188,16 @@ loop-ended-preserved g c =
           (g.F.Folder.told c.respell.new.folder c.args.new.now)
           (g.F.Folder.told c.pass_on.new.folder c.args.new.now)
           c.loop-ended.bytes.items c.respell.new.out.items c.pass_on.new.waiting.items there open_on
-          (r.told c.args.new.now) i.rewritten r.ok p.ok p.whole;
+          (r.only_reads.told c.args.new.now) i.rewritten r.ok p.ok p.whole;
       within = r.within;
       agrees = subst (λ t. AgreesTold t c.respell.new.reader.ahead)
           (sym (p.others c.respell.new.reader.ahead.name
-          (λ e. c.requires.apart (sym (r.name ∙ i.name) ∙ e)))) r.agrees;
-      name = r.name ∙ i.name;
-      others = λ other n. p.others other n ∙ r.told other ∙ i.others other n;
-      reads = let a = i.reads in let b = r.reads in let q = p.quiet in omega (arith, a, b, q);
-      writes = let a = i.writes in let q = r.quiet in let b = p.cause.later in
+          (λ e. c.requires.apart (sym (r.reads_on.kept ∙ i.name) ∙ e)))) r.reads_on.agrees;
+      name = r.reads_on.kept ∙ i.name;
+      others = λ other n. p.others other n ∙ r.only_reads.told other ∙ i.others other n;
+      reads = let a = i.reads in let b = r.only_reads.later in let q = p.quiet in
+          omega (arith, a, b, q);
+      writes = let a = i.writes in let q = r.only_reads.quiet in let b = p.cause.later in
           omega (arith, a, b, q);
     }
 
@@ -215,11 +216,11 @@ returns-clause-ok g c =
 
 pub returns-in_err-next-clause-others : goal.returns-in_err-next-clause-others
 returns-in_err-next-clause-others g c = λ other n.
-    c.in_err-next.ensures.told other ∙ c.loop-ended.invariant.others other n
+    c.in_err-next.ensures.only_reads.told other ∙ c.loop-ended.invariant.others other n
 
 pub returns-in_err-pass_on-clause-others : goal.returns-in_err-pass_on-clause-others
 returns-in_err-pass_on-clause-others g c = λ other n.
-    c.in_err-pass_on.ensures.others other n ∙ c.in_ok-next.ensures.told other
+    c.in_err-pass_on.ensures.others other n ∙ c.in_ok-next.ensures.only_reads.told other
     ∙ c.loop-ended.invariant.others other n
 
 pub returns-clause-reads : goal.returns-clause-reads

@@ -1,7 +1,6 @@
-use Rattle.std.proofs.Common.{ap, ◌∙◌}
 use Rattle.std.proofs.lemmas.Result.{err_from_is_err_and}
 use Rattle.cert_bytes.specs.Pieces.{cursor_of}
-use Rattle.cert_bytes.proofs.Told.{name_in}
+use Rattle.cert_bytes.specs.Calls.{told_behind}
 use Rattle.cert_bytes.proofs.Behind.{error_err}
 use Rattle.cert_bytes.proofs.claims.OptionRelativeErrorField.read.Goals as goal
 
@@ -9,8 +8,7 @@ pub returns-in_err-read-in-0-clause-gives : goal.returns-in_err-read-in-0-clause
 returns-in_err-read-in-0-clause-gives g c = λ all h.
     let p = err_from_is_err_and c.from_residual-in_err-read-in-0.result
     c.from_residual-in_err-read-in-0.ensures.1 in
-    let known = ap (g.F.Folder.told c.read.new.folder) (ap name_in c.in_ok-read.ensures.kept)
-    ∙ c.in_ok-read.ensures.told c.args.source.now.name ∙ h in
+    let known = told_behind c.in_ok-read.ensures.only_reads c.in_ok-read.ensures.reads_on h in
     rw (p.1, p.2) (λ f q. error_err (cursor_of all c.args.source.now)
     (cursor_of all c.read.new.source) c.in_ok-read.field-0 f c.in-0.is
     (c.in_ok-read.ensures.gives all h) (c.in_err-read-in-0.ensures.gives all known f q))

@@ -3,7 +3,8 @@ use Rattle.std.proofs.Common.{arith, rules}
 use Rattle.std.proofs.lemmas.Result.{err_from_is_err_and}
 use Rattle.cert_bytes.specs.Reading.{limited_at}
 use Rattle.cert_bytes.specs.Pieces.{cursor_of}
-use Rattle.cert_bytes.proofs.Told.{name_in, agrees_told}
+use Rattle.cert_bytes.specs.Calls.{only_reads_none, only_reads_on, reads_on_none, reads_on_then}
+use Rattle.cert_bytes.specs.Calls.{told_behind}
 use Rattle.cert_bytes.proofs.Limits.{one_digit, digit_ends, digit_stops, digit_fits, near_fits}
 use Rattle.cert_bytes.proofs.Limits.{near_moves, far_fits}
 use Rattle.cert_bytes.proofs.source.Source.limited.Goals as goal
@@ -15,19 +16,15 @@ loop-have-init g c = record {
   value = omega arith;
   gives = λ all h. ap (λ (k : ℕ). limited_at k c.args.most 1 0 (cursor_of all c.args.self.now))
       (let e : c.args.bytes - 0 ≡ c.args.bytes = omega arith in e);
-  agrees = c.requires.agrees;
-  kept = refl;
-  grows = omega arith;
-  told = λ other. refl;
-  later = omega arith;
-  quiet = refl;
+  reads_on = reads_on_none c.requires.agrees;
+  only_reads = only_reads_none;
 }
 
 pub loop-have-preserved : goal.loop-have-preserved
 loop-have-preserved g c =
     let t = c.loop-have-test.true in
     let i = c.loop-have.invariant in
-    let many = c.requires.many in
+    let many = c.requires.span.many in
     let left : c.args.bytes - c.loop-have.have ≡ suc (c.args.bytes - (c.loop-have.have + 1)) =
     omega (arith, t, many) in
     let small : c.in_ok-byte.byte < 256 = search (arith, rules) in
@@ -39,8 +36,7 @@ loop-have-preserved g c =
           < c.loop-have.weight * 128) (sym c.from.ensures)
           (digit_fits c.loop-have.value c.loop-have.weight c.in_ok-byte.byte i.value small);
       gives = λ all h.
-          let known = ap (g.F.Folder.told c.loop-have.folder) (ap name_in i.kept)
-          ∙ i.told c.args.self.now.name ∙ h in
+          let known = told_behind i.only_reads i.reads_on h in
           subst (λ (n : ℕ). limited_at (c.args.bytes - (c.loop-have.have + 1)) c.args.most
           (c.loop-have.weight * 128) (c.loop-have.value + c.loop-have.weight * n)
           (cursor_of all c.byte.new.self) ≡ limited_at c.args.bytes c.args.most 1 0
@@ -53,14 +49,8 @@ loop-have-preserved g c =
           (cursor_of all c.args.self.now)) left (i.gives all h))
           (c.in_ok-byte.ensures.gives all known)
           (λ l. omega (arith, l, high)));
-      agrees = agrees_told _ c.byte.new.self (λ all h. c.in_ok-byte.ensures.agrees all
-          (ap (g.F.Folder.told c.loop-have.folder) (sym (ap name_in c.in_ok-byte.ensures.kept))
-          ∙ sym (c.in_ok-byte.ensures.told c.byte.new.self.name) ∙ h));
-      kept = c.in_ok-byte.ensures.kept ∙ i.kept;
-      grows = omega (arith, c.in_ok-byte.ensures.moves, i.grows);
-      told = λ other. c.in_ok-byte.ensures.told other ∙ i.told other;
-      later = omega (arith, c.in_ok-byte.ensures.later, i.later);
-      quiet = c.in_ok-byte.ensures.quiet ∙ i.quiet;
+      reads_on = reads_on_then i.reads_on c.in_ok-byte.ensures.reads_on;
+      only_reads = only_reads_on i.only_reads c.in_ok-byte.ensures.only_reads;
     }
 
 pub overflow_mul-weight : goal.overflow_mul-weight
@@ -95,18 +85,20 @@ ended_near-requires g c = record {
 
 pub limited_far-requires : goal.limited_far-requires
 limited_far-requires g c =
-    let t = c.loop-have-test.false in let i = c.loop-have.invariant in let within = i.within in
-    let many = c.requires.many in
+    let t = c.loop-have-test.false in let i = c.loop-have.invariant in
+    let within = i.within in let many = c.requires.span.many in
     let nine : c.loop-have.have ≡ 9 = omega (arith, t, within) in
     let weight : c.from-2.result ≡ 128 ^ 9 =
     c.from-2.ensures ∙ i.weight ∙ ap (λ (k : ℕ). 128 ^ k) nine in
     record {
-      some = omega (arith, many);
-      before = let v = i.value in let a = c.from-2.ensures in
-          let b = c.from-3.ensures in omega (arith, v, a, b);
-      room = subst (λ (w : ℕ). w * 128 ^ (c.args.bytes - 9) ≤ 128 ^ 19) (sym weight)
-          (far_fits c.args.bytes many c.requires.few);
-      agrees = i.agrees;
+      begun = record {
+        some = omega (arith, many);
+        before = let v = i.value in let a = c.from-2.ensures in let b = c.from-3.ensures in
+            omega (arith, v, a, b);
+        room = subst (λ (w : ℕ). w * 128 ^ (c.args.bytes - 9) ≤ 128 ^ 19) (sym weight)
+            (far_fits c.args.bytes many c.requires.span.few);
+      };
+      agrees = i.reads_on.agrees;
     }
 
 pub returns-in_err-byte-clause-gives : goal.returns-in_err-byte-clause-gives
@@ -114,11 +106,10 @@ returns-in_err-byte-clause-gives g c = λ all h.
     let p = err_from_is_err_and c.from_residual.result c.from_residual.ensures.1 in
     let t = c.loop-have-test.true in
     let i = c.loop-have.invariant in
-    let many = c.requires.many in
+    let many = c.requires.span.many in
     let left : c.args.bytes - c.loop-have.have ≡ suc (c.args.bytes - (c.loop-have.have + 1)) =
     omega (arith, t, many) in
-    let known = ap (g.F.Folder.told c.loop-have.folder) (ap name_in i.kept)
-    ∙ i.told c.args.self.now.name ∙ h in
+    let known = told_behind i.only_reads i.reads_on h in
     rw (p.1, p.2) (λ f q. digit_stops (cursor_of all c.loop-have.self)
     (c.args.bytes - (c.loop-have.have + 1)) c.args.most c.loop-have.weight c.loop-have.value f _
     (subst (λ (k : ℕ). limited_at k c.args.most c.loop-have.weight c.loop-have.value
@@ -130,11 +121,10 @@ pub returns-then-byte-lt128-clause-gives : goal.returns-then-byte-lt128-clause-g
 returns-then-byte-lt128-clause-gives g c = λ all h.
     let t = c.loop-have-test.true in
     let i = c.loop-have.invariant in
-    let many = c.requires.many in
+    let many = c.requires.span.many in
     let left : c.args.bytes - c.loop-have.have ≡ suc (c.args.bytes - (c.loop-have.have + 1)) =
     omega (arith, t, many) in
-    let known = ap (g.F.Folder.told c.loop-have.folder) (ap name_in i.kept)
-    ∙ i.told c.args.self.now.name ∙ h in
+    let known = told_behind i.only_reads i.reads_on h in
     rw c.ended_near.ensures (digit_ends (cursor_of all c.loop-have.self)
     (cursor_of all c.byte.new.self) (c.args.bytes - (c.loop-have.have + 1)) c.args.most
     c.loop-have.weight c.loop-have.value c.in_ok-byte.byte _

@@ -2,6 +2,7 @@ use Rattle.std.proofs.Common.{◌≡◌, ◌≤◌, ◌<◌, ◌+◌, ◌-◌, �
 use Rattle.std.proofs.Common.{ap, subst, ◌∙◌, arith, rules}
 use Rattle.cert_bytes.specs.Reading.{limited_at}
 use Rattle.cert_bytes.specs.Pieces.{Agrees, cursor_of}
+use Rattle.cert_bytes.specs.Calls.{reads_on_none, reads_on_then}
 use Rattle.cert_bytes.proofs.Filled.{next_is}
 use Rattle.cert_bytes.proofs.Told.{name_in, style_in, agrees_for, agrees_told}
 use Rattle.cert_bytes.proofs.Limits.{one_digit, digit_ends, digit_fits, near_fits, near_moves}
@@ -15,8 +16,7 @@ loop-have-init g c = record {
   value = omega arith;
   gives = λ all h. ap (λ (k : ℕ). limited_at k c.args.most 1 0 (cursor_of all c.args.self.now))
       (let e : c.args.bytes - 0 ≡ c.args.bytes = omega arith in e);
-  agrees = c.requires.agrees;
-  kept = refl;
+  reads_on = reads_on_none c.requires.agrees;
   at = omega arith;
   left = omega arith;
 }
@@ -25,7 +25,7 @@ pub loop-have-preserved : goal.loop-have-preserved
 loop-have-preserved g c =
     let t = c.loop-have-test.true in
     let i = c.loop-have.invariant in
-    let many = c.requires.many in
+    let many = c.requires.span.many in
     let left : c.args.bytes - c.loop-have.have ≡ suc (c.args.bytes - (c.loop-have.have + 1)) =
     omega (arith, t, many) in
     let small : c.advance-byte.result < 256 = search (arith, rules) in
@@ -35,8 +35,8 @@ loop-have-preserved g c =
     let next = λ (all : List ℕ) (h : Agrees all c.loop-have.self).
     next_is all c.loop-have.self.style c.loop-have.self.at c.loop-have.self c.advance-byte.new.self
     c.advance-byte.result h refl
-    (λ l. let a = i.at in let r = c.requires.room in
-    omega (arith, t, l, a, r)) c.advance-byte.ensures.byte c.advance-byte.ensures.at
+    (λ l. let a = i.at in let r = c.requires.ahead.room in omega (arith, t, l, a, r))
+    c.advance-byte.ensures.byte c.advance-byte.ensures.at
     (ap style_in c.advance-byte.ensures.kept) in
     record {
       within = omega (arith, t);
@@ -45,7 +45,7 @@ loop-have-preserved g c =
           < c.loop-have.weight * 128) (sym c.from.ensures)
           (digit_fits c.loop-have.value c.loop-have.weight c.advance-byte.result i.value small);
       gives = λ all h.
-          let known = ap (g.F.Folder.told c.args.folder.now) (ap name_in i.kept) ∙ h in
+          let known = ap (g.F.Folder.told c.args.folder.now) (ap name_in i.reads_on.kept) ∙ h in
           subst (λ (n : ℕ). limited_at (c.args.bytes - (c.loop-have.have + 1)) c.args.most
           (c.loop-have.weight * 128) (c.loop-have.value + c.loop-have.weight * n)
           (cursor_of all c.advance-byte.new.self) ≡ limited_at c.args.bytes c.args.most 1 0
@@ -56,13 +56,16 @@ loop-have-preserved g c =
           (subst (λ (k : ℕ). limited_at k c.args.most c.loop-have.weight c.loop-have.value
           (cursor_of all c.loop-have.self) ≡ limited_at c.args.bytes c.args.most 1 0
           (cursor_of all c.args.self.now)) left (i.gives all h))
-          (next all (agrees_for _ c.loop-have.self i.agrees all known)).0
+          (next all (agrees_for _ c.loop-have.self i.reads_on.agrees all known)).0
           (λ l. omega (arith, l, high)));
-      agrees = agrees_told _ c.advance-byte.new.self (λ all h.
-          let known = ap (g.F.Folder.told c.args.folder.now)
-          (sym (ap name_in c.advance-byte.ensures.kept)) ∙ h in
-          (next all (agrees_for _ c.loop-have.self i.agrees all known)).1);
-      kept = c.advance-byte.ensures.kept ∙ i.kept;
+      reads_on = reads_on_then i.reads_on (record {
+        kept = c.advance-byte.ensures.kept;
+        grows = let x = c.advance-byte.ensures.at in omega (arith, x);
+        agrees = agrees_told _ c.advance-byte.new.self (λ all h.
+            let known = ap (g.F.Folder.told c.args.folder.now)
+            (sym (ap name_in c.advance-byte.ensures.kept)) ∙ h in
+            (next all (agrees_for _ c.loop-have.self i.reads_on.agrees all known)).1);
+      });
       at = let a = i.at in let b = c.advance-byte.ensures.at in omega (arith, a, b);
       left = let a = i.left in omega (arith, a, size);
     }
@@ -71,8 +74,8 @@ pub advance-byte-requires : goal.advance-byte-requires
 advance-byte-requires g c =
     let t = c.loop-have-test.true in
     let i = c.loop-have.invariant in
-    let w = c.requires.ahead in
-    let r = c.requires.room in
+    let w = c.requires.ahead.there in
+    let r = c.requires.ahead.room in
     let a = i.at in
     let l = i.left in
     record {
@@ -113,33 +116,35 @@ ended_near-requires g c = record {
 
 pub limited_far-requires : goal.limited_far-requires
 limited_far-requires g c =
-    let t = c.loop-have-test.false in let i = c.loop-have.invariant in let within = i.within in
-    let many = c.requires.many in
+    let t = c.loop-have-test.false in let i = c.loop-have.invariant in
+    let within = i.within in let many = c.requires.span.many in
     let nine : c.loop-have.have ≡ 9 = omega (arith, t, within) in
     let weight : c.from-2.result ≡ 128 ^ 9 =
     c.from-2.ensures ∙ i.weight ∙ ap (λ (k : ℕ). 128 ^ k) nine in
     record {
-      some = omega (arith, many);
-      before = let v = i.value in let a = c.from-2.ensures in
-          let b = c.from-3.ensures in omega (arith, v, a, b);
-      room = subst (λ (w : ℕ). w * 128 ^ (c.args.bytes - 9) ≤ 128 ^ 19) (sym weight)
-          (far_fits c.args.bytes many c.requires.few);
-      agrees = i.agrees;
+      begun = record {
+        some = omega (arith, many);
+        before = let v = i.value in let a = c.from-2.ensures in let b = c.from-3.ensures in
+            omega (arith, v, a, b);
+        room = subst (λ (w : ℕ). w * 128 ^ (c.args.bytes - 9) ≤ 128 ^ 19) (sym weight)
+            (far_fits c.args.bytes many c.requires.span.few);
+      };
+      agrees = i.reads_on.agrees;
     }
 
 pub returns-then-byte-lt128-clause-gives : goal.returns-then-byte-lt128-clause-gives
 returns-then-byte-lt128-clause-gives g c = λ all h.
     let t = c.loop-have-test.true in
     let i = c.loop-have.invariant in
-    let many = c.requires.many in
+    let many = c.requires.span.many in
     let left : c.args.bytes - c.loop-have.have ≡ suc (c.args.bytes - (c.loop-have.have + 1)) =
     omega (arith, t, many) in
-    let known = ap (g.F.Folder.told c.args.folder.now) (ap name_in i.kept) ∙ h in
+    let known = ap (g.F.Folder.told c.args.folder.now) (ap name_in i.reads_on.kept) ∙ h in
     let next = next_is all c.loop-have.self.style c.loop-have.self.at c.loop-have.self
     c.advance-byte.new.self c.advance-byte.result
-    (agrees_for _ c.loop-have.self i.agrees all known) refl
-    (λ l. let a = i.at in let r = c.requires.room in
-    omega (arith, t, l, a, r)) c.advance-byte.ensures.byte c.advance-byte.ensures.at
+    (agrees_for _ c.loop-have.self i.reads_on.agrees all known) refl
+    (λ l. let a = i.at in let r = c.requires.ahead.room in omega (arith, t, l, a, r))
+    c.advance-byte.ensures.byte c.advance-byte.ensures.at
     (ap style_in c.advance-byte.ensures.kept) in
     rw c.ended_near.ensures (digit_ends (cursor_of all c.loop-have.self)
     (cursor_of all c.advance-byte.new.self) (c.args.bytes - (c.loop-have.have + 1)) c.args.most
@@ -149,14 +154,19 @@ returns-then-byte-lt128-clause-gives g c = λ all h.
     ≡ limited_at c.args.bytes c.args.most 1 0 (cursor_of all c.args.self.now)) left (i.gives all h))
     next.0 c.if-byte-lt128.true)
 
-pub returns-then-byte-lt128-clause-agrees : goal.returns-then-byte-lt128-clause-agrees
-returns-then-byte-lt128-clause-agrees g c = agrees_told _ c.advance-byte.new.self (λ all h.
+pub returns-then-byte-lt128-clause-reads_on : goal.returns-then-byte-lt128-clause-reads_on
+returns-then-byte-lt128-clause-reads_on g c =
     let t = c.loop-have-test.true in
     let i = c.loop-have.invariant in
-    let known = ap (g.F.Folder.told c.args.folder.now)
-    (sym (ap name_in c.advance-byte.ensures.kept)) ∙ h in
-    (next_is all c.loop-have.self.style c.loop-have.self.at c.loop-have.self c.advance-byte.new.self
-    c.advance-byte.result (agrees_for _ c.loop-have.self i.agrees all known) refl
-    (λ l. let a = i.at in let r = c.requires.room in
-    omega (arith, t, l, a, r)) c.advance-byte.ensures.byte c.advance-byte.ensures.at
-    (ap style_in c.advance-byte.ensures.kept)).1)
+    let a = c.advance-byte.ensures in
+    let old = c.loop-have.self in
+    reads_on_then i.reads_on (record {
+      kept = a.kept;
+      grows = let x = a.at in omega (arith, x);
+      agrees = agrees_told _ c.advance-byte.new.self (λ all h.
+          let known = ap (g.F.Folder.told c.args.folder.now) (sym (ap name_in a.kept)) ∙ h in
+          (next_is all old.style old.at old c.advance-byte.new.self c.advance-byte.result
+          (agrees_for _ old i.reads_on.agrees all known) refl
+          (λ l. let x = i.at in let r = c.requires.ahead.room in omega (arith, t, l, x, r)) a.byte
+          a.at (ap style_in a.kept)).1);
+    })

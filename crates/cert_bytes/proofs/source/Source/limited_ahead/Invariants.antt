@@ -1,6 +1,7 @@
 use Rattle.std.proofs.Common.{◌≡◌, ◌≤◌, ◌<◌, ◌+◌, ◌-◌, ◌^◌, ℕ, List, Some, length}
 use Rattle.cert_bytes.specs.Reading.{limited_at}
-use Rattle.cert_bytes.specs.Pieces.{cursor_of, kept_of, AgreesTold}
+use Rattle.cert_bytes.specs.Pieces.{cursor_of, kept_of}
+use Rattle.cert_bytes.specs.Calls.{ReadsOn}
 use Rattle.cert_bytes.proofs.source.Source.limited_ahead.Given as goal
 
 abbrev pub invariant-loop-have : goal.invariant-loop-have
@@ -11,8 +12,7 @@ invariant-loop-have g l = record {
   gives : (all : List ℕ) → g.F.Folder.told l.initial.folder l.initial.self.name ≡ Some all
       → limited_at (l.bytes - l.have) l.most l.weight l.value (cursor_of all l.self)
       ≡ limited_at l.bytes l.most 1 0 (cursor_of all l.initial.self);
-  agrees : AgreesTold (g.F.Folder.told l.initial.folder l.self.name) l.self;
-  kept : kept_of l.self ≡ kept_of l.initial.self;
+  reads_on : ReadsOn kept_of (g.F.Folder.told l.initial.folder) l.initial.self l.self;
   at : l.self.at ≡ l.initial.self.at + l.have;
   left : l.have + length l.self.ahead ≡ length l.initial.self.ahead;
 }

@@ -1,25 +1,21 @@
-use Rattle.std.proofs.Common.{◌≡◌, ◌<◌, ◌+◌, ◌-◌, ◌*◌, ℕ, suc, refl, sym, ap, subst, ◌∙◌, arith}
-use Rattle.std.proofs.Common.{rules}
+use Rattle.std.proofs.Common.{◌≡◌, ◌<◌, ◌+◌, ◌-◌, ◌*◌, ℕ, suc, refl, sym, subst, arith, rules}
 use Rattle.std.proofs.lemmas.Result.{err_from_is_err_and}
 use Rattle.cert_bytes.specs.Reading.{limited_at}
 use Rattle.cert_bytes.specs.Pieces.{cursor_of}
-use Rattle.cert_bytes.proofs.Told.{name_in, agrees_told}
+use Rattle.cert_bytes.specs.Calls.{only_reads_none, only_reads_on, reads_on_none, reads_on_then}
+use Rattle.cert_bytes.specs.Calls.{told_behind}
 use Rattle.cert_bytes.proofs.Limits.{one_digit, digit_ends, digit_stops, no_digit, digit_fits}
 use Rattle.cert_bytes.proofs.Limits.{weight_fits, weight_moves}
 use Rattle.cert_bytes.proofs.source.Source.limited_far.Goals as goal
 
 pub loop-left-init : goal.loop-left-init
 loop-left-init g c = record {
-  some = c.requires.some;
-  worth = c.requires.room;
-  sum = c.requires.before;
+  some = c.requires.begun.some;
+  worth = c.requires.begun.room;
+  sum = c.requires.begun.before;
   gives = λ all h. refl;
-  agrees = c.requires.agrees;
-  kept = refl;
-  grows = omega arith;
-  told = λ other. refl;
-  later = omega arith;
-  quiet = refl;
+  reads_on = reads_on_none c.requires.agrees;
+  only_reads = only_reads_none;
 }
 
 pub loop-left-preserved : goal.loop-left-preserved
@@ -36,8 +32,7 @@ loop-left-preserved g c =
           < c.loop-left.worth * 128) (sym c.from.ensures)
           (digit_fits c.loop-left.sum c.loop-left.worth c.in_ok-byte.byte i.sum small);
       gives = λ all h.
-          let known = ap (g.F.Folder.told c.loop-left.folder) (ap name_in i.kept)
-          ∙ i.told c.args.self.now.name ∙ h in
+          let known = told_behind i.only_reads i.reads_on h in
           subst (λ (n : ℕ). limited_at (c.loop-left.left - 1) c.args.most (c.loop-left.worth * 128)
           (c.loop-left.sum + c.loop-left.worth * n) (cursor_of all c.byte.new.self)
           ≡ limited_at c.args.bytes c.args.most c.args.weight c.args.value
@@ -49,14 +44,8 @@ loop-left-preserved g c =
           c.args.value (cursor_of all c.args.self.now)) left (i.gives all h))
           (c.in_ok-byte.ensures.gives all known)
           (λ l. omega (arith, l, high)));
-      agrees = agrees_told _ c.byte.new.self (λ all h. c.in_ok-byte.ensures.agrees all
-          (ap (g.F.Folder.told c.loop-left.folder) (sym (ap name_in c.in_ok-byte.ensures.kept))
-          ∙ sym (c.in_ok-byte.ensures.told c.byte.new.self.name) ∙ h));
-      kept = c.in_ok-byte.ensures.kept ∙ i.kept;
-      grows = omega (arith, c.in_ok-byte.ensures.moves, i.grows);
-      told = λ other. c.in_ok-byte.ensures.told other ∙ i.told other;
-      later = omega (arith, c.in_ok-byte.ensures.later, i.later);
-      quiet = c.in_ok-byte.ensures.quiet ∙ i.quiet;
+      reads_on = reads_on_then i.reads_on c.in_ok-byte.ensures.reads_on;
+      only_reads = only_reads_on i.only_reads c.in_ok-byte.ensures.only_reads;
     }
 
 pub overflow_mul-worth : goal.overflow_mul-worth
@@ -87,8 +76,7 @@ returns-in_err-byte-clause-gives g c = λ all h.
     let t = c.loop-left-test.true in
     let i = c.loop-left.invariant in
     let left : c.loop-left.left ≡ suc (c.loop-left.left - 1) = omega (arith, t) in
-    let known = ap (g.F.Folder.told c.loop-left.folder) (ap name_in i.kept)
-    ∙ i.told c.args.self.now.name ∙ h in
+    let known = told_behind i.only_reads i.reads_on h in
     rw (p.1, p.2) (λ f q. digit_stops (cursor_of all c.loop-left.self)
     (c.loop-left.left - 1) c.args.most c.loop-left.worth c.loop-left.sum f _
     (subst (λ (k : ℕ). limited_at k c.args.most c.loop-left.worth c.loop-left.sum
@@ -101,8 +89,7 @@ returns-then-byte-lt128-clause-gives g c = λ all h.
     let t = c.loop-left-test.true in
     let i = c.loop-left.invariant in
     let left : c.loop-left.left ≡ suc (c.loop-left.left - 1) = omega (arith, t) in
-    let known = ap (g.F.Folder.told c.loop-left.folder) (ap name_in i.kept)
-    ∙ i.told c.args.self.now.name ∙ h in
+    let known = told_behind i.only_reads i.reads_on h in
     rw c.ended_with.ensures (digit_ends (cursor_of all c.loop-left.self)
     (cursor_of all c.byte.new.self)
     (c.loop-left.left - 1) c.args.most c.loop-left.worth c.loop-left.sum c.in_ok-byte.byte _
@@ -119,8 +106,7 @@ returns-in_err-byte-2-clause-gives g c = λ all h.
     let i = c.loop-left.invariant in
     let some = i.some in
     let last : c.loop-left.left ≡ 1 = omega (arith, t, some) in
-    let known = ap (g.F.Folder.told c.loop-left.folder) (ap name_in i.kept)
-    ∙ i.told c.args.self.now.name ∙ h in
+    let known = told_behind i.only_reads i.reads_on h in
     rw (p.1, p.2) (λ f q. digit_stops
     (cursor_of all c.loop-left.self) 0 c.args.most c.loop-left.worth c.loop-left.sum f _
     (subst (λ (k : ℕ). limited_at k c.args.most c.loop-left.worth c.loop-left.sum
@@ -134,8 +120,7 @@ returns-then-byte-lt128-2-clause-gives g c = λ all h.
     let i = c.loop-left.invariant in
     let some = i.some in
     let last : c.loop-left.left ≡ 1 = omega (arith, t, some) in
-    let known = ap (g.F.Folder.told c.loop-left.folder) (ap name_in i.kept)
-    ∙ i.told c.args.self.now.name ∙ h in
+    let known = told_behind i.only_reads i.reads_on h in
     rw c.ended_with-then-byte-lt128-2.ensures
     (digit_ends (cursor_of all c.loop-left.self) (cursor_of all c.byte-2.new.self) 0 c.args.most
     c.loop-left.worth c.loop-left.sum c.in_ok-byte-2.byte _
@@ -151,8 +136,7 @@ returns-clause-gives g c = λ all h.
     let some = i.some in
     let high = c.if-byte-lt128-2.false in
     let last : c.loop-left.left ≡ 1 = omega (arith, t, some) in
-    let known = ap (g.F.Folder.told c.loop-left.folder) (ap name_in i.kept)
-    ∙ i.told c.args.self.now.name ∙ h in
+    let known = told_behind i.only_reads i.reads_on h in
     no_digit (cursor_of all c.byte-2.new.self) c.args.most (c.loop-left.worth * 128)
     (c.loop-left.sum + c.loop-left.worth * (c.in_ok-byte-2.byte - 128)) _
     (one_digit (cursor_of all c.loop-left.self) (cursor_of all c.byte-2.new.self) 0 c.args.most

@@ -29,7 +29,7 @@ loop-have-preserved c =
     ap length c.advance.ensures.byte in
     let next = λ (all : List ℕ) (h : Agrees all c.args.self.now). next_is all c.loop-have.self.style
     c.loop-have.self.at c.loop-have.self c.advance.new.self c.advance.result (i.agrees all h) refl
-    (λ l. let a = i.at in let r = c.requires.room in omega (arith, t, l, a, r))
+    (λ l. let a = i.at in let r = c.requires.ahead.room in omega (arith, t, l, a, r))
     c.advance.ensures.byte c.advance.ensures.at (ap style_in c.advance.ensures.kept) in
     record {
       within = omega (arith, t);
@@ -50,8 +50,8 @@ pub advance-requires : goal.advance-requires
 advance-requires c =
     let t = c.loop-have-test.true in
     let i = c.loop-have.invariant in
-    let w = c.requires.ahead in
-    let r = c.requires.room in
+    let w = c.requires.ahead.there in
+    let r = c.requires.ahead.room in
     let a = i.at in
     let l = i.left in
     record {

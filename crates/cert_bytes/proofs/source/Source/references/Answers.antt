@@ -1,9 +1,9 @@
-use Rattle.std.proofs.Common.{◌≡◌, ◌+◌, ◌-◌, [], ℕ, suc, rules, arith, ap, subst, ◌∙◌}
+use Rattle.std.proofs.Common.{◌≡◌, ◌+◌, ◌-◌, [], ℕ, suc, rules, arith, subst}
 use Rattle.std.proofs.lemmas.Result.{err_from_is_err_and}
 use Rattle.cert_bytes.specs.Reading.{references_at}
 use Rattle.cert_bytes.proofs.Rows.{one_reference, references_stop, references_end}
 use Rattle.cert_bytes.specs.Pieces.{cursor_of}
-use Rattle.cert_bytes.proofs.Told.{name_in}
+use Rattle.cert_bytes.specs.Calls.{only_reads_on, reads_on_then, told_behind}
 use Rattle.cert_bytes.proofs.source.Source.references.Goals as goal
 
 pub loop-have-preserved : goal.loop-have-preserved
@@ -15,9 +15,8 @@ loop-have-preserved g c =
       within = omega (arith, t);
       many = search (rules, arith);
       gives = λ all h.
-          let known =
-          ap (g.F.Folder.told c.loop-have.folder) (ap name_in c.loop-have.invariant.kept)
-          ∙ c.loop-have.invariant.told c.args.self.now.name ∙ h in
+          let known = told_behind c.loop-have.invariant.only_reads c.loop-have.invariant.reads_on
+          h in
           let read = c.in_ok-read.ensures.gives all known in
           let step = one_reference (cursor_of all c.loop-have.self)
           (cursor_of all c.read.new.source)
@@ -26,12 +25,8 @@ loop-have-preserved g c =
           (cursor_of all c.loop-have.self) ≡ references_at c.args.count []
           (cursor_of all c.args.self.now)) left (c.loop-have.invariant.gives all h)) read in
           rw c.in_ok-push.ensures.items step;
-      agrees = c.in_ok-read.ensures.agrees;
-      kept = c.in_ok-read.ensures.kept ∙ c.loop-have.invariant.kept;
-      grows = omega (arith, c.in_ok-read.ensures.grows, c.loop-have.invariant.grows);
-      told = λ other. c.in_ok-read.ensures.told other ∙ c.loop-have.invariant.told other;
-      later = omega (arith, c.in_ok-read.ensures.later, c.loop-have.invariant.later);
-      quiet = c.in_ok-read.ensures.quiet ∙ c.loop-have.invariant.quiet;
+      reads_on = reads_on_then c.loop-have.invariant.reads_on c.in_ok-read.ensures.reads_on;
+      only_reads = only_reads_on c.loop-have.invariant.only_reads c.in_ok-read.ensures.only_reads;
     }
 
 pub returns-clause-gives : goal.returns-clause-gives
@@ -45,8 +40,7 @@ pub returns-in_err-read-clause-gives : goal.returns-in_err-read-clause-gives
 returns-in_err-read-clause-gives g c = λ all h.
     let p = err_from_is_err_and c.from_residual.result c.from_residual.ensures.1 in
     let t = c.loop-have-test.true in
-    let known = ap (g.F.Folder.told c.loop-have.folder) (ap name_in c.loop-have.invariant.kept)
-    ∙ c.loop-have.invariant.told c.args.self.now.name ∙ h in
+    let known = told_behind c.loop-have.invariant.only_reads c.loop-have.invariant.reads_on h in
     let left : c.args.count - c.loop-have.have
     ≡ suc (c.args.count - (c.loop-have.have + 1)) = omega (arith, t) in
     rw (p.1, p.2) (λ f q. references_stop (cursor_of all c.loop-have.self)
