@@ -14,8 +14,8 @@ use Rattle.command_runs.specs.Fates.Left.{Kept}
 use Rattle.command_runs.specs.Runs.{Bytes, Run, IsKept, ReadFailed}
 use Rattle.command_runs.specs.declared.status.Status.{Status}
 use Rattle.command_runs.specs.declared.status.Status.TheVariants as status
-use Rattle.script_answers.specs.Texts.{IsLong, ReadsBehind, long_refused, no_script, told_script}
-use Rattle.script_answers.specs.Texts.{told_text}
+use Rattle.script_texts.specs.Texts.{IsLong, ReadsBehind, long_refused, no_script, told_script}
+use Rattle.script_texts.specs.Texts.{told_text}
 use Rattle.at_command.specs.Told.{AtPrints}
 use Rattle.at_command.specs.Command.{AtFate, AtTold, IsAtRun}
 use Rattle.at_command.specs.Laws.{AtAnswersAreOne, IsPointTold}

@@ -3,7 +3,7 @@ use Rattle.std.proofs.Common.{◌≡◌, List, Option, Some, refl, sym, ap, ◌�
 use Rattle.std.proofs.lemmas.Option.{none-some}
 use Rattle.point_text.specs.script_grammar.Spells.{View, Spells, SpellsOnce}
 use Rattle.point_text.specs.script_grammar.Spells as script
-use Rattle.script_answers.specs.universe.OneMark.{MarksAreOne}
+use Rattle.point_text.specs.rewrite_hints.Marks.{marks_are_one}
 use Rattle.point_text.specs.point_values.Rows.{Row, assignment_of}
 use Rattle.point_text.specs.point_values.Evaluation.{IsTooWide, evaluation_of}
 use Rattle.point_text.specs.point_values.declared.place.Place.{Place}
@@ -13,9 +13,8 @@ use Rattle.command_runs.specs.Runs.{Bytes}
 use Rattle.command_runs.specs.Fates.{IsTold}
 use Rattle.command_runs.specs.declared.status.Status.{Status}
 use Rattle.command_runs.specs.declared.status.Status.TheVariants as status
-use Rattle.script_answers.specs.Answers.{made_options}
-use Rattle.script_answers.specs.Laws.{TextAnswersAreOne}
-use Rattle.script_answers.specs.Texts.{IsRefusedWith}
+use Rattle.script_texts.specs.script_grammar.script_judge.First.{FirstsAreUnique}
+use Rattle.script_texts.specs.Texts.{IsRefusedWith, refused_once}
 use Rattle.at_command.specs.Lines.{point_line, wide_line}
 use Rattle.at_command.specs.Told.{AtPrints, IsEvaluated, IsWide, OfPoint, PointTells}
 use Rattle.at_command.specs.Laws.{AtAnswersAreOne, IsPointTold}
@@ -26,29 +25,28 @@ Twice a b lines others = (a ≡ b) × (lines ≡ others)
 place-same : (p q : Place) → Some p ≡ Some q → p ≡ q
 place-same p q e = cc
 
-module _ (one_mark : MarksAreOne) (one_point : SpelledOnce) (no_point : NeverBoth)
-    (one_fault : FaultsAreOne) (one_script : SpellsOnce) (no_script : script.NeverBoth)
-    (one_text : TextAnswersAreOne) where
+module _ (one_point : SpelledOnce) (no_point : NeverBoth) (one_fault : FaultsAreOne)
+    (one_script : SpellsOnce) (no_script : script.NeverBoth) (unique : FirstsAreUnique) where
   -- ---- at rows
   -- where all numbers are below 2^127 none is too wide
   narrow_or_wide : (s : View) (rows : List Row) (lines others : Bytes) → IsEvaluated s rows lines
       → IsWide s rows others → ⊥
   narrow_or_wide s rows lines others e w =
-      let same = one_mark s.nodes s.hints.rewrites w.marks e.marks w.marked e.marked in
+      let same = marks_are_one s.nodes s.hints.rewrites w.marks e.marks w.marked e.marked in
       none-some _ (sym e.narrow
       ∙ subst (λ m. IsTooWide (judged_of s m) rows w.place) same w.first)
 
   evaluated_rows : (s : View) (rows : List Row) (lines others : Bytes) → IsEvaluated s rows lines
       → IsEvaluated s rows others → lines ≡ others
   evaluated_rows s rows lines others e f =
-      let same = one_mark s.nodes s.hints.rewrites e.marks f.marks e.marked f.marked in
+      let same = marks_are_one s.nodes s.hints.rewrites e.marks f.marks e.marked f.marked in
       e.printed ∙ ap (λ m. evaluation_of (judged_of s m) (assignment_of rows)) same
       ∙ sym f.printed
 
   wide_rows : (s : View) (rows : List Row) (lines others : Bytes) → IsWide s rows lines
       → IsWide s rows others → lines ≡ others
   wide_rows s rows lines others e f =
-      let same = one_mark s.nodes s.hints.rewrites f.marks e.marks f.marked e.marked in
+      let same = marks_are_one s.nodes s.hints.rewrites f.marks e.marks f.marked e.marked in
       let place : e.place ≡ f.place = place-same e.place f.place (sym e.first
       ∙ subst (λ m. IsTooWide (judged_of s m) rows f.place) same f.first) in
       e.printed ∙ ap wide_line place ∙ sym f.printed
@@ -115,14 +113,10 @@ module _ (one_mark : MarksAreOne) (one_point : SpelledOnce) (no_point : NeverBot
         → OfPoint text known P → ⊥
     refused_of_point P line (r, h, e) (v, spelled, point, is, rest) = no_script text v r spelled h
 
-    -- it is refused as `prove` refuses it, under whichever options
-    refused_once : IsRefusedWith text lines → IsRefusedWith text others
-        → Twice status.Script status.Script lines others
-    refused_once p q = one_text made_options text status.Script status.Script lines others p q
-
     prints_once : (a b : Status) → AtPrints text known a lines → AtPrints text known b others
         → Twice a b lines others
-    prints_once status.Script status.Script p q = refused_once p q
+    prints_once status.Script status.Script p q =
+        (refl, refused_once unique text lines others p q)
     prints_once status.Script status.Answered p q = absurd (refused_of_point _ lines p q)
     prints_once status.Script status.TooWide p q = absurd (refused_of_point _ lines p q)
     prints_once status.Script status.Point p q = absurd (refused_of_point _ lines p q)

@@ -4,7 +4,7 @@ use Rattle.command_line.specs.At.{AskedAt}
 use Rattle.command_runs.specs.Runs.{Told, Run}
 use Rattle.command_runs.specs.Fates.{Fate, IsRunOf, MayWrite, OrUnread, IsKeptFile, OfText}
 use Rattle.command_runs.specs.Fates.Left.{Kept}
-use Rattle.script_answers.specs.Texts.{ReadsBehind}
+use Rattle.script_texts.specs.Texts.{ReadsBehind}
 use Rattle.at_command.specs.Told.{AtPrints}
 
 -- The answer to the script's text and the point; no file is written.

@@ -15,7 +15,7 @@ use Rattle.command_runs.specs.Runs.{Bytes}
 use Rattle.command_runs.specs.Fates.{IsTold}
 use Rattle.command_runs.specs.declared.status.Status.{Status}
 use Rattle.command_runs.specs.declared.status.Status.TheVariants as status
-use Rattle.script_answers.specs.Texts.{IsRefusedWith}
+use Rattle.script_texts.specs.Texts.{IsRefusedWith}
 use Rattle.at_command.specs.Lines.{point_line, wide_line}
 
 -- ---- at rows

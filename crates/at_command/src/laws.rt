@@ -1,8 +1,7 @@
 // One answer is defined for a text and a point, and what the last line says is so.
 ghost use Rattle.at_command.specs.Laws.{AtAnswersAreOne, MeetingIsMet};
 
-use point_text::{meeting_is_told, points_are_one, script_or_refusal};
-use script_answers::{marks_are_one, text_answers_are_one};
+use point_text::{firsts_are_unique, meeting_is_told, points_are_one, script_or_refusal};
 
 /// The law that a text and a point have one status and one text of lines, where the point's bytes
 /// are told or the text is no script. Nothing is done.
@@ -11,8 +10,7 @@ pub fn at_answers_are_one()
 {
     script_or_refusal();
     points_are_one();
-    marks_are_one();
-    text_answers_are_one();
+    firsts_are_unique();
 }
 
 /// The law that a point's assignment meets the script wherever the last line of its evaluation says

@@ -8,8 +8,8 @@ ghost use Rattle.at_command.specs.Told.{AtPrints, PointTells, RowsTell};
 use crate::lines::{point_line, wide_line};
 use command_runs::Status;
 use fx_edge::Folder;
-use point_text::{EvalStop, ParseStop, Point, PointStop, Script, evaluate, parse, read_point};
-use script_answers::{classify, refusal_line};
+use point_text::{EvalStop, Point, PointStop, Script, evaluate, marks_of, parse, read_point};
+use script_texts::refused_line;
 use std::alloc::{AllocError, Global};
 use whole_texts::{ReadStop, read_text};
 
@@ -25,7 +25,8 @@ fn evaluated(
     requires { AreRowsOf script.now.variables point.now.rows }
     ensures { IfOk result (λ r. RowsTell script.now point.now.rows r.0 r.1.items) }
 {
-    let marks = classify(alloc, script)?;
+    script.laws();
+    let marks = marks_of(alloc, script.nodes(), script.hints().rewrites.as_slice())?;
     match evaluate(alloc, script, marks.as_slice(), point) {
         Ok(lines) => Ok((Status::Answered, lines)),
         Err(EvalStop::TooWide(place)) => Ok((Status::TooWide, wide_line(alloc, place)?)),
@@ -92,7 +93,6 @@ pub fn at_answer<F: Folder>(
 {
     match parse(alloc, text) {
         Ok(script) => script_at(alloc, &script, name, folder),
-        Err(ParseStop::Refused(refusal)) => Ok((Status::Script, refusal_line(alloc, refusal)?)),
-        Err(ParseStop::OutOfMemory) => Err(ReadStop::OutOfMemory),
+        Err(stop) => Ok((Status::Script, refused_line(alloc, text, stop)?)),
     }
 }

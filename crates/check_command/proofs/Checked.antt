@@ -19,9 +19,9 @@ use Rattle.script_checker.specs.cert_checker.declared.lines.Lines.{Lines}
 use Rattle.script_checker.specs.cert_checker.Outcomes.{Outcome, accepted, unread, refused}
 use Rattle.script_checker.specs.cert_checker.Checking.{IsFresh}
 use Rattle.script_checker.specs.Checking.{ComesFor, ShowsFor, ChecksFor, AreAcceptedFor}
-use Rattle.script_answers.specs.settler.Held.{AreHeld}
-use Rattle.script_answers.specs.report.Proved.{answer_text}
-use Rattle.script_answers.specs.report.Certificates.{cert_fault_line, check_fault_line}
+use Rattle.script_checker.specs.script_meets.Held.{AreHeld}
+use Rattle.script_texts.specs.report.Proved.{answer_text}
+use Rattle.script_texts.specs.report.Certificates.{cert_fault_line, check_fault_line}
 use Rattle.command_runs.specs.Runs.{Bytes, Told}
 use Rattle.command_runs.specs.declared.status.Status.TheVariants.{Answered, Certificate}
 use Rattle.check_command.specs.Checked.{ComesWhereTold, CheckPrints}

@@ -17,7 +17,7 @@ use Rattle.script_checker.specs.cert_checker.Checking.{IsAnswer}
 use Rattle.script_checker.specs.Checking.{ComesFor, AreAcceptedFor}
 use Rattle.whole_texts.specs.Texts.{IsText}
 use Rattle.command_runs.specs.Runs.{Bytes, Told}
-use Rattle.script_answers.specs.Texts.{read_whole}
+use Rattle.script_texts.specs.Texts.{read_whole}
 use Rattle.check_command.specs.Checked.{IsAcceptable}
 use Rattle.check_command.proofs.Checked.{begun}
 

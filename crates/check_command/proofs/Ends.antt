@@ -14,8 +14,8 @@ use Rattle.command_runs.specs.Fates.Left.{Kept}
 use Rattle.command_runs.specs.Runs.{Bytes, Run, IsKept, ReadFailed}
 use Rattle.command_runs.specs.declared.status.Status.{Status}
 use Rattle.command_runs.specs.declared.status.Status.TheVariants as status
-use Rattle.script_answers.specs.Texts.{IsLong, ReadsBehind, long_refused, no_script, told_script}
-use Rattle.script_answers.specs.Texts.{told_text}
+use Rattle.script_texts.specs.Texts.{IsLong, ReadsBehind, long_refused, no_script, told_script}
+use Rattle.script_texts.specs.Texts.{told_text}
 use Rattle.check_command.specs.Checked.{CheckPrints, IsAcceptable}
 use Rattle.check_command.specs.Command.{CheckFate, CheckTold, IsCheckRun}
 use Rattle.check_command.specs.Laws.{CheckAnswersAreOne, IsCertTold}

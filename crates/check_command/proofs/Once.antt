@@ -2,16 +2,15 @@
 use Rattle.std.proofs.Common.{◌≡◌, inl, inr, Option, Some, refl, sym, ap, ◌∙◌, subst}
 use Rattle.script_checker.specs.script_judge.First.{FirstsAreUnique}
 use Rattle.script_checker.specs.script_grammar.Spells.{View, Spells, SpellsOnce, NeverBoth}
-use Rattle.script_checker.specs.rewrite_hints.Marks.{AreMarks}
-use Rattle.script_answers.specs.universe.OneMark.{MarksAreOne}
+use Rattle.script_checker.specs.rewrite_hints.Marks.{AreMarks, marks_are_one}
 use Rattle.cert_bytes.specs.declared.style.Style.TheVariants.{First}
 use Rattle.cert_bytes.specs.Reading.{cursor}
 use Rattle.script_checker.specs.cert_checker.Contexts.{Context}
 use Rattle.script_checker.specs.cert_checker.Outcomes.{Outcome, accepted, unread, refused}
 use Rattle.script_checker.specs.Checking.{ComesFor, ChecksAreOne}
-use Rattle.script_answers.specs.report.Lines.{refusal_line}
-use Rattle.script_answers.specs.report.Proved.{answer_text}
-use Rattle.script_answers.specs.report.Certificates.{cert_fault_line, check_fault_line}
+use Rattle.script_texts.specs.Texts.{refused_once}
+use Rattle.script_texts.specs.report.Proved.{answer_text}
+use Rattle.script_texts.specs.report.Certificates.{cert_fault_line, check_fault_line}
 use Rattle.command_runs.specs.Runs.{Bytes}
 use Rattle.command_runs.specs.declared.status.Status.TheVariants.{Answered, Certificate}
 use Rattle.command_runs.specs.declared.status.Status.TheVariants as status
@@ -32,8 +31,8 @@ fail_once (refused f) line other p q = p ∙ sym q
 end-same : (c d : Context) → accepted c ≡ accepted d → c ≡ d
 end-same c d e = cc
 
-module _ (spells_once : SpellsOnce) (both : NeverBoth) (refused_once : FirstsAreUnique)
-    (marks_once : MarksAreOne) (checks_once : ChecksAreOne) where
+module _ (spells_once : SpellsOnce) (both : NeverBoth) (unique : FirstsAreUnique)
+    (checks_once : ChecksAreOne) where
   module _ (text all : Bytes) (cert : Option Bytes) (told : cert ≡ Some all) where
     fails_with : (s : View) (line : Bytes) → IsFaulty s cert line
         → (o : Outcome) × ComesFor s (cursor First all 0) o × IsFail o line
@@ -61,7 +60,7 @@ module _ (spells_once : SpellsOnce) (both : NeverBoth) (refused_once : FirstsAre
         let marked : AreMarks p.script.nodes p.script.hints.rewrites q.marks =
         subst (λ (v : View). AreMarks v.nodes v.hints.rewrites q.marks) (sym script) q.marked in
         let marks : p.marks ≡ q.marks =
-        marks_once p.script.nodes p.script.hints.rewrites p.marks q.marks p.marked marked in
+        marks_are_one p.script.nodes p.script.hints.rewrites p.marks q.marks p.marked marked in
         p.printed
         ∙ (λ i. answer_text (script i).text (script i).tokens (script i).spans (shown i) (marks i))
         ∙ sym q.printed
@@ -100,9 +99,8 @@ module _ (spells_once : SpellsOnce) (both : NeverBoth) (refused_once : FirstsAre
       absurd (both text q.script r q.spelled p)
   check_once text cert tells status.Script Certificate line other (r, p, e) (t, q, f) =
       absurd (both text t r q p)
-  check_once text cert tells status.Script status.Script line other (r, p, e) (u, q, f) =
-      let h : r ≡ u = cc (refused_once text (Some r) (Some u) p q) in
-      (refl, e ∙ ap refusal_line h ∙ sym f)
+  check_once text cert tells status.Script status.Script line other p q =
+      (refl, refused_once unique text line other p q)
   check_once text cert tells Answered _ line other p q = absurd q
   check_once text cert tells Certificate _ line other p q = absurd q
   check_once text cert tells status.Script _ line other p q = absurd q

@@ -14,14 +14,14 @@ use Rattle.script_checker.specs.cert_checker.declared.fault.CheckFault.{CheckFau
 use Rattle.script_checker.specs.cert_checker.Contexts.{Context}
 use Rattle.script_checker.specs.cert_checker.Outcomes.{Outcome, accepted, unread, refused}
 use Rattle.script_checker.specs.Checking.{ComesFor, AreAcceptedFor}
-use Rattle.script_answers.specs.settler.Held.{AreHeld}
-use Rattle.script_answers.specs.report.Proved.{answer_text}
-use Rattle.script_answers.specs.report.Certificates.{cert_fault_line, check_fault_line}
+use Rattle.script_checker.specs.script_meets.Held.{AreHeld}
+use Rattle.script_texts.specs.report.Proved.{answer_text}
+use Rattle.script_texts.specs.report.Certificates.{cert_fault_line, check_fault_line}
 use Rattle.command_runs.specs.Runs.{Bytes}
 use Rattle.command_runs.specs.Fates.{WhereTold}
 use Rattle.command_runs.specs.declared.status.Status.{Status}
 use Rattle.command_runs.specs.declared.status.Status.TheVariants as status
-use Rattle.script_answers.specs.Texts.{IsRefusedWith}
+use Rattle.script_texts.specs.Texts.{IsRefusedWith}
 
 -- This comes of the certificate's bytes for the script, where they are told.
 abbrev pub ComesWhereTold : View → Option Bytes → Outcome → Type 0

@@ -5,7 +5,7 @@ use Rattle.command_runs.specs.Runs.{Bytes, Told, Run}
 use Rattle.command_runs.specs.Fates.{Fate, Comes, IsRunOf, MayWrite, OrUnread, IsKeptFile, OfText}
 use Rattle.command_runs.specs.Fates.Left.{Kept}
 use Rattle.command_runs.specs.declared.status.Status.TheVariants as status
-use Rattle.script_answers.specs.Texts.{ReadsBehind}
+use Rattle.script_texts.specs.Texts.{ReadsBehind}
 use Rattle.check_command.specs.Checked.{CheckPrints, IsAcceptable}
 
 -- The answer to the script's text and the certificate; no file is written.

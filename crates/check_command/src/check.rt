@@ -2,16 +2,16 @@
 ghost use Rattle.std.specs.Prelude.{◌≡◌, ◌≤◌, ℕ, List, Some, IfOk, IsErrOf};
 ghost use Rattle.fx_edge.specs.Outside.{Rose};
 ghost use Rattle.script_checker.specs.script_grammar.Spells.{View, Spells};
-ghost use Rattle.script_answers.specs.report.Proved as spec;
+ghost use Rattle.script_texts.specs.report.Proved as spec;
 ghost use Rattle.check_command.specs.Checked.{CheckPrints, IsAcceptable};
 
 use cert_bytes::Reader;
 use command_runs::Status;
 use fx_edge::Folder;
-use script_answers::{answer_text, cert_fault_line, check_fault_line, refusal_line};
 use script_checker::{
-    CheckStop, Lines, ParseStop, Script, bytes_are_accepted, check_script, parse, script_or_refusal,
+    CheckStop, Lines, Script, bytes_are_accepted, check_script, parse, script_or_refusal,
 };
+use script_texts::{answer_text, cert_fault_line, check_fault_line, refused_line};
 use std::alloc::{AllocError, Global};
 use whole_texts::ReadStop;
 
@@ -81,7 +81,6 @@ pub fn check_answer<F: Folder>(
     script_or_refusal();
     match parse(alloc, text) {
         Ok(script) => check_certificate(alloc, &script, name, folder),
-        Err(ParseStop::Refused(refusal)) => Ok((Status::Script, refusal_line(alloc, refusal)?)),
-        Err(ParseStop::OutOfMemory) => Err(ReadStop::OutOfMemory),
+        Err(stop) => Ok((Status::Script, refused_line(alloc, text, stop)?)),
     }
 }

@@ -1,7 +1,6 @@
 // One answer is defined for a text and a certificate.
 ghost use Rattle.check_command.specs.Laws.{CheckAnswersAreOne};
 
-use script_answers::marks_are_one;
 use script_checker::{checks_are_one, firsts_are_unique, script_or_refusal};
 
 /// The law that a text and a certificate have one status and one text of lines, where the
@@ -11,6 +10,5 @@ pub fn check_answers_are_one()
 {
     script_or_refusal();
     firsts_are_unique();
-    marks_are_one();
     checks_are_one();
 }

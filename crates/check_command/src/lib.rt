@@ -2,10 +2,8 @@
 #![tactic(auto)]
 
 // What callers name of the crates below.
-pub use script_answers::{cert_fault_line, check_fault_line, new_too_long_line, refusal_line};
-pub use script_checker::{
-    ParseStop, Script, checks_are_one, parse, script_items, script_or_refusal,
-};
+pub use script_checker::{Script, checks_are_one, parse, script_items, script_or_refusal};
+pub use script_texts::{cert_fault_line, check_fault_line, new_too_long_line, refused_line};
 
 mod check;
 mod command;

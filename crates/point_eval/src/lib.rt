@@ -2,7 +2,8 @@
 #![tactic(auto)]
 
 // What callers name of the crates below.
-pub use script_meets::{ParseStop, Script, parse, script_or_refusal};
+pub use rewrite_hints::marks_of;
+pub use script_meets::{ParseStop, Script, firsts_are_unique, parse, script_or_refusal};
 
 mod evaluation;
 mod laws;

@@ -3,7 +3,8 @@
 
 // What callers name of the crates below.
 pub use point_eval::{
-    EvalStop, ParseStop, Place, Script, evaluate, meeting_is_told, parse, script_or_refusal,
+    EvalStop, ParseStop, Place, Script, evaluate, firsts_are_unique, marks_of, meeting_is_told,
+    parse, script_or_refusal,
 };
 
 mod fault;

@@ -20,7 +20,7 @@ use Rattle.command_runs.specs.declared.status.Status.{Status}
 use Rattle.command_runs.specs.declared.status.Status.TheVariants as status
 use Rattle.script_answers.specs.Answers.{ProvePrints, options_of}
 use Rattle.script_answers.specs.Laws.{TextAnswersAreOne, prints_done}
-use Rattle.script_answers.specs.Texts.{told_text}
+use Rattle.script_answers.specs.script_texts.Texts.{told_text}
 use Rattle.prove_command.specs.Certified.{IsCertified, IsPutBehind, IsStopped, left_by}
 use Rattle.prove_command.specs.Command.{IsCutOff, TextFate, ProveTold, ProveFate, IsProveRun}
 use Rattle.prove_command.specs.declared.certify.Certified.{Certified}

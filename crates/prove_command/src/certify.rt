@@ -19,7 +19,7 @@ use command_runs::Status;
 use fx_edge::{Folder, Gate};
 use script_answers::{
     Case, Found, HintMark, Options, ParseStop, Script, Universe, UniverseFault, build, classify,
-    parse, planned_cases, prove_over, proved_lines, unbuilt_line, unread_line,
+    parse, planned_cases, prove_over, proved_lines, refused_line, unbuilt_line,
 };
 use std::alloc::{AllocError, Global};
 use std::sync::Wait;
@@ -253,7 +253,8 @@ fn certify_unread(
     requires { (r : Refusal) → stop ≡ ParseStop.Refused r → IsRefused text.now r }
     ensures { IfOk result (IsSpared (options_from options) text.now) }
 {
-    let lines = unread_line(alloc, text, options, stop)?;
+    let _ = options;
+    let lines = refused_line(alloc, text, stop)?;
     Ok(Certified {
         status: Status::Script,
         lines,

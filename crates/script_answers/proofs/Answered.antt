@@ -2,13 +2,12 @@
 use Rattle.std.specs.Prelude.{◌≡◌, ◌<◌, ℕ, List, length, get_or, Some, slice_get}
 use Rattle.std.proofs.Common.{◌∙◌, ap, sym, subst, inl, arith}
 use Rattle.std.proofs.lemmas.List.FromFn.{length-map-range_with_len}
-use Rattle.report.specs.goals.declared.line.Line.{Line}
-use Rattle.report.specs.script_claims.declared.claim.Claim.{Claim}
-use Rattle.report.specs.script_judge.declared.refusal.Refusal.{Refusal}
-use Rattle.report.specs.script_grammar.Cases.{cases_of}
-use Rattle.report.specs.script_grammar.Spells.{View, Spells, IsRefused, GoalsHaveSpans}
-use Rattle.report.specs.Lines.{expressions_text, refusal_line}
-use Rattle.report.specs.Unproved.{unproved_text}
+use Rattle.script_texts.specs.goals.declared.line.Line.{Line}
+use Rattle.script_texts.specs.script_claims.declared.claim.Claim.{Claim}
+use Rattle.script_texts.specs.script_grammar.Cases.{cases_of}
+use Rattle.script_texts.specs.script_grammar.Spells.{View, Spells, GoalsHaveSpans}
+use Rattle.script_texts.specs.report.Lines.{expressions_text}
+use Rattle.script_texts.specs.report.Unproved.{unproved_text}
 use Rattle.settler.specs.bisect.declared.outcome.Leaf.{Leaf}
 use Rattle.settler.specs.case_trees.declared.outcome.CaseOutcome.TheVariants as outcome
 use Rattle.settler.specs.case_trees.declared.outcome.OpenLeaf.{OpenLeaf}
@@ -18,8 +17,8 @@ use Rattle.settler.specs.Answers.{Options, ComesTo, HasTooManyExpressions, IsPro
 use Rattle.settler.specs.Cases.{AreCases, as_many, case_of}
 use Rattle.settler.specs.Tight.{ProvedLinesAreTight}
 use Rattle.settler.specs.Held.{ProvedHolds}
-use Rattle.command_runs.specs.Runs.{Bytes}
-use Rattle.command_runs.specs.declared.status.Status.TheVariants as status
+use Rattle.script_texts.specs.command_runs.Runs.{Bytes}
+use Rattle.script_texts.specs.command_runs.declared.status.Status.TheVariants as status
 use Rattle.script_answers.specs.Answers.{IsProvedText, ProvePrints}
 
 -- all goals are settled
@@ -37,12 +36,7 @@ proved_text spans tight s o count leaves shown holds spelled comes are =
       holds = λ a meets. holds shown a proved meets;
     }
 
--- ---- no script, or no universe
--- the text is refused
-pub is_refused : (o : Options) (text : Bytes) (r : Refusal) (lines : Bytes) → IsRefused text r
-    → lines ≡ refusal_line r → ProvePrints o text status.Script lines
-is_refused o text r lines refused e = (r, refused, e)
-
+-- ---- no universe
 -- there are too many expressions
 pub many_expressions : (s : View) (o : Options) (lines : Bytes) → Spells s.text s
     → HasTooManyExpressions s → lines ≡ expressions_text

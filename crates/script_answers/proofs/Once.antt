@@ -1,13 +1,12 @@
 -- One answer is defined for a text.
 use Rattle.std.specs.Prelude.{◌⊎◌, slice_get}
 use Rattle.std.proofs.Common.{◌≡◌, ◌≢◌, inl, inr, ℕ, List, length, Some, refl, sym, ap, ◌∙◌, subst}
-use Rattle.report.specs.goals.declared.line.Line.{Line}
-use Rattle.report.specs.script_judge.First.{FirstsAreUnique}
-use Rattle.report.specs.script_grammar.Spells.{View, Spells, SpellsOnce, NeverBoth}
-use Rattle.settler.specs.rewrite_hints.Marks.{AreMarks}
-use Rattle.report.specs.script_claims.declared.claim.Claim.{Claim}
-use Rattle.report.specs.script_grammar.Cases.{cases_of}
-use Rattle.settler.specs.universe.OneMark.{MarksAreOne}
+use Rattle.script_texts.specs.goals.declared.line.Line.{Line}
+use Rattle.script_texts.specs.script_judge.First.{FirstsAreUnique}
+use Rattle.script_texts.specs.script_grammar.Spells.{View, Spells, SpellsOnce, NeverBoth}
+use Rattle.settler.specs.rewrite_hints.Marks.{AreMarks, marks_are_one}
+use Rattle.script_texts.specs.script_claims.declared.claim.Claim.{Claim}
+use Rattle.script_texts.specs.script_grammar.Cases.{cases_of}
 use Rattle.settler.specs.bisect.declared.outcome.Leaf.{Leaf}
 use Rattle.settler.specs.case_trees.declared.outcome.OpenLeaf.{OpenLeaf}
 use Rattle.settler.specs.case_trees.declared.outcome.CaseOutcome.TheVariants as outcome
@@ -15,14 +14,15 @@ use Rattle.settler.specs.bisect.Gathered.{lines_of}
 use Rattle.settler.specs.Answers.{Options, Answer, expr_limit, box_limit, unproved, proved, ComesTo}
 use Rattle.settler.specs.Answers.{IsScriptAnswer, AnswersAreOne, OutcomesAreOne}
 use Rattle.settler.specs.Answers.{HasTooManyExpressions, HasTooManyBoxes, plan_of}
-use Rattle.report.specs.Lines.{refusal_line, expressions_text, boxes_text}
-use Rattle.report.specs.Proved.{answer_text, made_text}
+use Rattle.script_texts.specs.report.Lines.{expressions_text, boxes_text}
+use Rattle.script_texts.specs.Texts.{refused_once}
+use Rattle.script_texts.specs.report.Proved.{answer_text, made_text}
 use Rattle.made_script.specs.Script.{script_text}
-use Rattle.report.specs.Unproved.{unproved_text}
-use Rattle.command_runs.specs.Runs.{Bytes}
-use Rattle.command_runs.specs.declared.status.Status.{Status}
-use Rattle.command_runs.specs.declared.status.Status.TheVariants.{Answered, Unproved, Limit}
-use Rattle.command_runs.specs.declared.status.Status.TheVariants as status
+use Rattle.script_texts.specs.report.Unproved.{unproved_text}
+use Rattle.script_texts.specs.command_runs.Runs.{Bytes}
+use Rattle.script_texts.specs.command_runs.declared.status.Status.{Status}
+use Rattle.script_texts.specs.command_runs.declared.status.Status.TheVariants.{Answered, Unproved, Limit}
+use Rattle.script_texts.specs.command_runs.declared.status.Status.TheVariants as status
 use Rattle.script_answers.specs.Answers.{ProvePrints, IsAnswered, IsProvedText, IsMadeAnswered}
 use Rattle.script_answers.specs.Answers.{MadePrints, made_options, first_line}
 use Rattle.script_answers.specs.Laws.{TextAnswersAreOne, MadeAnswersAreOne}
@@ -47,8 +47,8 @@ count-same m n ls ms e = cc
 leaves-same : (m n : ℕ) (ls ms : List Leaf) → outcome.Leaves m ls ≡ outcome.Leaves n ms → ls ≡ ms
 leaves-same m n ls ms e = cc
 
-module _ (spells_once : SpellsOnce) (both : NeverBoth) (refused_once : FirstsAreUnique)
-    (answers_once : AnswersAreOne) (marks_once : MarksAreOne) (o : Options) where
+module _ (spells_once : SpellsOnce) (both : NeverBoth) (unique : FirstsAreUnique)
+    (answers_once : AnswersAreOne) (o : Options) where
   -- two answers to the script of one text are one
   same : (text : Bytes) (s t : View) (a b : Answer) → Spells text s → Spells text t
       → IsScriptAnswer s o a → IsScriptAnswer t o b → a ≡ b
@@ -68,7 +68,7 @@ module _ (spells_once : SpellsOnce) (both : NeverBoth) (refused_once : FirstsAre
       let marked : AreMarks p.script.nodes p.script.hints.rewrites q.marks =
       subst (λ (v : View). AreMarks v.nodes v.hints.rewrites q.marks) (sym script) q.marked in
       let marks : p.marks ≡ q.marks =
-      marks_once p.script.nodes p.script.hints.rewrites p.marks q.marks p.marked marked in
+      marks_are_one p.script.nodes p.script.hints.rewrites p.marks q.marks p.marked marked in
       p.printed
       ∙ (λ i. answer_text (script i).text (script i).tokens (script i).spans (shown i) (marks i))
       ∙ sym q.printed
@@ -145,9 +145,8 @@ module _ (spells_once : SpellsOnce) (both : NeverBoth) (refused_once : FirstsAre
   prove_once text status.Script Unproved line other (r, p, e) (t, leaf, claims, q, j, at, f) =
       absurd (both text t r q p)
   prove_once text status.Script Limit line other (r, p, e) (t, q, j) = absurd (both text t r q p)
-  prove_once text status.Script status.Script line other (r, p, e) (u, q, f) =
-      let h : r ≡ u = cc (refused_once text (Some r) (Some u) p q) in
-      (refl, e ∙ ap refusal_line h ∙ sym f)
+  prove_once text status.Script status.Script line other p q =
+      (refl, refused_once unique text line other p q)
   prove_once text Answered _ line other p q = absurd q
   prove_once text Unproved _ line other p q = absurd q
   prove_once text Limit _ line other p q = absurd q
@@ -198,12 +197,12 @@ made_of : (n : ℕ) (s : Status) (line : Bytes) → MadePrints n s line → Made
 made_of n Answered line p = inl (refl, p)
 made_of n _ line p = inr ((λ e. cc e), p)
 
-module _ (spells_once : SpellsOnce) (both : NeverBoth) (refused_once : FirstsAreUnique)
-    (answers_once : AnswersAreOne) (marks_once : MarksAreOne) where
+module _ (spells_once : SpellsOnce) (both : NeverBoth) (unique : FirstsAreUnique)
+    (answers_once : AnswersAreOne) where
   -- a text has one answer
   pub texts_once : TextAnswersAreOne
   texts_once o text s t line other p q =
-      prove_once spells_once both refused_once answers_once marks_once o text s t line other p q
+      prove_once spells_once both unique answers_once o text s t line other p q
 
   -- a degree has one answer
   pub made_once : OutcomesAreOne → MadeAnswersAreOne
@@ -212,18 +211,18 @@ module _ (spells_once : SpellsOnce) (both : NeverBoth) (refused_once : FirstsAre
       by : Made n s line → Made n t other → Twice s t line other
       by (inl (e, a)) (inl (f, b)) =
           let one =
-          proved_once spells_once both refused_once answers_once marks_once made_options
+          proved_once spells_once both unique answers_once made_options
           outcomes_once (script_text n) a.script b.script a.boxes b.boxes a.shown b.shown
           a.proved b.proved in (
             e ∙ sym f,
             a.printed ∙ (λ i. made_text n (one.0 i) (first_line (one.1 i))) ∙ sym b.printed,
           )
       by (inl (e, a)) (inr (differs, j)) =
-          absurd (proved_alone spells_once both refused_once answers_once marks_once made_options
+          absurd (proved_alone spells_once both unique answers_once made_options
           (script_text n) a.script a.boxes a.shown a.proved t other differs j)
       by (inr (differs, i)) (inl (f, b)) =
-          absurd (proved_alone spells_once both refused_once answers_once marks_once made_options
+          absurd (proved_alone spells_once both unique answers_once made_options
           (script_text n) b.script b.boxes b.shown b.proved s line differs i)
       by (inr (d, i)) (inr (m, j)) =
-          prove_once spells_once both refused_once answers_once marks_once made_options
+          prove_once spells_once both unique answers_once made_options
           (script_text n) s t line other i j

@@ -1,29 +1,29 @@
 -- What is answered to a text: a status and lines.
 use Rattle.std.specs.Prelude.{◌≡◌, ◌≢◌, ◌≤◌, ◌⊎◌, ℕ, List, [], ◌∷◌, length, Some, slice_get}
 use Rattle.fx_model.specs.Expression.{Assignment}
-use Rattle.report.specs.facts.declared.hint.HintMark.{HintMark}
-use Rattle.report.specs.goals.declared.line.Line.{Line}
-use Rattle.report.specs.goals.declared.line.Line.TheVariants as line
-use Rattle.report.specs.script_judge.declared.refusal.Refusal.{Refusal}
-use Rattle.report.specs.script_claims.declared.claim.Claim.{Claim}
-use Rattle.report.specs.script_grammar.Spells.{View, Spells, IsRefused}
+use Rattle.script_texts.specs.facts.declared.hint.HintMark.{HintMark}
+use Rattle.script_texts.specs.goals.declared.line.Line.{Line}
+use Rattle.script_texts.specs.goals.declared.line.Line.TheVariants as line
+use Rattle.script_texts.specs.script_claims.declared.claim.Claim.{Claim}
+use Rattle.script_texts.specs.script_grammar.Spells.{View, Spells}
 use Rattle.settler.specs.script_meets.Meets.{Meets}
 use Rattle.settler.specs.rewrite_hints.Marks.{AreMarks}
-use Rattle.report.specs.script_grammar.Cases.{cases_of}
+use Rattle.script_texts.specs.script_grammar.Cases.{cases_of}
 use Rattle.settler.specs.case_trees.declared.outcome.OpenLeaf.{OpenLeaf}
 use Rattle.settler.specs.Answers.{Options, HasTooManyExpressions, HasTooManyBoxes, IsUnproved}
 use Rattle.settler.specs.Answers.{IsProvedIn, plan_of}
 use Rattle.settler.specs.Tight.{AreTight}
 use Rattle.settler.specs.Held.{AreHeld}
 use Rattle.command_line.specs.Reading.{Asked}
-use Rattle.command_runs.specs.Runs.{Bytes}
-use Rattle.command_runs.specs.declared.status.Status.{Status}
-use Rattle.command_runs.specs.declared.status.Status.TheVariants as status
+use Rattle.script_texts.specs.command_runs.Runs.{Bytes}
+use Rattle.script_texts.specs.command_runs.declared.status.Status.{Status}
+use Rattle.script_texts.specs.command_runs.declared.status.Status.TheVariants as status
+use Rattle.script_texts.specs.Texts.{IsRefusedWith}
 use Rattle.made_script.specs.Script.{script_text}
 use Rattle.made_script.specs.Proving.{stated_options}
-use Rattle.report.specs.Lines.{refusal_line, expressions_text, boxes_text}
-use Rattle.report.specs.Proved.{answer_text, made_text}
-use Rattle.report.specs.Unproved.{unproved_text}
+use Rattle.script_texts.specs.report.Lines.{expressions_text, boxes_text}
+use Rattle.script_texts.specs.report.Proved.{answer_text, made_text}
+use Rattle.script_texts.specs.report.Unproved.{unproved_text}
 use Rattle.script_answers.specs.declared.options.Options.{Options as Asking}
 use Rattle.script_answers.specs.declared.found.Found.{Found}
 use Rattle.script_answers.specs.declared.found.Found.TheVariants as found
@@ -82,8 +82,7 @@ ProvePrints o text status.Limit lines = (s : View) × Spells text s
     × ((HasTooManyExpressions s × (lines ≡ expressions_text))
     ⊎ (HasTooManyBoxes s o × (lines ≡ boxes_text o.boxes)))
 -- the text spells no script, but is refused
-ProvePrints o text status.Script lines =
-    (r : Refusal) × IsRefused text r × (lines ≡ refusal_line r)
+ProvePrints o text status.Script lines = IsRefusedWith text lines
 ProvePrints o text _ lines = ⊥
 
 -- ---- of the made script

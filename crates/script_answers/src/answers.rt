@@ -1,17 +1,14 @@
 // The status and the lines for a text.
 ghost use Rattle.std.specs.Prelude.{◌≡◌, IfOk};
-ghost use Rattle.report.specs.script_judge.declared.refusal.Refusal.{Refusal};
-ghost use Rattle.report.specs.script_grammar.Spells.{IsRefused};
-ghost use Rattle.report.specs.Proved as spec;
+ghost use Rattle.script_texts.specs.script_judge.declared.refusal.Refusal.{Refusal};
+ghost use Rattle.script_texts.specs.script_grammar.Spells.{IsRefused};
+ghost use Rattle.script_texts.specs.report.Proved as spec;
 ghost use Rattle.script_answers.specs.Answers.{AreAllowed, IsFound, ProvePrints, options_from};
 
 use crate::found::{Found, prove_script, prove_script_alone};
 use crate::options::Options;
-use command_runs::Status;
 use fx_edge::Gate;
-use report::proved::answer_text;
-use report::refusals::refusal_line;
-use report::{HintMark, Line, ParseStop, Script, parse};
+use script_texts::{HintMark, Line, ParseStop, Script, Status, answer_text, parse, refused_line};
 use settler::classify;
 use std::alloc::{AllocError, Global};
 use std::sync::Wait;
@@ -59,25 +56,7 @@ fn lines_for(
     }
 }
 
-/// The line for a text that gives no script. `Err` only where memory runs out.
-pub fn unread_line(
-    alloc: Global,
-    text: &[u8],
-    options: Options,
-    stop: ParseStop,
-) -> Result<Vec<u8>, AllocError>
-    requires { (r : Refusal) → stop ≡ ParseStop.Refused r → IsRefused text.now r }
-    ensures { IfOk result (λ line.
-        ProvePrints (options_from options) text.now Status.Script line.items) }
-{
-    let _ = options;
-    match stop {
-        ParseStop::Refused(refusal) => refusal_line(alloc, refusal),
-        ParseStop::OutOfMemory => Err(AllocError),
-    }
-}
-
-// The status and the line for such a text.
+// The status and the line for a text that gives no script.
 fn unread(
     alloc: Global,
     text: &[u8],
@@ -87,7 +66,8 @@ fn unread(
     requires { (r : Refusal) → stop ≡ ParseStop.Refused r → IsRefused text.now r }
     ensures { IfOk result (λ r. ProvePrints (options_from options) text.now r.0 r.1.items) }
 {
-    let line = unread_line(alloc, text, options, stop)?;
+    let _ = options;
+    let line = refused_line(alloc, text, stop)?;
     Ok((Status::Script, line))
 }
 

@@ -1,20 +1,19 @@
 // What is found of a script.
 ghost use Rattle.std.specs.Prelude.{◌≡◌, ◌<◌, [], List, Some, IfOk, length, slice_get};
-ghost use Rattle.report.specs.script_claims.declared.claim.Claim.{Claim};
-ghost use Rattle.report.specs.script_grammar.Cases.{cases_of};
+ghost use Rattle.script_texts.specs.script_claims.declared.claim.Claim.{Claim};
+ghost use Rattle.script_texts.specs.script_grammar.Cases.{cases_of};
 ghost use Rattle.settler.specs.universe.Universes.{IsUniverse, IsTooLarge};
 ghost use Rattle.settler.specs.Answers.{ComesTo, plan_of};
 ghost use Rattle.settler.specs.Cases.{AreCases};
 ghost use Rattle.settler.specs.Held.{ProvedHolds};
-ghost use Rattle.report.specs.Unproved as spec;
+ghost use Rattle.script_texts.specs.report.Unproved as spec;
 ghost use Rattle.script_answers.specs.Answers.{AreAllowed, IsFound, ProvePrints, options_from};
 
 use crate::options::Options;
-use command_runs::Status;
 use fx_edge::{Gate, Items};
-use report::runs::{boxes_text, expressions_text};
-use report::unproved::unproved_text;
-use report::{Line, Script, script_or_refusal};
+use script_texts::{
+    Line, Script, Status, boxes_text, expressions_text, script_or_refusal, unproved_text,
+};
 use settler::{
     Case, CaseOutcome, OpenLeaf, Universe, UniverseFault, answer, answer_alone, build, lines_of,
     open_leaves_are_first, planned_cases, proved_lines_are_tight,

@@ -1,8 +1,8 @@
 // One answer is defined for a text.
 ghost use Rattle.script_answers.specs.Laws.{MadeAnswersAreOne, TextAnswersAreOne};
 
-use report::{firsts_are_unique, script_or_refusal};
-use settler::{answers_are_one, marks_are_one};
+use script_texts::{firsts_are_unique, script_or_refusal};
+use settler::answers_are_one;
 
 /// The law that a text has one status and one text of lines, under given options. Nothing is done.
 pub fn text_answers_are_one()
@@ -11,7 +11,6 @@ pub fn text_answers_are_one()
     script_or_refusal();
     firsts_are_unique();
     answers_are_one();
-    marks_are_one();
 }
 
 /// The law that the made script of a degree has one status and one text of lines. Nothing is done.
@@ -21,5 +20,4 @@ pub fn made_answers_are_one()
     script_or_refusal();
     firsts_are_unique();
     answers_are_one();
-    marks_are_one();
 }

@@ -2,11 +2,8 @@
 #![tactic(auto)]
 
 // What callers name of the crates below.
-pub use report::certificates::{cert_fault_line, check_fault_line, new_too_long_line};
-pub use report::proved::answer_text;
-pub use report::refusals::refusal_line;
-pub use report::{HintMark, ParseStop, Script, parse};
-pub use settler::{Case, Universe, UniverseFault, build, classify, marks_are_one, planned_cases};
+pub use script_texts::{HintMark, ParseStop, Script, parse, refused_line};
+pub use settler::{Case, Universe, UniverseFault, build, classify, planned_cases};
 
 mod answers;
 mod found;
@@ -14,7 +11,7 @@ mod laws;
 mod made;
 mod options;
 
-pub use answers::{answer, answer_alone, proved_lines, unread_line};
+pub use answers::{answer, answer_alone, proved_lines};
 pub use found::{Found, prove_over, prove_script, prove_script_alone, unbuilt_line};
 pub use laws::{made_answers_are_one, text_answers_are_one};
 pub use made::made_answer;

@@ -1,18 +1,15 @@
 // The status and the lines for the made script.
 ghost use Rattle.std.specs.Prelude.{◌≡◌, IfOk};
 ghost use Rattle.made_script.specs.Script.{script_text};
-ghost use Rattle.report.specs.script_judge.declared.refusal.Refusal.{Refusal};
-ghost use Rattle.report.specs.script_grammar.Spells.{IsRefused};
+ghost use Rattle.script_texts.specs.script_judge.declared.refusal.Refusal.{Refusal};
+ghost use Rattle.script_texts.specs.script_grammar.Spells.{IsRefused};
 ghost use Rattle.script_answers.specs.Answers.{IsFound, MadePrints, first_line, made_options};
 
-use crate::answers::unread_line;
 use crate::found::{Found, prove_script};
 use crate::options::made_options;
-use command_runs::Status;
 use fx_edge::Gate;
 use made_script::made_script;
-use report::proved::made_text;
-use report::{Line, ParseStop, Script, parse};
+use script_texts::{Line, ParseStop, Script, Status, made_text, parse, refused_line};
 use std::alloc::{AllocError, Global};
 use std::sync::Wait;
 use std::thread::Threads;
@@ -60,7 +57,7 @@ fn made_unread(
     requires refused { (r : Refusal) → stop ≡ ParseStop.Refused r → IsRefused text.now r }
     ensures { IfOk result (λ r. MadePrints n r.0 r.1.items) }
 {
-    let line = unread_line(alloc, text, made_options(), stop)?;
+    let line = refused_line(alloc, text, stop)?;
     Ok((Status::Script, line))
 }
 

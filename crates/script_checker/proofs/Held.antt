@@ -38,7 +38,8 @@ use Rattle.cert_checker.specs.Met.{NamesNodes as SubjectNamesNodes, Meets as Mee
 use Rattle.cert_checker.specs.Outcomes.{accepted, ComesOf, CheckedHolds}
 use Rattle.cert_checker.specs.Checking.{AreAccepted}
 use Rattle.script_checker.specs.Subjects.{goal_of, with_fact, facts_of, IsSubjectOf}
-use Rattle.script_checker.specs.Checking.{AreHeld, AreAcceptedFor}
+use Rattle.script_checker.specs.Checking.{AreAcceptedFor}
+use Rattle.script_meets.specs.Held.{AreHeld}
 use Rattle.script_checker.proofs.Settled.{ClaimLaws, settled}
 use Rattle.script_checker.proofs.CaseFacts.{some_case_met, cases_named, case_facts_named}
 use Rattle.script_checker.proofs.CaseFacts.{case_facts_held}

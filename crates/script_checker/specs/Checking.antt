@@ -2,14 +2,11 @@
 use Rattle.std.specs.Prelude.{◌≡◌, ⊤, ℕ, List, Some, Result, Ok, Err, slice_get}
 use Rattle.fx_model.specs.Expression.{Assignment, IsOrdered}
 use Rattle.cert_checker.specs.goals.declared.line.Line.{Line}
-use Rattle.cert_checker.specs.goals.Holds.{LineHolds}
-use Rattle.script_meets.specs.script_claims.declared.claim.Claim.{Claim}
-use Rattle.script_meets.specs.script_claims.Facts.{slot_of}
-use Rattle.script_meets.specs.script_claims.Meets.{IsTrueAt}
 use Rattle.script_meets.specs.script_grammar.Spells.{View}
 use Rattle.script_meets.specs.script_grammar.Names.{NamesNodes}
 use Rattle.script_meets.specs.script_grammar.Ranges.{HasFewCases}
 use Rattle.script_meets.specs.Meets.{Meets}
+use Rattle.script_meets.specs.Held.{AreHeld}
 use Rattle.cert_checker.specs.cert_bytes.declared.item.Item.{Item}
 use Rattle.cert_checker.specs.cert_bytes.Reading.{Cursor}
 use Rattle.cert_checker.specs.declared.fault.CheckStop.{CheckStop}
@@ -58,14 +55,8 @@ pub record AreAcceptedFor (s : View) (bytes : List ℕ) (lines : List Line) : Ty
 abbrev pub AreAcceptedItemsFor : View → Accepted → Type 0
 AreAcceptedItemsFor s a = (t : Subject) × IsSubjectOf s t × AreAcceptedItems t a
 
--- Each goal has a line in its place, which holds of the assignment; and the goal is true, with
--- bounds exactly as they are written.
-abbrev pub AreHeld : View → Assignment → List Line → Type 0
-AreHeld s a lines = (k : ℕ) (c : Claim) → slice_get s.goals k ≡ Some c → (l : Line)
-    × (slice_get lines k ≡ Some l) × LineHolds s.nodes a (slot_of c) l × IsTrueAt s.nodes a c
-
--- This is so of every assignment that meets the script, of the lines of each certificate that is
--- accepted, whoever wrote it.
+-- The lines of each certificate that is accepted hold of every assignment that meets the script,
+-- whoever wrote it.
 abbrev pub AcceptedHoldsOfScripts : Type 0
 AcceptedHoldsOfScripts = (s : View) (t : Subject) (items : List Item) (lines : List Line)
     → IsOrdered s.nodes → NamesNodes s → HasFewCases s

@@ -9,7 +9,8 @@ ghost use Rattle.cert_checker.specs.cert_bytes.ReadOut.{AreBytes};
 ghost use Rattle.cert_checker.specs.declared.fault.CheckStop.TheVariants as CheckStop;
 ghost use Rattle.cert_checker.specs.Outcomes.{Outcome};
 ghost use Rattle.cert_checker.specs.Checking.{IsFresh, IsAnswer};
-ghost use Rattle.script_checker.specs.Checking.{ComesFor, ChecksFor, AreAcceptedFor, AreHeld};
+ghost use Rattle.script_checker.specs.Checking.{ComesFor, ChecksFor, AreAcceptedFor};
+ghost use Rattle.script_meets.specs.Held.{AreHeld};
 
 use crate::subject::subject_of;
 use cert_checker::{CheckStop, Lines, Reader, check_subject};

@@ -5,8 +5,7 @@
 // What callers name of the crates below.
 pub use script_meets::Script;
 pub use universe::{
-    Universe, UniverseFault, assume, build, classify, hypotheses_have_slots, marks_are_one,
-    universes_are_one,
+    Universe, UniverseFault, assume, build, classify, hypotheses_have_slots, universes_are_one,
 };
 
 mod laws;

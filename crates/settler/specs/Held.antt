@@ -5,13 +5,11 @@ use Rattle.saturate.specs.facts.declared.fact.Fact.{Fact}
 use Rattle.saturate.specs.facts.Holds.{Holds}
 use Rattle.saturate.specs.goals.declared.goal.Goal.{Goal}
 use Rattle.saturate.specs.goals.Settles.{Settles}
-use Rattle.saturate.specs.goals.Holds.{LineHolds}
 use Rattle.saturate.specs.goals.declared.line.Line.{Line}
 use Rattle.case_trees.specs.script_claims.declared.claim.Claim.{Claim}
-use Rattle.case_trees.specs.script_claims.Facts.{slot_of}
-use Rattle.case_trees.specs.script_claims.Meets.{IsTrueAt}
 use Rattle.script_truths.specs.script_grammar.Spells.{View}
 use Rattle.script_truths.specs.script_meets.Meets.{Meets}
+use Rattle.script_truths.specs.script_meets.Held.{AreHeld}
 use Rattle.script_truths.specs.Truths.{AreTrue, HasUniverse}
 use Rattle.settler.specs.Answers.{Options, IsTreeOf, IsProved}
 use Rattle.saturate.specs.theorem_list.Promises.{RowsAreTrue}
@@ -66,13 +64,7 @@ abbrev pub CasesHold : View → Options → Type 0
 CasesHold s o = (case : ℕ) (claims : List Claim)
     → slice_get (cases_of s) case ≡ Some claims → CaseHolds s o claims
 
--- Each goal has a line in its place, which holds of the assignment; and the goal is true, with
--- bounds exactly as they are written.
-abbrev pub AreHeld : View → Assignment → List Line → Type 0
-AreHeld s a lines = (k : ℕ) (c : Claim) → slice_get s.goals k ≡ Some c → (l : Line)
-    × (slice_get lines k ≡ Some l) × LineHolds s.nodes a (slot_of c) l × IsTrueAt s.nodes a c
-
--- Where the script is proved, that is so of every assignment that meets it.
+-- Where the script is proved, its lines hold of every assignment that meets it.
 abbrev pub ProvedHolds : View → Options → Type 0
 ProvedHolds s o = (lines : List Line) (a : Assignment)
     → IsProved s o lines → Meets a s → AreHeld s a lines

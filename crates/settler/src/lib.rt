@@ -8,8 +8,8 @@ pub use case_trees::{
 };
 pub use saturate::rules_are_lawful;
 pub use script_truths::{
-    Universe, UniverseFault, assume, build, classify, hypotheses_have_slots, marks_are_one,
-    universes_are_one, universes_extend,
+    Universe, UniverseFault, assume, build, classify, hypotheses_have_slots, universes_are_one,
+    universes_extend,
 };
 
 mod boxes;

@@ -17,8 +17,8 @@ use Rattle.command_runs.specs.Fates.Left.{Kept, Whole}
 use Rattle.command_runs.specs.Runs.{Bytes, Told, Run, IsKept, IsSilent, ReadFailed, WriteFailed}
 use Rattle.command_runs.specs.declared.status.Status.{Status}
 use Rattle.command_runs.specs.declared.status.Status.TheVariants as status
-use Rattle.check_command.specs.script_answers.Texts.{IsLong, ReadsBehind, long_refused, no_script}
-use Rattle.check_command.specs.script_answers.Texts.{told_script, told_text}
+use Rattle.check_command.specs.script_texts.Texts.{IsLong, ReadsBehind, long_refused, no_script}
+use Rattle.check_command.specs.script_texts.Texts.{told_script, told_text}
 use Rattle.trim_command.specs.Command.{TrimFate, TrimTold, IsTrimRun}
 use Rattle.check_command.specs.Laws.{IsCertTold}
 use Rattle.trim_command.specs.Laws.{AcceptableAreTrimmed, TrimAnswersAreOne}

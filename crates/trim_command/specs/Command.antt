@@ -6,7 +6,7 @@ use Rattle.command_line.specs.Trim.{AskedTrim}
 use Rattle.command_runs.specs.Runs.{Bytes, Told, Run}
 use Rattle.command_runs.specs.Fates.{Fate, Comes, IsRunOf, MayWrite, OrUnread, IsKeptFile, OfText}
 use Rattle.command_runs.specs.declared.status.Status.TheVariants as status
-use Rattle.check_command.specs.script_answers.Texts.{ReadsBehind}
+use Rattle.check_command.specs.script_texts.Texts.{ReadsBehind}
 use Rattle.check_command.specs.Checked.{IsAcceptable}
 use Rattle.trim_command.specs.Trimmed.{TrimPrints, new_bytes}
 

@@ -23,7 +23,7 @@ use Rattle.command_runs.specs.Fates.{Left, WhereTold}
 use Rattle.command_runs.specs.Fates.Left.{Kept, Whole}
 use Rattle.command_runs.specs.declared.status.Status.{Status}
 use Rattle.command_runs.specs.declared.status.Status.TheVariants as status
-use Rattle.check_command.specs.script_answers.Texts.{IsRefusedWith}
+use Rattle.check_command.specs.script_texts.Texts.{IsRefusedWith}
 use Rattle.check_command.specs.Checked.{IsFaulty}
 use Rattle.trim_command.specs.Lines.{trimmed_line}
 

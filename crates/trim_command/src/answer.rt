@@ -18,9 +18,7 @@ use crate::stop::TrimStop;
 use crate::writing::write_trimmed;
 use cert_rewriting::WriteStop;
 use cert_trim::{Accepted, CheckStop, Reader, trimmed_are_accepted};
-use check_command::{
-    ParseStop, Script, cert_fault_line, check_fault_line, parse, refusal_line, script_items,
-};
+use check_command::{Script, cert_fault_line, check_fault_line, parse, refused_line, script_items};
 use command_runs::Status;
 use fx_edge::Folder;
 use std::alloc::Global;
@@ -124,7 +122,6 @@ pub fn trim_answer<F: Folder>(
 {
     match parse(alloc, text) {
         Ok(script) => trim_certificate(alloc, &script, cert, folder, new),
-        Err(ParseStop::Refused(refusal)) => Ok((Status::Script, refusal_line(alloc, refusal)?)),
-        Err(ParseStop::OutOfMemory) => Err(TrimStop::OutOfMemory),
+        Err(stop) => Ok((Status::Script, refused_line(alloc, text, stop)?)),
     }
 }

@@ -1,35 +1,19 @@
 -- A script has one universe.
-use Rattle.std.specs.Prelude.{◌≡◌, ◌<◌, ℕ, zero, suc, List, [], ◌∷◌, Some, length, slice_get, refl}
-use Rattle.std.proofs.Common.{arith, ap, sym, ◌∙◌, subst}
-use Rattle.std.proofs.lemmas.Option.{slice_get_within}
+use Rattle.std.specs.Prelude.{◌≡◌, List}
+use Rattle.std.proofs.Common.{sym, ◌∙◌}
 use Rattle.fx_model.specs.declared.ExprId.{ExprId}
 use Rattle.fx_model.specs.declared.Node.{Node}
-use Rattle.rule_universe.specs.facts.declared.hint.HintMark.{HintMark}
-use Rattle.rule_universe.specs.facts.declared.hint.HintMark.TheVariants.{Checked, Assumed}
 use Rattle.rule_universe.specs.facts.declared.hint.HintRow.{HintRow}
 use Rattle.rewrite_hints.specs.script_hints.declared.hint.Hint.{Hint}
 use Rattle.rule_universe.specs.pair_closure.Closure.{ClosuresAreOne}
 use Rattle.rule_universe.specs.pair_closure.Rising.{one_list}
 use Rattle.rewrite_hints.specs.Divisors.{AreDivisors}
 use Rattle.rewrite_hints.specs.Rows.{IsRowOf}
-use Rattle.rewrite_hints.specs.Marks.{AreRows, IsMarkOf}
+use Rattle.rewrite_hints.specs.Marks.{AreRows, each_is_one}
 use Rattle.rule_universe.specs.rule_instances.InOrder.{instance_list}
 use Rattle.rule_universe.specs.Worlds.{World}
 use Rattle.universe.specs.Starts.{starting_pairs}
-use Rattle.universe.specs.OneMark.{MarksAreOne}
 use Rattle.universe.specs.Universes.{UniversesAreOne}
-use Rattle.rule_universe.specs.facts.CommonParts.{stands}
-
--- lists as long as each other, with the same at each place
-same_list : {A : Type 0} (xs ys : List A) → length xs ≡ length ys
-    → ((k : ℕ) (x y : A) → slice_get xs k ≡ Some x → slice_get ys k ≡ Some y → x ≡ y) → xs ≡ ys
-same_list [] [] e f = refl
-same_list [] (y ∷ ys) e f = absurd (omega arith)
-same_list (x ∷ xs) [] e f = absurd (omega arith)
-same_list (x ∷ xs) (y ∷ ys) e f =
-    let head : x ≡ y = f 0 x y refl refl in
-    let tail : xs ≡ ys = same_list xs ys (omega arith) (λ k u v a b. f (suc k) u v a b) in
-    (λ i. head i ∷ tail i)
 
 one_row : (nodes : List Node) (h : Hint) (row other : HintRow) → IsRowOf nodes h row
     → IsRowOf nodes h other → row ≡ other
@@ -44,25 +28,8 @@ one_row nodes h row other a b =
 
 rows_are_one : (nodes : List Node) (hints : List Hint) (rows others : List HintRow)
     → AreRows nodes hints rows → AreRows nodes hints others → rows ≡ others
-rows_are_one nodes hints rows others a b = same_list rows others (a.count ∙ sym b.count)
-    (λ k row other e f.
-    let within = slice_get_within rows k row e in
-    let s = stands hints k (omega (arith, a.count, within)) in
-    one_row nodes s.0 row other (a.each k s.0 row s.1 e) (b.each k s.0 other s.1 f))
-
-one_mark : (nodes : List Node) (h : Hint) (m n : HintMark) → IsMarkOf nodes h m
-    → IsMarkOf nodes h n → m ≡ n
-one_mark nodes h Checked Checked a b = refl
-one_mark nodes h Checked Assumed a b = absurd (b a)
-one_mark nodes h Assumed Checked a b = absurd (a b)
-one_mark nodes h Assumed Assumed a b = refl
-
-pub marks_are_one : MarksAreOne
-marks_are_one nodes hints marks others a b = same_list marks others (a.count ∙ sym b.count)
-    (λ k m n e f.
-    let within = slice_get_within marks k m e in
-    let s = stands hints k (omega (arith, a.count, within)) in
-    one_mark nodes s.0 m n (a.each k s.0 m s.1 e) (b.each k s.0 n s.1 f))
+rows_are_one nodes hints rows others a b =
+    each_is_one (IsRowOf nodes) (one_row nodes) hints rows others a b
 
 pub universes_are_one : ClosuresAreOne → UniversesAreOne
 universes_are_one closures s claims u v a b =

@@ -1,6 +1,5 @@
 //! What holds of all universes, for callers to cite. Nothing here is done at run time.
 
-ghost use Rattle.universe.specs.OneMark.{MarksAreOne};
 ghost use Rattle.universe.specs.Universes.{HypothesesHaveSlots, UniversesAreOne};
 
 use rule_universe::closures_are_one;
@@ -12,11 +11,6 @@ pub fn universes_are_one()
 {
     closures_are_one();
 }
-
-/// Nothing is done. The clause tells a caller that hints have one list of marks.
-pub fn marks_are_one()
-    ensures { MarksAreOne }
-{}
 
 /// Nothing is done. The clause tells a caller that what hypotheses of a script give is about slots
 /// of its universe, whatever is assumed in that.

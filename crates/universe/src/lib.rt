@@ -10,7 +10,7 @@ mod marks;
 mod starts;
 mod world;
 
-pub use laws::{hypotheses_have_slots, marks_are_one, universes_are_one};
+pub use laws::{hypotheses_have_slots, universes_are_one};
 pub use marks::classify;
 pub use rule_universe::{Goal, Instance, Universe};
 pub use starts::starting_pairs;

@@ -1,7 +1,10 @@
-use Rattle.std.proofs.Common.{ℕ, List, IfOk, ap, subst}
+use Rattle.std.proofs.Common.{ℕ, List, Err, IfOk, ap, subst}
 use Rattle.point_text.specs.script_grammar.Spells.{View}
 use Rattle.at_command.specs.Told.{AtPrints}
 use Rattle.at_command.proofs.point.at_answer.Goals as goal
+
+pub refused_line-requires : goal.refused_line-requires
+refused_line-requires g c = λ r e. c.in-Err.ensures.refused r (ap Err e)
 
 pub returns-in-Ok-clause-prints : goal.returns-in-Ok-clause-prints
 returns-in-Ok-clause-prints g c =

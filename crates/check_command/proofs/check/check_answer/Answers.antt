@@ -1,4 +1,4 @@
-use Rattle.std.proofs.Common.{ℕ, List, IfOk, ap, sym, subst, rules}
+use Rattle.std.proofs.Common.{ℕ, List, Err, IfOk, ap, sym, subst}
 use Rattle.script_checker.specs.script_grammar.Spells.{View}
 use Rattle.check_command.specs.Checked.{CheckPrints, IsAcceptable}
 use Rattle.check_command.proofs.check.check_answer.Goals as goal
@@ -19,9 +19,12 @@ returns-in-Ok-clause-accepted g c = λ all known p.
 pub returns-in-Ok-clause-script : goal.returns-in-Ok-clause-script
 returns-in-Ok-clause-script g c = λ e. (c.in-Ok.script, c.in-Ok.ensures.spelled)
 
-pub returns-in_ok-refusal_line-in-Err-Refused-clause-accepted :
-    goal.returns-in_ok-refusal_line-in-Err-Refused-clause-accepted
-returns-in_ok-refusal_line-in-Err-Refused-clause-accepted g c = λ all known p.
+pub refused_line-requires : goal.refused_line-requires
+refused_line-requires g c = λ r e. c.in-Err.ensures.refused r (ap Err e)
+
+pub returns-in_ok-refused_line-in-Err-clause-accepted :
+    goal.returns-in_ok-refused_line-in-Err-clause-accepted
+returns-in_ok-refused_line-in-Err-clause-accepted g c = λ all known p.
+    let line = c.in_ok-refused_line.ensures in
     absurd
-    (c.script_or_refusal.ensures.never_both c.args.text.now p.script c.in-Err-Refused.refusal
-    p.spelled (search rules))
+    (c.script_or_refusal.ensures.never_both c.args.text.now p.script line.0 p.spelled line.1)

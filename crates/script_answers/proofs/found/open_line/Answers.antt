@@ -1,5 +1,5 @@
 use Rattle.std.proofs.Common.{arith}
-use Rattle.report.specs.script_grammar.Cases.{cases_of}
+use Rattle.script_texts.specs.script_grammar.Cases.{cases_of}
 use Rattle.settler.specs.saturate.Answered.{ok_map}
 use Rattle.settler.specs.Cases.{as_many}
 use Rattle.script_answers.proofs.Answered.{open_line_in}

@@ -1,9 +1,12 @@
 use Rattle.std.specs.Prelude.{◌≡◌, ◌⊎◌, IsErrOf}
-use Rattle.std.proofs.Common.{ℕ, List, IfOk, ap, subst}
+use Rattle.std.proofs.Common.{ℕ, List, Err, IfOk, ap, subst}
 use Rattle.check_command.specs.script_grammar.Spells.{View}
 use Rattle.trim_command.specs.Writing.{Answers, BreaksOff}
 use Rattle.trim_command.specs.declared.stop.TrimStop.TheVariants as TrimStop
 use Rattle.trim_command.proofs.answer.trim_answer.Goals as goal
+
+pub refused_line-requires : goal.refused_line-requires
+refused_line-requires g c = λ r e. c.in-Err.ensures.refused r (ap Err e)
 
 pub returns-in-Ok-clause-answers : goal.returns-in-Ok-clause-answers
 returns-in-Ok-clause-answers g c =
