@@ -10,7 +10,6 @@ mod ends;
 mod known;
 mod laws;
 mod log;
-mod marks;
 mod rounds;
 mod scan;
 mod starts;

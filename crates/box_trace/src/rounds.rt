@@ -15,11 +15,10 @@ ghost use Rattle.box_trace.specs.Scans.{IsConclusion, AreEndsOf, IsScanned, IsWi
 use crate::ends::{Ends, Found};
 use crate::known::Known;
 use crate::log::{Log, Source};
-use crate::marks::mark;
-use crate::scan::{Scan, cite, instance_at};
+use crate::scan::{Scan, cite};
 use facts::{Slot, slot};
 use fx_edge::Items;
-use saturate::{Placed, Universe, rules_are_lawful};
+use saturate::{Placed, Universe, instance_at, mark, rules_are_lawful};
 use std::alloc::{AllocError, Global};
 
 // Lets what an instance concluded come to what is known.

@@ -8,7 +8,7 @@ ghost use Rattle.saturate.specs.theorem_list.Concludes.{concludes};
 ghost use Rattle.saturate.specs.derivation.Rounds.{conclusion};
 ghost use Rattle.saturate.specs.derivation.Changes.{IsQuiet};
 ghost use Rattle.saturate.specs.rule_universe.declared.placed.Placed.{Placed as Placement};
-ghost use Rattle.saturate.specs.rule_universe.Places.{IsPlace, place_count};
+ghost use Rattle.saturate.specs.rule_universe.Places.{place_count};
 ghost use Rattle.saturate.specs.rule_universe.Placed.{IsPlaced, slots_of};
 ghost use Rattle.saturate.specs.Universes.{setting_of};
 ghost use Rattle.box_trace.specs.Tables.{row_in, known_at, place_in, HasRows};
@@ -18,7 +18,7 @@ ghost use Rattle.box_trace.specs.Scans.{IsGathered};
 use crate::ends::{Ends, Found};
 use crate::known::Known;
 use facts::{Fact, Instance, stronger};
-use saturate::{Placed, Universe, conclude, rules_are_lawful};
+use saturate::{Placed, Universe, conclude, instance_at, rules_are_lawful, target_place};
 use std::alloc::{AllocError, Global};
 
 /// What rounds work with: by the place of a slot, the conclusions that give the ends of its fact,
@@ -27,23 +27,6 @@ use std::alloc::{AllocError, Global};
 pub(crate) struct Scan {
     pub(crate) ends: Vec<Option<Ends>>,
     pub(crate) premises: Vec<Fact>,
-}
-
-// The instance with this number.
-pub(crate) fn instance_at(uni: &Universe, k: usize) -> &Instance
-    requires { k < length uni.now.instances }
-    ensures { slice_get uni.now.instances k ≡ Some result.now }
-{
-    &uni.instances()[k]
-}
-
-// The place of its target.
-fn target_place(uni: &Universe, k: usize) -> u16
-    requires { k < length uni.now.instances }
-    ensures { (i : Applied) → slice_get uni.now.instances k ≡ Some i
-        → IsPlace (length uni.now.nodes) uni.now.pairs i.target result }
-{
-    uni.targets()[k]
 }
 
 // What the instance concludes from these premises.

@@ -8,7 +8,6 @@ ghost use Rattle.rule_universe.specs.derivation.Rounds.{conclusion, IsAhead, All
 ghost use Rattle.rule_universe.specs.derivation.Changes.{IsQuiet, IsListed};
 ghost use Rattle.rule_universe.specs.derivation.Counts.{AreRisen};
 ghost use Rattle.rule_universe.specs.declared.placed.Placed.{Placed as Placement};
-ghost use Rattle.rule_universe.specs.Places.{IsPlace};
 ghost use Rattle.rule_universe.specs.Placed.{slots_of};
 ghost use Rattle.saturate.specs.Tables.{fact_at, IsFoundAt, IsShaped};
 ghost use Rattle.saturate.specs.Universes.{setting_by, HasAllPlaces};
@@ -16,6 +15,7 @@ ghost use Rattle.saturate.specs.Visits.{IsVisit, GainsKnown, RiseOrStay, AreKnow
 
 use crate::conclusions::Concludes;
 use crate::improve::improve;
+use crate::instances::{instance_at, target_place};
 use crate::kept::Table;
 use rule_universe::{Dag, Fact, HintRow, Instance, Placed, Universe};
 use std::alloc::AllocError;
@@ -46,25 +46,6 @@ fn apply<C: Concludes>(
         }
     }
     Ok(steps.conclude(dag, hints, instance, premises))
-}
-
-// The instance with this number.
-#[inline(always)]
-fn instance_at(uni: &Universe, k: usize) -> &Instance
-    requires { k < length uni.now.instances }
-    ensures { slice_get uni.now.instances k ≡ Some result.now }
-{
-    &uni.instances()[k]
-}
-
-// The place of its target.
-#[inline(always)]
-fn target_place(uni: &Universe, k: usize) -> u16
-    requires { k < length uni.now.instances }
-    ensures { (i : Applied) → slice_get uni.now.instances k ≡ Some i
-        → IsPlace (length uni.now.nodes) uni.now.pairs i.target result }
-{
-    uni.targets()[k]
 }
 
 // Applies the instance with this number to the one table, keeps in the other what comes of it, and
