@@ -3,7 +3,7 @@ ghost use Rattle.std.specs.Prelude.{◌≡◌, ◌≢◌, ℕ, List, OnOk, OnErr
 ghost use Rattle.std.specs.List.{AllByRecursion};
 ghost use Rattle.std.specs.Io.KnownBytes.{Appends};
 ghost use Rattle.fx_edge.specs.Outside.{HasCause};
-ghost use Rattle.whole_texts.specs.Pieces.{AppendsFront, PassesOn, HoldsAll, HoldsFront};
+ghost use Rattle.whole_texts.specs.Pieces.{AppendsFront, HoldsAll, HoldsFront};
 ghost use Rattle.cert_bytes.specs.Certificates.{HasSpelling};
 ghost use Rattle.cert_rewriting.specs.Causes.{HasWriteCause};
 ghost use Rattle.cert_bytes.specs.Spelling.{certificate_of};
@@ -13,10 +13,7 @@ ghost use Rattle.cert_rewriting.specs.declared.writing.WriteStop.TheVariants.{Ou
 use cert_bytes::{Item, Seen, write_item2};
 use fx_edge::{Failed, Folder};
 use std::alloc::{AllocError, Global};
-use whole_texts::append_all;
-
-/// How many bytes are gathered, at least, before the file takes them.
-const PIECE: usize = 4096;
+use whole_texts::{append_all, pass_on};
 
 /// Why items weren't written, or not whole.
 #[derive(Clone, Copy, Debug, PartialEq, Eq)]
@@ -43,25 +40,6 @@ impl From<AllocError> for WriteStop {
     }
 }
 
-// Adds the bytes that wait to the file where they are enough; otherwise they go on waiting.
-fn pass_on<F: Folder>(folder: &mut F, name: &str, waiting: &mut Vec<u8>) -> Result<(), Failed>
-    ensures ok { OnOk result (PassesOn (F.told folder.old name.now) (F.told folder.new name.now)
-        waiting.old.items waiting.new.items) }
-    ensures err { OnErr result (AppendsFront
-        (F.told folder.old name.now) (F.told folder.new name.now) waiting.old.items) }
-    ensures others { (other : List ℕ) → other ≢ name.now
-        → F.told folder.new other ≡ F.told folder.old other }
-    ensures cause { HasCause (F.write_faults folder.old) (F.write_faults folder.new) result }
-    ensures quiet { F.read_faults folder.new ≡ F.read_faults folder.old }
-{
-    if waiting.len() < PIECE {
-        return Ok(());
-    }
-    append_all(folder, name, waiting.as_slice())?;
-    waiting.clear();
-    Ok(())
-}
-
 // Adds what the items spell in version 2 to the file, or a front of it.
 fn add_items<F: Folder>(
     alloc: Global,
@@ -84,7 +62,7 @@ fn add_items<F: Folder>(
     let mut left = items;
     while let [item, later @ ..] = left {
         write_item2(item, seen, &mut waiting)?;
-        pass_on(folder, name, &mut waiting)?;
+        pass_on(folder, name, &mut waiting, false)?;
         seen = seen.after(item);
         left = later;
     }
@@ -94,7 +72,7 @@ fn add_items<F: Folder>(
 
 /// Makes the file new, and writes what the items spell in version 2 to it, piece by piece. After an
 /// error the file holds what it held, or a front of that. `Failed` comes only where a write of the
-/// folder failed in this call, `OutOfMemory` only where memory runs out, which is asked for 4,096
+/// folder failed in this call, `OutOfMemory` only where memory runs out, which is asked for 65,536
 /// bytes and one item's spelling.
 pub fn write_items<F: Folder>(
     alloc: Global,

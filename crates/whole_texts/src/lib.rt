@@ -7,4 +7,7 @@ mod write;
 
 pub use put::put_all;
 pub use read::{ReadStop, read_text};
-pub use write::{append_all, write_new};
+pub use write::{append_all, pass_on, write_new};
+
+/// How many bytes a file is asked for, or is given, at once. Each call opens it anew.
+const PIECE: usize = 1 << 16;

@@ -4,6 +4,7 @@ ghost use Rattle.fx_edge.specs.Outside.{Rose};
 ghost use Rattle.whole_texts.specs.Texts.{IsText};
 ghost use Rattle.whole_texts.specs.declared.read.ReadStop.TheVariants.{Fault, OutOfMemory};
 
+use crate::PIECE;
 use fx_edge::{Failed, Folder};
 use std::alloc::{AllocError, Global};
 
@@ -49,7 +50,7 @@ pub fn read_text<F: Folder>(
     ensures quiet { F.write_faults folder.new ≡ F.write_faults folder.old }
 {
     let mut text = Vec::new(alloc);
-    let mut buffer = [0u8; 1024];
+    let mut buffer = [0u8; PIECE];
     while text.len() < most {
         let left = buffer.len().min(most - text.len());
         let count = folder.read(name, text.len() as u64, &mut buffer[..left])?;

@@ -1,9 +1,10 @@
 // Whole texts written to a new file.
-ghost use Rattle.std.specs.Prelude.{◌≡◌, ◌≢◌, ℕ, List, OnOk, OnErr};
+ghost use Rattle.std.specs.Prelude.{◌≡◌, ◌≢◌, [], ℕ, List, IsTrue, OnOk, OnErr};
 ghost use Rattle.std.specs.Io.KnownBytes.{Appends};
 ghost use Rattle.fx_edge.specs.Outside.{HasCause};
-ghost use Rattle.whole_texts.specs.Pieces.{AppendsFront, HoldsAll, HoldsFront};
+ghost use Rattle.whole_texts.specs.Pieces.{AppendsFront, PassesOn, HoldsAll, HoldsFront};
 
+use crate::PIECE;
 use fx_edge::{Failed, Folder};
 
 /// Adds all of the bytes to the file, in as many pieces as the folder takes. `Failed` where a write
@@ -22,6 +23,32 @@ pub fn append_all<F: Folder>(folder: &mut F, name: &str, bytes: &[u8]) -> Result
     while done < bytes.len() {
         done += folder.append(name, &bytes[done..])?;
     }
+    Ok(())
+}
+
+/// Adds the bytes that wait to the file where they are the last, or 65,536 at least; else they go
+/// on waiting. `Failed` where a write failed; the file then took a front of them.
+pub fn pass_on<F: Folder>(
+    folder: &mut F,
+    name: &str,
+    waiting: &mut Vec<u8>,
+    last: bool,
+) -> Result<(), Failed>
+    ensures ok { OnOk result (PassesOn (F.told folder.old name.now) (F.told folder.new name.now)
+        waiting.old.items waiting.new.items) }
+    ensures whole { OnOk result (IsTrue last → waiting.new.items ≡ []) }
+    ensures err { OnErr result (AppendsFront
+        (F.told folder.old name.now) (F.told folder.new name.now) waiting.old.items) }
+    ensures others { (other : List ℕ) → other ≢ name.now
+        → F.told folder.new other ≡ F.told folder.old other }
+    ensures cause { HasCause (F.write_faults folder.old) (F.write_faults folder.new) result }
+    ensures quiet { F.read_faults folder.new ≡ F.read_faults folder.old }
+{
+    if !last && waiting.len() < PIECE {
+        return Ok(());
+    }
+    append_all(folder, name, waiting.as_slice())?;
+    waiting.clear();
     Ok(())
 }
 
