@@ -4,7 +4,8 @@ ghost use Rattle.cert_bytes.specs.Reading.{references_at, counted_at, optional_a
 ghost use Rattle.cert_bytes.specs.Reading.{rising_at, points_at};
 ghost use Rattle.cert_bytes.specs.Certificates.{IsCounted};
 ghost use Rattle.cert_bytes.specs.Pieces.{Gives, AgreesTold, kept_of};
-ghost use Rattle.cert_bytes.specs.Calls.{OnlyReads, ReadsOn};
+ghost use Rattle.fx_edge.specs.OnlyReads.{OnlyReads};
+ghost use Rattle.cert_bytes.specs.Calls.{ReadsOn};
 
 use crate::fault::{CertKind, Stop, fault};
 use crate::field::Field;

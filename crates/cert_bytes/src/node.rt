@@ -6,7 +6,8 @@ ghost use Rattle.expr_dag.specs.Nodes.{IsInLimits};
 ghost use Rattle.cert_bytes.specs.Reading.{direction_from, direction_at, lsb_at, literal_at};
 ghost use Rattle.cert_bytes.specs.Reading.{rounding_at, late_node_at, node_by, node_at};
 ghost use Rattle.cert_bytes.specs.Pieces.{Gives, AgreesTold, kept_of};
-ghost use Rattle.cert_bytes.specs.Calls.{OnlyReads, ReadsOn};
+ghost use Rattle.fx_edge.specs.OnlyReads.{OnlyReads};
+ghost use Rattle.cert_bytes.specs.Calls.{ReadsOn};
 
 use crate::fault::{CertKind, Stop, fault};
 use crate::field::Field;

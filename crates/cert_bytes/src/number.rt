@@ -5,7 +5,8 @@ ghost use Rattle.cert_bytes.specs.Reading.{tiny_at, short_at, long_at, reference
 ghost use Rattle.cert_bytes.specs.Reading.{signed_short_at, signed_long_at, expr_at};
 ghost use Rattle.cert_bytes.specs.Pieces.{Gives, Agrees, AgreesTold, kept_of, cursor_of, HasAhead};
 ghost use Rattle.cert_bytes.specs.Widths.{IsSpan, IsSized, HasBegun};
-ghost use Rattle.cert_bytes.specs.Calls.{OnlyReads, ReadsOn};
+ghost use Rattle.fx_edge.specs.OnlyReads.{OnlyReads};
+ghost use Rattle.cert_bytes.specs.Calls.{ReadsOn};
 
 use crate::based::{ended_near, ended_with, signed_long_by, signed_short_by, step_by};
 use crate::fault::{CertKind, Stop, fault};

@@ -5,7 +5,7 @@ ghost use Rattle.cert_bytes.specs.Pieces.{Gives, AgreesTold};
 ghost use Rattle.cert_bytes.specs.Due.{is_due};
 ghost use Rattle.cert_bytes.specs.Readers.{Progress, Answers, Stands};
 ghost use Rattle.cert_bytes.specs.Certificates.{HasSpelling};
-ghost use Rattle.cert_bytes.specs.Calls.{OnlyReads};
+ghost use Rattle.fx_edge.specs.OnlyReads.{OnlyReads};
 
 use crate::fault::{CertFault, Stop};
 use crate::item::Item;

@@ -5,7 +5,8 @@ ghost use Rattle.cert_bytes.specs.Reading.{section_item_at, case_count_at, root_
 ghost use Rattle.cert_bytes.specs.Due.{is_of_section, is_of_root};
 ghost use Rattle.cert_bytes.specs.Certificates.{HasSpelling, IsCounted};
 ghost use Rattle.cert_bytes.specs.Pieces.{Gives, AgreesTold, kept_of};
-ghost use Rattle.cert_bytes.specs.Calls.{OnlyReads, ReadsOn};
+ghost use Rattle.fx_edge.specs.OnlyReads.{OnlyReads};
+ghost use Rattle.cert_bytes.specs.Calls.{ReadsOn};
 
 use crate::cut_points::CutPoints;
 use crate::fault::{CertKind, Stop, fault};

@@ -4,7 +4,8 @@ ghost use Rattle.std.specs.Prelude.{IfOk, IsTrue, IsErrOf, IsErr};
 ghost use Rattle.cert_bytes.specs.Reading.{byte_at};
 ghost use Rattle.cert_bytes.specs.Pieces.{Gives, IsFilled, IsReady, IsEnd, IsFirst, IsLow, kept_of};
 ghost use Rattle.cert_bytes.specs.Pieces.{AgreesTold, HasAhead};
-ghost use Rattle.cert_bytes.specs.Calls.{OnlyReads, ReadsOn};
+ghost use Rattle.fx_edge.specs.OnlyReads.{OnlyReads};
+ghost use Rattle.cert_bytes.specs.Calls.{ReadsOn};
 
 use crate::fault::{CertFault, CertKind, Stop};
 use crate::style::Style;

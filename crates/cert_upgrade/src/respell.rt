@@ -9,7 +9,8 @@ ghost use Rattle.cert_bytes.specs.ReadOut.{HasFault};
 ghost use Rattle.cert_bytes.specs.Reading.{item_at};
 ghost use Rattle.cert_bytes.specs.Styles.{IsFew, seen_in};
 ghost use Rattle.cert_bytes.specs.Spelling.{certificate_of};
-ghost use Rattle.cert_bytes.specs.Calls.{OnlyReads, ReadsOn};
+ghost use Rattle.fx_edge.specs.OnlyReads.{OnlyReads};
+ghost use Rattle.cert_bytes.specs.Calls.{ReadsOn};
 ghost use Rattle.cert_upgrade.specs.Items.{AreItemsFor, Respells, CanRespell};
 ghost use Rattle.cert_upgrade.specs.Spelled.{told_length};
 

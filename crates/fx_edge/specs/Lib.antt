@@ -1,4 +1,5 @@
 pub mod Outside
+pub mod OnlyReads
 pub mod Held
 pub mod Calls
 pub mod Sinks
