@@ -12,7 +12,7 @@ use Rattle.cert_bytes.specs.Styles.{style_after}
 use Rattle.cert_bytes.specs.Reading.{Cursor, entry_at, item_at}
 use Rattle.cert_bytes.specs.Pieces.{Ahead, Gives, AgreesTold, cursor_of, name_of}
 use Rattle.cert_bytes.specs.Calls.{ReadsOn}
-use Rattle.cert_bytes.specs.Readers.{Progress, Stands}
+use Rattle.cert_bytes.specs.Readers.{Progress, StandsBehind}
 use Rattle.cert_bytes.proofs.Paced.{agrees_back}
 
 abbrev pub restyled : Style → Ahead → Ahead
@@ -90,7 +90,7 @@ pub stands_at : (told : List ℕ → Option (List ℕ)) (old new : Progress) (so
     → old.ahead ≡ source → ReadsOn name_of told source mid → (IsErr r → style ≡ source.style)
     → IfOk r (λ i. ¬ (i ≡ End) → source.at < mid.at)
     → mid.at ≤ 2 ^ 44 → length mid.ahead ≤ 4096
-    → new.ahead ≡ restyled style mid → Stands told old r new
+    → new.ahead ≡ restyled style mid → StandsBehind told old r new
 stands_at told old new source mid style r a on same reads within few n =
     let here : new.ahead.at ≡ mid.at = ap at_in n in
     let there : old.ahead.at ≡ source.at = ap at_in a in
@@ -115,7 +115,7 @@ pub stands_back : (before told : List ℕ → Option (List ℕ)) (old new : Prog
     → old.ahead ≡ source → AgreesTold (before old.ahead.name) old.ahead
     → ((n : List ℕ) → told n ≡ before n)
     → ReadsOn name_of told source mid → style ≡ source.style → at ≡ source.at
-    → mid.at ≤ 2 ^ 44 → new.ahead ≡ backed mid.name style at → Stands told old (Err e) new
+    → mid.at ≤ 2 ^ 44 → new.ahead ≡ backed mid.name style at → StandsBehind told old (Err e) new
 stands_back before told old new source mid style at e a agrees same on s t within n =
     let here : new.ahead.at ≡ at = ap at_in n in
     let there : old.ahead.at ≡ source.at = ap at_in a in

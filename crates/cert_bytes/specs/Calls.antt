@@ -7,10 +7,11 @@ use Rattle.fx_edge.specs.declared.outside.Folder.{Ghosts}
 use Rattle.cert_bytes.specs.declared.style.Style.{Style}
 use Rattle.cert_bytes.specs.Pieces.{Ahead, AgreesTold, kept_of}
 
--- Reading goes on from a place, of which something is kept, with what is told behind the call.
+-- A call reads on from a place. It leaves what `keeps` tells of the place as it is; `told` is what
+-- the folder tells behind the call.
 pub record ReadsOn {K : Type 0} (keeps : Ahead → K) (told : List ℕ → Option (List ℕ))
     (old new : Ahead) : Type 0 where
-  -- what is kept is as before
+  -- what is kept stays
   pub kept : keeps new ≡ keeps old
   -- it doesn't go back
   pub grows : old.at ≤ new.at

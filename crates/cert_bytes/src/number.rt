@@ -4,7 +4,7 @@ ghost use Rattle.cert_bytes.specs.Reading.{byte_at, number_at, limited_at, based
 ghost use Rattle.cert_bytes.specs.Reading.{tiny_at, short_at, long_at, reference_at, wide_at};
 ghost use Rattle.cert_bytes.specs.Reading.{signed_short_at, signed_long_at, expr_at};
 ghost use Rattle.cert_bytes.specs.Pieces.{Gives, Agrees, AgreesTold, kept_of, cursor_of, HasAhead};
-ghost use Rattle.cert_bytes.specs.Widths.{IsSpan, IsSized, HasBegun};
+ghost use Rattle.cert_bytes.specs.Widths.{IsByteLimit, AreWidths, HasBegun};
 ghost use Rattle.fx_edge.specs.OnlyReads.{OnlyReads};
 ghost use Rattle.cert_bytes.specs.Calls.{ReadsOn};
 
@@ -127,7 +127,7 @@ impl Source {
         bytes: usize,
         most: u128,
     ) -> Result<Option<u128>, Stop>
-        requires span { IsSpan bytes }
+        requires limit { IsByteLimit bytes }
         requires agrees { AgreesTold (F.told folder.old self.old.name) self.old }
         ensures gives { (all : List ℕ) → F.told folder.old self.old.name ≡ Some all
             → Gives (λ x. x) all self.old self.new result (limited_at bytes most 1 0) }
@@ -165,7 +165,7 @@ impl Source {
         bytes: usize,
         most: u128,
     ) -> Result<Option<u128>, Stop>
-        requires span { IsSpan bytes }
+        requires limit { IsByteLimit bytes }
         requires ahead { HasAhead 9 self.old }
         requires agrees { AgreesTold (F.told folder.old self.old.name) self.old }
         ensures gives { (all : List ℕ) → F.told folder.old self.old.name ≡ Some all
@@ -204,7 +204,7 @@ impl Source {
         bytes: usize,
         most: u128,
     ) -> Result<Option<u128>, Stop>
-        requires span { IsSpan bytes }
+        requires limit { IsByteLimit bytes }
         requires agrees { AgreesTold (F.told folder.old self.old.name) self.old }
         ensures gives { (all : List ℕ) → F.told folder.old self.old.name ≡ Some all
             → Gives (λ x. x) all self.old self.new result (limited_at bytes most 1 0) }
@@ -228,7 +228,7 @@ impl Source {
         bytes: usize,
         most: u128,
     ) -> Result<u128, Stop>
-        requires span { IsSpan bytes }
+        requires limit { IsByteLimit bytes }
         requires agrees { AgreesTold (F.told folder.old self.old.name) self.old }
         ensures gives { (all : List ℕ) → F.told folder.old self.old.name ≡ Some all
             → Gives (λ x. x) all self.old self.new result (based_at bytes most) }
@@ -247,7 +247,7 @@ impl Source {
     // The next number in base 128, of so many bytes at most.
     #[inline(always)]
     fn based<F: Folder>(&mut self, folder: &mut F, bytes: usize, most: u128) -> Result<u128, Stop>
-        requires span { IsSpan bytes }
+        requires limit { IsByteLimit bytes }
         requires low { 127 ≤ most }
         requires agrees { AgreesTold (F.told folder.old self.old.name) self.old }
         ensures gives { (all : List ℕ) → F.told folder.old self.old.name ≡ Some all
@@ -274,7 +274,7 @@ impl Source {
         bytes: usize,
         most: u128,
     ) -> Result<u128, Stop>
-        requires sized { IsSized width bytes most }
+        requires widths { AreWidths width bytes most }
         requires agrees { AgreesTold (F.told folder.old self.old.name) self.old }
         ensures gives { (all : List ℕ) → F.told folder.old self.old.name ≡ Some all
             → Gives (λ x. x) all self.old self.new result (sized_at width bytes most) }

@@ -3,7 +3,7 @@ ghost use Rattle.std.specs.Prelude.{◌≡◌, [], ℕ, List, Option, Some, None
 ghost use Rattle.cert_bytes.specs.Reading.{item_at};
 ghost use Rattle.cert_bytes.specs.Pieces.{Gives, AgreesTold};
 ghost use Rattle.cert_bytes.specs.Due.{is_due};
-ghost use Rattle.cert_bytes.specs.Readers.{Progress, Answers, Stands};
+ghost use Rattle.cert_bytes.specs.Readers.{Progress, Answers, StandsBehind};
 ghost use Rattle.cert_bytes.specs.Certificates.{HasSpelling};
 ghost use Rattle.fx_edge.specs.OnlyReads.{OnlyReads};
 
@@ -65,7 +65,7 @@ impl Reader {
         ensures due { IfOk result (λ i. is_due self.old.due i ≡ true) }
         ensures spelled { IfOk result HasSpelling }
         ensures answers { Answers self.old result self.new }
-        ensures stands { Stands (F.told folder.new) self.old result self.new }
+        ensures stands { StandsBehind (F.told folder.new) self.old result self.new }
         ensures only_reads { OnlyReads F.Folder folder.old folder.new (IsErrOf result Stop.Failed) }
     {
         let start = self.source.at();
@@ -108,7 +108,7 @@ impl Reader {
         ensures due { IfOk result (λ i. is_due self.old.due i ≡ true) }
         ensures spelled { IfOk result HasSpelling }
         ensures answers { Answers self.old result self.new }
-        ensures stands { Stands (F.told folder.new) self.old result self.new }
+        ensures stands { StandsBehind (F.told folder.new) self.old result self.new }
         ensures only_reads { OnlyReads F.Folder folder.old folder.new (IsErrOf result Stop.Failed) }
     {
         self.source.bounded();

@@ -4,7 +4,6 @@ use Rattle.std.proofs.Common.{length, Option, Some, None, Err, refl, sym, ap, su
 use Rattle.std.specs.Prelude.{IsErrOf}
 use Rattle.std.proofs.lemmas.List.{length-map}
 use Rattle.fx_model.specs.Expression.{Assignment, IsOrdered}
-use Rattle.fx_edge.specs.Outside.{Rose, rose_later}
 use Rattle.goals.specs.declared.line.Line.{Line}
 use Rattle.cert_bytes.specs.declared.fault.CertFault.{CertFault}
 use Rattle.cert_bytes.specs.declared.item.Item.{Item}
@@ -266,9 +265,8 @@ fewer_turns told c d r q open_on t l =
     subst P (sym open_on) (turned_on d.context.ended r.ahead.at q.ahead.at
     (λ e. t.moves (not_end t.item (sym ends ∙ e))) t.grows l)
 
--- a stop that is handed on has its cause
-pub rose_so : {X Y : Type 0} (e : CheckStop) (before middle now : ℕ)
-    → before ≤ middle → (IsErrOf {T = X} {E = CheckStop} (Err e) Failed → Rose middle now)
-    → IsErrOf {T = Y} {E = CheckStop} (Err e) Failed → Rose before now
-rose_so e before middle now l cause h = let same : e ≡ Failed = cc in
-    rose_later before middle now l (cause (ap Err same))
+-- a stop that is handed on is that stop
+pub failed_so : {X Y : Type 0} (e : CheckStop)
+    → IsErrOf {T = Y} {E = CheckStop} (Err e) Failed
+    → IsErrOf {T = X} {E = CheckStop} (Err e) Failed
+failed_so e h = let same : e ≡ Failed = cc in ap Err same

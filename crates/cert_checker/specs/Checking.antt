@@ -1,5 +1,6 @@
 -- What checking answers, and one turn of it.
-use Rattle.std.specs.Prelude.{◌≡◌, ◌≤◌, ◌<◌, ℕ, true, List, Option, Some, None, Result, Ok, Err, ⊤}
+use Rattle.std.specs.Prelude.{◌≡◌, ◌≤◌, ◌<◌, ℕ, true, List, Option, Some, None, Result, Ok, Err}
+use Rattle.std.specs.Prelude.{IfOk, ⊤, length}
 use Rattle.goals.specs.declared.line.Line.{Line}
 use Rattle.cert_bytes.specs.declared.fault.CertFault.{CertFault}
 use Rattle.cert_bytes.specs.declared.item.Item.{Item}
@@ -9,7 +10,8 @@ use Rattle.cert_bytes.specs.declared.style.Style.TheVariants.{First}
 use Rattle.cert_bytes.specs.Due.{due_behind, is_due}
 use Rattle.cert_bytes.specs.Certificates.{SpellsCertificate}
 use Rattle.cert_bytes.specs.Reading.{Cursor, item_at}
-use Rattle.cert_bytes.specs.Pieces.{cursor_of}
+use Rattle.cert_bytes.specs.Pieces.{Ahead, cursor_of}
+use Rattle.cert_bytes.specs.ReadOut.{AreBytes}
 use Rattle.cert_bytes.specs.Readers.{Progress}
 use Rattle.cert_checker.specs.declared.fault.CheckFault.{CheckFault}
 use Rattle.cert_checker.specs.declared.fault.CheckStop.{CheckStop}
@@ -19,7 +21,7 @@ use Rattle.cert_checker.specs.declared.subject.Subject.{Subject}
 use Rattle.cert_checker.specs.Contexts.{Context}
 use Rattle.cert_checker.specs.Faults.{JudgesItem}
 use Rattle.cert_checker.specs.After.{after}
-use Rattle.cert_checker.specs.Standing.{Standing}
+use Rattle.cert_checker.specs.Standing.{Standing, HasRoom}
 use Rattle.cert_checker.specs.Accepted.{Accepts}
 use Rattle.cert_checker.specs.Outcomes.{Outcome, accepted, unread, refused, ComesOf}
 
@@ -63,7 +65,33 @@ pub record AreAccepted (s : Subject) (bytes : List ℕ) (lines : List Line) : Ty
   pub spelled : SpellsCertificate bytes items
   pub accepts : Accepts s items lines
 
+-- The goals and the marks have numbers of two bytes, and one such number is left.
+pub record IsCountable (s : Subject) : Type 0 where
+  pub goals : length s.goals < 65535
+  pub marks : length s.marks < 65535
+
+-- There is a line for each goal, and the marks are the subject's.
+pub record AreLinesOf (s : Subject) (lines : Lines) : Type 0 where
+  pub count : length lines.rows ≡ length s.goals
+  pub marks : lines.marks ≡ s.marks
+
+-- The answer is that of the bytes from this place on.
+pub record AnswersBytes (s : Subject) (all : List ℕ) (from : Ahead)
+    (result : Result Lines CheckStop) : Type 0 where
+  -- what is answered comes of the bytes,
+  pub checks : Checks s (cursor_of all from) result
+  -- and what comes of them is answered, unless reads fail or memory isn't found
+  pub exact : (o : Outcome) → ComesOf s (cursor_of all from) o → IsAnswer o result
+  -- lines come of bytes that spell a certificate which is accepted with them
+  pub accepts : AreBytes all → IfOk result (λ lines. AreAccepted s all lines.rows)
+
 -- ---- one turn
+
+-- An item more can be read and taken: there is room for it, and no fault was met.
+pub record CanTurn (c : Standing) (r : Progress) : Type 0 where
+  pub room : HasRoom c
+  pub sound : c.fault ≡ None
+  pub reads : r.fault ≡ None
 
 -- an item that is due is read, of the bytes where these are told, and taken
 pub record TakesNext (told : Option (List ℕ)) (c d : Standing) (r q : Progress) : Type 0 where

@@ -1,16 +1,15 @@
 //! A certificate under some name of a folder, checked item by item, with its items kept.
-ghost use Rattle.std.specs.Prelude.{◌≡◌, ◌≤◌, ◌<◌, ◌^◌, ℕ, List, Some, None, length, IfOk, IsErrOf};
+ghost use Rattle.std.specs.Prelude.{◌≡◌, ◌≤◌, ◌^◌, ℕ, List, Some, IfOk, IsErrOf};
 ghost use Rattle.std.specs.List.{AllByRecursion};
-ghost use Rattle.fx_edge.specs.Outside.{Rose};
-ghost use Rattle.cert_bytes.specs.Certificates.{HasSpelling, Fits, SpellsCertificate};
-ghost use Rattle.cert_bytes.specs.Pieces.{AgreesTold, cursor_of};
+ghost use Rattle.fx_edge.specs.OnlyReads.{OnlyReads};
+ghost use Rattle.cert_bytes.specs.Certificates.{HasSpelling};
+ghost use Rattle.cert_bytes.specs.Pieces.{AgreesTold, cursor_of, name_of};
 ghost use Rattle.cert_bytes.specs.declared.order.DueItem.TheVariants.{Head};
-ghost use Rattle.cert_bytes.specs.ReadOut.{AreBytes, AreRead};
+ghost use Rattle.cert_bytes.specs.ReadOut.{AreRead};
+ghost use Rattle.cert_bytes.specs.Calls.{ReadsOn};
 ghost use Rattle.cert_checker.specs.declared.fault.CheckStop.TheVariants as CheckStop;
-ghost use Rattle.cert_checker.specs.Standing.{HasRoom};
-ghost use Rattle.cert_checker.specs.Outcomes.{Outcome, ComesOf};
-ghost use Rattle.cert_checker.specs.Checking.{IsFresh, Checks, IsAnswer, Turns};
-ghost use Rattle.cert_checker.specs.Keeping.{TookItem, lines_of, AreAcceptedItems};
+ghost use Rattle.cert_checker.specs.Checking.{IsFresh, Checks, Turns, IsCountable, CanTurn};
+ghost use Rattle.cert_checker.specs.Keeping.{TookItem, lines_of, AreAcceptedItems, AnswersItems};
 
 use crate::chain::Chain;
 use crate::fault::CheckStop;
@@ -34,24 +33,16 @@ fn next_item<F: Folder>(
     reader: &mut Reader,
     folder: &mut F,
 ) -> Result<Item, CheckStop>
-    requires room { HasRoom chain.old }
-    requires sound { chain.old.fault ≡ None }
-    requires reads { reader.old.fault ≡ None }
+    requires can_turn { CanTurn chain.old reader.old }
     requires agrees { AgreesTold (F.told folder.old reader.old.ahead.name) reader.old.ahead }
     ensures turns { Turns
         (F.told folder.old reader.old.ahead.name) chain.old chain.new reader.old reader.new result }
     ensures took { IfOk result (TookItem
         (F.told folder.old reader.old.ahead.name) chain.old chain.new reader.old reader.new) }
-    ensures spelled { IfOk result HasSpelling }
-    ensures fits { IfOk result Fits }
-    ensures agrees { AgreesTold (F.told folder.new reader.new.ahead.name) reader.new.ahead }
-    ensures name { reader.new.ahead.name ≡ reader.old.ahead.name }
+    ensures reads_on { ReadsOn name_of (F.told folder.new) reader.old.ahead reader.new.ahead }
     ensures within { reader.new.ahead.at ≤ 2 ^ 44 }
-    ensures told { (other : List ℕ) → F.told folder.new other ≡ F.told folder.old other }
-    ensures later { F.read_faults folder.old ≤ F.read_faults folder.new }
-    ensures quiet { F.write_faults folder.new ≡ F.write_faults folder.old }
-    ensures cause { IsErrOf result CheckStop.Failed
-        → Rose (F.read_faults folder.old) (F.read_faults folder.new) }
+    ensures only_reads { OnlyReads F.Folder folder.old folder.new
+        (IsErrOf result CheckStop.Failed) }
 {
     let item = reader.next(folder)?;
     item_fits(&item);
@@ -66,8 +57,7 @@ fn keep_items<F: Folder>(
     reader: &mut Reader,
     folder: &mut F,
 ) -> Result<Accepted, CheckStop>
-    requires goals { length subject.goals < 65535 }
-    requires marks { length subject.marks < 65535 }
+    requires countable { IsCountable subject }
     requires fresh { IsFresh reader.old }
     requires agrees { AgreesTold (F.told folder.old reader.old.ahead.name) reader.old.ahead }
     ensures checks { (all : List ℕ) → F.told folder.old reader.old.ahead.name ≡ Some all
@@ -75,13 +65,9 @@ fn keep_items<F: Folder>(
     ensures read { (all : List ℕ) → F.told folder.old reader.old.ahead.name ≡ Some all
         → IfOk result (λ a. AreRead Head (cursor_of all reader.old.ahead) a.items.items) }
     ensures accepts { IfOk result (AreAcceptedItems subject) }
-    ensures agrees { AgreesTold (F.told folder.new reader.new.ahead.name) reader.new.ahead }
-    ensures name { reader.new.ahead.name ≡ reader.old.ahead.name }
-    ensures told { (other : List ℕ) → F.told folder.new other ≡ F.told folder.old other }
-    ensures later { F.read_faults folder.old ≤ F.read_faults folder.new }
-    ensures quiet { F.write_faults folder.new ≡ F.write_faults folder.old }
-    ensures cause { IsErrOf result CheckStop.Failed
-        → Rose (F.read_faults folder.old) (F.read_faults folder.new) }
+    ensures reads_on { ReadsOn name_of (F.told folder.new) reader.old.ahead reader.new.ahead }
+    ensures only_reads { OnlyReads F.Folder folder.old folder.new
+        (IsErrOf result CheckStop.Failed) }
 {
     each_case_has_its_root();
     let mut chain = Chain::new(alloc, subject)?;
@@ -106,32 +92,18 @@ pub fn accepted_items<F: Folder>(
     reader: &mut Reader,
     folder: &mut F,
 ) -> Result<Accepted, CheckStop>
-    requires goals { length subject.goals < 65535 }
-    requires marks { length subject.marks < 65535 }
+    requires countable { IsCountable subject }
     requires fresh { IsFresh reader.old }
     requires agrees { AgreesTold (F.told folder.old reader.old.ahead.name) reader.old.ahead }
-    // What is answered comes of the bytes, where the folder tells them,
-    ensures checks { (all : List ℕ) → F.told folder.old reader.old.ahead.name ≡ Some all
-        → Checks subject (cursor_of all reader.old.ahead) (lines_of result) }
-    // and what comes of them is answered, unless reads fail or memory isn't found.
-    ensures exact { (all : List ℕ)
-        → F.told folder.old reader.old.ahead.name ≡ Some all → (o : Outcome)
-        → ComesOf subject (cursor_of all reader.old.ahead) o → IsAnswer o (lines_of result) }
-    // The items are read from the bytes to their end, and are what the bytes spell.
-    ensures read { (all : List ℕ) → F.told folder.old reader.old.ahead.name ≡ Some all
-        → IfOk result (λ a. AreRead Head (cursor_of all reader.old.ahead) a.items.items) }
-    ensures spells { (all : List ℕ) → F.told folder.old reader.old.ahead.name ≡ Some all
-        → AreBytes all → IfOk result (λ a. SpellsCertificate all a.items.items) }
+    // Where the folder tells the bytes, the answer is that of them.
+    ensures of_told { (all : List ℕ) → F.told folder.old reader.old.ahead.name ≡ Some all
+        → AnswersItems subject all reader.old.ahead result }
     // Whatever the bytes are, the items are a certificate that is accepted with these lines.
     ensures accepts { IfOk result (AreAcceptedItems subject) }
     ensures spelled { IfOk result (λ a. AllByRecursion HasSpelling a.items.items) }
-    ensures agrees { AgreesTold (F.told folder.new reader.new.ahead.name) reader.new.ahead }
-    ensures name { reader.new.ahead.name ≡ reader.old.ahead.name }
-    ensures told { (other : List ℕ) → F.told folder.new other ≡ F.told folder.old other }
-    ensures later { F.read_faults folder.old ≤ F.read_faults folder.new }
-    ensures quiet { F.write_faults folder.new ≡ F.write_faults folder.old }
-    ensures cause { IsErrOf result CheckStop.Failed
-        → Rose (F.read_faults folder.old) (F.read_faults folder.new) }
+    ensures reads_on { ReadsOn name_of (F.told folder.new) reader.old.ahead reader.new.ahead }
+    ensures only_reads { OnlyReads F.Folder folder.old folder.new
+        (IsErrOf result CheckStop.Failed) }
 {
     certificates_are_spelled_once();
     keep_items(alloc, subject, reader, folder)

@@ -1,6 +1,6 @@
 // The status and the lines for a text and a certificate.
-ghost use Rattle.std.specs.Prelude.{◌≡◌, ◌≤◌, ℕ, List, Some, IfOk, IsErrOf};
-ghost use Rattle.fx_edge.specs.Outside.{Rose};
+ghost use Rattle.std.specs.Prelude.{◌≡◌, ℕ, List, Some, IfOk, IsErrOf};
+ghost use Rattle.fx_edge.specs.OnlyReads.{OnlyReads};
 ghost use Rattle.script_checker.specs.script_grammar.Spells.{View, Spells};
 ghost use Rattle.script_texts.specs.report.Proved as spec;
 ghost use Rattle.check_command.specs.Checked.{CheckPrints, IsAcceptable};
@@ -41,10 +41,7 @@ fn check_certificate<F: Folder>(
         CheckPrints script.now.text (F.told folder.old name.now) r.0 r.1.items) }
     ensures accepted { (all : List ℕ) → F.told folder.old name.now ≡ Some all
         → IsAcceptable script.now.text all → IfOk result (λ r. r.0 ≡ Status.Answered) }
-    ensures told { (other : List ℕ) → F.told folder.new other ≡ F.told folder.old other }
-    ensures later { F.read_faults folder.old ≤ F.read_faults folder.new }
-    ensures cause { IsErrOf result ReadStop.Fault
-        → Rose (F.read_faults folder.old) (F.read_faults folder.new) }
+    ensures only_reads { OnlyReads F.Folder folder.old folder.new (IsErrOf result ReadStop.Fault) }
 {
     script.laws();
     script_or_refusal();
@@ -73,10 +70,7 @@ pub fn check_answer<F: Folder>(
     ensures accepted { (all : List ℕ) → F.told folder.old name.now ≡ Some all
         → IsAcceptable text.now all → IfOk result (λ r. r.0 ≡ Status.Answered) }
     ensures script { IsErrOf result ReadStop.Fault → (s : View) × Spells text.now s }
-    ensures told { (other : List ℕ) → F.told folder.new other ≡ F.told folder.old other }
-    ensures later { F.read_faults folder.old ≤ F.read_faults folder.new }
-    ensures cause { IsErrOf result ReadStop.Fault
-        → Rose (F.read_faults folder.old) (F.read_faults folder.new) }
+    ensures only_reads { OnlyReads F.Folder folder.old folder.new (IsErrOf result ReadStop.Fault) }
 {
     script_or_refusal();
     match parse(alloc, text) {

@@ -5,7 +5,7 @@ use Rattle.std.proofs.Math.Nat.{le_refl, le_trans}
 use Rattle.fx_edge.specs.Outside.{Rose, rose_later}
 use Rattle.fx_edge.specs.declared.outside.Folder.{Ghosts}
 
--- A call only reads from the folder. It may fail by that, which is said of the call.
+-- A call only reads from the folder. `Fails` says that the call failed by it.
 pub record OnlyReads {D : Type 0} (folder : Ghosts D) (old new : D) (Fails : Type 0) : Type 0 where
   -- what is told of each name stays
   pub told : (name : List ℕ) → folder.told new name ≡ folder.told old name

@@ -13,7 +13,7 @@ use Rattle.settler.specs.case_trees.declared.outcome.OpenLeaf.{OpenLeaf}
 use Rattle.settler.specs.Answers.{Options, HasTooManyExpressions, HasTooManyBoxes, IsUnproved}
 use Rattle.settler.specs.Answers.{IsProvedIn, plan_of}
 use Rattle.settler.specs.Tight.{AreTight}
-use Rattle.settler.specs.Held.{AreHeld}
+use Rattle.settler.specs.script_meets.Held.{AreHeld}
 use Rattle.command_line.specs.Reading.{Asked}
 use Rattle.script_texts.specs.command_runs.Runs.{Bytes}
 use Rattle.script_texts.specs.command_runs.declared.status.Status.{Status}

@@ -22,7 +22,7 @@ use Rattle.cert_checker.specs.declared.fault.CheckStop.TheVariants.{OutOfMemory}
 use Rattle.cert_checker.specs.declared.lines.Lines.{Lines}
 use Rattle.cert_checker.specs.declared.subject.Subject.{Subject}
 use Rattle.cert_checker.specs.Outcomes.{Outcome, ComesOf, ComesOnce}
-use Rattle.cert_checker.specs.Checking.{Checks, IsAnswer}
+use Rattle.cert_checker.specs.Checking.{AreLinesOf, Checks, IsAnswer}
 use Rattle.script_checker.specs.Subjects.{goal_of, IsSubjectOf}
 use Rattle.script_checker.specs.Checking.{ComesFor, ChecksFor, ChecksAreOne}
 use Rattle.rewrite_hints.specs.facts.CommonParts.{stands}
@@ -101,15 +101,14 @@ module _ (s : View) (t : Subject) (is : IsSubjectOf s t) where
   pub few_marks : HasFewHints s.hints → length t.marks < 65535
   few_marks few = let l = few.rewrites in let e = is.marks.count in omega (arith, e, l)
 
-  pub count_for : (result : Result Lines CheckStop)
-      → IfOk result (λ lines. length lines.rows ≡ length t.goals)
+  pub count_for : (result : Result Lines CheckStop) → IfOk result (AreLinesOf t)
       → IfOk result (λ lines. length lines.rows ≡ length s.goals)
-  count_for (Ok lines) h = h ∙ goals_are
+  count_for (Ok lines) h = h.count ∙ goals_are
   count_for (Err e) h = tt
 
-  pub marks_for : (result : Result Lines CheckStop) → IfOk result (λ lines. lines.marks ≡ t.marks)
+  pub marks_for : (result : Result Lines CheckStop) → IfOk result (AreLinesOf t)
       → IfOk result (λ lines. AreMarks s.nodes s.hints.rewrites lines.marks)
-  marks_for (Ok lines) h = subst (AreMarks s.nodes s.hints.rewrites) (sym h) is.marks
+  marks_for (Ok lines) h = subst (AreMarks s.nodes s.hints.rewrites) (sym h.marks) is.marks
   marks_for (Err e) h = tt
 
 module _ (s : View) (t : Subject) (is : IsSubjectOf s t) (p : Cursor) where

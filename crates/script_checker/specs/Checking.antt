@@ -1,5 +1,5 @@
 -- What checking a script's certificate answers, and what its lines promise.
-use Rattle.std.specs.Prelude.{◌≡◌, ⊤, ℕ, List, Some, Result, Ok, Err, slice_get}
+use Rattle.std.specs.Prelude.{◌≡◌, ⊤, ℕ, List, Some, Result, Ok, Err, IfOk, slice_get}
 use Rattle.fx_model.specs.Expression.{Assignment, IsOrdered}
 use Rattle.cert_checker.specs.goals.declared.line.Line.{Line}
 use Rattle.script_meets.specs.script_grammar.Spells.{View}
@@ -8,6 +8,10 @@ use Rattle.script_meets.specs.script_grammar.Ranges.{HasFewCases}
 use Rattle.script_meets.specs.Meets.{Meets}
 use Rattle.script_meets.specs.Held.{AreHeld}
 use Rattle.cert_checker.specs.cert_bytes.declared.item.Item.{Item}
+use Rattle.cert_checker.specs.cert_bytes.declared.order.DueItem.TheVariants.{Head}
+use Rattle.cert_checker.specs.cert_bytes.Certificates.{SpellsCertificate}
+use Rattle.cert_checker.specs.cert_bytes.Pieces.{Ahead, cursor_of}
+use Rattle.cert_checker.specs.cert_bytes.ReadOut.{AreBytes, AreRead}
 use Rattle.cert_checker.specs.cert_bytes.Reading.{Cursor}
 use Rattle.cert_checker.specs.declared.fault.CheckStop.{CheckStop}
 use Rattle.cert_checker.specs.declared.fault.CheckStop.TheVariants as check_stop
@@ -17,8 +21,8 @@ use Rattle.cert_checker.specs.declared.subject.Subject.{Subject}
 use Rattle.cert_checker.specs.Accepted.{Accepts}
 use Rattle.cert_checker.specs.Contexts.{Context}
 use Rattle.cert_checker.specs.Outcomes.{Outcome, accepted, unread, refused, ComesOf}
-use Rattle.cert_checker.specs.Checking.{ShowsLines, AreAccepted}
-use Rattle.cert_checker.specs.Keeping.{AreAcceptedItems}
+use Rattle.cert_checker.specs.Checking.{ShowsLines, AreAccepted, IsAnswer}
+use Rattle.cert_checker.specs.Keeping.{AreAcceptedItems, lines_of}
 use Rattle.script_checker.specs.Subjects.{IsSubjectOf}
 
 -- What comes of the bytes at the cursor for the script.
@@ -54,6 +58,28 @@ pub record AreAcceptedFor (s : View) (bytes : List ℕ) (lines : List Line) : Ty
 -- The items are a certificate that is accepted for the script with these lines.
 abbrev pub AreAcceptedItemsFor : View → Accepted → Type 0
 AreAcceptedItemsFor s a = (t : Subject) × IsSubjectOf s t × AreAcceptedItems t a
+
+-- The answer is that of the bytes from this place on.
+pub record AnswersFor (s : View) (all : List ℕ) (from : Ahead)
+    (result : Result Lines CheckStop) : Type 0 where
+  -- what is answered comes of the bytes,
+  pub checks : ChecksFor s (cursor_of all from) result
+  -- and what comes of them is answered, unless reads fail or memory isn't found
+  pub exact : (o : Outcome) → ComesFor s (cursor_of all from) o → IsAnswer o result
+  -- lines come of bytes that spell a certificate which is accepted with them
+  pub accepts : AreBytes all → IfOk result (λ lines. AreAcceptedFor s all lines.rows)
+
+-- The same where the items are kept.
+pub record AnswersItemsFor (s : View) (all : List ℕ) (from : Ahead)
+    (result : Result Accepted CheckStop) : Type 0 where
+  -- what is answered comes of the bytes,
+  pub checks : ChecksFor s (cursor_of all from) (lines_of result)
+  -- and what comes of them is answered, unless reads fail or memory isn't found
+  pub exact : (o : Outcome) → ComesFor s (cursor_of all from) o → IsAnswer o (lines_of result)
+  -- the items are read from the bytes to their end,
+  pub read : IfOk result (λ a. AreRead Head (cursor_of all from) a.items.items)
+  -- and are what the bytes spell
+  pub spells : AreBytes all → IfOk result (λ a. SpellsCertificate all a.items.items)
 
 -- The lines of each certificate that is accepted hold of every assignment that meets the script,
 -- whoever wrote it.

@@ -1,15 +1,14 @@
 //! A certificate under some name of a folder, checked for a script.
-ghost use Rattle.std.specs.Prelude.{◌≡◌, ◌≤◌, ℕ, List, Some, length, IfOk, IsErrOf};
+ghost use Rattle.std.specs.Prelude.{◌≡◌, ℕ, List, Some, length, IfOk, IsErrOf};
 ghost use Rattle.fx_model.specs.Expression.{Assignment};
-ghost use Rattle.fx_edge.specs.Outside.{Rose};
+ghost use Rattle.fx_edge.specs.OnlyReads.{OnlyReads};
 ghost use Rattle.script_meets.specs.Meets.{Meets};
 ghost use Rattle.rewrite_hints.specs.Marks.{AreMarks};
-ghost use Rattle.cert_checker.specs.cert_bytes.Pieces.{AgreesTold, cursor_of};
-ghost use Rattle.cert_checker.specs.cert_bytes.ReadOut.{AreBytes};
+ghost use Rattle.cert_checker.specs.cert_bytes.Pieces.{AgreesTold, name_of};
 ghost use Rattle.cert_checker.specs.declared.fault.CheckStop.TheVariants as CheckStop;
-ghost use Rattle.cert_checker.specs.Outcomes.{Outcome};
-ghost use Rattle.cert_checker.specs.Checking.{IsFresh, IsAnswer};
-ghost use Rattle.script_checker.specs.Checking.{ComesFor, ChecksFor, AreAcceptedFor};
+ghost use Rattle.cert_checker.specs.Checking.{IsFresh};
+ghost use Rattle.cert_checker.specs.cert_bytes.Calls.{ReadsOn};
+ghost use Rattle.script_checker.specs.Checking.{AnswersFor};
 ghost use Rattle.script_meets.specs.Held.{AreHeld};
 
 use crate::subject::subject_of;
@@ -30,16 +29,9 @@ pub fn check_script<F: Folder>(
 ) -> Result<Lines, CheckStop>
     requires fresh { IsFresh reader.old }
     requires agrees { AgreesTold (F.told folder.old reader.old.ahead.name) reader.old.ahead }
-    // What is answered comes of the bytes, where the folder tells them,
-    ensures checks { (all : List ℕ) → F.told folder.old reader.old.ahead.name ≡ Some all
-        → ChecksFor script.now (cursor_of all reader.old.ahead) result }
-    // and what comes of them is answered, unless reads fail or memory isn't found.
-    ensures exact { (all : List ℕ)
-        → F.told folder.old reader.old.ahead.name ≡ Some all → (o : Outcome)
-        → ComesFor script.now (cursor_of all reader.old.ahead) o → IsAnswer o result }
-    // Lines come of bytes that spell a certificate which is accepted with them.
-    ensures accepts { (all : List ℕ) → F.told folder.old reader.old.ahead.name ≡ Some all
-        → AreBytes all → IfOk result (λ lines. AreAcceptedFor script.now all lines.rows) }
+    // Where the folder tells the bytes, the answer is that of them.
+    ensures of_told { (all : List ℕ) → F.told folder.old reader.old.ahead.name ≡ Some all
+        → AnswersFor script.now all reader.old.ahead result }
     // Whatever the bytes are, lines hold of every assignment that meets the script, and the goals
     // are true of it.
     ensures holds { IfOk result (λ lines. (a : Assignment) → Meets a script.now
@@ -47,13 +39,9 @@ pub fn check_script<F: Folder>(
     ensures count { IfOk result (λ lines. length lines.rows ≡ length script.now.goals) }
     ensures marks { IfOk result
         (λ lines. AreMarks script.now.nodes script.now.hints.rewrites lines.marks) }
-    ensures agrees { AgreesTold (F.told folder.new reader.new.ahead.name) reader.new.ahead }
-    ensures name { reader.new.ahead.name ≡ reader.old.ahead.name }
-    ensures told { (other : List ℕ) → F.told folder.new other ≡ F.told folder.old other }
-    ensures later { F.read_faults folder.old ≤ F.read_faults folder.new }
-    ensures quiet { F.write_faults folder.new ≡ F.write_faults folder.old }
-    ensures cause { IsErrOf result CheckStop.Failed
-        → Rose (F.read_faults folder.old) (F.read_faults folder.new) }
+    ensures reads_on { ReadsOn name_of (F.told folder.new) reader.old.ahead reader.new.ahead }
+    ensures only_reads { OnlyReads F.Folder folder.old folder.new
+        (IsErrOf result CheckStop.Failed) }
 {
     script.laws();
     goals_are_enough();

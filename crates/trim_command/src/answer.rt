@@ -2,6 +2,7 @@
 ghost use Rattle.std.specs.Prelude.{◌≡◌, ◌≢◌, ◌≤◌, ◌⊎◌, ℕ, List, Some, IfOk, IsErrOf};
 ghost use Rattle.std.specs.List.{AllByRecursion};
 ghost use Rattle.fx_edge.specs.Outside.{Rose};
+ghost use Rattle.fx_edge.specs.OnlyReads.{OnlyReads};
 ghost use Rattle.check_command.specs.script_grammar.Spells.{View, Spells};
 ghost use Rattle.cert_trim.specs.cert_bytes.Certificates.{HasSpelling};
 ghost use Rattle.cert_trim.specs.cert_bytes.Reading.{cursor};
@@ -36,11 +37,8 @@ fn items_of<F: Folder>(
         AreTrimmable script.now (F.told folder.old name.now) a.items.items) }
     ensures led { IfOk result (λ a. AreLedBySome a.items.items) }
     ensures spelled { IfOk result (λ a. AllByRecursion HasSpelling a.items.items) }
-    ensures told { (other : List ℕ) → F.told folder.new other ≡ F.told folder.old other }
-    ensures later { F.read_faults folder.old ≤ F.read_faults folder.new }
-    ensures quiet { F.write_faults folder.new ≡ F.write_faults folder.old }
-    ensures cause { IsErrOf result CheckStop.Failed
-        → Rose (F.read_faults folder.old) (F.read_faults folder.new) }
+    ensures only_reads { OnlyReads F.Folder folder.old folder.new
+        (IsErrOf result CheckStop.Failed) }
 {
     trimmed_are_accepted();
     let mut reader = Reader::new(alloc, name)?;

@@ -1,5 +1,7 @@
 use Rattle.std.proofs.Common.{◌≡◌, ◌≤◌, ◌^◌, ℕ, List, Some}
-use Rattle.cert_bytes.specs.Pieces.{AgreesTold}
+use Rattle.fx_edge.specs.OnlyReads.{OnlyReads}
+use Rattle.cert_bytes.specs.Pieces.{name_of}
+use Rattle.cert_bytes.specs.Calls.{ReadsOn}
 use Rattle.cert_checker.proofs.Turns.{Reaches, IsSteady, turns_left}
 use Rattle.cert_checker.proofs.check.check_items.Given as goal
 
@@ -9,11 +11,8 @@ invariant-loop-chain g l = record {
   within : l.reader.ahead.at ≤ 2 ^ 44;
   reaches : (all : List ℕ) → g.F.Folder.told l.fn.folder l.fn.reader.ahead.name ≡ Some all
       → Reaches l.fn.subject all l.fn.reader l.chain l.reader;
-  agrees : AgreesTold (g.F.Folder.told l.folder l.reader.ahead.name) l.reader.ahead;
-  name : l.reader.ahead.name ≡ l.fn.reader.ahead.name;
-  told : (other : List ℕ) → g.F.Folder.told l.folder other ≡ g.F.Folder.told l.fn.folder other;
-  later : g.F.Folder.read_faults l.fn.folder ≤ g.F.Folder.read_faults l.folder;
-  quiet : g.F.Folder.write_faults l.folder ≡ g.F.Folder.write_faults l.fn.folder;
+  reads_on : ReadsOn name_of (g.F.Folder.told l.folder) l.fn.reader.ahead l.reader.ahead;
+  only_reads : OnlyReads g.F.Folder l.fn.folder l.folder ⊥;
 }
 
 abbrev pub decreases-loop-chain : goal.decreases-loop-chain

@@ -1,8 +1,10 @@
 use Rattle.std.proofs.Common.{◌≡◌, ◌≤◌, ◌^◌, ◌++◌, ℕ, List, Some}
+use Rattle.fx_edge.specs.OnlyReads.{OnlyReads}
 use Rattle.cert_bytes.specs.declared.item.Item.{Item}
 use Rattle.cert_bytes.specs.declared.order.DueItem.TheVariants.{Head}
 use Rattle.cert_bytes.specs.Certificates.{AreDue, AreCertificate}
-use Rattle.cert_bytes.specs.Pieces.{AgreesTold, cursor_of}
+use Rattle.cert_bytes.specs.Pieces.{cursor_of, name_of}
+use Rattle.cert_bytes.specs.Calls.{ReadsOn}
 use Rattle.cert_bytes.specs.ReadOut.{AreRead}
 use Rattle.cert_checker.specs.Contexts.{first}
 use Rattle.cert_checker.specs.Accepted.{LeadsTo}
@@ -21,11 +23,8 @@ invariant-loop-chain g l = record {
   led : LeadsTo l.fn.subject (first l.fn.subject) l.items.items l.chain.context;
   whole : (later : List Item) → AreDue (Some l.reader.due) later
       → AreCertificate (l.items.items ++ later);
-  agrees : AgreesTold (g.F.Folder.told l.folder l.reader.ahead.name) l.reader.ahead;
-  name : l.reader.ahead.name ≡ l.fn.reader.ahead.name;
-  told : (other : List ℕ) → g.F.Folder.told l.folder other ≡ g.F.Folder.told l.fn.folder other;
-  later : g.F.Folder.read_faults l.fn.folder ≤ g.F.Folder.read_faults l.folder;
-  quiet : g.F.Folder.write_faults l.folder ≡ g.F.Folder.write_faults l.fn.folder;
+  reads_on : ReadsOn name_of (g.F.Folder.told l.folder) l.fn.reader.ahead l.reader.ahead;
+  only_reads : OnlyReads g.F.Folder l.fn.folder l.folder ⊥;
 }
 
 abbrev pub decreases-loop-chain : goal.decreases-loop-chain

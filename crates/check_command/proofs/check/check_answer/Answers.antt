@@ -25,6 +25,6 @@ refused_line-requires g c = λ r e. c.in-Err.ensures.refused r (ap Err e)
 pub returns-in_ok-refused_line-in-Err-clause-accepted :
     goal.returns-in_ok-refused_line-in-Err-clause-accepted
 returns-in_ok-refused_line-in-Err-clause-accepted g c = λ all known p.
-    let line = c.in_ok-refused_line.ensures in
+    let line = c.in_ok-refused_line-in-Err.ensures in
     absurd
     (c.script_or_refusal.ensures.never_both c.args.text.now p.script line.0 p.spelled line.1)

@@ -14,14 +14,16 @@ returns-in-Ok-clause-prints g c =
     let found = c.in-Ok.ensures in
     accepted_prints (g.F.Folder.told c.args.folder.now) c.args.name.now c.in_ok-reader.reader
     c.in_ok-reader.ensures.begins c.args.script.now c.script_or_refusal.ensures.spans
-    c.laws.ensures.spelled c.in-Ok.lines found.checks found.accepts found.holds found.count
+    c.laws.ensures.spelled c.in-Ok.lines (λ all h. (found.of_told all h).checks)
+    (λ all h. (found.of_told all h).accepts) found.holds found.count
     found.marks _ c.in_ok-checked_text-in-Ok.ensures
 
 pub returns-in-Err-Cert-clause-prints : goal.returns-in-Err-Cert-clause-prints
 returns-in-Err-Cert-clause-prints g c =
     unread_prints (g.F.Folder.told c.args.folder.now) c.args.name.now c.in_ok-reader.reader
     c.in_ok-reader.ensures.begins c.args.script.now c.laws.ensures.spelled c.in-Err-Cert.field-0
-    c.in-Err-Cert.fault c.in-Err-Cert.field-0-is c.in-Err-Cert.ensures.checks _
+    c.in-Err-Cert.fault c.in-Err-Cert.field-0-is
+    (λ all h. (c.in-Err-Cert.ensures.of_told all h).checks) _
     c.in_ok-cert_fault_line-in-Err-Cert.ensures
 
 pub returns-in-Err-Cert-clause-accepted : goal.returns-in-Err-Cert-clause-accepted
@@ -30,14 +32,16 @@ returns-in-Err-Cert-clause-accepted g c = λ all known p.
     answers_accepted c.bytes_are_accepted.ensures.accepted c.script_or_refusal.ensures.once
     (g.F.Folder.told c.args.folder.now) c.args.name.now c.in_ok-reader.reader
     c.in_ok-reader.ensures.begins c.args.script.now c.laws.ensures.spelled
-    (Err c.in-Err-Cert.field-0) c.in-Err-Cert.ensures.exact all known p in
+    (Err c.in-Err-Cert.field-0) (λ all h. (c.in-Err-Cert.ensures.of_told all h).exact) all known
+    p in
     absurd (not_unread a.0 c.in-Err-Cert.field-0 c.in-Err-Cert.fault c.in-Err-Cert.field-0-is a.1)
 
 pub returns-in-Err-Check-clause-prints : goal.returns-in-Err-Check-clause-prints
 returns-in-Err-Check-clause-prints g c =
     refused_prints (g.F.Folder.told c.args.folder.now) c.args.name.now c.in_ok-reader.reader
     c.in_ok-reader.ensures.begins c.args.script.now c.laws.ensures.spelled c.in-Err-Check.field-0
-    c.in-Err-Check.fault c.in-Err-Check.field-0-is c.in-Err-Check.ensures.checks _
+    c.in-Err-Check.fault c.in-Err-Check.field-0-is
+    (λ all h. (c.in-Err-Check.ensures.of_told all h).checks) _
     c.in_ok-check_fault_line-in-Err-Check.ensures
 
 pub returns-in-Err-Check-clause-accepted : goal.returns-in-Err-Check-clause-accepted
@@ -46,6 +50,7 @@ returns-in-Err-Check-clause-accepted g c = λ all known p.
     answers_accepted c.bytes_are_accepted.ensures.accepted c.script_or_refusal.ensures.once
     (g.F.Folder.told c.args.folder.now) c.args.name.now c.in_ok-reader.reader
     c.in_ok-reader.ensures.begins c.args.script.now c.laws.ensures.spelled
-    (Err c.in-Err-Check.field-0) c.in-Err-Check.ensures.exact all known p in
+    (Err c.in-Err-Check.field-0) (λ all h. (c.in-Err-Check.ensures.of_told all h).exact) all known
+    p in
     absurd
     (not_refused a.0 c.in-Err-Check.field-0 c.in-Err-Check.fault c.in-Err-Check.field-0-is a.1)

@@ -27,7 +27,7 @@ returns-in-Ok-check_answer g c = record {
       let r : Run = run before after c.print.result in
       let same = c.in-Ok.ensures.told a.cert in
       put_is c.check_answers_are_one.ensures a r
-      (λ name. found.told name ∙ c.in-Ok.ensures.told name) read
+      (λ name. found.only_reads.told name ∙ c.in-Ok.ensures.told name) read
       (subst (IsText 1048577 (f.told here a.script)) (search rules) c.in-Ok.ensures.text) s lines
       (subst (λ known. CheckPrints read known s lines) same found.prints)
       (λ all known p. found.accepted all (same ∙ known) p)
@@ -49,13 +49,13 @@ returns-in-Ok g c = record {
       (f.write_faults there) (o.faults c.print_stop.new.out) in
       let r : Run = run before after c.print_stop.result in
       cert_stop_is c.check_answers_are_one.ensures a r
-      (λ name. stopped.told name ∙ c.in-Ok.ensures.told name) c.deref.result.now
+      (λ name. stopped.only_reads.told name ∙ c.in-Ok.ensures.told name) c.deref.result.now
       (subst (IsText 1048577 (f.told here a.script)) (search rules) c.in-Ok.ensures.text)
       c.in-Err-check_answer.stop
       (λ e. (
         stopped.script (ap Err e),
         rose_later (f.read_faults here) (f.read_faults c.read_text.new.folder)
-            (f.read_faults there) c.in-Ok.ensures.later (stopped.cause (ap Err e)),
+            (f.read_faults there) c.in-Ok.ensures.later (stopped.only_reads.cause (ap Err e)),
       ))
       c.print_stop.ensures;
 }

@@ -12,7 +12,7 @@ returns-then-has_low-clause-gives g c = λ all h.
     let read = next_is all old.style old.at old c.advance.new.self c.advance.result
     (agrees_for _ old c.requires.agrees all h) refl (λ l. omega (arith, l, room))
     c.advance.ensures.byte c.advance.ensures.at (ap style_in c.advance.ensures.kept) in
-    let many = c.requires.span.many in
+    let many = c.requires.limit.many in
     rw c.from.ensures (low_number (cursor_of all old)
     (cursor_of all c.advance.new.self) c.args.bytes c.args.most c.advance.result
     (omega (arith, many)) c.requires.low read.0 (low_is old.ahead c.advance.new.self.ahead

@@ -25,7 +25,7 @@ pub loop-have-preserved : goal.loop-have-preserved
 loop-have-preserved g c =
     let t = c.loop-have-test.true in
     let i = c.loop-have.invariant in
-    let many = c.requires.span.many in
+    let many = c.requires.limit.many in
     let left : c.args.bytes - c.loop-have.have ≡ suc (c.args.bytes - (c.loop-have.have + 1)) =
     omega (arith, t, many) in
     let small : c.in_ok-byte.byte < 256 = search (arith, rules) in
@@ -87,7 +87,7 @@ ended_near-requires g c = record {
 pub limited_far-requires : goal.limited_far-requires
 limited_far-requires g c =
     let t = c.loop-have-test.false in let i = c.loop-have.invariant in
-    let within = i.within in let many = c.requires.span.many in
+    let within = i.within in let many = c.requires.limit.many in
     let nine : c.loop-have.have ≡ 9 = omega (arith, t, within) in
     let weight : c.from-2.result ≡ 128 ^ 9 =
     c.from-2.ensures ∙ i.weight ∙ ap (λ (k : ℕ). 128 ^ k) nine in
@@ -97,7 +97,7 @@ limited_far-requires g c =
         before = let v = i.value in let a = c.from-2.ensures in let b = c.from-3.ensures in
             omega (arith, v, a, b);
         room = subst (λ (w : ℕ). w * 128 ^ (c.args.bytes - 9) ≤ 128 ^ 19) (sym weight)
-            (far_fits c.args.bytes many c.requires.span.few);
+            (far_fits c.args.bytes many c.requires.limit.few);
       };
       agrees = i.reads_on.agrees;
     }
@@ -107,7 +107,7 @@ returns-in_err-byte-clause-gives g c = λ all h.
     let p = err_from_is_err_and c.from_residual.result c.from_residual.ensures.1 in
     let t = c.loop-have-test.true in
     let i = c.loop-have.invariant in
-    let many = c.requires.span.many in
+    let many = c.requires.limit.many in
     let left : c.args.bytes - c.loop-have.have ≡ suc (c.args.bytes - (c.loop-have.have + 1)) =
     omega (arith, t, many) in
     let known = told_behind i.only_reads i.reads_on h in
@@ -122,7 +122,7 @@ pub returns-then-byte-lt128-clause-gives : goal.returns-then-byte-lt128-clause-g
 returns-then-byte-lt128-clause-gives g c = λ all h.
     let t = c.loop-have-test.true in
     let i = c.loop-have.invariant in
-    let many = c.requires.span.many in
+    let many = c.requires.limit.many in
     let left : c.args.bytes - c.loop-have.have ≡ suc (c.args.bytes - (c.loop-have.have + 1)) =
     omega (arith, t, many) in
     let known = told_behind i.only_reads i.reads_on h in

@@ -25,7 +25,7 @@ pub loop-have-preserved : goal.loop-have-preserved
 loop-have-preserved g c =
     let t = c.loop-have-test.true in
     let i = c.loop-have.invariant in
-    let many = c.requires.span.many in
+    let many = c.requires.limit.many in
     let left : c.args.bytes - c.loop-have.have ≡ suc (c.args.bytes - (c.loop-have.have + 1)) =
     omega (arith, t, many) in
     let small : c.advance-byte.result < 256 = search (arith, rules) in
@@ -117,7 +117,7 @@ ended_near-requires g c = record {
 pub limited_far-requires : goal.limited_far-requires
 limited_far-requires g c =
     let t = c.loop-have-test.false in let i = c.loop-have.invariant in
-    let within = i.within in let many = c.requires.span.many in
+    let within = i.within in let many = c.requires.limit.many in
     let nine : c.loop-have.have ≡ 9 = omega (arith, t, within) in
     let weight : c.from-2.result ≡ 128 ^ 9 =
     c.from-2.ensures ∙ i.weight ∙ ap (λ (k : ℕ). 128 ^ k) nine in
@@ -127,7 +127,7 @@ limited_far-requires g c =
         before = let v = i.value in let a = c.from-2.ensures in let b = c.from-3.ensures in
             omega (arith, v, a, b);
         room = subst (λ (w : ℕ). w * 128 ^ (c.args.bytes - 9) ≤ 128 ^ 19) (sym weight)
-            (far_fits c.args.bytes many c.requires.span.few);
+            (far_fits c.args.bytes many c.requires.limit.few);
       };
       agrees = i.reads_on.agrees;
     }
@@ -136,7 +136,7 @@ pub returns-then-byte-lt128-clause-gives : goal.returns-then-byte-lt128-clause-g
 returns-then-byte-lt128-clause-gives g c = λ all h.
     let t = c.loop-have-test.true in
     let i = c.loop-have.invariant in
-    let many = c.requires.span.many in
+    let many = c.requires.limit.many in
     let left : c.args.bytes - c.loop-have.have ≡ suc (c.args.bytes - (c.loop-have.have + 1)) =
     omega (arith, t, many) in
     let known = ap (g.F.Folder.told c.args.folder.now) (ap name_in i.reads_on.kept) ∙ h in
