@@ -6,7 +6,7 @@ use Rattle.fx_model.specs.declared.ExprId.{ExprId}
 use Rattle.fx_model.specs.declared.Node.{Node}
 use Rattle.facts.specs.declared.hint.HintRow.{HintRow}
 use Rattle.facts.specs.declared.instance.Instance.{Instance}
-use Rattle.pair_closure.specs.Closure.{Pair}
+use Rattle.settler.specs.rule_universe.pair_closure.Closure.{Pair}
 use Rattle.settler.specs.rule_instances.Instances.{OfAny, OfOperation, OfError, OfTerms, OfChain}
 use Rattle.settler.specs.rule_instances.Instances.{OfPair, OfHint, IsInstance}
 use Rattle.settler.specs.rule_instances.Instances.IsInstance.{of_any, of_operation, of_error}

@@ -9,19 +9,15 @@ use Rattle.fx_model.specs.declared.ExprId.{ExprId}
 use Rattle.fx_model.specs.declared.Node.{Node}
 use Rattle.fx_model.specs.declared.Node.TheVariants.{Var, Lit, Neg, Add, Sub, Mul, Div, Abs, Round}
 use Rattle.fx_model.specs.Expression.{ChildrenBelow}
-use Rattle.expr_dag.specs.Nodes.{IsAbsent}
+use Rattle.settler.specs.rule_universe.expr_dag.Nodes.{IsAbsent}
 use Rattle.facts.specs.declared.fact.Fact.{Fact}
-use Rattle.facts.specs.declared.hint.HintRow.{HintRow}
 use Rattle.script_checker.specs.script_claims.declared.claim.Claim.{Claim}
 use Rattle.script_checker.specs.script_claims.Facts.{hypothesis_fact}
-use Rattle.script_checker.specs.script_hints.declared.hint.Hint.{Hint}
 use Rattle.script_checker.specs.script_grammar.Spells.{View}
 use Rattle.script_checker.specs.script_grammar.Cases.{cases_of}
 use Rattle.settler.specs.script_truths.Truths.{HasUniverse}
-use Rattle.script_checker.specs.rewrite_hints.Rows.{IsRowOf}
-use Rattle.script_checker.specs.rewrite_hints.Marks.{AreRows}
-use Rattle.pair_closure.specs.Closure.{difference_of, IsFollowed}
-use Rattle.pair_closure.specs.Rising.{one_list}
+use Rattle.script_checker.specs.rewrite_hints.Marks.{rows_are_one}
+use Rattle.settler.specs.rule_universe.pair_closure.Closure.{difference_of, IsFollowed}
 use Rattle.settler.specs.rule_universe.Worlds.{World}
 use Rattle.settler.specs.universe.Universes as universe
 use Rattle.tree_certificates.specs.cert_bytes.Certificates.{HasShortParts}
@@ -137,40 +133,6 @@ facts_same [] = refl
 facts_same (c ∷ cs) =
     with_same (hypothesis_fact c) (checker.facts_of cs) (universe.facts_of cs) (facts_same cs)
 
-one_row : (nodes : List Node) (h : Hint) (row other : HintRow) → IsRowOf nodes h row
-    → IsRowOf nodes h other → row ≡ other
-one_row nodes h row other a b =
-    let left : row.left ≡ other.left = a.left ∙ sym b.left in
-    let right : row.right ≡ other.right = a.right ∙ sym b.right in
-    let divisors : row.divisors ≡ other.divisors = one_list (λ (d : ExprId). d.0)
-    row.divisors other.divisors a.divisors.rising b.divisors.rising (λ d m. (b.divisors.exactly d).1
-    ((a.divisors.exactly d).0 m)) (λ d m. (a.divisors.exactly d).1 ((b.divisors.exactly d).0 m)) in
-    let needs : row.needs ≡ other.needs = a.needs ∙ sym b.needs in
-    (λ i. record { left = left i; right = right i; divisors = divisors i; needs = needs i })
-
--- one row for each hint
-same_rows : (nodes : List Node) (hints : List Hint) (rows others : List HintRow)
-    → length rows ≡ length hints → length others ≡ length hints
-    → ((k : ℕ) (h : Hint) (row : HintRow) → slice_get hints k ≡ Some h
-    → slice_get rows k ≡ Some row → IsRowOf nodes h row)
-    → ((k : ℕ) (h : Hint) (row : HintRow) → slice_get hints k ≡ Some h
-    → slice_get others k ≡ Some row → IsRowOf nodes h row) → rows ≡ others
-same_rows nodes [] [] [] p q a b = refl
-same_rows nodes [] (r ∷ rows) others p q a b = absurd (omega (arith, p))
-same_rows nodes [] [] (o ∷ others) p q a b = absurd (omega (arith, q))
-same_rows nodes (h ∷ hints) [] others p q a b = absurd (omega (arith, p))
-same_rows nodes (h ∷ hints) (r ∷ rows) [] p q a b = absurd (omega (arith, q))
-same_rows nodes (h ∷ hints) (r ∷ rows) (o ∷ others) p q a b =
-    let head : r ≡ o = one_row nodes h r o (a 0 h r refl refl) (b 0 h o refl refl) in
-    let tail : rows ≡ others = same_rows nodes hints rows others (omega (arith, p))
-    (omega (arith, q)) (λ k g row e f. a (suc k) g row e f) (λ k g row e f. b (suc k) g row e f) in
-    (λ i. head i ∷ tail i)
-
-rows_same : (nodes : List Node) (hints : List Hint) (rows others : List HintRow)
-    → AreRows nodes hints rows → AreRows nodes hints others → rows ≡ others
-rows_same nodes hints rows others a b =
-    same_rows nodes hints rows others a.count b.count a.each b.each
-
 -- the facts of the case in a place
 case_at : (cs : List (List Claim)) (k : ℕ) (claims : List Claim) → slice_get cs k ≡ Some claims
     → case_facts (map checker.facts_of cs) k ≡ checker.facts_of claims
@@ -183,7 +145,7 @@ subjects_are_of_universes s claims u has room case there t is = record {
   facts = ap (λ (cs : List (List Fact)). case_facts cs case) is.cases
       ∙ (case_at (cases_of s) case claims there
       ∙ (facts_same claims ∙ sym has.universe.hypotheses));
-  rows = rows_same s.nodes s.hints.rewrites t.hints u.hints is.hints has.universe.hints;
+  rows = rows_are_one s.nodes s.hints.rewrites t.hints u.hints is.hints has.universe.hints;
   wanted = is.goals ∙ sym has.universe.goals;
   few_goals = room.goals;
   few_marks = let few = room.hints.rewrites in let count = is.marks.count in

@@ -10,8 +10,8 @@ use Rattle.std.proofs.lemmas.List.Quantifiers.{position-Some}
 use Rattle.fx_model.specs.declared.ExprId.{ExprId}
 use Rattle.fx_model.specs.declared.Node.{Node}
 use Rattle.fx_model.specs.declared.Node.TheVariants.{Var}
-use Rattle.expr_dag.specs.Nodes.{IsAt, same_node, numbered, place_of, placed}
-use Rattle.expr_dag.specs.Same.{same}
+use Rattle.settler.specs.rule_universe.expr_dag.Nodes.{IsAt, same_node, numbered, place_of, placed}
+use Rattle.settler.specs.rule_universe.expr_dag.Same.{same}
 use Rattle.script_shape.specs.Tree.{Definition, names_operator, names_value, Script, formula}
 use Rattle.script_shape.specs.Tree.{define}
 use Rattle.script_checker.specs.script_nodes.Known.{Name, Known, entry_of, put, variable_put}
@@ -22,7 +22,8 @@ use Rattle.script_checker.specs.script_claims.Claims.{formula_claims}
 use Rattle.script_checker.specs.script_hints.Hints.{no_hints}
 use Rattle.script_checker.specs.script_grammar.Meaning.{meaning_from}
 use Rattle.tree_certificates.specs.cert_checker.Faults.{IsVariable}
-use Rattle.pair_closure.specs.Members.{some-inj, none_at, before_last, last_at, ends_with}
+use Rattle.settler.specs.rule_universe.pair_closure.Members.{some-inj, none_at, before_last}
+use Rattle.settler.specs.rule_universe.pair_closure.Members.{last_at, ends_with}
 use Rattle.answer_certificates.proofs.Keeping.{expr_so, formula_so, hints_so}
 
 -- ---- one node

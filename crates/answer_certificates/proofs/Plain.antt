@@ -5,13 +5,13 @@ use Rattle.std.proofs.Common.{arith}
 use Rattle.fx_model.specs.declared.ExprId.{ExprId}
 use Rattle.fx_model.specs.declared.Node.{Node}
 use Rattle.fx_model.specs.declared.Node.TheVariants as node
-use Rattle.expr_dag.specs.Nodes.{place_of}
+use Rattle.settler.specs.rule_universe.expr_dag.Nodes.{place_of}
 use Rattle.facts.specs.declared.fact.Slot.TheVariants.{Bnd, Abs, Rel, Fix, Nzr}
 use Rattle.facts.specs.declared.hint.HintRow.{HintRow}
 use Rattle.facts.specs.declared.instance.Instance.{Instance}
-use Rattle.pair_closure.specs.Closure.{Pair, is_same}
-use Rattle.pair_closure.specs.Among.{is_among}
-use Rattle.pair_closure.specs.Rows.{seconds}
+use Rattle.settler.specs.rule_universe.pair_closure.Closure.{Pair, is_same}
+use Rattle.settler.specs.rule_universe.pair_closure.Among.{is_among}
+use Rattle.settler.specs.rule_universe.pair_closure.Rows.{seconds}
 use Rattle.settler.specs.rule_instances.Slots.{rule}
 use Rattle.settler.specs.rule_instances.Lists.{given, at_any, at_operation}
 use Rattle.settler.specs.rule_instances.Lists as lists

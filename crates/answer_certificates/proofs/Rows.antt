@@ -7,11 +7,11 @@ use Rattle.std.proofs.lemmas.Option.{slice_get_within, slice_get_cases}
 use Rattle.fx_model.specs.declared.ExprId.{ExprId}
 use Rattle.fx_model.specs.declared.Node.{Node}
 use Rattle.fx_model.specs.declared.Node.TheVariants.{Div}
-use Rattle.expr_dag.specs.Nodes.{IsAt, IsLawful}
+use Rattle.settler.specs.rule_universe.expr_dag.Nodes.{IsAt, IsLawful}
 use Rattle.facts.specs.declared.fact.Slot.TheVariants as slot
 use Rattle.facts.specs.declared.hint.HintRow.{HintRow}
 use Rattle.facts.specs.declared.instance.Instance.{Instance}
-use Rattle.pair_closure.specs.Closure.{Pair}
+use Rattle.settler.specs.rule_universe.pair_closure.Closure.{Pair}
 use Rattle.settler.specs.rule_instances.Slots.{need_slot, conditions}
 use Rattle.settler.specs.rule_instances.InOrder.{each_at, of_node, of_difference, of_pair, of_hint}
 use Rattle.settler.specs.rule_instances.InOrder.{instance_list}

@@ -3,7 +3,7 @@ use Rattle.std.specs.Prelude.{◌≡◌, ◌≤◌, ◌+◌, ◌*◌, ◌^◌, L
 use Rattle.std.proofs.Common.{arith, sym, subst}
 use Rattle.fx_model.specs.declared.ExprId.{ExprId}
 use Rattle.fx_model.specs.declared.Node.{Node}
-use Rattle.expr_dag.specs.Nodes.{IsAt, IsLawful}
+use Rattle.settler.specs.rule_universe.expr_dag.Nodes.{IsAt, IsLawful}
 use Rattle.facts.specs.declared.instance.Instance.{Instance}
 use Rattle.settler.specs.rule_instances.InOrder.{instance_list}
 use Rattle.script_checker.specs.script_grammar.Few.{constraints_in}

@@ -25,10 +25,10 @@ use Rattle.script_checker.specs.script_grammar.Cases.{cases_of}
 use Rattle.script_checker.specs.script_grammar.Ranges.{SpelledHaveFewCases}
 use Rattle.script_checker.specs.script_grammar.Few.{SpelledHaveFewHints, SpelledHaveFewConstraints}
 use Rattle.script_checker.specs.script_grammar.Few.{constraints_in}
-use Rattle.pair_closure.specs.Reached.{Has}
-use Rattle.pair_closure.specs.Reached.IsReached.{begin}
-use Rattle.pair_closure.specs.Closure.{Pair, difference_of}
-use Rattle.pair_closure.specs.Members.{has_left, has_right}
+use Rattle.settler.specs.rule_universe.pair_closure.Reached.{Has}
+use Rattle.settler.specs.rule_universe.pair_closure.Reached.IsReached.{begin}
+use Rattle.settler.specs.rule_universe.pair_closure.Closure.{Pair, difference_of}
+use Rattle.settler.specs.rule_universe.pair_closure.Members.{has_left, has_right}
 use Rattle.settler.specs.script_truths.Truths.{HasUniverse}
 use Rattle.settler.specs.rule_universe.Worlds.{World, IsSlot, HasSlot, IsWhole}
 use Rattle.settler.specs.universe.Starts.{claim_pairs, claims_pairs, hints_pairs}

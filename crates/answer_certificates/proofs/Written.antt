@@ -10,10 +10,10 @@ use Rattle.facts.specs.declared.fact.Slot.TheVariants as slot
 use Rattle.facts.specs.declared.hint.HintRow.{HintRow}
 use Rattle.tree_certificates.specs.theorem_list.Concludes.{concludes}
 use Rattle.tree_certificates.specs.derivation.Lists.{IsLawful as IsLawfulList}
-use Rattle.pair_closure.specs.Reached.{Has}
-use Rattle.pair_closure.specs.Reached.IsReached.{begin}
-use Rattle.pair_closure.specs.Closure.{IsClosure}
-use Rattle.pair_closure.specs.Closure.BeginsExpressions.{difference}
+use Rattle.settler.specs.rule_universe.pair_closure.Reached.{Has}
+use Rattle.settler.specs.rule_universe.pair_closure.Reached.IsReached.{begin}
+use Rattle.settler.specs.rule_universe.pair_closure.Closure.{IsClosure}
+use Rattle.settler.specs.rule_universe.pair_closure.Closure.BeginsExpressions.{difference}
 use Rattle.script_checker.specs.script_claims.declared.claim.Claim.{Claim}
 use Rattle.script_checker.specs.script_grammar.Spells.{View}
 use Rattle.settler.specs.script_truths.Truths.{HasUniverse}

@@ -2,9 +2,9 @@
 use Rattle.std.specs.Prelude.{◌≡◌, ◌≤◌, ◌+◌, ◌*◌, ℕ, List, [], ◌∷◌, ◌++◌, length}
 use Rattle.fx_model.specs.declared.ExprId.{ExprId}
 use Rattle.fx_model.specs.declared.Node.{Node}
-use Rattle.expr_dag.specs.Nodes.{IsAt, IsLawful}
+use Rattle.settler.specs.rule_universe.expr_dag.Nodes.{IsAt, IsLawful}
 use Rattle.facts.specs.declared.hint.HintRow.{HintRow}
-use Rattle.pair_closure.specs.Closure.{Pair}
+use Rattle.settler.specs.rule_universe.pair_closure.Closure.{Pair}
 use Rattle.settler.specs.rule_instances.InOrder.{instance_list}
 use Rattle.script_checker.specs.script_hints.declared.hint.Hint.{Hint}
 use Rattle.script_checker.specs.script_grammar.Few.{constraints_in}

@@ -4,7 +4,7 @@ use Rattle.std.specs.List.{AllByRecursion}
 use Rattle.fx_model.specs.declared.ExprId.{ExprId}
 use Rattle.fx_model.specs.declared.Node.{Node}
 use Rattle.fx_model.specs.declared.Node.TheVariants.{Var}
-use Rattle.expr_dag.specs.Nodes.{IsAt, IsLawful}
+use Rattle.settler.specs.rule_universe.expr_dag.Nodes.{IsAt, IsLawful}
 use Rattle.goals.specs.declared.goal.Goal.{Goal}
 use Rattle.script_checker.specs.node_counts.Few.{HasFewHints}
 use Rattle.script_checker.specs.script_claims.declared.claim.Claim.{Claim}

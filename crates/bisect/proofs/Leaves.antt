@@ -12,16 +12,14 @@ use Rattle.box_tree.specs.facts.Order.{slot_of}
 use Rattle.box_tree.specs.goals.declared.line.Line.{Line}
 use Rattle.box_tree.specs.goals.declared.line.Line.TheVariants as line
 use Rattle.box_tree.specs.goals.Holds.{LineHolds, IsOfGoal, LineHoldsFirst, LineHoldsOn}
-use Rattle.box_tree.specs.declared.cut.Cut.{Cut}
-use Rattle.box_tree.specs.declared.cut.Cut.TheVariants as cut
-use Rattle.box_tree.specs.Pieces.{piece_count}
 use Rattle.bisect.specs.declared.settler.State.{State}
 use Rattle.bisect.specs.declared.settler.State.TheVariants as state
 use Rattle.bisect.specs.declared.outcome.Leaf.{Leaf}
-use Rattle.bisect.specs.Trees.{Tree, children, child_count, IsBox, IsLeaf, IsShallow}
+use Rattle.bisect.specs.Trees.{Tree, child_count, IsBox, IsLeaf, IsShallow}
 use Rattle.bisect.specs.Boxes.{AreBoxes, first_open, leaves_of, leaf_at, with_leaf, open_goal}
 use Rattle.bisect.specs.Boxes.{or_later}
 use Rattle.bisect.specs.Gathered.{with_known, with_state, line_with, line_of, IsTrueState}
+use Rattle.bisect.specs.Keeping.{leaves_keep}
 use Rattle.bisect.proofs.Paths.{root_path, child_path}
 use Rattle.bisect.proofs.Listings.{Has, from_contains}
 
@@ -64,22 +62,6 @@ not_open t (q ∷ ps) p g (inr h) z e n = not_open t ps p g h z e
 -- ---- lines
 module _ (first : LineHoldsFirst) (more : LineHoldsOn) (nodes : List Node) (a : Assignment)
     (s : Slot) (k : ℕ) where
-  known_keeps : (l : Line) (o : Option Fact) → LineHolds nodes a s l
-      → LineHolds nodes a s (with_known l o)
-  known_keeps l None h = h
-  known_keeps l (Some f) h = more nodes a s l f h
-
-  state_keeps : (l : Line) (x : State) → LineHolds nodes a s l
-      → LineHolds nodes a s (with_state k l x)
-  state_keeps l (state.Settled facts) h = known_keeps l (slice_get facts k) h
-  state_keeps l state.Void h = h
-  state_keeps l (state.Open goal) h = h
-
-  leaves_keep : (l : Line) (xs : List Leaf) → LineHolds nodes a s l
-      → LineHolds nodes a s (line_with k l xs)
-  leaves_keep l [] h = h
-  leaves_keep l (x ∷ xs) h = leaves_keep (with_state k l x.state) xs (state_keeps l x.state h)
-
   -- the fact of one leaf
   fact_of : (x : State) (facts : List Fact) (f : Fact) (l : Line) → x ≡ state.Settled facts
       → slice_get facts k ≡ Some f → IsOfGoal f → slot_of f ≡ s → Holds nodes a f
@@ -94,7 +76,7 @@ module _ (first : LineHoldsFirst) (more : LineHoldsOn) (nodes : List Node) (a : 
       → LineHolds nodes a s (line_with k l (with_leaf n (leaf_at t p) xs))
   with_first t n p l xs z h = let P : ℕ
       → Type 0 = λ m. LineHolds nodes a s (line_with k l (with_leaf m (leaf_at t p) xs)) in
-      subst P (sym z) (leaves_keep (with_state k l (t.state_at p)) xs h)
+      subst P (sym z) (leaves_keep more nodes a s k (with_state k l (t.state_at p)) xs h)
 
   with_later : (t : Tree) (n : ℕ) (p : List ℕ) (l : Line) (xs : List Leaf)
       → ((m : Line) → LineHolds nodes a s (line_with k m xs))

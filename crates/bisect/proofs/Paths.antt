@@ -1,11 +1,7 @@
 -- Paths of a plan.
 use Rattle.std.specs.Prelude.{◌≡◌, ◌<◌, ℕ, List, [], ◌∷◌, ◌++◌, refl}
 use Rattle.std.proofs.Common.{ap, subst, arith}
-use Rattle.box_tree.specs.Paths.{IsPathOf}
-
-pub no_more : (front : List ℕ) (piece : ℕ) (rest : List ℕ) → [] ≡ front ++ piece ∷ rest → ⊥
-no_more [] piece rest e = cc
-no_more (x ∷ front) piece rest e = cc
+use Rattle.box_tree.specs.Paths.{IsPathOf, no_more}
 
 -- the root is a path of every plan
 pub root_path : (pieces : List ℕ → ℕ) → IsPathOf pieces []

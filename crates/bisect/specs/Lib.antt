@@ -8,4 +8,5 @@ pub mod Boxes
 pub mod Answers
 pub mod Walks
 pub mod Gathered
+pub mod Keeping
 pub mod Examples

@@ -2,4 +2,5 @@ pub mod Views
 pub mod Rule
 pub mod Seen
 pub mod Moments
+pub mod Stealing
 pub mod Close

@@ -37,7 +37,8 @@ all_joined : {A : Type 0} (P : A → Type 0) (xs ys : List A) → AllByRecursion
 all_joined P [] ys p q = q
 all_joined P (x ∷ xs) ys p q = (p.0, all_joined P xs ys p.1 q)
 
-premises_joined : (xs ys : List StepRow) → premises_in (xs ++ ys) ≡ premises_in xs + premises_in ys
+pub premises_joined : (xs ys : List StepRow)
+    → premises_in (xs ++ ys) ≡ premises_in xs + premises_in ys
 premises_joined [] ys = omega arith
 premises_joined (x ∷ xs) ys = let h = premises_joined xs ys in omega (arith, h)
 

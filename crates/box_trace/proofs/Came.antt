@@ -36,7 +36,7 @@ use Rattle.saturate.specs.rule_universe.Sizes.{beyond_four}
 use Rattle.box_trace.specs.Rounds.{AddsSteps}
 use Rattle.box_trace.specs.Logs.{Comes, CanCite, GoesOnFrom, IsLonger, IsComeBy, IsSlotWritten}
 use Rattle.box_trace.specs.Logs.{IsRound, more_by}
-use Rattle.box_trace.proofs.OnePlace.{slot_once}
+use Rattle.saturate.specs.rule_universe.OnePlace.{slot_once}
 use Rattle.box_trace.proofs.Rows.{same_known, same_places}
 use Rattle.box_trace.proofs.Added.{adds_both, adds_one, adds_slack}
 use Rattle.box_trace.proofs.Beyond.{beyond_below, beyond_next, beyond_both, beyond_one}

@@ -1,4 +1,3 @@
-pub mod OnePlace
 pub mod Rows
 pub mod EndsOrder
 pub mod Rounded

@@ -19,7 +19,7 @@ use Rattle.box_trace.specs.declared.known.Cited.{Cited}
 use Rattle.box_trace.specs.declared.known.Known.{Known}
 use Rattle.box_trace.specs.Tables.{one_later, pair_number, behind_blocks, row_of, flat, row_in}
 use Rattle.box_trace.specs.Tables.{fact_of, number_or, cited_at, known_at, place_in, HasRows}
-use Rattle.box_trace.proofs.OnePlace.{slot_once}
+use Rattle.saturate.specs.rule_universe.OnePlace.{slot_once}
 use Rattle.saturate.specs.Lists.{get_set_here, get_set_there}
 
 -- ---- blocks

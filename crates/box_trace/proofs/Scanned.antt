@@ -24,7 +24,7 @@ use Rattle.box_trace.specs.declared.ends.Ends.{Ends}
 use Rattle.box_trace.specs.Ends.{IsLowBy, IsHighBy}
 use Rattle.box_trace.specs.Scans.{IsConclusion, held, ends_in, IsWith, IsNoted, AreEndsOf, HasEnds}
 use Rattle.box_trace.specs.Scans.{IsScanned, IsWide}
-use Rattle.box_trace.proofs.OnePlace.{slot_once}
+use Rattle.saturate.specs.rule_universe.OnePlace.{slot_once}
 use Rattle.box_trace.proofs.Rounded.{ends_beat}
 use Rattle.box_trace.proofs.EndsOrder.{low_refl, high_refl}
 use Rattle.saturate.specs.Lists.{get_set_here, get_set_there}

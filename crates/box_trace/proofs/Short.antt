@@ -1,9 +1,9 @@
 -- How many bytes the steps of a box and the item behind them have.
-use Rattle.std.specs.Prelude.{◌≡◌, ◌≤◌, ◌+◌, ◌*◌, ◌^◌, ℕ, zero, suc, List, [], ◌∷◌, ◌++◌, length}
+use Rattle.std.specs.Prelude.{◌≡◌, ◌≤◌, ◌+◌, ◌*◌, ℕ, zero, suc, List, [], ◌∷◌, ◌++◌, length}
 use Rattle.std.specs.Prelude.{map, Option, Some, None, refl}
 use Rattle.std.specs.Borrow.{Bor}
 use Rattle.std.specs.List.{AllByRecursion}
-use Rattle.std.proofs.Common.{arith, sym, ap, subst, ◌∙◌}
+use Rattle.std.proofs.Common.{arith, ap}
 use Rattle.std.proofs.lemmas.List.{length-append}
 use Rattle.fx_model.specs.declared.Node.{Node}
 use Rattle.fx_model.specs.declared.Node.TheVariants.{Var, Lit, Neg, Add, Sub, Mul, Div, Abs, Round}
@@ -13,17 +13,13 @@ use Rattle.tree_certificates.specs.cert_bytes.declared.item.StepRow.{StepRow}
 use Rattle.tree_certificates.specs.cert_bytes.Sizes.{most_bytes, most_bytes_in}
 use Rattle.saturate.specs.rule_universe.Worlds.{World}
 use Rattle.box_trace.specs.declared.known.Known.{Known}
-use Rattle.saturate.specs.rule_universe.Sizes.{beyond_four, IsSmall}
-use Rattle.box_trace.specs.Rounds.{premises_in, premises_a_round, IsGivenStep, IsRoundOf, AreRounds}
+use Rattle.saturate.specs.rule_universe.Sizes.{IsSmall}
+use Rattle.box_trace.specs.Rounds.{premises_in, premises_a_round, IsGivenStep, AreRounds}
 use Rattle.box_trace.specs.Rounds.{one_if_variable, variable_count, most_given, IsOfParent}
-use Rattle.box_trace.specs.Rounds.{AreItsRounds}
 use Rattle.box_trace.specs.Short.{EndsBox, BoxesAreShort}
+use Rattle.box_trace.proofs.Added.{premises_joined}
 
 -- ---- steps
-premises_joined : (xs ys : List StepRow) → premises_in (xs ++ ys) ≡ premises_in xs + premises_in ys
-premises_joined [] ys = omega arith
-premises_joined (x ∷ xs) ys = let h = premises_joined xs ys in omega (arith, h)
-
 given_none : (rows : List StepRow) → AllByRecursion IsGivenStep rows → premises_in rows ≡ 0
 given_none [] w = refl
 given_none (row ∷ rows) w =

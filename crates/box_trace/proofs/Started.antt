@@ -5,17 +5,12 @@ use Rattle.std.proofs.Common.{sym, ◌∙◌, ap, subst, arith}
 use Rattle.std.proofs.lemmas.Option.{slice_get_within}
 use Rattle.fx_model.specs.declared.ExprId.{ExprId}
 use Rattle.fx_model.specs.declared.Node.TheVariants as node
-use Rattle.fx_model.specs.Grid.{Bound, Below, At as Number, Above}
-use Rattle.fx_model.specs.Enclosure.{BoundLe}
-use Rattle.interval.specs.declared.interval.Interval.{Interval}
-use Rattle.interval.specs.Intervals.{range_of}
 use Rattle.interval.specs.Results.{whole_interval}
 use Rattle.facts.specs.declared.fact.Fact.{Fact}
 use Rattle.facts.specs.declared.fact.Slot.{Slot}
 use Rattle.facts.specs.declared.fact.Fact.TheVariants as fact
 use Rattle.facts.specs.declared.fact.Slot.TheVariants as slot
 use Rattle.facts.specs.Order.{slot_of}
-use Rattle.facts.specs.Meets.{meet-stronger}
 use Rattle.saturate.specs.derivation.Derivations.{At}
 use Rattle.saturate.specs.derivation.Known.{Piece}
 use Rattle.saturate.specs.derivation.Rounds.{IsBlank}
@@ -38,7 +33,7 @@ use Rattle.box_trace.specs.Logs.{Comes, InSection}
 use Rattle.box_trace.specs.Boxes.{IsSectionBelow, BeginsWithin, BeginsBelow}
 use Rattle.box_trace.proofs.Rows.{same_known, same_places, same_rows}
 use Rattle.box_trace.proofs.Logged.{Suffices, comes_rows, comes_first, comes_few, comes_section}
-use Rattle.tree_certificates.specs.Coming.{enough, met_by_interval, met_by}
+use Rattle.tree_certificates.specs.Coming.{enough, met_by_interval, met_by, line_joined}
 
 -- what comes by a rule that is told by its number
 pub comes_as : (u : World) (old : Log) (rule arg : ℕ) (premises : List ℕ) (c : Fact)
@@ -120,29 +115,6 @@ module _ (u : World) (first : ℕ) where
         w.hypotheses k c e,
         λ s. subst P (sym e) (enough o c (λ h q. b.rows.proper (slot_of c) h q)),
       ))
-
-  below_infinity : (b : Bound) → BoundLe b Above
-  below_infinity Below = tt
-  below_infinity (Number g) = tt
-  below_infinity Above = tt
-
-  -- what is met with the line of a variable is a BND of the variable
-  line_joined : (x : ExprId) (o : Option Fact) → ((g : Fact) → o ≡ Some g → slot_of g ≡ slot.Bnd x)
-      → (j : Interval) × (joined o (fact.Bnd x whole_interval) ≡ fact.Bnd x j)
-  line_joined x None p = (whole_interval, refl)
-  line_joined x (Some (fact.Bnd y i)) p =
-      let d : y ≡ x = let q : slot.Bnd y ≡ slot.Bnd x = p (fact.Bnd y i) refl in cc in
-      let m = meet-stronger (fact.Bnd y i) (fact.Bnd x whole_interval)
-      (d, (tt, below_infinity (range_of i).high)) in
-      (i, rw m (ap (λ z. fact.Bnd z i) d))
-  line_joined x (Some fact.Void) p = let q : slot.Void ≡ slot.Bnd x = p fact.Void refl in cc
-  line_joined x (Some (fact.Abs y i)) p =
-      let q : slot.Abs y ≡ slot.Bnd x = p (fact.Abs y i) refl in cc
-  line_joined x (Some (fact.Rel y z e)) p =
-      let q : slot.Rel y z ≡ slot.Bnd x = p (fact.Rel y z e) refl in cc
-  line_joined x (Some (fact.Fix y k)) p =
-      let q : slot.Fix y ≡ slot.Bnd x = p (fact.Fix y k) refl in cc
-  line_joined x (Some (fact.Nzr y)) p = let q : slot.Nzr y ≡ slot.Bnd x = p (fact.Nzr y) refl in cc
 
   -- The line of a variable comes.
   pub begins_line : (n v most : ℕ) (old new : Log) → slice_get u.nodes n ≡ Some (node.Var v)

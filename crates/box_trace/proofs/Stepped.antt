@@ -15,7 +15,7 @@ use Rattle.box_trace.specs.declared.log.Log.{Log}
 use Rattle.box_trace.specs.Tables.{row_in, fact_of, number_or, cited_at, known_at, place_in}
 use Rattle.box_trace.specs.Tables.{HasRows}
 use Rattle.box_trace.specs.Logs.{kept_in, Comes}
-use Rattle.box_trace.proofs.OnePlace.{place_slot, place_within}
+use Rattle.saturate.specs.rule_universe.OnePlace.{place_slot, place_within}
 use Rattle.box_trace.proofs.Rows.{read_at, put_here, put_there}
 use Rattle.tree_certificates.specs.Coming.{with_by-some, with_by}
 use Rattle.facts.specs.CommonParts.{void_is}

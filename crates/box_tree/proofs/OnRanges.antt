@@ -28,6 +28,7 @@ use Rattle.box_tree.specs.Regions.{half_in, halved_or, next_half, turned, half_o
 use Rattle.box_tree.specs.Regions.{next_of, with_piece, narrowed, piece_by, piece, region_below}
 use Rattle.box_tree.specs.Regions.{region_at}
 use Rattle.box_tree.specs.Plans.{cut_by, cut_at, last_piece, piece_at}
+use Rattle.box_tree.specs.InRanges.{below_append}
 use Rattle.box_tree.specs.Root.{finite_range, range_by, or_later, split_range, with_range}
 use Rattle.box_tree.specs.Root.{split_ranges, plan_by, IsBounded}
 
@@ -119,12 +120,6 @@ module _ (K : ExprId → Type 0) where
           then next_half g.ranges (turned g.halvings plan.halves) else next.Rest)
       by_test true = half_on g.ranges (turned g.halvings plan.halves)
       by_test false = tt
-
-  below_append : (plan : PlanParts) (g : Region) (path : List ℕ) (i : ℕ)
-      → region_below plan g (path ++ i ∷ []) ≡ piece plan (region_below plan g path) i
-  unfolding region_below
-  below_append plan g [] i = refl
-  below_append plan g (j ∷ path) i = below_append plan (piece plan g j) path i
 
   piece_is : (plan : PlanParts) (g : Region) (n : Next) (i : ℕ)
       → AreAll g.ranges → IsOn g.ranges n → i < piece_count (cut_by n)

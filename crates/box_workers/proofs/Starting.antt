@@ -21,7 +21,8 @@ use Rattle.box_workers.specs.declared.record.Record.{Record}
 use Rattle.box_workers.specs.Seen.{BoxTask, board_of}
 use Rattle.box_workers.specs.Starts.{IsThief, IsStart, AreStarts, no_lane, lane_name}
 use Rattle.box_workers.specs.Sums.{sum_to}
-use Rattle.box_workers.specs.Taking.{weight_of, took, CanSteal}
+use Rattle.box_deques.specs.Stealing.{CanSteal}
+use Rattle.box_workers.specs.Taking.{weight_of, took}
 use Rattle.box_workers.specs.Joins.{no_hand, taken_of_lane, lanes_pushed, lanes_took, CanClose}
 use Rattle.box_workers.specs.Joins.{CanCloseAll}
 use Rattle.box_workers.specs.Records.{children_of_all, children_of_held, record_weight, IsRecord}

@@ -10,7 +10,8 @@ use Rattle.box_deques.specs.Seen.{Lane, Thief, Seat, Hand, no_seat, seat_at, han
 use Rattle.box_deques.specs.Seen.{with_take, with_empty, with_pop}
 use Rattle.box_deques.specs.Views.{Take}
 use Rattle.box_workers.specs.Taking.{weight_of, hand_took, took, GoesOn, Rose, NotBelow, HandWentOn}
-use Rattle.box_workers.specs.Taking.{RoseAt, CanSteal}
+use Rattle.box_deques.specs.Stealing.{CanSteal, can_steal_stays}
+use Rattle.box_workers.specs.Taking.{RoseAt}
 use Rattle.accounts.specs.Sums.{total_set, total_snoc}
 
 pub goes_on_same : {X : Type 0} (xs : List X) → GoesOn xs xs
@@ -147,21 +148,6 @@ module _ (capacity n : ℕ) (old new : Hand) (passes : SamePasses old new)
         subst (λ (h : Hand). Rose (seat_at old.seats n).empty (seat_at h.seats n).empty) (sym e)
             (subst (λ (s : Seat). Rose (seat_at old.seats n).empty s.empty) (sym at) up),
       )
-
--- the hand keeps its passes
-pub can_steal_stays : (capacity : ℕ) (old new : Hand) (thieves : List Thief) → SamePasses old new
-    → CanSteal capacity old thieves → CanSteal capacity new thieves
-can_steal_stays capacity old new thieves same can =
-    All-weaker (λ (t : Thief). HasPass old.seats t.number t.name capacity × (old.number ≢ t.number))
-    (λ (t : Thief). HasPass new.seats t.number t.name capacity × (new.number ≢ t.number))
-    (λ t (has, other). (
-      (
-        let l = same.long in let b = has.0 in omega arith,
-        same.lanes t.number ∙ has.1,
-        same.rooms t.number ∙ has.2,
-      ),
-      λ e. other (sym same.number ∙ e),
-    )) thieves can
 
 -- what rose stays so
 pub all_rose : (a b c : Hand) (thieves : List Thief) → HandWentOn b c → All (RoseAt a b) thieves

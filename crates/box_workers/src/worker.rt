@@ -3,7 +3,8 @@ ghost use Rattle.std.specs.Prelude.{◌≡◌, ℕ, List, Some, IfNone, true, Al
 ghost use Rattle.bisect.specs.Trees.{tree_of};
 ghost use Rattle.accounts.specs.box_tree.Plans.{cut_at};
 ghost use Rattle.box_workers.specs.Records.{IsRecord};
-ghost use Rattle.box_workers.specs.Taking.{CanSteal, RoseAt};
+ghost use Rattle.box_deques.specs.Stealing.{CanSteal};
+ghost use Rattle.box_workers.specs.Taking.{RoseAt};
 
 use crate::counts::Counts;
 use crate::record::{Record, work_at};

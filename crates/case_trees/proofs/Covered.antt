@@ -1,6 +1,6 @@
 -- The line over the leaves of all trees holds of what one leaf's fact holds of.
-use Rattle.std.specs.Prelude.{◌≡◌, ◌<◌, ◌++◌, ◌↔◌, ℕ, zero, suc, List, [], ◌∷◌, length, Option}
-use Rattle.std.specs.Prelude.{Some, None, slice_get, slice_index_or, refl}
+use Rattle.std.specs.Prelude.{◌≡◌, ◌<◌, ◌++◌, ◌↔◌, ℕ, zero, suc, List, [], ◌∷◌, length}
+use Rattle.std.specs.Prelude.{Some, slice_get, slice_index_or, refl}
 use Rattle.std.specs.List.{Contains}
 use Rattle.std.proofs.Common.{sym, ◌∙◌, ap, subst, arith}
 use Rattle.fx_model.specs.Expression.{Assignment}
@@ -17,6 +17,7 @@ use Rattle.bisect.specs.declared.outcome.Leaf.{Leaf}
 use Rattle.bisect.specs.Trees.{Tree, IsLeaf}
 use Rattle.bisect.specs.Boxes.{AreBoxes, leaves_of, leaf_at}
 use Rattle.bisect.specs.Gathered.{with_known, with_state, line_with}
+use Rattle.bisect.specs.Keeping.{leaves_keep}
 use Rattle.case_trees.specs.Listed.{Listed, AreListed, all_leaves}
 
 -- a tree's list of boxes has its leaves
@@ -38,23 +39,6 @@ same_tree t u e = cc
 
 module _ (first : LineHoldsFirst) (more : LineHoldsOn) (nodes : List Node) (a : Assignment)
     (s : Slot) (k : ℕ) where
-  known_keeps : (l : Line) (o : Option Fact) → LineHolds nodes a s l
-      → LineHolds nodes a s (with_known l o)
-  known_keeps l None h = h
-  known_keeps l (Some f) h = more nodes a s l f h
-
-  state_keeps : (l : Line) (x : State) → LineHolds nodes a s l
-      → LineHolds nodes a s (with_state k l x)
-  state_keeps l (state.Settled facts) h = known_keeps l (slice_get facts k) h
-  state_keeps l state.Void h = h
-  state_keeps l (state.Open goal) h = h
-
-  -- a line that holds goes on to hold over more leaves
-  leaves_keep : (l : Line) (xs : List Leaf) → LineHolds nodes a s l
-      → LineHolds nodes a s (line_with k l xs)
-  leaves_keep l [] h = h
-  leaves_keep l (x ∷ xs) h = leaves_keep (with_state k l x.state) xs (state_keeps l x.state h)
-
   module _ (facts : List Fact) (f : Fact) (at : slice_get facts k ≡ Some f) (kind : IsOfGoal f)
       (on : slot_of f ≡ s) (holds : Holds nodes a f) where
     -- with the leaf's fact it holds
@@ -67,7 +51,7 @@ module _ (first : LineHoldsFirst) (more : LineHoldsOn) (nodes : List Node) (a : 
         → slice_index_or xs i leaf ≡ leaf → leaf.state ≡ state.Settled facts → (l : Line)
         → LineHolds nodes a s (line_with k l xs)
     holds_in [] leaf i b e z l = absurd (omega (arith, b))
-    holds_in (x ∷ xs) leaf zero b e z l = leaves_keep (with_state k l x.state) xs
+    holds_in (x ∷ xs) leaf zero b e z l = leaves_keep more nodes a s k (with_state k l x.state) xs
         (fact_holds l x.state (ap (λ (y : Leaf). y.state) e ∙ z))
     holds_in (x ∷ xs) leaf (suc i) b e z l =
         holds_in xs leaf i (omega (arith, b)) e z (with_state k l x.state)
@@ -93,7 +77,8 @@ module _ (first : LineHoldsFirst) (more : LineHoldsOn) (nodes : List Node) (a : 
           (line_with k l (leaves_of v x.boxes))) (sym same) (λ b. holds_here x.boxes b l) are.1 in
           subst (LineHolds nodes a s)
           (sym (line_over k l (leaves_of x.tree x.boxes) (all_leaves xs)))
-          (leaves_keep (line_with k l (leaves_of x.tree x.boxes)) (all_leaves xs) here)
+          (leaves_keep more nodes a s k (line_with k l (leaves_of x.tree x.boxes))
+          (all_leaves xs) here)
       holds_over (u ∷ ts) (x ∷ xs) (suc case) are g l =
           subst (LineHolds nodes a s)
           (sym (line_over k l (leaves_of x.tree x.boxes) (all_leaves xs)))

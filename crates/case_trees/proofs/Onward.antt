@@ -6,6 +6,7 @@ use Rattle.std.proofs.Common.{sym, ◌∙◌, ap, arith, append_assoc}
 use Rattle.std.proofs.lemmas.List.{append-nil}
 use Rattle.bisect.specs.declared.outcome.Outcome.{Outcome}
 use Rattle.bisect.specs.declared.outcome.Outcome.TheVariants as outcome
+use Rattle.bisect.specs.box_tree.Paths.{no_more}
 use Rattle.bisect.specs.Trees.{Tree}
 use Rattle.bisect.specs.Boxes.{AreBoxes, leaves_of}
 use Rattle.bisect.specs.Answers.{IsAnswer, IsAnswerOf}
@@ -116,10 +117,6 @@ over w t more room a h =
     (listed t a.0 ∷ rest.0, (refl, a.1, rest.1), omega (arith, room, many))
 
 -- the root is a box
-no_more : (front : List ℕ) (piece : ℕ) (rest : List ℕ) → [] ≡ front ++ piece ∷ rest → ⊥
-no_more [] piece rest e = cc
-no_more (x ∷ front) piece rest e = cc
-
 has_root : (t : Tree) (boxes : List (List ℕ)) → AreBoxes t boxes → 0 < length boxes
 has_root t boxes are =
     let c = are.all [] (λ front piece rest e. absurd (no_more front piece rest e)) in

@@ -1,47 +1,15 @@
 -- What a file took, and what it holds.
-use Rattle.std.specs.Prelude.{◌≡◌, ◌-◌, ◌++◌, ℕ, List, [], length, take, drop, Option, Some, None}
-use Rattle.std.specs.Prelude.{Result, Ok, Err, OnErr, refl}
-use Rattle.std.specs.Io.KnownBytes.{Appends, Keeps}
-use Rattle.std.proofs.Common.{ap, sym, ◌∙◌, append_assoc, append-nil, length-drop}
-use Rattle.std.proofs.Math.Seq.{take-length}
-use Rattle.std.proofs.lemmas.List.{take-append-drop}
+use Rattle.std.specs.Prelude.{◌≡◌, ◌++◌, ℕ, List, [], Option, Some, None, refl}
+use Rattle.std.specs.Io.KnownBytes.{Appends}
+use Rattle.std.proofs.Common.{ap, sym, ◌∙◌, append-nil}
 use Rattle.fx_edge.specs.Outside.{Empties}
+pub use Rattle.whole_texts.specs.Pieces.{appends_both}
 use Rattle.cert_upgrade.specs.Files.{AppendsFront, Holds, HoldsFront}
 
 -- ---- what is taken in turn
 pub appends_none : (a : Option (List ℕ)) → Appends a a []
 appends_none None = tt
 appends_none (Some x) = sym (append-nil x)
-
-pub appends_both : (a b c : Option (List ℕ)) (bs cs : List ℕ) → Appends a b bs → Appends b c cs
-    → Appends a c (bs ++ cs)
-appends_both None b c bs cs p q = tt
-appends_both (Some x) None c bs cs p q = absurd p
-appends_both (Some x) (Some y) None bs cs p q = absurd q
-appends_both (Some x) (Some y) (Some z) bs cs p q =
-    q ∙ ap (λ l. l ++ cs) p ∙ append_assoc x bs cs
-
-appends_kept : (a b c : Option (List ℕ)) (bs : List ℕ) → Appends a b bs → Keeps b c
-    → Appends a c bs
-appends_kept None b c bs p q = tt
-appends_kept (Some x) None c bs p q = absurd p
-appends_kept (Some x) (Some y) None bs p q = absurd q
-appends_kept (Some x) (Some y) (Some z) bs p q = q ∙ p
-
-pub rest_of : (bytes : List ℕ) (done : ℕ)
-    → take (length bytes - done) (drop done bytes) ≡ drop done bytes
-rest_of bytes done = ap (λ (i : ℕ). take i (drop done bytes)) (sym (length-drop done bytes))
-    ∙ take-length (drop done bytes)
-
--- the first bytes were taken, and then a call failed
-pub on_failure : {T E : Type 0} (r : Result T E) (a b c : Option (List ℕ)) (bytes : List ℕ)
-    (done : ℕ) → Appends a b (take done bytes) → Keeps b c → OnErr r (AppendsFront a c bytes)
-on_failure (Ok x) a b c bytes done p q = tt
-on_failure (Err e) a b c bytes done p q = (
-  take done bytes,
-  (drop done bytes, sym (take-append-drop done bytes)),
-  appends_kept a b c (take done bytes) p q,
-)
 
 -- ---- a file that was made new
 some_is : {X : Type 0} (a b : X) → Some a ≡ Some b → a ≡ b

@@ -1,16 +1,17 @@
 -- A token's text by itself is that token.
 use Rattle.std.proofs.Common.{◌≡◌, ℕ, zero, suc, ◌+◌, ◌-◌, ◌≤◌, ◌==◌, ◌&&◌, ◌||◌, nat_lt, cond}
-use Rattle.std.proofs.Common.{Bool, true, false, List, [], ◌∷◌, length, take, drop, Some, None}
-use Rattle.std.proofs.Common.{refl, sym, ap, ◌∙◌, subst, arith, length-drop, if◌then◌else◌}
+use Rattle.std.proofs.Common.{Bool, true, false, List, [], ◌∷◌, take, drop, Some, None}
+use Rattle.std.proofs.Common.{refl, sym, ap, ◌∙◌, subst, arith, if◌then◌else◌}
 use Rattle.std.specs.Char.{is_ascii_digit}
 use Rattle.std.proofs.lemmas.List.{drop-take}
-use Rattle.std.proofs.lemmas.Bool.{eqb-true}
+use Rattle.std.proofs.lemmas.Bool.{eqb-true, and_parts}
 use Rattle.script_words.specs.declared.lex.Run.{Run}
 use Rattle.script_words.specs.declared.lex.Run.TheVariants.{Word, Digit, HexDigit}
 use Rattle.script_words.specs.declared.lex.TokenKind.TheVariants as kind
 use Rattle.script_words.specs.Literals.{is_in, run_len, part_len, signed_len, exponent_len}
 use Rattle.script_words.specs.Literals.{scaled_len, is_hex, literal_len}
 use Rattle.script_words.specs.Signs.{sign_at, reserved_word}
+use Rattle.script_words.specs.Within.{literal_from}
 use Rattle.script_words.specs.Lex.{front, word_kind, sign_token}
 
 -- ---- so many bytes at the front have the same part, if that isn't longer
@@ -136,11 +137,6 @@ scaled_above : (r : Run) (mark : ℕ) (bs : List ℕ) → run_len r bs ≤ scale
 unfolding scaled_len
 scaled_above r mark bs = omega arith
 
--- the length of a literal, from its parts
-abbrev literal_from : Bool → ℕ → ℕ → ℕ → ℕ → ℕ
-literal_from hex scaled binary digits decimal =
-    cond hex (2 + scaled) (cond (nat_lt 0 binary) (digits + binary) decimal)
-
 plain_by : (b : Bool) (bs : List ℕ) (m : ℕ) → nat_lt 0
     (exponent_len 98 (drop (run_len Digit bs) bs)) ≡ b
     → cond b (run_len Digit bs + exponent_len 98 (drop (run_len Digit bs) bs))
@@ -211,11 +207,6 @@ take-take zero xs = refl
 take-take (suc n) [] = refl
 take-take (suc n) (x ∷ xs) = ap (λ l. x ∷ l) (take-take n xs)
 
-both_true : (a b : Bool) → (a && b) ≡ true → (a ≡ true) × (b ≡ true)
-both_true true true h = (refl, refl)
-both_true true false h = absurd (cc)
-both_true false b h = absurd (cc)
-
 -- A name or a reserved word is one by itself.
 pub word_by_itself : (bs : List ℕ) → nat_lt 0 (run_len Digit bs) ≡ false
     → nat_lt 0 (run_len Word bs) ≡ true
@@ -245,8 +236,8 @@ hex_digits : (bs : List ℕ) → is_hex bs ≡ true → run_len Digit bs ≤ 2
 hex_digits [] h = omega arith
 hex_digits (a ∷ []) h = absurd (cc)
 hex_digits (a ∷ (b ∷ bs)) h =
-    let second : b ≡ 120 = eqb-true b 120 (both_true (a == 48) (b == 120)
-    (both_true (a == 48 && b == 120) (nat_lt 0 (run_len HexDigit bs)) h).0).1 in
+    let second : b ≡ 120 = eqb-true b 120 (and_parts (a == 48) (b == 120)
+    (and_parts (a == 48 && b == 120) (nat_lt 0 (run_len HexDigit bs)) h).0).1 in
     at_most_one (is_ascii_digit a) (run_len Digit (b ∷ bs))
     (ap (λ n. cond (is_ascii_digit n) (1 + run_len Digit bs) 0) second)
   where
@@ -298,79 +289,3 @@ literal_by_itself bs d =
   where
     none_left : (k : ℕ) (xs : List ℕ) → k ≡ 0 → take k xs ≡ []
     none_left k xs e = ap (λ i. take i xs) e
-
--- ---- within the text
-
-chosen-le : (b : Bool) (n m : ℕ) → n ≤ m → cond b n 0 ≤ m
-chosen-le true n m h = h
-chosen-le false n m h = omega arith
-
-either-le : (b : Bool) (n k m : ℕ) → n ≤ m → k ≤ m → cond b n k ≤ m
-either-le true n k m h l = h
-either-le false n k m h l = l
-
-pub run-le : (r : Run) (t : List ℕ) → run_len r t ≤ length t
-run-le r [] = omega arith
-run-le r (x ∷ t) = let h = run-le r t in chosen-le (is_in r x) (1 + run_len r t) (length (x ∷ t))
-    (omega arith)
-
-part-le : (mark : ℕ) (r : Run) (t : List ℕ) → part_len mark r t ≤ length t
-part-le mark r [] = omega arith
-part-le mark r (x ∷ t) = chosen-le (x == mark && nat_lt 0 (run_len r t)) (1 + run_len r t)
-    (length (x ∷ t)) (omega (arith, run-le r t))
-
-signed-le : (t : List ℕ) → signed_len t ≤ length t
-signed-le [] = omega arith
-signed-le (x ∷ t) =
-    either-le (x == 43 || x == 45) (cond (nat_lt 0 (run_len Digit t)) (1 + run_len Digit t) 0)
-    (run_len Digit (x ∷ t)) (length (x ∷ t))
-    (chosen-le (nat_lt 0 (run_len Digit t)) (1 + run_len Digit t) (length (x ∷ t))
-    (omega (arith, run-le Digit t))) (run-le Digit (x ∷ t))
-
-exponent-le : (mark : ℕ) (t : List ℕ) → exponent_len mark t ≤ length t
-exponent-le mark [] = omega arith
-exponent-le mark (x ∷ t) = chosen-le (x == mark && nat_lt 0 (signed_len t)) (1 + signed_len t)
-    (length (x ∷ t)) (omega (arith, signed-le t))
-
-point-le : (r : Run) (t : List ℕ) → run_len r t + part_len 46 r (drop (run_len r t) t) ≤ length t
-point-le r t = omega (
-  arith,
-  run-le r t,
-  part-le 46 r (drop (run_len r t) t),
-  length-drop (run_len r t) t,
-)
-
-scaled-le : (r : Run) (mark : ℕ) (t : List ℕ) → scaled_len r mark t ≤ length t
-unfolding scaled_len
-scaled-le r mark t =
-    let n = run_len r t + part_len 46 r (drop (run_len r t) t) in
-    omega (arith, point-le r t, exponent-le mark (drop n t), length-drop n t)
-
-plain-le : (t : List ℕ) → cond (nat_lt 0 (exponent_len 98 (drop (run_len Digit t) t)))
-    (run_len Digit t + exponent_len 98 (drop (run_len Digit t) t)) (scaled_len Digit 101 t) ≤
-    length t
-plain-le t =
-    let w = run_len Digit t in
-    either-le (nat_lt 0 (exponent_len 98 (drop w t))) (w + exponent_len 98 (drop w t))
-    (scaled_len Digit 101 t) (length t) (omega (
-      arith,
-      run-le Digit t,
-      exponent-le 98 (drop w t),
-      length-drop w t,
-    )) (scaled-le Digit 101 t)
-
-hex-le : (t : List ℕ) → is_hex t ≡ true → 2 + scaled_len HexDigit 112 (drop 2 t) ≤ length t
-hex-le [] h = absurd (cc)
-hex-le (b ∷ []) h = absurd (cc)
-hex-le (b ∷ (c ∷ t)) h = omega (arith, scaled-le HexDigit 112 t)
-
-literal-le-by : (b : Bool) (t : List ℕ) → is_hex t ≡ b
-    → literal_from b (scaled_len HexDigit 112 (drop 2 t))
-    (exponent_len 98 (drop (run_len Digit t) t)) (run_len Digit t) (scaled_len Digit 101 t) ≤
-    length t
-literal-le-by true t e = hex-le t e
-literal-le-by false t e = plain-le t
-
-pub literal-le : (t : List ℕ) → literal_len t ≤ length t
-unfolding literal_len
-literal-le t = literal-le-by (is_hex t) t refl

@@ -19,10 +19,8 @@ use Rattle.fixprog.specs.Words.{kind_word}
 use Rattle.fixprog.specs.Lex.{front, format_len, own_sign, of_script, or_else, Lexes, ends, bad}
 use Rattle.fixprog.specs.Lex.{token, token_word, words_of}
 use Rattle.fixprog.specs.First.{IsAlone, IsAloneWord, WordsAreAlone}
-use Rattle.fixprog.proofs.Alone.{run-le, literal-le, word_by_itself, literal_by_itself}
-
-one_value : {A : Type 0} (x y : A) → Some x ≡ Some y → y ≡ x
-one_value x y e = cc
+use Rattle.script_words.specs.Within.{run-le, literal-le}
+use Rattle.fixprog.proofs.Alone.{word_by_itself, literal_by_itself}
 
 -- the token is a name or a literal, or something else that is told by its kind
 abbrev IsAloneToken : Kind → ℕ → List ℕ → Type 0

@@ -4,6 +4,7 @@ use Rattle.std.proofs.Common.{false, List, [], ◌∷◌, ◌++◌, take, drop, 
 use Rattle.std.specs.List.{AllByRecursion}
 use Rattle.std.specs.Char.{is_ascii_digit, is_ascii_hexdigit}
 use Rattle.std.proofs.Math.Seq.{take-add}
+use Rattle.std.proofs.lemmas.Bool.{and_parts}
 use Rattle.script_words.specs.declared.lex.Run.{Run}
 use Rattle.script_words.specs.declared.lex.Run.TheVariants.{Word, Digit, HexDigit}
 use Rattle.script_words.specs.Literals.{is_word, is_in, run_len, part_len, signed_len, exponent_len}
@@ -56,11 +57,6 @@ front_either : (b : Bool) (n m : ℕ) (bs : List ℕ) → Front n bs → Front m
 front_either true n m bs h k = h
 front_either false n m bs h k = k
 
-both_true : (a b : Bool) → (a && b) ≡ true → (a ≡ true) × (b ≡ true)
-both_true true true h = (refl, refl)
-both_true true false h = absurd (cc)
-both_true false b h = absurd (cc)
-
 same_below : (x k : ℕ) → k < 128 → (x == k) ≡ true → x < 128
 same_below x k h e = grind arith
 
@@ -73,7 +69,7 @@ part_plain : (mark : ℕ) (r : Run) (bs : List ℕ) → mark < 128 → Front (pa
 part_plain mark r [] h = tt
 part_plain mark r (x ∷ xs) h =
     front_if (x == mark && nat_lt 0 (run_len r xs)) (1 + run_len r xs) (x ∷ xs)
-    (λ e. front_cons (run_len r xs) x xs (same_below x mark h (both_true _ _ e).0)
+    (λ e. front_cons (run_len r xs) x xs (same_below x mark h (and_parts _ _ e).0)
     (run_plain r xs))
 
 sign_below : (x : ℕ) → (x == 43 || x == 45) ≡ true → x < 128
@@ -94,7 +90,7 @@ exponent_plain : (mark : ℕ) (bs : List ℕ) → mark < 128 → Front (exponent
 exponent_plain mark [] h = tt
 exponent_plain mark (x ∷ xs) h =
     front_if (x == mark && nat_lt 0 (signed_len xs)) (1 + signed_len xs) (x ∷ xs)
-    (λ e. front_cons (signed_len xs) x xs (same_below x mark h (both_true _ _ e).0)
+    (λ e. front_cons (signed_len xs) x xs (same_below x mark h (and_parts _ _ e).0)
     (signed_plain xs))
 
 scaled_plain : (r : Run) (mark : ℕ) (bs : List ℕ) → mark < 128 → Front (scaled_len r mark bs) bs
@@ -110,8 +106,8 @@ hex_plain : (bs : List ℕ) → is_hex bs ≡ true → Front 2 bs
 hex_plain [] h = absurd (cc)
 hex_plain (a ∷ []) h = absurd (cc)
 hex_plain (a ∷ (b ∷ bs)) h =
-    let first = both_true (a == 48 && b == 120) (nat_lt 0 (run_len HexDigit bs)) h in
-    let both = both_true (a == 48) (b == 120) first.0 in
+    let first = and_parts (a == 48 && b == 120) (nat_lt 0 (run_len HexDigit bs)) h in
+    let both = and_parts (a == 48) (b == 120) first.0 in
     (same_below a 48 (omega arith) both.0, (same_below b 120 (omega arith) both.1, tt))
 
 literal_by : (c : Bool) (bs : List ℕ) → is_hex bs ≡ c

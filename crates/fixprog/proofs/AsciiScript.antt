@@ -1,9 +1,9 @@
 -- The script of a program is ASCII.
-use Rattle.std.proofs.Common.{◌≡◌, ℕ, pos, zero, suc, ◌-◌, ◌^◌, ◌<◌, ◌≤◌, ◌&&◌, nat_lt, Bool, true}
+use Rattle.std.proofs.Common.{◌≡◌, ℕ, pos, zero, suc, ◌-◌, ◌^◌, ◌<◌, ◌≤◌, nat_lt, Bool, true}
 use Rattle.std.proofs.Common.{false, codes, List, [], ◌∷◌, ◌++◌, map, None, refl, sym, subst, arith}
 use Rattle.std.proofs.Common.{lit≤, lit<, if◌then◌else◌}
 use Rattle.std.specs.Prelude.{neg_ℤ}
-use Rattle.std.specs.List.{All, AllByRecursion, list_all, flat_map}
+use Rattle.std.specs.List.{AllByRecursion, list_all, flat_map}
 use Rattle.std.specs.Str.{IsAscii, IsUtf8}
 use Rattle.std.specs.Str.Parse.{digits_value}
 use Rattle.std.specs.Fmt.{decimal, signed_decimal}
@@ -11,6 +11,7 @@ use Rattle.std.proofs.lemmas.Fmt.{IsAscii-decimal, IsAscii-signed}
 use Rattle.std.proofs.lemmas.Str.{IsAscii-append, IsUtf8-from_ascii}
 use Rattle.std.proofs.lemmas.Str.Ascii.{IsAscii-from_all, IsAscii-nil}
 use Rattle.std.proofs.Math.Nat.{pow-le-pow_right}
+use Rattle.std.proofs.lemmas.Bool.{and_parts}
 use lib.Signed.{mag}
 use Rattle.fixprog.specs.declared.program.Mark.{Mark}
 use Rattle.fixprog.specs.declared.program.Mark.TheVariants as mark
@@ -19,7 +20,7 @@ use Rattle.fixprog.specs.Grammar.{Operand, named, given, Operation, copy, negati
 use Rattle.fixprog.specs.Grammar.{product, shift_right, shift_left, Bound, Input, Way, called}
 use Rattle.fixprog.specs.Grammar.{reserved, reserved_out, Step, input, step, output, Program}
 use Rattle.fixprog.specs.Grammar.{outputs, statements}
-use Rattle.fixprog.specs.Formats.{Format, format_of, is_format, least, greatest, last_place}
+use Rattle.fixprog.specs.Formats.{Format, format_of, least, greatest, last_place}
 use Rattle.fixprog.specs.Faults.{program_faults}
 use Rattle.fixprog.specs.First.{Spells}
 use Rattle.fixprog.specs.Execution.{way_text}
@@ -33,26 +34,18 @@ use Rattle.fixprog.proofs.AsciiWords.{IsPlainWord, all_words_plain, statements_p
 use Rattle.fixprog.proofs.AsciiWords.{IsPlainOperand, IsPlainOperation, IsPlainWay, IsPlainInput}
 use Rattle.fixprog.proofs.AsciiWords.{IsPlainStep, IsPlainStatement}
 use Rattle.fixprog.proofs.Faultless.{fine, all_fine, all_front, all_behind}
-
-all_of : {X : Type 0} (P : X → Type 0) (xs : List X) → AllByRecursion P xs → All P xs
-all_of P [] h k d l = absurd (omega arith)
-all_of P (x ∷ xs) h zero d l = h.0
-all_of P (x ∷ xs) h (suc k) d l = all_of P xs h.1 k d (omega arith)
+use Rattle.fixprog.proofs.Common.{all_of}
+use Rattle.fixprog.specs.Narrow.{IsNarrow, narrow}
 
 plain : (bs : List ℕ) → Plain bs → IsAscii bs
 plain bs h = IsAscii-from_all bs (all_of (λ b. b < 128) bs h)
-
-both_true : (a b : Bool) → (a && b) ≡ true → (a ≡ true) × (b ≡ true)
-both_true true true h = (refl, refl)
-both_true true false h = absurd (cc)
-both_true false b h = absurd (cc)
 
 below : (a b : ℕ) → nat_lt a b ≡ true → a < b
 below a b h = grind arith
 
 plain_by : (bs : List ℕ) → list_all (λ b. nat_lt b 128) bs ≡ true → Plain bs
 plain_by [] h = tt
-plain_by (b ∷ bs) h = let p = both_true _ _ h in (below b 128 p.0, plain_by bs p.1)
+plain_by (b ∷ bs) h = let p = and_parts _ _ h in (below b 128 p.0, plain_by bs p.1)
 
 fixed : (bs : List ℕ) → list_all (λ b. nat_lt b 128) bs ≡ true → IsAscii bs
 fixed bs h = plain bs (plain_by bs h)
@@ -62,18 +55,6 @@ then_ : (xs ys : List ℕ) → IsAscii xs → IsAscii ys → IsAscii (xs ++ ys)
 then_ xs ys h k = IsAscii-append xs ys h k
 
 -- ---- numbers
-
-pub record Narrow (f : Format) : Type 0 where
-  pub width : f.width ≤ 60
-  pub places : f.places ≤ 60
-
-narrow : (f : Format) → is_format f ≡ true → Narrow f
-narrow f h =
-    let p = both_true (nat_lt 0 f.width && nat_lt f.width 61) (nat_lt f.places 61) h in
-    let q = both_true (nat_lt 0 f.width) (nat_lt f.width 61) p.0 in
-    let a = below f.width 61 q.1 in
-    let b = below f.places 61 p.1 in
-    record { width = omega arith; places = omega arith }
 
 small_negative : (n : ℕ) → n ≤ 2 ^ 60 → mag (neg_ℤ (pos n)) < 2 ^ 63
 small_negative zero h = lit< tt
@@ -85,11 +66,11 @@ small_positive n h = omega arith
 power : (k : ℕ) → k ≤ 60 → 2 ^ k ≤ 2 ^ 60
 power k h = pow-le-pow_right {n = 2} (lit≤ tt) {i = k} {j = 60} h
 
-place_ascii : (f : Format) → Narrow f → IsAscii (last_place_text f)
+place_ascii : (f : Format) → IsNarrow f → IsAscii (last_place_text f)
 place_ascii f n = IsAscii-signed (last_place f) (small_negative f.places (let p = n.places in
     omega (arith, p)))
 
-least_ascii : (f : Format) → Narrow f → IsAscii (signed_decimal (least f))
+least_ascii : (f : Format) → IsNarrow f → IsAscii (signed_decimal (least f))
 least_ascii f n = by_sign f.signed
   where
     w : 2 ^ (f.width - 1) ≤ 2 ^ 60
@@ -101,7 +82,7 @@ least_ascii f n = by_sign f.signed
         (small_negative (2 ^ (f.width - 1)) w)
     by_sign false = IsAscii-signed (pos 0) (small_positive 0 (omega arith))
 
-greatest_ascii : (f : Format) → Narrow f → IsAscii (signed_decimal (greatest f))
+greatest_ascii : (f : Format) → IsNarrow f → IsAscii (signed_decimal (greatest f))
 greatest_ascii f n = by_sign f.signed
   where
     w : 2 ^ (f.width - 1) ≤ 2 ^ 60

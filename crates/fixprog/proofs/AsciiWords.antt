@@ -27,9 +27,6 @@ use Rattle.fixprog.specs.Grammar.{reserved_out, way_words, Step, Statement, inpu
 use Rattle.fixprog.specs.Grammar.{statement_words, words_from}
 use Rattle.fixprog.proofs.Ascii.{Plain, literal_plain, word_plain}
 
-one_value : {A : Type 0} (x y : A) → Some x ≡ Some y → y ≡ x
-one_value x y e = cc
-
 -- the token is a name or a literal, or something else that is told by its kind
 abbrev IsPlainToken : Kind → ℕ → List ℕ → Type 0
 IsPlainToken kind.Name n bs = Plain (take n bs)

@@ -1,7 +1,7 @@
 -- Words that a course has taken begin a program.
-use Rattle.std.proofs.Common.{◌≡◌, ℕ, zero, suc, codes, List, [], ◌∷◌, ◌++◌, map, refl, sym, ap}
-use Rattle.std.proofs.Common.{◌∙◌, arith, append_assoc, append-nil, ◌⊎◌, inl, inr, ⊎_elim}
-use Rattle.std.specs.List.{All, AllByRecursion}
+use Rattle.std.proofs.Common.{◌≡◌, ℕ, codes, List, [], ◌∷◌, ◌++◌, map, refl, sym, ap}
+use Rattle.std.proofs.Common.{◌∙◌, append_assoc, append-nil, ◌⊎◌, inl, inr, ⊎_elim}
+use Rattle.std.specs.List.{AllByRecursion}
 use Rattle.script_words.specs.declared.class.Symbol.TheVariants as s
 use Rattle.script_words.specs.Literals.{literal_len, scaled_len}
 use Rattle.script_words.specs.Lex.{front as script_front}
@@ -25,11 +25,7 @@ use Rattle.fixprog.specs.Standing.{bound_of, Standing, with_statement}
 use Rattle.fixprog.specs.Finding.{Course}
 use Rattle.fixprog.proofs.Course.{in_place, may_join, join_whole, one_word_more, whole, stand_words}
 use Rattle.fixprog.proofs.Course.{IsCourse}
-
-all_of : {X : Type 0} (P : X → Type 0) (xs : List X) → AllByRecursion P xs → All P xs
-all_of P [] h k d l = absurd (omega arith)
-all_of P (x ∷ xs) h zero d l = h.0
-all_of P (x ∷ xs) h (suc k) d l = all_of P xs h.1 k d (omega arith)
+use Rattle.fixprog.proofs.Common.{all_of}
 
 all_append : {X : Type 0} (P : X → Type 0) (xs ys : List X) → AllByRecursion P xs
     → AllByRecursion P ys → AllByRecursion P (xs ++ ys)

@@ -24,6 +24,7 @@ use Rattle.fixprog.proofs.Takes.{closed, step_typed, step_formatted, step_direct
 use Rattle.fixprog.proofs.Takes.{negation_begins, first_operand, negated, joint, shift, second}
 use Rattle.fixprog.proofs.Takes.{digits, output_named, semicolon_is}
 use Rattle.fixprog.proofs.Found.{IsMarked}
+use Rattle.fixprog.proofs.Common.{one_value}
 
 -- ---- inputs stand before steps, and these before outputs
 
@@ -133,9 +134,6 @@ ended_by false p x e = absurd (cc)
 pub ended_is : (p : Part) (w : Word) (x : Statement) → ended p w ≡ Some x → (w ≡ sign s.Semicolon)
     × (ending p ≡ Some x)
 ended_is p w x e = let h = ended_by (is_semicolon w) p x e in (semicolon_is w h.0, h.1)
-
-one_value : {A : Type 0} (x y : A) → Some x ≡ Some y → y ≡ x
-one_value x y e = cc
 
 -- with the `;` they are the words of the statement
 pub ending_words : (p : Part) (x : Statement) → ending p ≡ Some x → statement_words x

@@ -17,9 +17,7 @@ use Rattle.fixprog.proofs.Found.{IsMarked, finds_told}
 use Rattle.fixprog.proofs.Course.{in_place, takes_place, takes_marked, ended_is, ending_words}
 use Rattle.fixprog.proofs.Course.{ending_place, join_whole, one_word_more, whole, stand_words}
 use Rattle.fixprog.proofs.Course.{IsCourse, due_number, number_is, goes_so}
-
-one_value : {A : Type 0} (x y : A) → Some x ≡ Some y → y ≡ x
-one_value x y e = cc
+use Rattle.fixprog.proofs.Common.{one_value, all_as}
 
 between_statements : (c : Standing) (x : Statement) → (with_statement c x).part ≡ between
 between_statements c (input x) = refl
@@ -90,9 +88,6 @@ stands_so : (c : Standing) (w : Word) (d : Standing) (begin : ℕ)
 stands_so c w d begin h e = stands_by_case c w (ended c.part w) d begin h refl e
 
 -- ---- courses
-
-all_as : {X : Type 0} (P Q : X → Type 0) (xs : List X) → ((x : X) → P x → Q x) → All P xs → All Q xs
-all_as P Q xs h a k d l = h _ (a k d l)
 
 pub is_course_after : (c d : Course) (w : Word) (ws : List Word) → IsCourse c ws → course_after c w
     ≡ Some d → IsCourse d (ws ++ (w ∷ []))

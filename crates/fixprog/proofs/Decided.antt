@@ -25,9 +25,7 @@ use Rattle.fixprog.proofs.Courses.{course_goes, course_of-append, none_stays}
 use Rattle.fixprog.proofs.Completed.{begins_some}
 use Rattle.fixprog.proofs.ProgramCourse.{program_course}
 use Rattle.fixprog.proofs.Least.{IsFirstOf, first_of}
-
-one_value : {A : Type 0} (x y : A) → Some x ≡ Some y → y ≡ x
-one_value x y e = cc
+use Rattle.fixprog.proofs.Common.{one_value}
 
 -- what is among mapped values
 contains_map : {A B : Type 0} (f : A → B) (xs : List A) (x : A) → Contains xs x

@@ -1,12 +1,11 @@
 -- The formats and shifts of programs in which nothing is wrong.
-use Rattle.std.proofs.Common.{◌≡◌, ℕ, zero, suc, ◌+◌, ◌<◌, ◌≤◌, nat_lt, not, Bool, true, false}
-use Rattle.std.proofs.Common.{List, [], ◌∷◌, ◌++◌, length, map, Some, refl, sym, ap, ◌∙◌, subst}
+use Rattle.std.proofs.Common.{◌≡◌, ℕ, zero, suc, ◌+◌, ◌≤◌, not}
+use Rattle.std.proofs.Common.{List, [], ◌∷◌, ◌++◌, length, map, Some, sym, ap, ◌∙◌, subst}
 use Rattle.std.proofs.Common.{arith, length-append}
 use Rattle.std.specs.List.{All, AllByRecursion}
 use Rattle.std.proofs.lemmas.List.{length-map}
 use Rattle.std.proofs.lemmas.Simd.{map-map}
 use Rattle.std.specs.Str.Parse.{digits_value}
-use Rattle.fixprog.specs.declared.fault.ProgKind.{ProgKind}
 use Rattle.fixprog.specs.declared.program.Program.{Program as CodeProgram}
 use Rattle.fixprog.specs.Words.{Name}
 use Rattle.fixprog.specs.Grammar.{Operation, copy, negation, sum, difference, product, shift_right}
@@ -17,25 +16,7 @@ use Rattle.fixprog.specs.Faults.{weight_faults, format_faults, operand_faults, o
 use Rattle.fixprog.specs.Faults.{statement_faults, faults_from, program_faults, is_way}
 use Rattle.fixprog.specs.Printed.{IsShort, IsPrintable, IsInputPrintable}
 use Rattle.fixprog.specs.Views.{input_of, step_of, program_with, program_of}
-
-none_front : {A : Type 0} (xs ys : List A) → xs ++ ys ≡ [] → xs ≡ []
-none_front [] ys h = refl
-none_front (x ∷ xs) ys h = absurd (cc)
-
-none_behind : {A : Type 0} (xs ys : List A) → xs ++ ys ≡ [] → ys ≡ []
-none_behind [] ys h = h
-none_behind (x ∷ xs) ys h = absurd (cc)
-
-not_if : (b : Bool) (k : ProgKind) (i j : ℕ) → fault_if (not b) k i j ≡ [] → b ≡ true
-not_if true k i j h = refl
-not_if false k i j h = absurd (cc)
-
-no_if : (b : Bool) (k : ProgKind) (i j : ℕ) → fault_if b k i j ≡ [] → b ≡ false
-no_if true k i j h = absurd (cc)
-no_if false k i j h = refl
-
-short_by : (n : ℕ) → nat_lt 63 n ≡ false → n < 64
-short_by n h = grind arith
+use Rattle.fixprog.specs.NoFaults.{none_front, none_behind, not_if, no_if, short_by, light}
 
 operation_fine : (o : Operation) (b : Before) (i : ℕ) → operation_faults b i o ≡ [] → IsShort o
 operation_fine (copy a) b i h = tt
@@ -112,9 +93,6 @@ statements_of ins ss (o ∷ os) p e = let same = one_value _ p e in
     one_value x y e = cc
 
 -- ---- few statements
-
-light : (b : Before) (w i : ℕ) → weight_faults b w i ≡ [] → b.weight + w ≤ 128
-light b w i h = let e : nat_lt 128 (b.weight + w) ≡ false = no_if _ _ _ _ h in grind arith
 
 statement_light : (x : Statement) (b : Before) (i : ℕ) → statement_faults b i x ≡ []
     → ((after b x).weight ≤ 128) × (b.weight + 1 ≤ (after b x).weight)

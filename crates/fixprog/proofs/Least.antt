@@ -7,6 +7,7 @@ use Rattle.std.proofs.lemmas.List.Elements.{All-nil, All-push, Contains-push, Co
 use Rattle.fixprog.specs.declared.fault.ProgFault.{ProgFault}
 use Rattle.fixprog.specs.First.{number, is_before}
 use Rattle.fixprog.specs.Finding.{earlier, first_from}
+use Rattle.fixprog.proofs.Common.{all_as}
 
 lower_than : (a b c d e f : ℕ) → (nat_lt a c || (a == c && nat_lt b d)) ≡ true
     → (nat_lt c e || (c == e && nat_lt d f)) ≡ true → (nat_lt a e || (a == e && nat_lt b f)) ≡ true
@@ -29,9 +30,6 @@ pub record IsLeast (fs : List ProgFault) (f : ProgFault) : Type 0 where
 abbrev pub IsFirstOf : List ProgFault → Option ProgFault → Type 0
 IsFirstOf fs None = fs ≡ []
 IsFirstOf fs (Some f) = IsLeast fs f
-
-all_as : {X : Type 0} (P Q : X → Type 0) (xs : List X) → ((x : X) → P x → Q x) → All P xs → All Q xs
-all_as P Q xs h a k d l = h _ (a k d l)
 
 -- what isn't before one isn't before an earlier one
 still : (f g first : ProgFault) → is_before f first ≡ true → is_before g first ≡ false

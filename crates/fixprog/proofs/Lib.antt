@@ -1,3 +1,4 @@
+pub mod Common
 pub mod Lexing
 pub mod Takes
 pub mod Found

@@ -13,6 +13,7 @@ use Rattle.fixprog.specs.Turned.{Bytes, step_line, input_text, hypotheses_text, 
 use Rattle.fixprog.specs.Turned.{output_goal, joined, goals_text, lines_of, script_of}
 use Rattle.fixprog.specs.Printed.{inputs_written, outputs_written, formula_text, script_text}
 use Rattle.fixprog.specs.Views.{input_of, step_of, program_with, program_of}
+use Rattle.fixprog.proofs.Common.{one_value}
 
 pub hypotheses_are : (x : CodeInput) (xs : List CodeInput) → input_text (input_of x)
     ++ (flat_map (λ x. codes " /\\ " ++ input_text (input_of x)) xs ++ codes " -> ")
@@ -50,9 +51,6 @@ goals_are : (c : CodeProgram) → flat_map (λ x. format_goal (step_of x) ++ cod
     c.steps.items ≡ flat_map (λ x. x ++ codes " /\\ ") (map format_goal (map step_of c.steps.items))
 goals_are c = sym (flat_map-map (λ x. x ++ codes " /\\ ") format_goal (map step_of c.steps.items)
     ∙ flat_map-map (λ x. format_goal x ++ codes " /\\ ") step_of c.steps.items)
-
-one_value : (x y : Program) → Some x ≡ Some y → y ≡ x
-one_value x y e = cc
 
 -- the goals, where there are outputs
 all_goals : (c : CodeProgram) (ts : List (Bor (List ℕ))) (p : Program)

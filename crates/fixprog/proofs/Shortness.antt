@@ -1,7 +1,7 @@
 -- A program's script is no longer than a script may be.
-use Rattle.std.proofs.Common.{◌≡◌, ◌<◌, ◌≤◌, ◌+◌, ◌-◌, ◌*◌, ◌^◌, ◌&&◌, nat_lt, ℕ, ℤ, pos, zero, suc}
+use Rattle.std.proofs.Common.{◌≡◌, ◌<◌, ◌≤◌, ◌+◌, ◌-◌, ◌*◌, ◌^◌, ℕ, ℤ, pos, zero, suc}
 use Rattle.std.proofs.Common.{Bool, true, false, codes, List, [], ◌∷◌, ◌++◌, length, take, drop}
-use Rattle.std.proofs.Common.{map, Option, None, refl, sym, ap, ◌∙◌, arith, length-append, lit≤}
+use Rattle.std.proofs.Common.{map, Option, None, refl, sym, ap, ◌∙◌, arith, length-append}
 use Rattle.std.proofs.Common.{if◌then◌else◌}
 use Rattle.std.specs.Prelude.{neg_ℤ}
 use Rattle.std.specs.List.{AllByRecursion, flat_map}
@@ -9,7 +9,6 @@ use Rattle.std.specs.Fmt.{decimal, signed_decimal}
 use Rattle.std.specs.Str.Parse.{digits_value}
 use Rattle.std.proofs.lemmas.List.{drop-drop, length-map}
 use Rattle.std.proofs.lemmas.Fmt.{length-decimal-le_wide}
-use Rattle.std.proofs.Math.Nat.{pow-le-pow_right}
 use Rattle.script_words.specs.declared.class.Symbol.TheVariants as s
 use Rattle.script_words.specs.Lex.{blank_len}
 use Rattle.fixprog.specs.declared.format.Format.{Format}
@@ -37,6 +36,7 @@ use Rattle.fixprog.specs.Answer.{ScriptsAreShort}
 use Rattle.fixprog.proofs.ProgramCourse.{words-append}
 use Rattle.fixprog.proofs.Faultless.{fine, all_fine, all_front, all_behind, few}
 use Rattle.fixprog.proofs.Sound.{spelled_faultless}
+use Rattle.fixprog.specs.Narrow.{IsNarrow, narrow, power_below}
 
 -- ---- texts of words
 
@@ -111,30 +111,6 @@ opposite_short zero l = plain_short 0 (omega arith)
 opposite_short (suc k) l =
     let h = length-decimal-le_wide 19 (suc k) (omega arith) (omega arith) (omega arith) in
     omega arith
-
-power_below : (k : ℕ) → k ≤ 60 → 2 ^ k < 2 ^ 61
-power_below k h =
-    let p : 2 ^ k ≤ 2 ^ 60 = pow-le-pow_right {n = 2} (lit≤ tt) {i = k} {j = 60} h in omega arith
-
-record IsNarrow (f : Format) : Type 0 where
-  width : f.width ≤ 60
-  places : f.places < 64
-
-two_true : (a b : Bool) → (a && b) ≡ true → (a ≡ true) × (b ≡ true)
-two_true true b h = (refl, h)
-two_true false b h = absurd (cc)
-
-narrow : (f : Format) → is_format f ≡ true → IsNarrow f
-narrow f h =
-    let a = two_true (nat_lt 0 f.width && nat_lt f.width 61) (nat_lt f.places 61) h in
-    let b = two_true (nat_lt 0 f.width) (nat_lt f.width 61) a.0 in
-    record { width = under f.width b.1; places = few_places f.places a.1 }
-  where
-    under : (n : ℕ) → nat_lt n 61 ≡ true → n ≤ 60
-    under n h = grind arith
-
-    few_places : (n : ℕ) → nat_lt n 61 ≡ true → n < 64
-    few_places n h = grind arith
 
 least_short : (f : Format) → IsNarrow f → length (signed_decimal (least f)) ≤ 20
 least_short f n = by_sign f.signed

@@ -5,6 +5,7 @@ use Rattle.std.proofs.Common.{if◌then◌else◌}
 use Rattle.std.specs.List.{list_all}
 use Rattle.std.specs.Char.{is_ascii_digit}
 use Rattle.std.specs.Option.{option_map}
+use Rattle.std.proofs.lemmas.Bool.{and_parts}
 use Rattle.script_judge.specs.Fault.{is_reserved}
 use Rattle.script_words.specs.declared.class.Symbol.{Symbol}
 use Rattle.script_words.specs.declared.class.Symbol.TheVariants as s
@@ -29,6 +30,7 @@ use Rattle.fixprog.specs.Standing.{output_end, joint_words, shift_words, head_wo
 use Rattle.fixprog.specs.Standing.{begun_words, part_words, some_if, headed, directed, bound_of}
 use Rattle.fixprog.specs.Standing.{ranged, stepped, joined, shifted, Opening, begun_otherwise}
 use Rattle.fixprog.specs.Standing.{lower_next, upper_next, operand_next, operator_next, next_part}
+use Rattle.fixprog.proofs.Common.{one_value}
 
 -- ---- which words there are where something is seen
 
@@ -77,10 +79,6 @@ operand_is colon t e = absurd (cc)
 operand_is right t e = absurd (cc)
 operand_is left t e = absurd (cc)
 operand_is out t e = absurd (cc)
-
--- a value that is some other's
-one_value : {A : Type 0} (x y : A) → Some x ≡ Some y → y ≡ x
-one_value x y e = cc
 
 pub mark_is : (w : Word) (m : Mark) → mark_in w ≡ Some m → mark_words m ≡ w ∷ []
 mark_is (sign s.Plus) m e = ap mark_words (one_value mark.Plus m e)
@@ -280,15 +278,10 @@ otherwise_takes o true w q d e = whole_part output_name q (Takes o between w) e
     (output_begins (out_is w d))
 otherwise_takes o false w q d e = begin_takes o o.steps w q refl e
 
-both_true : (a b : Bool) → (a && b) ≡ true → (a ≡ true) × (b ≡ true)
-both_true true true h = (refl, refl)
-both_true true false h = absurd (cc)
-both_true false b h = absurd (cc)
-
 begun_takes : (o : Opening) (c : Bool) (w : Word) (q : Part) → (o.inputs && is_in w) ≡ c
     → (if c then Some input_name else begun_otherwise o.steps w) ≡ Some q → Takes o between w q
 begun_takes o true w q d e = whole_part input_name q (Takes o between w) e (let h =
-    both_true o.inputs (is_in w) d in input_begins h.0 (in_is w h.1))
+    and_parts o.inputs (is_in w) d in input_begins h.0 (in_is w h.1))
 begun_takes o false w q d e = otherwise_takes o (is_out w) w q refl e
 
 pub next_takes : (o : Opening) (p : Part) (w : Word) (q : Part) → next_part o p w ≡ Some q

@@ -21,6 +21,7 @@ use Rattle.fixprog.proofs.Courses.{course_goes, course_of-append, none_stays, no
 use Rattle.fixprog.proofs.Completed.{begins_some}
 use Rattle.fixprog.proofs.ProgramCourse.{program_course}
 use Rattle.fixprog.proofs.Decided.{none_begins}
+use Rattle.fixprog.proofs.Common.{one_value}
 
 -- ---- readings
 
@@ -168,9 +169,6 @@ same_program p q i t o =
     rest_in : List Name → List Name
     rest_in [] = []
     rest_in (x ∷ xs) = xs
-
-one_value : {A : Type 0} (x y : A) → Some x ≡ Some y → y ≡ x
-one_value x y e = cc
 
 pub spells_once : SpellsOnce
 spells_once text p q h k =

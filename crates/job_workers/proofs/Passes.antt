@@ -2,24 +2,9 @@
 use Rattle.std.proofs.Common.{◌≡◌, ◌≢◌, ◌<◌, ℕ, List, All, length, slice_index_or, Some, sym, ap}
 use Rattle.std.proofs.Common.{◌∙◌, arith}
 use Rattle.std.proofs.lemmas.List.Elements.{All-weaker}
-use Rattle.box_deques.specs.Moments.{SamePasses}
 use Rattle.box_deques.specs.Seen.{Lane, Thief, Seat, Hand, Name, HasPass, IsSeated, Lent}
-use Rattle.job_workers.specs.Posts.{CanSteal, IsThief, no_lane}
-
--- the hand keeps its passes
-pub can_steal_stays : (capacity : ℕ) (old new : Hand) (thieves : List Thief)
-    → SamePasses old new → CanSteal capacity old thieves → CanSteal capacity new thieves
-can_steal_stays capacity old new thieves same can =
-    All-weaker (λ (t : Thief). HasPass old.seats t.number t.name capacity × (old.number ≢ t.number))
-    (λ (t : Thief). HasPass new.seats t.number t.name capacity × (new.number ≢ t.number))
-    (λ t (has, other). (
-      (
-        let l = same.long in let b = has.0 in omega arith,
-        same.lanes t.number ∙ has.1,
-        same.rooms t.number ∙ has.2,
-      ),
-      λ e. other (sym same.number ∙ e),
-    )) thieves can
+use Rattle.box_deques.specs.Stealing.{CanSteal}
+use Rattle.job_workers.specs.Posts.{IsThief, no_lane}
 
 -- a hand that was made for the lanes, with thieves of all others
 pub begins : (capacity number n : ℕ) (old new : List Lane) (hand : Hand) (thieves : List Thief)

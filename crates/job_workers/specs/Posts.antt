@@ -1,11 +1,6 @@
 -- What a worker needs to take jobs.
-use Rattle.std.specs.Prelude.{◌≡◌, ◌≢◌, ◌<◌, ℕ, List, [], All, length, slice_index_or, false}
-use Rattle.box_deques.specs.Seen.{Lane, Thief, Hand, HasPass}
-
--- the hand can steal through each of these, which are thieves of other lanes
-abbrev pub CanSteal : ℕ → Hand → List Thief → Type 0
-CanSteal capacity hand thieves = All (λ (t : Thief).
-    HasPass hand.seats t.number t.name capacity × (hand.number ≢ t.number)) thieves
+use Rattle.std.specs.Prelude.{◌≡◌, ◌≢◌, ◌<◌, ℕ, List, [], length, slice_index_or, false}
+use Rattle.box_deques.specs.Seen.{Lane, Thief}
 
 -- a lane for an index that is none
 abbrev pub no_lane : Lane

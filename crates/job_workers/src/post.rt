@@ -1,7 +1,7 @@
 //! What each worker has, and all workers at work.
 ghost use Rattle.std.specs.Prelude.{◌≡◌, ◌<◌, ◌≤◌, ℕ, [], All, IfSome, length, slice_index_or};
 ghost use Rattle.std.specs.Prelude.{vec_capacity};
-ghost use Rattle.job_workers.specs.Posts.{CanSteal};
+ghost use Rattle.box_deques.specs.Stealing.{CanSteal};
 ghost use Rattle.job_workers.specs.Ready.{IsReady};
 ghost use Rattle.job_workers.specs.Results.{AreResultsOf};
 

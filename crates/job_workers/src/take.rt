@@ -1,5 +1,5 @@
 //! Where a worker's next job comes from.
-ghost use Rattle.job_workers.specs.Posts.{CanSteal};
+ghost use Rattle.box_deques.specs.Stealing.{CanSteal};
 
 use crate::task::JobTask;
 use box_deques::{Hand, Lane, Naming, Thief};

@@ -3,17 +3,16 @@ use Rattle.std.specs.Prelude.{◌≡◌, ◌≢◌, ◌⊎◌, ◌<◌, ◌≤�
 use Rattle.std.specs.Prelude.{[], ◌∷◌, ◌++◌, Some, None, Option, map, slice_get, slice_set, length}
 use Rattle.std.specs.Prelude.{refl}
 use Rattle.std.specs.Option.{option_map}
-use Rattle.std.proofs.Common.{inl, inr, arith, ap, sym, ◌∙◌, subst, length-set, get_or-set_same}
-use Rattle.std.proofs.Common.{get_or-set_other}
-use Rattle.std.proofs.lemmas.Option.{slice_get_within, slice_get-get_or, get_or_from_slice_get}
+use Rattle.std.proofs.Common.{inl, inr, arith, ap, sym, ◌∙◌, length-set}
+use Rattle.std.proofs.lemmas.Option.{slice_get_within}
 use Rattle.std.proofs.lemmas.Option.{slice_get-map}
 use Rattle.std.proofs.lemmas.List.{length-map, append-nil}
-use Rattle.std.proofs.lemmas.Bool.{cases_lt}
 use Rattle.expr_dag.specs.fx_model.declared.ExprId.{ExprId}
 use Rattle.pair_closure.specs.Reached.{Has}
 use Rattle.pair_closure.specs.Members.{some-inj, none_at, no_member, has_first, has_cases}
 use Rattle.pair_closure.specs.Members.{has_either}
-use Rattle.pair_closure.specs.Ids.{self_same, not_same}
+use Rattle.pair_closure.specs.Ids.{id_of, self_same, not_same}
+use Rattle.pair_closure.specs.Put.{same_or_not, set_same, other_back}
 use Rattle.pair_closure.specs.Closure.{Pair, is_same}
 use Rattle.pair_closure.specs.Rows.{seconds, IsIndexed}
 use Rattle.pair_closure.specs.RowLaws.{seconds_out}
@@ -35,16 +34,6 @@ nothing [] n = refl
 nothing (x ∷ xs) n = absurd (n x (has_first x xs))
 
 -- ---- rows
-id_of : (x y : ExprId) → x.0 ≡ y.0 → x ≡ y
-id_of x y e = (λ i. record { 0 = e i })
-
-same_or_not : (i j : ℕ) → (i ≡ j) ⊎ (i ≢ j)
-same_or_not i j = elim (cases_lt i j) [
-  | inl l ↦ inr (λ e. let s : i ≡ j = e in omega arith)
-  | inr l ↦ elim (cases_lt j i)
-      [ inl m ↦ inr (λ e. let s : i ≡ j = e in omega arith) | inr m ↦ inl (omega arith) ]
-]
-
 module _ {V : Type 0} (f : V → List ExprId) where
   row_by : (o : Option V) (row : List ExprId) → option_map f o ≡ Some row
       → (v : V) × (o ≡ Some v) × (f v ≡ row)
@@ -58,19 +47,6 @@ module _ {V : Type 0} (f : V → List ExprId) where
   held_row : (rows : List V) (k : ℕ) (v : V) → slice_get rows k ≡ Some v
       → slice_get (map f rows) k ≡ Some (f v)
   held_row rows k v e = slice_get-map f rows k ∙ ap (option_map f) e
-
-  set_same : (rows : List V) (i : ℕ) (w : V) → i < length rows
-      → slice_get (slice_set rows i w) i ≡ Some w
-  set_same rows i w l =
-      slice_get-get_or (slice_set rows i w) i w (omega (arith, length-set rows i w))
-      ∙ ap Some (get_or-set_same rows i w w l)
-
-  other_back : (rows : List V) (i j : ℕ) (w v : V) → j ≢ i
-      → slice_get (slice_set rows i w) j ≡ Some v → slice_get rows j ≡ Some v
-  other_back rows i j w v ne e =
-      let l = slice_get_within (slice_set rows i w) j v e in
-      slice_get-get_or rows j v (omega (arith, length-set rows i w)) ∙ ap Some
-      (sym (get_or-set_other rows i j w v ne) ∙ get_or_from_slice_get (slice_set rows i w) j v v e)
 
   module _ (rows : List V) (pairs : List Pair)
       (a b : ExprId) (v w : V) (at : slice_get rows a.0 ≡ Some v) (is : f w ≡ f v ++ b ∷ [])

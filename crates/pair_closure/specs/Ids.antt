@@ -4,10 +4,13 @@ use Rattle.std.proofs.Common.{eqb-true, eq-eqb, sym, ◌∙◌, ap, subst, true�
 use Rattle.expr_dag.specs.fx_model.declared.ExprId.{ExprId}
 use Rattle.expr_dag.specs.fx_model.declared.Node.{Node}
 use Rattle.expr_dag.specs.Nodes.{IsAt}
-use Rattle.pair_closure.specs.Members.{some-inj}
+
+-- expressions with one number are one
+pub id_of : (x y : ExprId) → x.0 ≡ y.0 → x ≡ y
+id_of x y e = (λ i. record { 0 = e i })
 
 pub same_ids : (x y : ExprId) → (x.0 == y.0) ≡ true → x ≡ y
-same_ids x y h = let e = eqb-true x.0 y.0 h in (λ i. record { 0 = e i })
+same_ids x y h = id_of x y (eqb-true x.0 y.0 h)
 
 pub self_same : (x : ExprId) → (x.0 == x.0) ≡ true
 self_same x = eq-eqb x.0 x.0 refl

@@ -4,6 +4,7 @@ pub mod Reached
 pub mod Members
 pub mod Rising
 pub mod Ids
+pub mod Put
 pub mod Closure
 pub mod Grown
 pub mod Hashed

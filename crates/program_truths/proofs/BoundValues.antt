@@ -1,13 +1,12 @@
 -- The values of the bounds that formats have in a script.
 use Rattle.std.proofs.Common.{◌≡◌, ⊎_elim, ◌<◌, ◌≤◌, ◌^◌, ◌-◌, ℕ, ℤ, pos, negsuc, zero, suc, Bool}
 use Rattle.std.proofs.Common.{true, false, codes, arith, List, [], ◌++◌, Some, refl, sym, ap, ◌∙◌}
-use Rattle.std.proofs.Common.{subst, lit≤, if◌then◌else◌}
+use Rattle.std.proofs.Common.{subst, if◌then◌else◌}
 use Rattle.std.specs.Prelude.{neg_ℤ}
 use Rattle.std.specs.Fmt.{decimal, signed_decimal}
 use Rattle.std.specs.Str.Parse.{digits_value}
 use Rattle.std.proofs.lemmas.Fmt.{decimal_is_IsNumeral_wide, length-decimal-le_wide}
 use Rattle.std.proofs.lemmas.Int.{ints}
-use Rattle.std.proofs.Math.Nat.{pow-le-pow_right}
 use Rattle.fx_model.specs.Fraction.{neg_ℚ, ◌*ℚ◌, mul-one}
 use Rattle.fx_model.specs.Powers.{scaled, one-whole}
 use Rattle.fx_model.specs.Grid.{scaled-neg}
@@ -23,6 +22,7 @@ use Rattle.script_nodes.specs.Written.{bound_written}
 use Rattle.fixprog.specs.declared.format.Format.{Format}
 use Rattle.fixprog.specs.Formats.{least, greatest, word_value}
 use Rattle.program_truths.proofs.Trees.{word_bound}
+use Rattle.fixprog.specs.Narrow.{power_below}
 
 -- ---- the spelling of `wbL`
 
@@ -124,10 +124,6 @@ module _ (told : LiteralsAreTold) (once : SpelledOnce) where
   opposite_is f zero h l = word_is 0 f.places h l
   opposite_is f (suc k) h l = ap neg_ℚ (word_is (suc k) f.places h l)
       ∙ sym (scaled-neg (pos (suc k)) (neg_ℤ (pos f.places)))
-
-  power_below : (k : ℕ) → k ≤ 60 → 2 ^ k < 2 ^ 61
-  power_below k h =
-      let p : 2 ^ k ≤ 2 ^ 60 = pow-le-pow_right {n = 2} (lit≤ tt) {i = k} {j = 60} h in omega arith
 
   pub least_is : (f : Format) → f.width ≤ 60 → f.places < 64
       → written_value (bound_written (word_bound (least f) f)) ≡ word_value f (least f)

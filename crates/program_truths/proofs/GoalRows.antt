@@ -1,13 +1,12 @@
 -- What a program in which nothing is wrong gives the judge of scripts.
 use Rattle.std.proofs.Common.{◌≡◌, ◌<◌, ◌≤◌, ◌≤ℤ◌, ◌^◌, ◌-◌, ◌+◌, ◌&&◌, ◌||◌, not, ℕ, pos, zero}
 use Rattle.std.proofs.Common.{suc, Bool, true, false, List, [], ◌∷◌, refl, sym, ap, ◌∙◌, subst}
-use Rattle.std.proofs.Common.{arith, lit≤, if◌then◌else◌}
+use Rattle.std.proofs.Common.{arith, if◌then◌else◌}
 use Rattle.std.specs.Prelude.{neg_ℤ}
 use Rattle.std.specs.Str.{bytes_eq}
 use Rattle.std.specs.Str.Parse.{digits_value}
 use Rattle.std.proofs.lemmas.Int.{ints}
 use Rattle.std.proofs.lemmas.Slice.Eq.{bytes_eq-Decides}
-use Rattle.std.proofs.Math.Nat.{pow-le-pow_right}
 use Rattle.fx_model.specs.Fraction.{le_ℚ}
 use Rattle.fx_model.specs.Powers.{scaled-le}
 use Rattle.literal_order.specs.Values.{written_value}
@@ -28,12 +27,13 @@ use Rattle.fixprog.specs.Faults.{fault_if, new_name_faults, weight_faults, forma
 use Rattle.fixprog.specs.Faults.{bound_faults, operand_faults, operation_faults, statement_faults}
 use Rattle.fixprog.specs.Faults.{is_way}
 use Rattle.program_truths.proofs.Trees.{end_bound, word_bound}
-use Rattle.program_truths.proofs.Spelled.{none_front, none_behind, not_if, no_if, short_by, narrow}
+use Rattle.fixprog.specs.NoFaults.{none_front, none_behind, not_if, no_if, short_by}
 use Rattle.program_truths.proofs.BoundValues.{text_with, word_reading, least_is, greatest_is}
 use Rattle.program_truths.proofs.Own.{apart}
 use Rattle.program_truths.proofs.Rows.{bound_fine, bound_number}
 use Rattle.program_truths.proofs.StepRows.{OperandFine, OperationFine, OperandApart, OperationApart}
 use Rattle.program_truths.proofs.StepRows.{operand_known, operation_known}
+use Rattle.fixprog.specs.Narrow.{narrow, power_below}
 
 number_is : (b : Bound) → bound_number b ≡ written_value (bound_written b)
 number_is (unsigned k t) = refl
@@ -41,10 +41,6 @@ number_is (positive k t) = refl
 number_is (negative k t) = refl
 
 -- ---- formats
-
-power_below : (k : ℕ) → k ≤ 60 → 2 ^ k < 2 ^ 61
-power_below k h =
-    let p : 2 ^ k ≤ 2 ^ 60 = pow-le-pow_right {n = 2} (lit≤ tt) {i = k} {j = 60} h in omega arith
 
 opposite_below : (q r : ℕ) → neg_ℤ (pos q) ≤ℤ pos r
 opposite_below zero r = omega (arith, ints)

@@ -1,5 +1,5 @@
 -- All words of a program's script pass the judge of scripts.
-use Rattle.std.proofs.Common.{◌≡◌, ◌≤◌, ◌+◌, ◌*◌, ◌||◌, not, nat_lt, ℕ, Bool, true, false, List, []}
+use Rattle.std.proofs.Common.{◌≡◌, ◌≤◌, ◌+◌, ◌*◌, ◌||◌, not, ℕ, Bool, true, false, List, []}
 use Rattle.std.proofs.Common.{◌∷◌, ◌++◌, length, map, None, refl, sym, ap, ◌∙◌, subst, arith}
 use Rattle.std.proofs.Common.{append_assoc}
 use Rattle.std.specs.List.{AllByRecursion}
@@ -27,7 +27,8 @@ use Rattle.program_truths.proofs.Trees.{end_bound, word_bound, range_prop, place
 use Rattle.program_truths.proofs.Trees.{output_prop, input_props, alone, also, so, and_all}
 use Rattle.program_truths.proofs.Trees.{goals_behind, goals_alone, formula_of, program_formula}
 use Rattle.program_truths.proofs.Trees.{script_from, tree_of}
-use Rattle.program_truths.proofs.Spelled.{none_front, none_behind, no_if, narrow}
+use Rattle.fixprog.specs.NoFaults.{none_front, none_behind, light}
+use Rattle.fixprog.specs.Narrow.{narrow}
 use Rattle.program_truths.proofs.Own.{itself, among_front, among_last}
 use Rattle.program_truths.proofs.Passing.{Stands, passes}
 use Rattle.program_truths.proofs.Rows.{Passes, with_known, range_row, range_is, range_passes}
@@ -440,9 +441,6 @@ weight_of (output t) = 1
 abbrev weight : List Statement → ℕ
 weight [] = 0
 weight (x ∷ xs) = weight_of x + weight xs
-
-light : (b : Before) (w i : ℕ) → weight_faults b w i ≡ [] → b.weight + w ≤ 128
-light b w i h = let e : nat_lt 128 (b.weight + w) ≡ false = no_if _ _ _ _ h in grind arith
 
 statement_light : (x : Statement) (b : Before) (i : ℕ) → statement_faults b i x ≡ []
     → ((after b x).weight ≤ 128) × ((after b x).weight ≡ b.weight + weight_of x)

@@ -1,5 +1,5 @@
 -- The script of a program in which nothing is wrong is read as its tree.
-use Rattle.std.proofs.Common.{◌≡◌, ◌<◌, ◌≤◌, ◌&&◌, ◌^◌, ◌-◌, ◌+◌, not, nat_lt, Bool, true, false, ℕ}
+use Rattle.std.proofs.Common.{◌≡◌, ◌<◌, ◌≤◌, ◌^◌, ◌-◌, ◌+◌, not, Bool, true, false, ℕ}
 use Rattle.std.proofs.Common.{pos, zero, suc, codes, arith, List, [], ◌∷◌, ◌++◌, length, map, refl}
 use Rattle.std.proofs.Common.{sym, ap, ◌∙◌, lit≤, if◌then◌else◌}
 use Rattle.std.specs.Prelude.{neg_ℤ}
@@ -13,7 +13,6 @@ use Rattle.script_words.specs.declared.lex.TokenKind.TheVariants as kind
 use Rattle.script_words.specs.Quiet.{EndsBeforeQuiet}
 use Rattle.script_words.specs.Named.{spelled_of, is_direction, IsWordsOf}
 use Rattle.script_shape.specs.Tree.{script_words}
-use Rattle.fixprog.specs.declared.fault.ProgKind.{ProgKind}
 use Rattle.fixprog.specs.declared.format.Format.{Format}
 use Rattle.fixprog.specs.declared.program.Mark.{Mark}
 use Rattle.fixprog.specs.declared.program.Mark.TheVariants as mark
@@ -23,7 +22,7 @@ use Rattle.fixprog.specs.Grammar.{sum, difference, product, shift_right, shift_l
 use Rattle.fixprog.specs.Grammar.{operation_words, bound_words, Way, called, reserved, reserved_out}
 use Rattle.fixprog.specs.Grammar.{way_words, Statement, input, step, output, statement_words}
 use Rattle.fixprog.specs.Grammar.{words_from, Program, outputs, statements, program_words}
-use Rattle.fixprog.specs.Formats.{format_of, is_format, least, greatest}
+use Rattle.fixprog.specs.Formats.{format_of, least, greatest}
 use Rattle.fixprog.specs.Faults.{Before, after, fault_if, new_name_faults, weight_faults}
 use Rattle.fixprog.specs.Faults.{format_faults, operand_faults, operation_faults, statement_faults}
 use Rattle.fixprog.specs.Faults.{faults_from, program_faults, is_way}
@@ -35,48 +34,13 @@ use Rattle.program_truths.proofs.Trees.{tree_of}
 use Rattle.program_truths.proofs.Operations.{IsOperandText, IsOperationText}
 use Rattle.program_truths.proofs.StepLines.{IsStepText}
 use Rattle.program_truths.proofs.Formulas.{IsInputText, IsGoalText, IsWordBoundText}
-use Rattle.program_truths.proofs.Texts.{both, alone_word, place_is_text, right_is_text}
+use Rattle.program_truths.proofs.Texts.{alone_word, place_is_text, right_is_text}
 use Rattle.program_truths.proofs.Texts.{left_is_text, word_is_text}
 use Rattle.program_truths.proofs.Scripts.{HasTexts, script_is_read}
-
--- ---- no faults
-
-pub none_front : {A : Type 0} (xs ys : List A) → xs ++ ys ≡ [] → xs ≡ []
-none_front [] ys h = refl
-none_front (x ∷ xs) ys h = absurd (cc)
-
-pub none_behind : {A : Type 0} (xs ys : List A) → xs ++ ys ≡ [] → ys ≡ []
-none_behind [] ys h = h
-none_behind (x ∷ xs) ys h = absurd (cc)
-
-pub not_if : (b : Bool) (k : ProgKind) (i j : ℕ) → fault_if (not b) k i j ≡ [] → b ≡ true
-not_if true k i j h = refl
-not_if false k i j h = absurd (cc)
-
-pub no_if : (b : Bool) (k : ProgKind) (i j : ℕ) → fault_if b k i j ≡ [] → b ≡ false
-no_if true k i j h = absurd (cc)
-no_if false k i j h = refl
-
-pub short_by : (n : ℕ) → nat_lt 63 n ≡ false → n < 64
-short_by n h = grind arith
+use Rattle.fixprog.specs.NoFaults.{none_front, none_behind, not_if, no_if, short_by}
+use Rattle.fixprog.specs.Narrow.{IsNarrow, narrow}
 
 -- ---- formats
-
-pub record IsNarrow (f : Format) : Type 0 where
-  pub width : f.width ≤ 60
-  pub places : f.places < 64
-
-pub narrow : (f : Format) → is_format f ≡ true → IsNarrow f
-narrow f h =
-    let a = both (nat_lt 0 f.width && nat_lt f.width 61) (nat_lt f.places 61) h in
-    let b = both (nat_lt 0 f.width) (nat_lt f.width 61) a.0 in
-    record { width = under f.width b.1; places = few f.places a.1 }
-  where
-    under : (n : ℕ) → nat_lt n 61 ≡ true → n ≤ 60
-    under n h = grind arith
-
-    few : (n : ℕ) → nat_lt n 61 ≡ true → n < 64
-    few n h = grind arith
 
 power_below : (k : ℕ) → k ≤ 60 → 2 ^ k < 10 ^ 64
 power_below k h = let p : 2 ^ k ≤ 2 ^ 60 = pow-le-pow_right {n = 2} (lit≤ tt) {i = k} {j = 60} h in

@@ -30,7 +30,7 @@ use Rattle.fixprog.specs.Execution.{Values, step_value, run_steps, wraps, values
 use Rattle.program_truths.specs.Promise.{subject, hypothesis_names, goal_names}
 use Rattle.program_truths.proofs.Trees.{place_whole, end_bound, word_bound}
 use Rattle.program_truths.proofs.Texts.{both, all_below, below}
-use Rattle.program_truths.proofs.Spelled.{narrow}
+use Rattle.fixprog.specs.Narrow.{narrow}
 use Rattle.program_truths.proofs.Knowing.{IsFront, knows_behind, name_gives}
 use Rattle.program_truths.proofs.Growing.{Grows, grows_still, grows_both, grows_named, front_of}
 use Rattle.program_truths.proofs.Running.{Ready, all_values}

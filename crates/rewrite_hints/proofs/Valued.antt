@@ -7,14 +7,17 @@ use Rattle.std.specs.List.{AllByRecursion}
 use Rattle.std.proofs.Common.{inl, inr, arith, ap, sym, ◌∙◌, subst}
 use Rattle.std.proofs.lemmas.Option.{slice_get_within, slice_get-get_or, get_or_from_slice_get}
 use Rattle.std.proofs.lemmas.Option.{none-some}
-use Rattle.fx_model.specs.Fraction.{Fraction, ◌+ℚ◌, ◌-ℚ◌, ◌*ℚ◌, ◌/ℚ◌, neg_ℚ, abs_ℚ, zero_ℚ}
-use Rattle.fx_model.specs.Fraction.{is_zero_ℚ, is_zero_out}
-use Rattle.fx_model.specs.Rounded.{rounded}
-use Rattle.fx_model.specs.Expression.{Assignment, ChildrenBelow, IsOrdered, node_value, value}
-use Rattle.fx_model.specs.Expression.{lift₁, lift₂, quotient}
-use Rattle.fx_model.specs.declared.ExprId.{ExprId}
-use Rattle.fx_model.specs.declared.Node.{Node}
-use Rattle.fx_model.specs.declared.Node.TheVariants.{Var, Lit, Neg, Add, Sub, Mul, Div, Abs, Round}
+use Rattle.script_hints.specs.fx_model.Fraction.{Fraction, ◌+ℚ◌, ◌-ℚ◌, ◌*ℚ◌, ◌/ℚ◌, neg_ℚ, abs_ℚ}
+use Rattle.script_hints.specs.fx_model.Fraction.{zero_ℚ}
+use Rattle.script_hints.specs.fx_model.Fraction.{is_zero_ℚ, is_zero_out}
+use Rattle.script_hints.specs.fx_model.Rounded.{rounded}
+use Rattle.script_hints.specs.fx_model.Expression.{Assignment, ChildrenBelow, IsOrdered, node_value}
+use Rattle.script_hints.specs.fx_model.Expression.{value}
+use Rattle.script_hints.specs.fx_model.Expression.{lift₁, lift₂, quotient}
+use Rattle.script_hints.specs.fx_model.declared.ExprId.{ExprId}
+use Rattle.script_hints.specs.fx_model.declared.Node.{Node}
+use Rattle.script_hints.specs.fx_model.declared.Node.TheVariants.{Var, Lit, Neg, Add, Sub, Mul, Div}
+use Rattle.script_hints.specs.fx_model.declared.Node.TheVariants.{Abs, Round}
 use Rattle.poly_normal.specs.expr_dag.Nodes.{IsAt}
 use Rattle.poly_normal.specs.expr_dag.Shapes.{node_at-value}
 use Rattle.script_hints.specs.facts.declared.hint.HintRow.{HintRow}

@@ -1,7 +1,7 @@
 -- The row of a hint, and why it is true of an assignment.
 use Rattle.std.specs.Prelude.{◌≡◌, ◌<◌, List, map, length}
-use Rattle.fx_model.specs.Expression.{Assignment, IsOrdered}
-use Rattle.fx_model.specs.declared.Node.{Node}
+use Rattle.script_hints.specs.fx_model.Expression.{Assignment, IsOrdered}
+use Rattle.script_hints.specs.fx_model.declared.Node.{Node}
 use Rattle.script_hints.specs.facts.declared.hint.HintRow.{HintRow}
 use Rattle.script_hints.specs.facts.Rows.{RowIsTrue}
 use Rattle.script_hints.specs.declared.hint.Hint.{Hint}

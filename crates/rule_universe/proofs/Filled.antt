@@ -16,7 +16,7 @@ use Rattle.derivation.specs.facts.declared.instance.Instance.{Instance}
 use Rattle.rule_universe.specs.Places.{IsPlace, place_count}
 use Rattle.rule_universe.specs.Users.{AreUsers}
 use Rattle.rule_universe.specs.Rows.{RowsUpTo, IsAdded, IsPlaceOfOne, AreRows}
-use Rattle.rule_universe.proofs.OnePlace.{place_once, slot_once}
+use Rattle.rule_universe.specs.OnePlace.{place_once, slot_once}
 
 -- ---- rows of Q and rows of R
 pub added_as : (old new : List (List ℕ)) (k : ℕ) (Q R : ℕ → Type 0) → ((p : ℕ) → Q p ↔ R p)

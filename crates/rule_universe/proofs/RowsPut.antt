@@ -2,13 +2,13 @@
 use Rattle.std.specs.Prelude.{◌≡◌, ◌≢◌, ◌⊎◌, ◌↔◌, ◌<◌, ℕ, List, Some, None, Option, map, slice_get}
 use Rattle.std.specs.Prelude.{slice_set, length, refl}
 use Rattle.std.specs.Option.{option_map}
-use Rattle.std.proofs.Common.{inl, inr, arith, ap, sym, ◌∙◌, subst, length-set, get_or-set_same}
+use Rattle.std.proofs.Common.{inl, inr, arith, ap, sym, ◌∙◌, subst, length-set}
 use Rattle.std.proofs.Common.{get_or-set_other}
 use Rattle.std.proofs.lemmas.Option.{slice_get_within, slice_get-get_or, get_or_from_slice_get}
 use Rattle.std.proofs.lemmas.Option.{slice_get-map}
-use Rattle.std.proofs.lemmas.Bool.{cases_lt}
 use Rattle.rule_instances.specs.pair_closure.Reached.{Has}
 use Rattle.rule_instances.specs.pair_closure.Members.{some-inj, none_at}
+use Rattle.rule_instances.specs.pair_closure.Put.{same_or_not, set_same, other_back}
 use Rattle.rule_universe.specs.Rows.{InRow, AreUpTo, RowsUpTo, IsAdded}
 
 module _ {V : Type 0} (f : V → List ℕ) where
@@ -26,32 +26,12 @@ module _ {V : Type 0} (f : V → List ℕ) where
       → (v : V) × (slice_get rows p ≡ Some v) × (f v ≡ row)
   row_held rows p row e = by_held (slice_get rows p) row (sym (slice_get-map f rows p) ∙ e)
 
-  set_same : (rows : List V) (i : ℕ) (w : V) → i < length rows
-      → slice_get (slice_set rows i w) i ≡ Some w
-  set_same rows i w l =
-      slice_get-get_or (slice_set rows i w) i w (omega (arith, length-set rows i w))
-      ∙ ap Some (get_or-set_same rows i w w l)
-
   set_other : (rows : List V) (i j : ℕ) (w v : V) → j ≢ i → slice_get rows j ≡ Some v
       → slice_get (slice_set rows i w) j ≡ Some v
   set_other rows i j w v ne e =
       let l = slice_get_within rows j v e in
       slice_get-get_or (slice_set rows i w) j v (omega (arith, length-set rows i w))
       ∙ ap Some (get_or-set_other rows i j w v ne ∙ get_or_from_slice_get rows j v v e)
-
-  other_back : (rows : List V) (i j : ℕ) (w v : V) → j ≢ i
-      → slice_get (slice_set rows i w) j ≡ Some v → slice_get rows j ≡ Some v
-  other_back rows i j w v ne e =
-      let l = slice_get_within (slice_set rows i w) j v e in
-      slice_get-get_or rows j v (omega (arith, length-set rows i w)) ∙ ap Some
-      (sym (get_or-set_other rows i j w v ne) ∙ get_or_from_slice_get (slice_set rows i w) j v v e)
-
-  same_or_not : (i j : ℕ) → (i ≡ j) ⊎ (i ≢ j)
-  same_or_not i j = elim (cases_lt i j) [
-    | inl l ↦ inr (λ e. let s : i ≡ j = e in omega arith)
-    | inr l ↦ elim (cases_lt j i)
-        [ inl m ↦ inr (λ e. let s : i ≡ j = e in omega arith) | inr m ↦ inl (omega arith) ]
-  ]
 
   module _ (rows : List V) (p k : ℕ) (v w : V) (at : slice_get rows p ≡ Some v) where
     within : p < length rows

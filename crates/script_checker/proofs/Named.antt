@@ -17,7 +17,7 @@ use Rattle.rewrite_hints.specs.facts.Order.{slot_of}
 use Rattle.rewrite_hints.specs.facts.Parts.{error_of_part}
 use Rattle.rewrite_hints.specs.facts.Conclusions.{bnd_of, fix_of}
 use Rattle.rewrite_hints.specs.facts.Places.{place_from}
-use Rattle.expr_dag.specs.Nodes.{IsAt}
+use Rattle.rewrite_hints.specs.script_hints.expr_dag.Nodes.{IsAt}
 use Rattle.cert_checker.specs.goals.declared.goal.Goal.{Goal}
 use Rattle.rewrite_hints.specs.script_bounds.Bounds.{written_range, outward_of}
 use Rattle.script_meets.specs.script_claims.declared.claim.Claim.{Claim}

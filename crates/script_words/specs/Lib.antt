@@ -5,4 +5,5 @@ pub mod Words
 pub mod Named
 pub mod Placed
 pub mod Kept
+pub mod Within
 pub mod Quiet

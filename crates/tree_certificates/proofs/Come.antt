@@ -7,10 +7,6 @@ use Rattle.std.proofs.lemmas.Option.{slice_get_within}
 use Rattle.fx_model.specs.declared.ExprId.{ExprId}
 use Rattle.fx_model.specs.declared.Node.{Node}
 use Rattle.fx_model.specs.declared.Node.TheVariants as node
-use Rattle.fx_model.specs.Grid.{Bound, Below, Above, At as Number}
-use Rattle.fx_model.specs.Enclosure.{BoundLe}
-use Rattle.derivation.specs.interval.declared.interval.Interval.{Interval}
-use Rattle.derivation.specs.interval.Intervals.{range_of}
 use Rattle.derivation.specs.interval.Results.{whole_interval}
 use Rattle.derivation.specs.facts.declared.fact.Fact.{Fact}
 use Rattle.derivation.specs.facts.declared.fact.Slot.{Slot}
@@ -18,7 +14,6 @@ use Rattle.derivation.specs.facts.declared.fact.Fact.TheVariants as fact
 use Rattle.derivation.specs.facts.declared.fact.Slot.TheVariants as slot
 use Rattle.derivation.specs.facts.declared.hint.HintRow.{HintRow}
 use Rattle.derivation.specs.facts.Order.{slot_of}
-use Rattle.derivation.specs.facts.Meets.{meet-stronger}
 use Rattle.cert_checker.specs.theorem_list.Concludes.{concludes}
 use Rattle.derivation.specs.facts.declared.instance.Instance.{Instance}
 use Rattle.derivation.specs.Derivations.{Setting, At}
@@ -40,7 +35,7 @@ use Rattle.tree_certificates.specs.Traces.{Trace, IsCutTo, most_steps}
 use Rattle.tree_certificates.specs.Cited.{step_kept, behind_both, premises_found, fields_more}
 use Rattle.tree_certificates.specs.Cited.{mapped, reads_length}
 use Rattle.tree_certificates.specs.Coming.{met_by, coming, aims, enough, coming_accepted, placed_at}
-use Rattle.tree_certificates.specs.Coming.{traced_more, met_by_interval}
+use Rattle.tree_certificates.specs.Coming.{traced_more, met_by_interval, line_joined}
 use Rattle.derivation.specs.facts.CommonParts.{at_option}
 
 one_longer : (rows : List StepRow) (row : StepRow) (n : ℕ) → length rows ≤ n
@@ -234,29 +229,6 @@ module _ (u : Setting) (hints : List HintRow) (w : IsWritable u hints) (s : Numb
       (come u hints w None s below at n t 100 n [] [] c (omega arith)
       (omega arith) short (w.hypotheses n c e) refl
       (subst P (sym e) (enough (at (slot_of c)) c (λ h q. t.proper (slot_of c) h q)))))
-
-  below_infinity : (b : Bound) → BoundLe b Above
-  below_infinity Below = tt
-  below_infinity (Number g) = tt
-  below_infinity Above = tt
-
-  -- what is met with the line of a variable is a BND of the variable
-  line_joined : (x : ExprId) (o : Option Fact) → ((g : Fact) → o ≡ Some g → slot_of g ≡ slot.Bnd x)
-      → (j : Interval) × (joined o (fact.Bnd x whole_interval) ≡ fact.Bnd x j)
-  line_joined x None p = (whole_interval, refl)
-  line_joined x (Some (fact.Bnd y i)) p =
-      let d : y ≡ x = let q : slot.Bnd y ≡ slot.Bnd x = p (fact.Bnd y i) refl in cc in
-      let m = meet-stronger (fact.Bnd y i) (fact.Bnd x whole_interval)
-      (d, (tt, below_infinity (range_of i).high)) in
-      (i, rw m (ap (λ z. fact.Bnd z i) d))
-  line_joined x (Some fact.Void) p = let q : slot.Void ≡ slot.Bnd x = p fact.Void refl in cc
-  line_joined x (Some (fact.Abs y i)) p =
-      let q : slot.Abs y ≡ slot.Bnd x = p (fact.Abs y i) refl in cc
-  line_joined x (Some (fact.Rel y z e)) p =
-      let q : slot.Rel y z ≡ slot.Bnd x = p (fact.Rel y z e) refl in cc
-  line_joined x (Some (fact.Fix y k)) p =
-      let q : slot.Fix y ≡ slot.Bnd x = p (fact.Fix y k) refl in cc
-  line_joined x (Some (fact.Nzr y)) p = let q : slot.Nzr y ≡ slot.Bnd x = p (fact.Nzr y) refl in cc
 
   variable_comes : (n v : ℕ) (at : At) (m : ℕ) → slice_get u.nodes n ≡ Some (node.Var v)
       → AtRoot at m → AtRoot (with_fact at (fact.Bnd (record { 0 = n }) whole_interval)) (m + 1)

@@ -2,13 +2,15 @@
 use Rattle.std.specs.Prelude.{◌≡◌, ◌≢◌, ◌⊎◌, ℕ, List, [], ◌∷◌, ◌++◌, Option, Some, None, refl}
 use Rattle.std.proofs.Common.{sym, ◌∙◌, ap, subst, inl, inr}
 use Rattle.fx_model.specs.declared.Node.{Node}
+use Rattle.fx_model.specs.Grid.{Bound, Below, Above, At as Number}
+use Rattle.fx_model.specs.Enclosure.{BoundLe}
 use Rattle.derivation.specs.facts.declared.fact.Fact.{Fact}
 use Rattle.derivation.specs.facts.declared.fact.Slot.{Slot}
 use Rattle.derivation.specs.facts.declared.fact.Fact.TheVariants as fact
 use Rattle.derivation.specs.facts.declared.fact.Slot.TheVariants as slot
 use Rattle.derivation.specs.facts.Order.{slot_of, IsStronger, meet_of}
 use Rattle.derivation.specs.facts.Laws.{IsStronger-refl, meet_exists}
-use Rattle.derivation.specs.facts.Meets.{meet-exchanged}
+use Rattle.derivation.specs.facts.Meets.{meet-exchanged, meet-stronger}
 use Rattle.derivation.specs.Derivations.{At}
 use Rattle.derivation.specs.Rounds.{IsWritten}
 use Rattle.derivation.specs.Parts.{some_same, slot_cases, stronger_slot}
@@ -24,6 +26,8 @@ use Rattle.tree_certificates.specs.Cited.{accepted_both}
 use Rattle.derivation.specs.facts.CommonParts.{void_cases}
 use Rattle.fx_model.specs.declared.ExprId.{ExprId}
 use Rattle.derivation.specs.interval.declared.interval.Interval.{Interval}
+use Rattle.derivation.specs.interval.Intervals.{range_of}
+use Rattle.derivation.specs.interval.Results.{whole_interval}
 
 -- With what a fact that comes is met: the fact on the slot; nothing where VOID comes.
 abbrev pub met_by : Option Fact → Fact → Option Fact
@@ -249,3 +253,28 @@ traced_more g s rows at new place row b t c w =
 pub met_by_interval : (o : Option Fact) (x : ExprId) (i : Interval) → met_by o (fact.Bnd x i) ≡ o
 met_by_interval None x i = refl
 met_by_interval (Some g) x i = refl
+
+-- each bound is at most plus infinity
+below_infinity : (b : Bound) → BoundLe b Above
+below_infinity Below = tt
+below_infinity (Number g) = tt
+below_infinity Above = tt
+
+-- what is met with the line of a variable is a BND of the variable
+pub line_joined : (x : ExprId) (o : Option Fact)
+    → ((g : Fact) → o ≡ Some g → slot_of g ≡ slot.Bnd x)
+    → (j : Interval) × (joined o (fact.Bnd x whole_interval) ≡ fact.Bnd x j)
+line_joined x None p = (whole_interval, refl)
+line_joined x (Some (fact.Bnd y i)) p =
+    let d : y ≡ x = let q : slot.Bnd y ≡ slot.Bnd x = p (fact.Bnd y i) refl in cc in
+    let m = meet-stronger (fact.Bnd y i) (fact.Bnd x whole_interval)
+    (d, (tt, below_infinity (range_of i).high)) in
+    (i, rw m (ap (λ z. fact.Bnd z i) d))
+line_joined x (Some fact.Void) p = let q : slot.Void ≡ slot.Bnd x = p fact.Void refl in cc
+line_joined x (Some (fact.Abs y i)) p =
+    let q : slot.Abs y ≡ slot.Bnd x = p (fact.Abs y i) refl in cc
+line_joined x (Some (fact.Rel y z e)) p =
+    let q : slot.Rel y z ≡ slot.Bnd x = p (fact.Rel y z e) refl in cc
+line_joined x (Some (fact.Fix y k)) p =
+    let q : slot.Fix y ≡ slot.Bnd x = p (fact.Fix y k) refl in cc
+line_joined x (Some (fact.Nzr y)) p = let q : slot.Nzr y ≡ slot.Bnd x = p (fact.Nzr y) refl in cc

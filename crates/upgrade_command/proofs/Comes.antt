@@ -9,7 +9,7 @@ use Rattle.cert_bytes.specs.declared.style.Seen.{Seen}
 use Rattle.cert_bytes.specs.Certificates.{AreCertificate}
 use Rattle.cert_bytes.specs.Fronts.{IsFront as IsFrontOf}
 use Rattle.cert_bytes.specs.ReadOut.{HasFault}
-use Rattle.whole_texts.specs.Pieces.{HoldsAll as HoldsWhole, HoldsFront as HoldsPart}
+use Rattle.command_runs.specs.whole_texts.Pieces.{HoldsAll as HoldsWhole, HoldsFront as HoldsPart}
 use Rattle.cert_upgrade.specs.Answers.{ComesOf, ComesOfAny, MayBecome, IsTooLong}
 use Rattle.cert_upgrade.specs.Files.{Holds, HoldsFront}
 use Rattle.cert_upgrade.specs.Items.{AreItemsOf, ItemsAreOne}
@@ -20,7 +20,7 @@ use Rattle.cert_upgrade.specs.declared.stop.UpgradeStop.{UpgradeStop}
 use Rattle.cert_upgrade.specs.declared.stop.UpgradeStop.TheVariants as stop
 use Rattle.command_line.specs.Upgrade.{AskedUpgrade}
 use Rattle.report.specs.Certificates.{cert_fault_line, new_too_long_line, upgraded_line}
-use Rattle.whole_texts.specs.declared.read.ReadStop.TheVariants as reading
+use Rattle.command_runs.specs.whole_texts.declared.read.ReadStop.TheVariants as reading
 use Rattle.command_runs.specs.Ends.{IsPutBy, IsLinePutBy, IsStopPutBy, IsOnce, put_runs, line_runs}
 use Rattle.command_runs.specs.Ends.{stop_runs, starved_runs, unwritten_runs, exhausted_runs}
 use Rattle.command_runs.specs.Ends.{kept_all, run_by}

@@ -1,27 +1,14 @@
-use Rattle.std.proofs.Common.{◌≡◌, ◌<◌, ◌+◌, ℕ, [], ◌∷◌, List, length, sym, ap, subst, ◌∙◌, arith}
-use Rattle.std.proofs.Common.{drop, slice_index_or, add-one}
-use Rattle.std.proofs.Math.Seq.{drop-cons}
+use Rattle.std.proofs.Common.{◌≡◌, ◌+◌, [], sym, ap, subst, ◌∙◌, arith}
+use Rattle.std.proofs.Common.{drop}
 use Rattle.std.proofs.lemmas.List.{drop_all}
 use Rattle.std.proofs.lemmas.List.Elements.{Contains-get_or}
-use Rattle.facts.specs.declared.fact.Slot.TheVariants as slot
 use Rattle.saturate.specs.theorem_list.Concludes.{concludes}
 use Rattle.saturate.specs.derivation.Rounds.{all_at, with_first}
-use Rattle.saturate.specs.rule_universe.declared.placed.Placed.{Placed}
+use Rattle.saturate.specs.rule_universe.InTurn.{none_left, here, rest_is}
 use Rattle.saturate.specs.rule_universe.Placed.{slots_of}
 use Rattle.box_trace.specs.Tables.{known_at}
 use Rattle.saturate.specs.Gather.{after, after_none, after_first, gathered_none, gathered_all}
 use Rattle.box_trace.proofs.scan.apply.Goals as goal
-
--- what stands behind the last element
-abbrev none_left : Placed
-none_left = record { slot = slot.Bnd (record { 0 = 0 }); place = 0 }
-
-abbrev here : List Placed → ℕ → Placed
-here placed i = slice_index_or placed i none_left
-
-rest_is : (placed : List Placed) (i : ℕ) → i < length placed
-    → drop i placed ≡ here placed i ∷ drop (i + 1) placed
-rest_is placed i h = rw (add-one i) (drop-cons placed i none_left h)
 
 pub loop-p-init : goal.loop-p-init
 loop-p-init c =

@@ -1,15 +1,11 @@
 use Rattle.std.proofs.Common.{◌++◌, [], ◌∷◌, map, take, slice_index_or, sym, ap, ◌∙◌, arith}
 use Rattle.std.proofs.lemmas.List.{map_more, take_all}
 use Rattle.std.proofs.lemmas.List.Elements.{Contains-get_or}
-use Rattle.facts.specs.declared.fact.Slot.TheVariants as slot
 use Rattle.saturate.specs.rule_universe.declared.placed.Placed.{Placed}
+use Rattle.saturate.specs.rule_universe.InTurn.{none_left}
 use Rattle.box_trace.specs.Tables.{place_in}
 use Rattle.box_trace.proofs.Taken.{map_slots}
 use Rattle.box_trace.proofs.scan.numbers_of.Goals as goal
-
--- what stands behind the last element
-abbrev none_left : Placed
-none_left = record { slot = slot.Bnd (record { 0 = 0 }); place = 0 }
 
 pub number_at-number-requires : goal.number_at-number-requires
 number_at-number-requires c =

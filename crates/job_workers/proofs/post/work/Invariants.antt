@@ -1,5 +1,5 @@
 use Rattle.std.proofs.Common.{◌≤◌, length, vec_capacity}
-use Rattle.job_workers.specs.Posts.{CanSteal}
+use Rattle.box_deques.specs.Stealing.{CanSteal}
 use Rattle.job_workers.specs.Results.{AreResultsOf}
 use Rattle.job_workers.proofs.post.work.Given as goal
 

@@ -1,4 +1,4 @@
-use Rattle.job_workers.specs.Posts.{CanSteal}
+use Rattle.box_deques.specs.Stealing.{CanSteal}
 use Rattle.job_workers.proofs.take.steal_any.Given as goal
 
 abbrev pub invariant-loop-thief : goal.invariant-loop-thief

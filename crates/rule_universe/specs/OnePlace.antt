@@ -2,16 +2,17 @@
 use Rattle.std.specs.Prelude.{◌≡◌, ◌<◌, ◌+◌, ◌*◌, ℕ, List, length, slice_get, refl}
 use Rattle.std.proofs.Common.{arith, ap, sym, ◌∙◌}
 use Rattle.std.proofs.lemmas.Option.{slice_get_within}
-use Rattle.fx_model.specs.declared.ExprId.{ExprId}
-use Rattle.facts.specs.declared.fact.Slot.{Slot}
-use Rattle.facts.specs.declared.fact.Slot.TheVariants as slot
-use Rattle.pair_closure.specs.Reached.{IsEachOnce}
-use Rattle.pair_closure.specs.Closure.{Pair}
-use Rattle.pair_closure.specs.Members.{some-inj}
-use Rattle.saturate.specs.rule_universe.Worlds.{IsSlot}
-use Rattle.saturate.specs.rule_universe.Places.{IsPlace, place_count}
+use Rattle.derivation.specs.facts.declared.fact.Slot.{Slot}
+use Rattle.derivation.specs.facts.declared.fact.Slot.TheVariants as slot
+use Rattle.rule_instances.specs.pair_closure.Reached.{IsEachOnce}
+use Rattle.rule_instances.specs.pair_closure.Closure.{Pair}
+use Rattle.rule_instances.specs.pair_closure.Members.{some-inj}
+use Rattle.rule_instances.specs.pair_closure.Ids.{id_of}
+use Rattle.rule_universe.specs.Worlds.{IsSlot}
+use Rattle.rule_universe.specs.Places.{IsPlace, place_count}
 
 module _ (n : ℕ) (pairs : List Pair) where
+  -- a slot with a place is one of the universe's
   pub place_slot : (s : Slot) (p : ℕ) → IsPlace n pairs s p → IsSlot n pairs s
   place_slot (slot.Bnd x) p h = h.0
   place_slot (slot.Abs x) p h = h.0
@@ -20,6 +21,7 @@ module _ (n : ℕ) (pairs : List Pair) where
   place_slot (slot.Rel x y) p h = (h.0, h.1)
   place_slot slot.Void p h = tt
 
+  -- its place is below the count of places
   pub place_within : (s : Slot) (p : ℕ) → IsPlace n pairs s p → p < place_count n pairs
   place_within (slot.Bnd x) p h = let l : x.0 < n = h.0 in let e : p ≡ x.0 = h.1 in omega arith
   place_within (slot.Abs x) p h = let l : x.0 < n = h.0 in let e : p ≡ n + x.0 = h.1 in omega arith
@@ -31,6 +33,7 @@ module _ (n : ℕ) (pairs : List Pair) where
       let e : p ≡ 4 * n + h.0 = h.2 in omega (arith, l)
   place_within slot.Void p h = let e : p ≡ 4 * n + length pairs = h in omega arith
 
+  -- where no pair stands twice, a slot has one place
   pub place_once : IsEachOnce pairs → (s : Slot) (p q : ℕ) → IsPlace n pairs s p
       → IsPlace n pairs s q → p ≡ q
   place_once o (slot.Bnd x) p q g h = g.1 ∙ sym h.1
@@ -41,10 +44,7 @@ module _ (n : ℕ) (pairs : List Pair) where
       g.2 ∙ ap (λ k. 4 * n + k) (o g.0 h.0 (x, y) g.1 h.1) ∙ sym h.2
   place_once o slot.Void p q g h = g ∙ sym h
 
-  id_of : (x y : ExprId) → x.0 ≡ y.0 → x ≡ y
-  id_of x y e = (λ i. record { 0 = e i })
-
-  -- the slot of a place
+  -- a place has one slot
   pub slot_once : (s t : Slot) (p : ℕ) → IsPlace n pairs s p → IsPlace n pairs t p → s ≡ t
   slot_once (slot.Bnd x) (slot.Bnd y) p g h = let la : x.0 < n = g.0 in let ea : p ≡ x.0 = g.1 in
       let lb : y.0 < n = h.0 in let eb : p ≡ y.0 = h.1 in ap slot.Bnd (id_of x y (omega arith))
