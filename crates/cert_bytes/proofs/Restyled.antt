@@ -89,7 +89,7 @@ pub stands_at : (told : List ℕ → Option (List ℕ)) (old new : Progress) (so
     (style : Style) (r : Result Item Stop)
     → old.ahead ≡ source → ReadsOn name_of told source mid → (IsErr r → style ≡ source.style)
     → IfOk r (λ i. ¬ (i ≡ End) → source.at < mid.at)
-    → mid.at ≤ 2 ^ 44 → length mid.ahead ≤ 4096
+    → mid.at ≤ 2 ^ 44 → length mid.ahead ≤ 65536
     → new.ahead ≡ restyled style mid → StandsBehind told old r new
 stands_at told old new source mid style r a on same reads within few n =
     let here : new.ahead.at ≡ mid.at = ap at_in n in
@@ -102,7 +102,7 @@ stands_at told old new source mid style r a on same reads within few n =
       reads = subst (λ (k : ℕ). IfOk r (λ i. ¬ (i ≡ End) → k < new.ahead.at)) (sym there)
           (reads_at r source.at mid.at new.ahead.at (sym here) reads);
       within = omega (arith, here, within);
-      few = subst (λ (s : Ahead). length s.ahead ≤ 4096) (sym n) few;
+      few = subst (λ (s : Ahead). length s.ahead ≤ 65536) (sym n) few;
       agrees = agrees_restyled told mid new.ahead style on.agrees n;
     }
 
@@ -129,7 +129,7 @@ stands_back before told old new source mid style at e a agrees same on s t withi
       grows = omega (arith, here, there, t);
       reads = tt;
       within = omega (arith, here, t, grows, within);
-      few = subst (λ (s : Ahead). length s.ahead ≤ 4096) (sym n) (omega arith);
+      few = subst (λ (s : Ahead). length s.ahead ≤ 65536) (sym n) (omega arith);
       agrees = agrees_back (told new.ahead.name) old.ahead new.ahead
           (subst (λ (o : Option (List ℕ)). AgreesTold o old.ahead) known agrees)
           (here ∙ t ∙ sym there) (ap (λ (s : Ahead). s.ahead) n);

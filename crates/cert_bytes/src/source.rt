@@ -16,8 +16,8 @@ use std::marker::Model;
 /// The byte at which a certificate is too long.
 const LIMIT: u64 = 1 << 44;
 
-/// How many bytes are read ahead.
-const AHEAD: usize = 4096;
+/// How many bytes are read ahead. Each read opens the file anew.
+const AHEAD: usize = 65536;
 
 /// A place in the bytes of a name, with some bytes that were read ahead.
 #[derive(Drop)]
@@ -123,7 +123,7 @@ impl Source {
     /// ahead.
     pub fn bounded(&self)
         ensures within { self.now.at ≤ 2 ^ 44 }
-        ensures few { length self.now.ahead ≤ 4096 }
+        ensures few { length self.now.ahead ≤ 65536 }
     {
         let buffer: &[u8] = &self.buffer;
         let _ = buffer.len();

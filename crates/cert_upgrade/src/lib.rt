@@ -1,7 +1,6 @@
 //! Certificates rewritten in version 2.
 #![tactic(auto)]
 
-mod file;
 mod laws;
 mod respell;
 mod rewriting;

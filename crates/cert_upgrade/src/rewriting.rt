@@ -6,12 +6,12 @@ ghost use Rattle.cert_upgrade.specs.Answers.{IsTakenInPart};
 ghost use Rattle.cert_upgrade.specs.Items.{AreItemsOf};
 ghost use Rattle.cert_upgrade.specs.declared.stop.UpgradeStop.TheVariants as UpgradeStop;
 
-use crate::file::pass_on;
 use crate::respell::{MOST, measure, respell};
 use crate::stop::UpgradeStop;
 use cert_bytes::{Reader, Seen, certificates_are_spelled_once};
 use fx_edge::Folder;
 use std::alloc::Global;
+use whole_texts::pass_on;
 
 // Reads the certificate and adds what its items spell in version 2 to the file of the new name. It
 // answers how many steps and sections there are.

@@ -21,7 +21,8 @@ use Rattle.made_script.specs.Script.{script_text}
 use Rattle.script_texts.specs.report.Unproved.{unproved_text}
 use Rattle.script_texts.specs.command_runs.Runs.{Bytes}
 use Rattle.script_texts.specs.command_runs.declared.status.Status.{Status}
-use Rattle.script_texts.specs.command_runs.declared.status.Status.TheVariants.{Answered, Unproved, Limit}
+use Rattle.script_texts.specs.command_runs.declared.status.Status.TheVariants.{Answered, Limit}
+use Rattle.script_texts.specs.command_runs.declared.status.Status.TheVariants.{Unproved}
 use Rattle.script_texts.specs.command_runs.declared.status.Status.TheVariants as status
 use Rattle.script_answers.specs.Answers.{ProvePrints, IsAnswered, IsProvedText, IsMadeAnswered}
 use Rattle.script_answers.specs.Answers.{MadePrints, made_options, first_line}

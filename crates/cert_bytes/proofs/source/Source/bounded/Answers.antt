@@ -13,5 +13,5 @@ pub returns-clause-few : goal.returns-clause-few
 returns-clause-few c =
     let ahead : c.args.self.now.ahead ≡ slice_range c.self.inside.buffer c.self.inside.begin
     c.self.inside.end = sym (ap (λ (x : Ahead). x.ahead) c.self.view_is) in
-    rw ahead (piece_is_short c.self.inside.buffer c.self.inside.begin c.self.inside.end 4096
+    rw ahead (piece_is_short c.self.inside.buffer c.self.inside.begin c.self.inside.end 65536
     (search (rules, c.self.invariant)) (search (rules, arith, c.self.invariant)))
