@@ -1,11 +1,10 @@
 // Items written to a new file.
-ghost use Rattle.std.specs.Prelude.{◌≡◌, ◌≢◌, ℕ, List, OnOk, OnErr};
+ghost use Rattle.std.specs.Prelude.{◌≡◌, IsErrOf, OnOk, OnErr};
 ghost use Rattle.std.specs.List.{AllByRecursion};
 ghost use Rattle.std.specs.Io.KnownBytes.{Appends};
-ghost use Rattle.fx_edge.specs.Outside.{HasCause};
+ghost use Rattle.whole_texts.specs.OnlyWrites.{OnlyWrites};
 ghost use Rattle.whole_texts.specs.Pieces.{AppendsFront, HoldsAll, HoldsFront};
 ghost use Rattle.cert_bytes.specs.Certificates.{HasSpelling};
-ghost use Rattle.cert_rewriting.specs.Causes.{HasWriteCause};
 ghost use Rattle.cert_bytes.specs.Spelling.{certificate_of};
 ghost use Rattle.cert_rewriting.specs.declared.writing.WriteStop.TheVariants.{Failed as FailedStop};
 ghost use Rattle.cert_rewriting.specs.declared.writing.WriteStop.TheVariants.{OutOfMemory};
@@ -52,10 +51,8 @@ fn add_items<F: Folder>(
         (certificate_of items.now)) }
     ensures err { OnErr result (AppendsFront (F.told folder.old name.now)
         (F.told folder.new name.now) (certificate_of items.now)) }
-    ensures others { (other : List ℕ) → other ≢ name.now
-        → F.told folder.new other ≡ F.told folder.old other }
-    ensures cause { HasWriteCause (F.write_faults folder.old) (F.write_faults folder.new) result }
-    ensures quiet { F.read_faults folder.new ≡ F.read_faults folder.old }
+    ensures only_writes { OnlyWrites F.Folder name.now folder.old folder.new
+        (IsErrOf result FailedStop) }
 {
     let mut waiting = Vec::new(alloc);
     let mut seen = Seen::none();
@@ -85,10 +82,8 @@ pub fn write_items<F: Folder>(
         (F.told folder.old name.now) (F.told folder.new name.now)) }
     ensures err { OnErr result (HoldsFront (certificate_of items.now)
         (F.told folder.old name.now) (F.told folder.new name.now)) }
-    ensures others { (other : List ℕ) → other ≢ name.now
-        → F.told folder.new other ≡ F.told folder.old other }
-    ensures cause { HasWriteCause (F.write_faults folder.old) (F.write_faults folder.new) result }
-    ensures quiet { F.read_faults folder.new ≡ F.read_faults folder.old }
+    ensures only_writes { OnlyWrites F.Folder name.now folder.old folder.new
+        (IsErrOf result FailedStop) }
 {
     folder.fresh(name)?;
     add_items(alloc, items, folder, name)

@@ -8,9 +8,12 @@ use Rattle.answer_certificates.specs.script_grammar.Spells.{View}
 use Rattle.answer_certificates.specs.script_checker.Subjects.{facts_of, goal_of}
 use Rattle.box_trace.specs.rule_universe.Assumed.{assuming}
 use Rattle.box_trace.specs.rule_universe.Worlds.{World}
+use Rattle.answer_certificates.specs.universe.Universes.{IsUniverse}
 use Rattle.answer_certificates.specs.box_tree.Regions.{PlanParts}
 use Rattle.answer_certificates.specs.bisect.declared.settler.State.{State}
 use Rattle.answer_certificates.specs.settler.Answers.{plan_of}
+use Rattle.answer_certificates.specs.settler.Cases.{AreCases}
+use Rattle.answer_certificates.specs.settler.declared.cases.Case.{Case}
 use Rattle.answer_certificates.specs.settler.Standing.{AreStates}
 use Rattle.cert_trim.specs.cert_bytes.declared.item.Item.{Item}
 use Rattle.cert_trim.specs.cert_bytes.declared.item.Item.TheVariants as item
@@ -30,6 +33,12 @@ use Rattle.cert_writer.specs.Courses.{Grew, GrewToFront}
 -- the universe with nothing assumed
 abbrev pub bare : World → World
 bare u = assuming u []
+
+-- What a script is answered over: a universe of it, in which some case's claims may be assumed, and
+-- its cases, whose boxes are halved so often at most.
+pub record IsPlanned (s : View) (depth : ℕ) (u : World) (planned : List Case) : Type 0 where
+  pub universe : (before : List Claim) × IsUniverse s before u
+  pub cases : AreCases s depth (cases_of s) planned
 
 -- what certificates of a script are judged against, by its universe and its marks
 abbrev pub subject_in : View → World → List HintMark → Subject

@@ -1,7 +1,5 @@
 -- What the calls of the walk answer.
-use Rattle.std.specs.Prelude.{◌≡◌, ◌≤◌, ◌+◌, ℕ, List, [], ◌∷◌, ◌++◌, length, Some, None, Result}
-use Rattle.std.specs.Prelude.{IsErrOf}
-use Rattle.fx_edge.specs.Outside.{Rose}
+use Rattle.std.specs.Prelude.{◌≡◌, ◌+◌, ℕ, List, [], ◌∷◌, ◌++◌, length, Some, None}
 use Rattle.derivation.specs.Laws.{TablesAreOne, BoxesComeToOneState}
 use Rattle.box_trace.specs.rule_universe.Worlds.{World}
 use Rattle.answer_certificates.specs.box_tree.declared.cut.Cut.{Cut}
@@ -13,8 +11,6 @@ use Rattle.box_trace.specs.declared.known.Known.{Known}
 use Rattle.box_trace.specs.Tables.{known_at}
 use Rattle.box_trace.specs.tree_certificates.Moves.{WalksMove}
 use Rattle.answer_certificates.specs.Laws.{PiecesAreOfCuts}
-use Rattle.cert_writer.specs.declared.walk.WriteStop.{WriteStop}
-use Rattle.cert_writer.specs.declared.walk.WriteStop.TheVariants as write_stop
 use Rattle.cert_writer.specs.Boxes.{CutsAt, IsClosed, IsEnd}
 use Rattle.cert_writer.specs.Courses.{Course, IsCourse, HasBest}
 use Rattle.cert_writer.specs.Laws.{WritingGoesOn}
@@ -30,13 +26,6 @@ abbrev pub IsLast : World → Known → Cut → Item → ℕ → Type 0
 IsLast u k cut (item.Cut x points) n = CutsAt (known_at u k) u.goals cut (Some (x, points))
     × (n ≡ length points + 1)
 IsLast u k cut i n = CutsAt (known_at u k) u.goals cut None × IsEnd u k i × (n ≡ 0)
-
--- ---- calls
--- The count of failed writes doesn't fall, and the call says that a write failed only where it
--- rose.
-pub record HasWriteCause {T : Type 0} (before now : ℕ) (result : Result T WriteStop) : Type 0 where
-  pub later : before ≤ now
-  pub failed : IsErrOf result write_stop.Failed → Rose before now
 
 -- ---- laws
 -- What the walk over a plan's boxes goes by.

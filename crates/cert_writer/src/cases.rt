@@ -1,16 +1,16 @@
 //! The sections of a script's cases, one after the other.
-ghost use Rattle.std.specs.Prelude.{◌≡◌, ◌≢◌, ◌<◌, ◌+◌, ℕ, List, length, IfOk, OnOk, OnErr};
+ghost use Rattle.std.specs.Prelude.{◌≡◌, ◌<◌, ◌+◌, List, length, IfOk, IsErrOf, OnOk, OnErr};
 ghost use Rattle.answer_certificates.specs.script_claims.declared.claim.Claim.{Claim};
-ghost use Rattle.answer_certificates.specs.script_grammar.Cases.{cases_of};
-ghost use Rattle.answer_certificates.specs.settler.Cases.{AreCases};
 ghost use Rattle.answer_certificates.specs.universe.Universes.{IsUniverse};
 ghost use Rattle.std.specs.Io.KnownBytes.{Appends};
 ghost use Rattle.cert_trim.specs.cert_bytes.declared.item.Item.TheVariants as item;
 ghost use Rattle.cert_trim.specs.cert_bytes.Styles.{none_seen};
 ghost use Rattle.cert_trim.specs.cert_bytes.Spelling.{spelling_of};
+ghost use Rattle.whole_texts.specs.OnlyWrites.{OnlyWrites};
 ghost use Rattle.whole_texts.specs.Pieces.{AppendsFront};
-ghost use Rattle.cert_writer.specs.Walks.{HasWriteCause};
-ghost use Rattle.cert_writer.specs.Cases.{bare, Stands, OfStanding, GoesOn, IsCompleted, GrewFront};
+ghost use Rattle.cert_writer.specs.Cases.{bare, IsPlanned, Stands, OfStanding, GoesOn};
+ghost use Rattle.cert_writer.specs.Cases.{IsCompleted, GrewFront};
+ghost use Rattle.cert_writer.specs.declared.walk.WriteStop.TheVariants as WriteStop;
 
 use crate::laws::writing_goes_on;
 use crate::walk::{WriteStop, write_box};
@@ -35,8 +35,7 @@ fn write_case<F: Folder>(
     number: usize,
     seen: Seen,
 ) -> Result<Seen, WriteStop>
-    requires universe { (before : List Claim) × IsUniverse script.now before universe.old }
-    requires cases { AreCases script.now depth (cases_of script.now) cases.now }
+    requires planned { IsPlanned script.now depth universe.old cases.now }
     requires number { number < length cases.now }
     requires stands { Stands script.now (bare universe.old) rounds depth number seen }
     ensures ok { IfOk result (λ next.
@@ -48,10 +47,8 @@ fn write_case<F: Folder>(
     ensures universe { OnOk result
         ((before : List Claim) × IsUniverse script.now before universe.new) }
     ensures same { OnOk result (bare universe.new ≡ bare universe.old) }
-    ensures others { (other : List ℕ) → other ≢ name.now
-        → F.told folder.new other ≡ F.told folder.old other }
-    ensures cause { HasWriteCause (F.write_faults folder.old) (F.write_faults folder.new) result }
-    ensures quiet { F.read_faults folder.new ≡ F.read_faults folder.old }
+    ensures only_writes { OnlyWrites F.Folder name.now folder.old folder.new
+        (IsErrOf result WriteStop.Failed) }
 {
     writing_goes_on();
     let _ = depth;
@@ -85,8 +82,7 @@ pub(crate) fn write_cases<F: Folder>(
     folder: &mut F,
     name: &str,
 ) -> Result<Seen, WriteStop>
-    requires universe { (before : List Claim) × IsUniverse script.now before universe.old }
-    requires cases { AreCases script.now depth (cases_of script.now) cases.now }
+    requires planned { IsPlanned script.now depth universe.old cases.now }
     requires stands { Stands script.now (bare universe.old) rounds depth 0 none_seen }
     ensures ok { IfOk result (λ seen.
         OfStanding script.now (bare universe.old) rounds depth 0 none_seen
@@ -94,10 +90,8 @@ pub(crate) fn write_cases<F: Folder>(
         (F.told folder.old name.now) (F.told folder.new name.now))) }
     ensures err { OnErr result (OfStanding script.now (bare universe.old) rounds depth 0 none_seen
         (λ w items. GrewFront w items (F.told folder.old name.now) (F.told folder.new name.now))) }
-    ensures others { (other : List ℕ) → other ≢ name.now
-        → F.told folder.new other ≡ F.told folder.old other }
-    ensures cause { HasWriteCause (F.write_faults folder.old) (F.write_faults folder.new) result }
-    ensures quiet { F.read_faults folder.new ≡ F.read_faults folder.old }
+    ensures only_writes { OnlyWrites F.Folder name.now folder.old folder.new
+        (IsErrOf result WriteStop.Failed) }
 {
     let mut next = Seen::none();
     for number in 0..cases.len() {
@@ -119,10 +113,8 @@ pub(crate) fn write_end<F: Folder>(
         (spelling_of seen item.End)) }
     ensures err { OnErr result (AppendsFront (F.told folder.old name.now)
         (F.told folder.new name.now) (spelling_of seen item.End)) }
-    ensures others { (other : List ℕ) → other ≢ name.now
-        → F.told folder.new other ≡ F.told folder.old other }
-    ensures cause { HasWriteCause (F.write_faults folder.old) (F.write_faults folder.new) result }
-    ensures quiet { F.read_faults folder.new ≡ F.read_faults folder.old }
+    ensures only_writes { OnlyWrites F.Folder name.now folder.old folder.new
+        (IsErrOf result WriteStop.Failed) }
 {
     let mut bytes = Vec::new(alloc);
     write_item2(&Item::End, seen, &mut bytes)?;

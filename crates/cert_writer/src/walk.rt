@@ -1,10 +1,11 @@
 //! The walk over a script's boxes that writes their sections.
-ghost use Rattle.std.specs.Prelude.{◌≡◌, ◌≢◌, ◌<◌, ◌≤◌, ℕ, List, length, IfOk, OnErr};
+ghost use Rattle.std.specs.Prelude.{◌≡◌, ◌<◌, ◌≤◌, length, IfOk, IsErrOf, OnErr};
 ghost use Rattle.box_trace.specs.Tables.{HasRows};
 ghost use Rattle.answer_certificates.specs.Scripts.{HasSlots};
+ghost use Rattle.whole_texts.specs.OnlyWrites.{OnlyWrites};
 ghost use Rattle.cert_writer.specs.Courses.{GrewToFront, IsSomewhere, OnCourses, IsPast, HasDone};
 ghost use Rattle.cert_writer.specs.Courses.{AreOwnBytes};
-ghost use Rattle.cert_writer.specs.Walks.{MayEnd, IsLast, HasWriteCause};
+ghost use Rattle.cert_writer.specs.Walks.{MayEnd, IsLast};
 ghost use Rattle.cert_writer.specs.declared.walk.WriteStop.TheVariants as WriteStop;
 
 use crate::ending::{cut_of, end_of};
@@ -125,10 +126,8 @@ fn write_own<F: Folder>(
     ensures err { OnErr result (OnCourses uni.now plan.now rounds path.now parent.entry seen
         (λ c p. GrewToFront c.aim p.items (F.told folder.old name.now)
         (F.told folder.new name.now))) }
-    ensures others { (other : List ℕ) → other ≢ name.now
-        → F.told folder.new other ≡ F.told folder.old other }
-    ensures cause { HasWriteCause (F.write_faults folder.old) (F.write_faults folder.new) result }
-    ensures quiet { F.read_faults folder.new ≡ F.read_faults folder.old }
+    ensures only_writes { OnlyWrites F.Folder name.now folder.old folder.new
+        (IsErrOf result WriteStop.Failed) }
 {
     writing_goes_on();
     let (bytes, own) = own_bytes(alloc, uni, plan, rounds, path, parent, seen)?;
@@ -155,10 +154,8 @@ pub(crate) fn write_box<F: Folder>(
     ensures err { OnErr result (OnCourses uni.now plan.now rounds path parent.entry seen
         (λ c p. GrewToFront c.aim p.items (F.told folder.old name.now)
         (F.told folder.new name.now))) }
-    ensures others { (other : List ℕ) → other ≢ name.now
-        → F.told folder.new other ≡ F.told folder.old other }
-    ensures cause { HasWriteCause (F.write_faults folder.old) (F.write_faults folder.new) result }
-    ensures quiet { F.read_faults folder.new ≡ F.read_faults folder.old }
+    ensures only_writes { OnlyWrites F.Folder name.now folder.old folder.new
+        (IsErrOf result WriteStop.Failed) }
 {
     walk_goes_on(plan);
     let own = write_own(alloc, uni, plan, rounds, folder, name, &path, parent, seen)?;

@@ -1,12 +1,10 @@
 //! A script's certificate, written to a file.
-ghost use Rattle.std.specs.Prelude.{◌≡◌, ◌≢◌, ◌≤◌, ℕ, List, OnOk, OnErr};
-ghost use Rattle.answer_certificates.specs.script_claims.declared.claim.Claim.{Claim};
+ghost use Rattle.std.specs.Prelude.{◌≤◌, IsErrOf, OnOk, OnErr};
 ghost use Rattle.answer_certificates.specs.script_checker.rewrite_hints.Marks.{AreMarks};
-ghost use Rattle.answer_certificates.specs.script_grammar.Cases.{cases_of};
-ghost use Rattle.answer_certificates.specs.settler.Cases.{AreCases};
-ghost use Rattle.answer_certificates.specs.universe.Universes.{IsUniverse};
-ghost use Rattle.cert_writer.specs.Walks.{HasWriteCause};
+ghost use Rattle.whole_texts.specs.OnlyWrites.{OnlyWrites};
+ghost use Rattle.cert_writer.specs.Cases.{IsPlanned};
 ghost use Rattle.cert_writer.specs.Written.{IsProvedWith, OfProved, HoldsCertificate, HoldsFront};
+ghost use Rattle.cert_writer.specs.declared.walk.WriteStop.TheVariants as WriteStop;
 
 use crate::cases::{write_cases, write_end};
 use crate::head::spell_head;
@@ -39,8 +37,7 @@ pub fn write_cert<F: Folder>(
     folder: &mut F,
     name: &str,
 ) -> Result<(), WriteStop>
-    requires universe { (before : List Claim) × IsUniverse script.now before universe.old }
-    requires cases { AreCases script.now depth (cases_of script.now) cases.now }
+    requires planned { IsPlanned script.now depth universe.old cases.now }
     requires marks { AreMarks script.now.nodes script.now.hints.rewrites marks.now }
     requires rounds { rounds ≤ 64 }
     requires depth { depth ≤ 32 }
@@ -50,10 +47,8 @@ pub fn write_cert<F: Folder>(
         (F.told folder.old name.now) (F.told folder.new name.now))) }
     ensures err { OnErr result (OfProved script.now rounds depth (λ lines.
         HoldsFront script.now lines (F.told folder.old name.now) (F.told folder.new name.now))) }
-    ensures others { (other : List ℕ) → other ≢ name.now
-        → F.told folder.new other ≡ F.told folder.old other }
-    ensures cause { HasWriteCause (F.write_faults folder.old) (F.write_faults folder.new) result }
-    ensures quiet { F.read_faults folder.new ≡ F.read_faults folder.old }
+    ensures only_writes { OnlyWrites F.Folder name.now folder.old folder.new
+        (IsErrOf result WriteStop.Failed) }
 {
     writing_goes_on();
     script.laws();

@@ -1,7 +1,7 @@
 // The command.
-ghost use Rattle.std.specs.Prelude.{◌≡◌, ◌≢◌, ℕ, List, OnOk, OnErr, string_bytes};
+ghost use Rattle.std.specs.Prelude.{IsErr, OnOk, OnErr, string_bytes};
 ghost use Rattle.std.specs.Option.{option_map};
-ghost use Rattle.fx_edge.specs.Outside.{HasCause};
+ghost use Rattle.whole_texts.specs.OnlyWrites.{OnlyWrites};
 ghost use Rattle.command_line.specs.Fix.{fix_of};
 ghost use Rattle.command_runs.specs.Fates.{Leaves, begun};
 ghost use Rattle.command_runs.specs.Runs.{run, seen};
@@ -21,10 +21,7 @@ fn save<F: Folder>(folder: &mut F, name: &str, script: &Option<String>) -> Resul
         (F.told folder.old name.now) (F.told folder.new name.now)) }
     ensures err { OnErr result (Leaves (begun (left_of (option_map string_bytes script.now)))
         (F.told folder.old name.now) (F.told folder.new name.now)) }
-    ensures others { (other : List ℕ) → other ≢ name.now
-        → F.told folder.new other ≡ F.told folder.old other }
-    ensures cause { HasCause (F.write_faults folder.old) (F.write_faults folder.new) result }
-    ensures quiet { F.read_faults folder.new ≡ F.read_faults folder.old }
+    ensures only_writes { OnlyWrites F.Folder name.now folder.old folder.new (IsErr result) }
 {
     match script {
         Some(script) => write_new(folder, name, script.as_bytes()),

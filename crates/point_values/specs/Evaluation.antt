@@ -1,15 +1,18 @@
 -- The evaluation of claims and hints at a point: whether a number is too wide, and the text.
-use Rattle.std.specs.Prelude.{◌≡◌, ◌&&◌, List, [], ◌∷◌, ◌++◌, Option, None, Some, Bool}
-use Rattle.std.specs.List.{list_all, list_any}
+use Rattle.std.specs.Prelude.{◌≡◌, ◌&&◌, List, [], ◌∷◌, ◌++◌, length, Option, None, Some, Bool, All}
+use Rattle.std.specs.List.{AllByRecursion, list_all, list_any}
 use Rattle.fx_model.specs.Fraction.{Fraction}
 use Rattle.fx_model.specs.Expression.{Assignment, value}
 use Rattle.fx_model.specs.declared.ExprId.{ExprId}
 use Rattle.fx_model.specs.declared.Node.{Node}
 use Rattle.facts.specs.declared.hint.HintMark.{HintMark}
 use Rattle.script_claims.specs.declared.claim.Claim.{Claim}
+use Rattle.script_claims.specs.Facts.{HasNormalBounds}
 use Rattle.script_hints.specs.declared.hint.Hint.{Hint}
+use Rattle.script_hints.specs.Needs.{HasNormalBounds as HasNormalHintBounds}
 use Rattle.point_values.specs.declared.place.Place.{Place}
 use Rattle.point_values.specs.declared.place.Place.TheVariants as place
+use Rattle.point_values.specs.Among.{AreAmong}
 use Rattle.point_values.specs.Rows.{Row, assignment_of}
 use Rattle.point_values.specs.Numbers.{entry_numbers, node_numbers, claim_numbers, marked_numbers}
 use Rattle.point_values.specs.Numbers.{wide_from, or_else}
@@ -18,14 +21,24 @@ use Rattle.point_values.specs.Text.{Bytes, hypothesis_line, goal_line, hint_line
 use Rattle.point_values.specs.Text.{lines_from}
 
 -- What is judged at a point: claims and hints over nodes, with a mark for each hint. The cases say
--- which hypotheses are
--- taken together.
+-- which hypotheses are taken together.
 pub record Subject : Type 0 where
   pub nodes : List Node
   pub hypotheses : List Claim
   pub cases : List (List Claim)
   pub goals : List Claim
   pub hints : List (Hint × HintMark)
+
+-- These can be evaluated: bounds of claims and hints are normal, each claim of a case is one of the
+-- hypotheses, and each hint has a mark.
+pub record CanEvaluate (hypotheses : List Claim) (cases : List (List Claim)) (goals : List Claim)
+    (hints : List Hint) (marks : List HintMark) : Type 0 where
+  pub assumed : All HasNormalBounds hypotheses
+  pub in_cases : AllByRecursion (All HasNormalBounds) cases
+  pub among : AreAmong hypotheses cases
+  pub claimed : All HasNormalBounds goals
+  pub hinted : All HasNormalHintBounds hints
+  pub marked : length marks ≡ length hints
 
 -- the first of one list with the first of the other, and so on
 abbrev pub pairs : {A B : Type 0} → List A → List B → List (A × B)

@@ -1,15 +1,12 @@
 //! Evaluation of claims and hints over a list of nodes.
 
-ghost use Rattle.std.specs.Prelude.{◌≡◌, ◌++◌, length, map, All, Err, IfOk, OnOk, None, Some};
+ghost use Rattle.std.specs.Prelude.{◌≡◌, ◌++◌, length, map, Err, IfOk, OnOk, None, Some};
 ghost use Rattle.std.specs.List.{AllByRecursion};
-ghost use Rattle.script_claims.specs.Facts.{HasNormalBounds};
-ghost use Rattle.script_hints.specs.Needs.{HasNormalBounds as HasNormalHintBounds};
 ghost use Rattle.point_values.specs.Known.{values_of};
 ghost use Rattle.point_values.specs.Rows.{IsRow, assignment_of};
 ghost use Rattle.point_values.specs.Text as spec;
 ghost use Rattle.point_values.specs.Evaluation.{pairs, lines_with, wide_with, subject_of};
-ghost use Rattle.point_values.specs.Evaluation.{evaluation_of, IsNarrow, IsTooWide};
-ghost use Rattle.point_values.specs.Among.{AreAmong};
+ghost use Rattle.point_values.specs.Evaluation.{evaluation_of, CanEvaluate, IsNarrow, IsTooWide};
 ghost use Rattle.point_values.specs.Within.{AreWithin};
 
 use crate::cases::some_case_is_met;
@@ -47,12 +44,8 @@ fn lines_of(
     hints: &[Hint],
     marks: &[HintMark],
 ) -> Result<Vec<u8>, EvalStop>
-    requires hypotheses { All HasNormalBounds hypotheses.now }
-    requires cases { AllByRecursion (All HasNormalBounds) (map (λ case. case.items) cases.now) }
-    requires among { AreAmong hypotheses.now (map (λ case. case.items) cases.now) }
-    requires goals { All HasNormalBounds goals.now }
-    requires hints { All HasNormalHintBounds hints.now }
-    requires marks { length marks.now ≡ length hints.now }
+    requires can_evaluate { CanEvaluate hypotheses.now (map (λ case. case.items) cases.now)
+        goals.now hints.now marks.now }
     ensures lines { IfOk result (λ text. text.items
         ≡ lines_with (values_of values.now) hypotheses.now (map (λ case. case.items) cases.now)
         goals.now (pairs hints.now marks.now)) }
@@ -85,12 +78,8 @@ pub fn evaluate(
     marks: &[HintMark],
     rows: &[(Written, Option<Literal>)],
 ) -> Result<Vec<u8>, EvalStop>
-    requires hypotheses { All HasNormalBounds hypotheses.now }
-    requires cases { AllByRecursion (All HasNormalBounds) (map (λ case. case.items) cases.now) }
-    requires among { AreAmong hypotheses.now (map (λ case. case.items) cases.now) }
-    requires goals { All HasNormalBounds goals.now }
-    requires hints { All HasNormalHintBounds hints.now }
-    requires marks { length marks.now ≡ length hints.now }
+    requires can_evaluate { CanEvaluate hypotheses.now (map (λ case. case.items) cases.now)
+        goals.now hints.now marks.now }
     requires rows { AllByRecursion IsRow rows.now }
     requires within { AreWithin (length dag.now) hypotheses.now goals.now hints.now }
     ensures text { IfOk result (λ text. text.items

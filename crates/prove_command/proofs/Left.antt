@@ -4,7 +4,6 @@ use Rattle.std.proofs.Common.{inl, inr, refl, sym, subst, ◌∙◌, arith}
 use Rattle.cert_writer.specs.goals.declared.line.Line.{Line}
 use Rattle.script_answers.specs.script_grammar.Spells.{View}
 use Rattle.script_answers.specs.settler.Answers.{Options, IsProved}
-use Rattle.cert_writer.specs.Walks.{HasWriteCause}
 use Rattle.cert_writer.specs.Written.{OfProved, HoldsCertificate, HoldsFront}
 use Rattle.cert_writer.specs.declared.walk.WriteStop.{WriteStop}
 use Rattle.command_runs.specs.Runs.{Bytes, Told}
@@ -13,7 +12,8 @@ use Rattle.command_runs.specs.Fates.Left.{Kept, Whole}
 use Rattle.command_runs.specs.declared.status.Status.TheVariants as status
 use Rattle.script_answers.specs.Answers.{AreAllowed, IsAnswered, ProvePrints, options_from}
 use Rattle.script_answers.specs.declared.options.Options.{Options as Asking}
-use Rattle.prove_command.specs.Certified.{IsAnsweredWith, IsCertified, IsSpared, IsStopped, left_by}
+use Rattle.prove_command.specs.Certified.{HasWriteCause, IsAnsweredWith, IsCertified, IsSpared}
+use Rattle.prove_command.specs.Certified.{IsStopped, left_by}
 use Rattle.prove_command.specs.Command.{IsCertificateOf, MakesFor, TextFate}
 use Rattle.prove_command.specs.declared.certify.Certified.{Certified}
 use Rattle.prove_command.proofs.Fates.{of_made, of_kept}

@@ -2,7 +2,6 @@
 use Rattle.std.specs.Prelude.{◌≡◌, ◌≢◌, ℕ, Option, Some, None, Result, Ok, Err}
 use Rattle.std.proofs.Common.{inl, inr, refl, subst, ◌∙◌}
 use Rattle.script_answers.specs.settler.Answers.{Options}
-use Rattle.cert_writer.specs.Walks.{HasWriteCause}
 use Rattle.cert_writer.specs.declared.walk.WriteStop.{WriteStop}
 use Rattle.cert_writer.specs.declared.walk.WriteStop.TheVariants as write_stop
 use Rattle.command_line.specs.Reading.{Asked}
@@ -21,7 +20,8 @@ use Rattle.command_runs.specs.declared.status.Status.TheVariants as status
 use Rattle.script_answers.specs.Answers.{ProvePrints, options_of}
 use Rattle.script_answers.specs.Laws.{TextAnswersAreOne, prints_done}
 use Rattle.script_answers.specs.script_texts.Texts.{told_text}
-use Rattle.prove_command.specs.Certified.{IsCertified, IsPutBehind, IsStopped, left_by}
+use Rattle.prove_command.specs.Certified.{HasWriteCause, IsCertified, IsPutBehind, IsStopped}
+use Rattle.prove_command.specs.Certified.{left_by}
 use Rattle.prove_command.specs.Command.{IsCutOff, TextFate, ProveTold, ProveFate, IsProveRun}
 use Rattle.prove_command.specs.declared.certify.Certified.{Certified}
 use Rattle.prove_command.proofs.Fates.{fate_more, kept_of, long_fate, prints_of}

@@ -1,8 +1,10 @@
 -- What came of a text before its lines are put.
-use Rattle.std.specs.Prelude.{◌≡◌, ◌≢◌, ⊤, ℕ, List, Option, Some, None, Result, Ok, Err}
+use Rattle.std.specs.Prelude.{◌≡◌, ◌≢◌, ◌≤◌, ⊤, ℕ, List, Option, Some, None, Result, Ok, Err}
+use Rattle.std.specs.Prelude.{IsErrOf}
 use Rattle.std.specs.Borrow.{Bor}
 use Rattle.std.specs.Option.{option_map}
 use Rattle.std.specs.Io.KnownBytes.{Keeps}
+use Rattle.fx_edge.specs.Outside.{Rose}
 use Rattle.script_answers.specs.script_grammar.Spells.{View}
 use Rattle.script_answers.specs.settler.Answers.{Options}
 use Rattle.script_answers.specs.Answers.{IsAnswered, ProvePrints}
@@ -42,6 +44,11 @@ pub record IsCertified (o : Options) (text : Bytes) (cert : Option Bytes) (old n
   pub made : TextFate (IsStopped c.written) cert o text c.status c.lines.items left
   pub file : (n : Bytes) → cert ≡ Some n → Leaves (left_by c.written left) (old n) (new n)
   pub named : IsStopped c.written → cert ≢ None
+
+-- The count of failed writes doesn't fall, and a write is said to have failed only where it rose.
+pub record HasWriteCause {T : Type 0} (before now : ℕ) (result : Result T WriteStop) : Type 0 where
+  pub later : before ≤ now
+  pub failed : IsErrOf result write_stop.Failed → Rose before now
 
 -- The text isn't proved, but answered by this status and these lines, and nothing was to be
 -- written.

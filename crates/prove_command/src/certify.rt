@@ -1,18 +1,18 @@
 // What comes of a text: its lines, and the certificate that is written once they are made.
-ghost use Rattle.std.specs.Prelude.{◌≡◌, ◌≢◌, ℕ, List, [], Some, IfOk, OnOk, OnErr};
+ghost use Rattle.std.specs.Prelude.{◌≡◌, ◌≢◌, ℕ, List, [], Some, IfOk, IsErrOf, OnOk, OnErr};
 ghost use Rattle.cert_writer.specs.goals.declared.line.Line.{Line};
-ghost use Rattle.script_answers.specs.report.script_claims.declared.claim.Claim.{Claim};
 ghost use Rattle.script_answers.specs.report.script_judge.declared.refusal.Refusal.{Refusal};
-ghost use Rattle.script_answers.specs.script_grammar.Cases.{cases_of};
 ghost use Rattle.script_answers.specs.script_grammar.Spells.{IsRefused};
 ghost use Rattle.script_answers.specs.universe.Universes.{IsUniverse, IsTooLarge};
 ghost use Rattle.script_answers.specs.settler.Answers.{IsProved};
-ghost use Rattle.script_answers.specs.settler.Cases.{AreCases};
 ghost use Rattle.script_answers.specs.settler.rewrite_hints.Marks.{AreMarks};
-ghost use Rattle.cert_writer.specs.Walks.{HasWriteCause};
+ghost use Rattle.whole_texts.specs.OnlyWrites.{OnlyWrites};
+ghost use Rattle.cert_writer.specs.Cases.{IsPlanned};
+ghost use Rattle.cert_writer.specs.declared.walk.WriteStop.TheVariants as WriteStop;
 ghost use Rattle.cert_writer.specs.Written.{HoldsCertificate, HoldsFront};
 ghost use Rattle.script_answers.specs.Answers.{AreAllowed, IsFound, options_from};
-ghost use Rattle.prove_command.specs.Certified.{IsAnsweredWith, IsCertified, IsSpared, name_of};
+ghost use Rattle.prove_command.specs.Certified.{HasWriteCause, IsAnsweredWith, IsCertified};
+ghost use Rattle.prove_command.specs.Certified.{IsSpared, name_of};
 
 use cert_writer::{WriteStop, write_cert};
 use command_runs::Status;
@@ -46,8 +46,7 @@ fn write_proved<F: Folder>(
     folder: &mut F,
     name: &str,
 ) -> Result<(), WriteStop>
-    requires universe { (before : List Claim) × IsUniverse script.now before universe.old }
-    requires cases { AreCases script.now options.depth (cases_of script.now) cases.now }
+    requires planned { IsPlanned script.now options.depth universe.old cases.now }
     requires marks { AreMarks script.now.nodes script.now.hints.rewrites marks.now }
     requires allowed { AreAllowed options }
     requires proved { (shown : List Line) × IsProved script.now (options_from options) shown }
@@ -58,9 +57,8 @@ fn write_proved<F: Folder>(
     ensures err { OnErr result ((shown : List Line)
         → IsProved script.now (options_from options) shown
         → HoldsFront script.now shown (F.told folder.old name.now) (F.told folder.new name.now)) }
-    ensures others { (other : List ℕ) → other ≢ name.now
-        → F.told folder.new other ≡ F.told folder.old other }
-    ensures cause { HasWriteCause (F.write_faults folder.old) (F.write_faults folder.new) result }
+    ensures only_writes { OnlyWrites F.Folder name.now folder.old folder.new
+        (IsErrOf result WriteStop.Failed) }
 {
     write_cert(
         alloc,
@@ -88,8 +86,7 @@ fn certify<F: Folder>(
     cert: Option<&str>,
     lines: Vec<u8>,
 ) -> Certified
-    requires universe { (before : List Claim) × IsUniverse script.now before universe.old }
-    requires cases { AreCases script.now options.depth (cases_of script.now) cases.now }
+    requires planned { IsPlanned script.now options.depth universe.old cases.now }
     requires marks { AreMarks script.now.nodes script.now.hints.rewrites marks.now }
     requires allowed { AreAllowed options }
     requires answered { IsAnsweredWith (options_from options) script.now lines.items }
@@ -128,8 +125,7 @@ fn certify_found<F: Folder>(
     cert: Option<&str>,
     found: Found,
 ) -> Result<Certified, AllocError>
-    requires universe { (before : List Claim) × IsUniverse script.now before universe.old }
-    requires cases { AreCases script.now options.depth (cases_of script.now) cases.now }
+    requires planned { IsPlanned script.now options.depth universe.old cases.now }
     requires allowed { AreAllowed options }
     requires found { IsFound (options_from options) script.now found }
     ensures made { IfOk result (IsCertified (options_from options) script.now.text

@@ -1,8 +1,8 @@
 // Items without unused steps, written to the new file.
-ghost use Rattle.std.specs.Prelude.{◌≡◌, ◌≢◌, ◌⊎◌, ℕ, List, IfOk, IsErrOf, OnErr};
+ghost use Rattle.std.specs.Prelude.{◌≡◌, ◌⊎◌, IfOk, IsErrOf};
 ghost use Rattle.std.specs.List.{AllByRecursion};
 ghost use Rattle.cert_trim.specs.cert_bytes.Certificates.{HasSpelling};
-ghost use Rattle.cert_rewriting.specs.Causes.{HasWriteCause};
+ghost use Rattle.whole_texts.specs.OnlyWrites.{OnlyWrites};
 ghost use Rattle.cert_rewriting.specs.declared.writing.WriteStop.TheVariants as WriteStop;
 ghost use Rattle.cert_trim.specs.Law.{AreLedBySome};
 ghost use Rattle.trim_command.specs.Writing.{Writes, IsBegun};
@@ -32,10 +32,8 @@ pub(crate) fn write_trimmed<F: Folder>(
     ensures starved { IsErrOf result WriteStop.OutOfMemory
         → (F.told folder.new new.now ≡ F.told folder.old new.now)
         ⊎ IsBegun items.items (F.told folder.old new.now) (F.told folder.new new.now) }
-    ensures others { (other : List ℕ) → other ≢ new.now
-        → F.told folder.new other ≡ F.told folder.old other }
-    ensures cause { HasWriteCause (F.write_faults folder.old) (F.write_faults folder.new) result }
-    ensures quiet { F.read_faults folder.new ≡ F.read_faults folder.old }
+    ensures only_writes { OnlyWrites F.Folder new.now folder.old folder.new
+        (IsErrOf result WriteStop.Failed) }
 {
     let left = trim(alloc, items)?;
     let length = spelled_length(alloc, left.items.as_slice())?;

@@ -1,2 +1,3 @@
+pub mod OnlyWrites
 pub mod Pieces
 pub mod Texts

@@ -1,7 +1,7 @@
 // Whole texts written to a new file.
-ghost use Rattle.std.specs.Prelude.{◌≡◌, ◌≢◌, [], ℕ, List, IsTrue, OnOk, OnErr};
+ghost use Rattle.std.specs.Prelude.{◌≡◌, [], IsErr, IsTrue, OnOk, OnErr};
 ghost use Rattle.std.specs.Io.KnownBytes.{Appends};
-ghost use Rattle.fx_edge.specs.Outside.{HasCause};
+ghost use Rattle.whole_texts.specs.OnlyWrites.{OnlyWrites};
 ghost use Rattle.whole_texts.specs.Pieces.{AppendsFront, PassesOn, HoldsAll, HoldsFront};
 
 use crate::PIECE;
@@ -14,10 +14,7 @@ pub fn append_all<F: Folder>(folder: &mut F, name: &str, bytes: &[u8]) -> Result
         (Appends (F.told folder.old name.now) (F.told folder.new name.now) bytes.now) }
     ensures err { OnErr result
         (AppendsFront (F.told folder.old name.now) (F.told folder.new name.now) bytes.now) }
-    ensures others { (other : List ℕ) → other ≢ name.now
-        → F.told folder.new other ≡ F.told folder.old other }
-    ensures cause { HasCause (F.write_faults folder.old) (F.write_faults folder.new) result }
-    ensures quiet { F.read_faults folder.new ≡ F.read_faults folder.old }
+    ensures only_writes { OnlyWrites F.Folder name.now folder.old folder.new (IsErr result) }
 {
     let mut done = 0;
     while done < bytes.len() {
@@ -39,10 +36,7 @@ pub fn pass_on<F: Folder>(
     ensures whole { OnOk result (IsTrue last → waiting.new.items ≡ []) }
     ensures err { OnErr result (AppendsFront
         (F.told folder.old name.now) (F.told folder.new name.now) waiting.old.items) }
-    ensures others { (other : List ℕ) → other ≢ name.now
-        → F.told folder.new other ≡ F.told folder.old other }
-    ensures cause { HasCause (F.write_faults folder.old) (F.write_faults folder.new) result }
-    ensures quiet { F.read_faults folder.new ≡ F.read_faults folder.old }
+    ensures only_writes { OnlyWrites F.Folder name.now folder.old folder.new (IsErr result) }
 {
     if !last && waiting.len() < PIECE {
         return Ok(());
@@ -59,10 +53,7 @@ pub fn write_new<F: Folder>(folder: &mut F, name: &str, bytes: &[u8]) -> Result<
         (HoldsAll bytes.now (F.told folder.old name.now) (F.told folder.new name.now)) }
     ensures err { OnErr result
         (HoldsFront bytes.now (F.told folder.old name.now) (F.told folder.new name.now)) }
-    ensures others { (other : List ℕ) → other ≢ name.now
-        → F.told folder.new other ≡ F.told folder.old other }
-    ensures cause { HasCause (F.write_faults folder.old) (F.write_faults folder.new) result }
-    ensures quiet { F.read_faults folder.new ≡ F.read_faults folder.old }
+    ensures only_writes { OnlyWrites F.Folder name.now folder.old folder.new (IsErr result) }
 {
     folder.fresh(name)?;
     append_all(folder, name, bytes)

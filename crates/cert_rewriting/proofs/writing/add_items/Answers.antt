@@ -1,4 +1,5 @@
-use Rattle.std.proofs.Common.{◌∙◌, refl, arith, length}
+use Rattle.std.proofs.Common.{refl, arith, length}
+use Rattle.whole_texts.specs.OnlyWrites.{only_writes_on}
 use Rattle.cert_bytes.specs.Styles.{seen_after}
 use Rattle.cert_rewriting.proofs.Written.{on_err, writing_front}
 use Rattle.cert_rewriting.proofs.Turns.{turn_on, turn_breaks, spelled_later, steps_on, sections_on}
@@ -17,10 +18,8 @@ loop-left-preserved g c = record {
       c.item-item.result c.in-len1-up.len_at_least c.item-item.is
       c.in_ok-write_item2.ensures.ok c.after-seen.ensures c.loop-left.invariant.writing _
       c.in_ok-pass_on.ensures.ok;
-  others = λ other n. c.in_ok-pass_on.ensures.others other n ∙ c.loop-left.invariant.others other n;
-  later = let a = c.in_ok-pass_on.ensures.cause.later in
-      let b = c.loop-left.invariant.later in omega (arith, a, b);
-  quiet = c.in_ok-pass_on.ensures.quiet ∙ c.loop-left.invariant.quiet;
+  only_writes = only_writes_on c.loop-left.invariant.only_writes
+      c.in_ok-pass_on.ensures.only_writes;
 }
 
 pub returns-in_err-pass_on-clause-err : goal.returns-in_err-pass_on-clause-err

@@ -1,5 +1,6 @@
-use Rattle.std.proofs.Common.{◌≡◌, ◌≢◌, ◌≤◌, ◌+◌, ℕ, List, length}
+use Rattle.std.proofs.Common.{◌≤◌, ◌+◌, length}
 use Rattle.std.specs.List.{AllByRecursion}
+use Rattle.whole_texts.specs.OnlyWrites.{OnlyWrites}
 use Rattle.cert_bytes.specs.declared.style.Style.TheVariants.{Second}
 use Rattle.cert_bytes.specs.Certificates.{HasSpelling}
 use Rattle.cert_bytes.specs.Spelling.{spelled_from, certificate_of}
@@ -13,10 +14,7 @@ invariant-loop-left g l = record {
   sections : l.seen.sections + length l.left ≤ length l.items;
   writing : IsWriting (g.F.Folder.told l.fn.folder l.name) (g.F.Folder.told l.folder l.name)
       l.waiting.items (spelled_from (Second l.seen) l.left) (certificate_of l.items);
-  others : (other : List ℕ) → other ≢ l.name
-      → g.F.Folder.told l.folder other ≡ g.F.Folder.told l.fn.folder other;
-  later : g.F.Folder.write_faults l.fn.folder ≤ g.F.Folder.write_faults l.folder;
-  quiet : g.F.Folder.read_faults l.folder ≡ g.F.Folder.read_faults l.fn.folder;
+  only_writes : OnlyWrites g.F.Folder l.name l.fn.folder l.folder ⊥;
 }
 
 abbrev pub decreases-loop-left : goal.decreases-loop-left

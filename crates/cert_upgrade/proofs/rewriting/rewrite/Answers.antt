@@ -156,7 +156,7 @@ returns-in_err-pass_on-clause-reads g c =
     c.from_residual-in_err-pass_on.ensures.1 in
     let a = c.loop-ended.invariant.reads in
     let b = c.in_ok-next.ensures.only_reads.later in
-    let q = c.in_err-pass_on.ensures.quiet in
+    let q = c.in_err-pass_on.ensures.only_writes.quiet in
     rw (p.1, p.2) (no_cause ReadFailed WriteFailed (g.F.Folder.read_faults c.args.folder.now)
     (g.F.Folder.read_faults c.pass_on.new.folder) (λ e. cc e) (omega (arith, a, b, q)))
 
@@ -168,8 +168,8 @@ returns-in_err-pass_on-clause-writes g c =
     let q = c.in_ok-next.ensures.only_reads.quiet in
     rw (p.1, p.2) (of_write (g.F.Folder.write_faults c.args.folder.now)
     (g.F.Folder.write_faults c.respell.new.folder) (g.F.Folder.write_faults c.pass_on.new.folder)
-    (omega (arith, a, q)) c.in_err-pass_on.ensures.cause.later
-    c.in_err-pass_on.ensures.cause.failed)
+    (omega (arith, a, q)) c.in_err-pass_on.ensures.only_writes.later
+    (c.in_err-pass_on.ensures.only_writes.cause refl))
 
 pub loop-ended-preserved : goal.loop-ended-preserved
 loop-ended-preserved g c =
@@ -191,13 +191,14 @@ loop-ended-preserved g c =
           (r.only_reads.told c.args.new.now) i.rewritten r.ok p.ok p.whole;
       within = r.within;
       agrees = subst (λ t. AgreesTold t c.respell.new.reader.ahead)
-          (sym (p.others c.respell.new.reader.ahead.name
+          (sym (p.only_writes.others c.respell.new.reader.ahead.name
           (λ e. c.requires.apart (sym (r.reads_on.kept ∙ i.name) ∙ e)))) r.reads_on.agrees;
       name = r.reads_on.kept ∙ i.name;
-      others = λ other n. p.others other n ∙ r.only_reads.told other ∙ i.others other n;
-      reads = let a = i.reads in let b = r.only_reads.later in let q = p.quiet in
-          omega (arith, a, b, q);
-      writes = let a = i.writes in let q = r.only_reads.quiet in let b = p.cause.later in
+      others = λ other n.
+          p.only_writes.others other n ∙ r.only_reads.told other ∙ i.others other n;
+      reads = let a = i.reads in let b = r.only_reads.later in
+          let q = p.only_writes.quiet in omega (arith, a, b, q);
+      writes = let a = i.writes in let q = r.only_reads.quiet in let b = p.only_writes.later in
           omega (arith, a, b, q);
     }
 
@@ -220,7 +221,7 @@ returns-in_err-next-clause-others g c = λ other n.
 
 pub returns-in_err-pass_on-clause-others : goal.returns-in_err-pass_on-clause-others
 returns-in_err-pass_on-clause-others g c = λ other n.
-    c.in_err-pass_on.ensures.others other n ∙ c.in_ok-next.ensures.only_reads.told other
+    c.in_err-pass_on.ensures.only_writes.others other n ∙ c.in_ok-next.ensures.only_reads.told other
     ∙ c.loop-ended.invariant.others other n
 
 pub returns-clause-reads : goal.returns-clause-reads

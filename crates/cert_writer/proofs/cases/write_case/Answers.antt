@@ -16,14 +16,14 @@ use Rattle.cert_writer.proofs.cases.write_case.Goals as goal
 pub assume-requires-clause-claims : goal.assume-requires-clause-claims
 assume-requires-clause-claims g c =
     let s = c.args.script.now in
-    let is = case_of s c.args.depth c.args.cases.now c.requires.cases c.args.number
+    let is = case_of s c.args.depth c.args.cases.now c.requires.planned.cases c.args.number
     c.index-cases-number.result c.requires.number c.index-cases-number.is in
     subst (AreHypotheses s) (sym c.as_slice.ensures) is.1.claims
 
 pub assume-requires-clause-normal : goal.assume-requires-clause-normal
 assume-requires-clause-normal g c =
     let s = c.args.script.now in
-    let is = case_of s c.args.depth c.args.cases.now c.requires.cases c.args.number
+    let is = case_of s c.args.depth c.args.cases.now c.requires.planned.cases c.args.number
     c.index-cases-number.result c.requires.number c.index-cases-number.is in
     subst (AllByRecursion HasNormalBounds) (sym c.as_slice.ensures) is.1.normal
 
@@ -41,7 +41,7 @@ pub write_box-requires : goal.write_box-requires
 write_box-requires g c =
     let s = c.args.script.now in
     let case = c.index-cases-number.result in
-    let is = case_of s c.args.depth c.args.cases.now c.requires.cases c.args.number case
+    let is = case_of s c.args.depth c.args.cases.now c.requires.planned.cases c.args.number case
     c.requires.number c.index-cases-number.is in
     let cs = cases_of s in
     let later = drop (c.args.number + 1) cs in
@@ -69,7 +69,7 @@ pub returns-in_err-next-clause-err : goal.returns-in_err-next-clause-err
 returns-in_err-next-clause-err g c =
     let s = c.args.script.now in
     let case = c.index-cases-number.result in
-    let is = case_of s c.args.depth c.args.cases.now c.requires.cases c.args.number case
+    let is = case_of s c.args.depth c.args.cases.now c.requires.planned.cases c.args.number case
     c.requires.number c.index-cases-number.is in
     let old = g.F.Folder.told c.args.folder.now c.args.name.now in
     let new = g.F.Folder.told c.write_box.new.folder c.args.name.now in
@@ -97,7 +97,7 @@ pub returns-clause-ok : goal.returns-clause-ok
 returns-clause-ok g c = λ t lines items stands.
     let s = c.args.script.now in
     let case = c.index-cases-number.result in
-    let is = case_of s c.args.depth c.args.cases.now c.requires.cases c.args.number case
+    let is = case_of s c.args.depth c.args.cases.now c.requires.planned.cases c.args.number case
     c.requires.number c.index-cases-number.is in
     let old = g.F.Folder.told c.args.folder.now c.args.name.now in
     let new = g.F.Folder.told c.write_box.new.folder c.args.name.now in

@@ -4,6 +4,7 @@ use Rattle.std.proofs.lemmas.List.{drop_all}
 use Rattle.answer_certificates.specs.script_grammar.Cases.{cases_of}
 use Rattle.answer_certificates.specs.settler.Cases.{as_many}
 use Rattle.cert_trim.specs.cert_bytes.Styles.{none_seen}
+use Rattle.whole_texts.specs.OnlyWrites.{only_writes_none, only_writes_on}
 use Rattle.cert_writer.specs.Files.{on_err}
 use Rattle.cert_writer.specs.Cases.{bare, task, whole_aim, StandsAt, StandsBefore, OfStanding}
 use Rattle.cert_writer.specs.Cases.{GrewFront}
@@ -13,7 +14,7 @@ use Rattle.cert_writer.proofs.cases.write_cases.Goals as goal
 
 pub loop-number-init : goal.loop-number-init
 loop-number-init g c = record {
-  universe = c.requires.universe;
+  universe = c.requires.planned.universe;
   same = refl;
   done = λ t lines items stands. (
     items,
@@ -22,9 +23,7 @@ loop-number-init g c = record {
     subst (λ q. StandsBefore (task c.args.script.now (bare c.args.universe.now) c.args.rounds
         c.args.depth t lines) 0 q items) (sym c.none-next.ensures) stands,
   );
-  others = λ other n. refl;
-  later = omega arith;
-  quiet = refl;
+  only_writes = only_writes_none;
 }
 
 pub write_case-requires-clause-stands : goal.write_case-requires-clause-stands
@@ -63,37 +62,36 @@ returns-in_err-next-clause-err g c =
     items h.0 old mid new h.1 (c.in_err-next.ensures.err t lines h.0 here))
 
 pub loop-number-preserved : goal.loop-number-preserved
-loop-number-preserved g c =
-    let s = c.args.script.now in
-    let old = g.F.Folder.told c.args.folder.now c.args.name.now in
-    let mid = g.F.Folder.told c.loop-number.folder c.args.name.now in
-    let new = g.F.Folder.told c.write_case.new.folder c.args.name.now in
-    let inv = c.loop-number.invariant in
-    let n = c.loop-number.number in
-    record {
-      universe = c.in_ok-next.ensures.universe;
-      same = c.in_ok-next.ensures.same ∙ inv.same;
-      done = λ t lines items stands.
-          let h = inv.done t lines items stands in
-          let here = subst (λ u. StandsBefore (task s u c.args.rounds c.args.depth t lines) n
-          c.loop-number.next h.0) (sym inv.same) h.2 in
-          let k = c.in_ok-next.ensures.ok t lines h.0 here in (
-            k.0,
-            grew_both items h.0 k.0 old mid new h.1 k.1,
-            subst (λ u. StandsBefore (task s u c.args.rounds c.args.depth t lines)
-                (n + 1) c.in_ok-next.next k.0) inv.same k.2,
-          );
-      others = λ other d. c.in_ok-next.ensures.others other d ∙ inv.others other d;
-      later = let a = c.in_ok-next.ensures.cause.later in let b = inv.later in omega (arith, a, b);
-      quiet = c.in_ok-next.ensures.quiet ∙ inv.quiet;
-    }
+loop-number-preserved g c = record {
+  universe = c.in_ok-next.ensures.universe;
+  same = c.in_ok-next.ensures.same ∙ c.loop-number.invariant.same;
+  done = λ t lines items stands.
+      let s = c.args.script.now in
+      let old = g.F.Folder.told c.args.folder.now c.args.name.now in
+      let mid = g.F.Folder.told c.loop-number.folder c.args.name.now in
+      let new = g.F.Folder.told c.write_case.new.folder c.args.name.now in
+      let inv = c.loop-number.invariant in
+      let n = c.loop-number.number in
+      let h = inv.done t lines items stands in
+      let here = subst (λ u. StandsBefore (task s u c.args.rounds c.args.depth t lines) n
+      c.loop-number.next h.0) (sym inv.same) h.2 in
+      let k = c.in_ok-next.ensures.ok t lines h.0 here in (
+        k.0,
+        grew_both items h.0 k.0 old mid new h.1 k.1,
+        subst (λ u. StandsBefore (task s u c.args.rounds c.args.depth t lines)
+            (n + 1) c.in_ok-next.next k.0) inv.same k.2,
+      );
+  only_writes = only_writes_on c.loop-number.invariant.only_writes
+      c.in_ok-next.ensures.only_writes;
+}
 
 pub returns-clause-ok : goal.returns-clause-ok
 returns-clause-ok g c = λ t lines items stands.
     let cs = cases_of c.args.script.now in
     let w = task c.args.script.now (bare c.args.universe.now) c.args.rounds c.args.depth t lines in
     let h = c.loop-number.invariant.done t lines items stands in
-    let many = as_many c.args.script.now c.args.depth cs c.args.cases.now c.requires.cases in
+    let many = as_many c.args.script.now c.args.depth cs c.args.cases.now
+    c.requires.planned.cases in
     let done = c.loop-number-test.false in (
       h.0,
       h.1,

@@ -1,7 +1,8 @@
-use Rattle.std.proofs.Common.{◌≡◌, ◌≢◌, ◌≤◌, ℕ, List}
+use Rattle.std.proofs.Common.{◌≡◌, List}
 use Rattle.answer_certificates.specs.script_claims.declared.claim.Claim.{Claim}
 use Rattle.answer_certificates.specs.universe.Universes.{IsUniverse}
 use Rattle.cert_trim.specs.cert_bytes.Styles.{none_seen}
+use Rattle.whole_texts.specs.OnlyWrites.{OnlyWrites}
 use Rattle.cert_writer.specs.Cases.{bare, OfStanding, GoesOn}
 use Rattle.cert_writer.proofs.cases.write_cases.Given as goal
 
@@ -12,8 +13,5 @@ invariant-loop-number g l = record {
   done : OfStanding l.script (bare l.fn.universe) l.rounds l.depth 0 none_seen
       (λ w items. GoesOn w l.number l.next items (g.F.Folder.told l.fn.folder l.name)
       (g.F.Folder.told l.folder l.name));
-  others : (other : List ℕ) → other ≢ l.name → g.F.Folder.told l.folder other
-      ≡ g.F.Folder.told l.fn.folder other;
-  later : g.F.Folder.write_faults l.fn.folder ≤ g.F.Folder.write_faults l.folder;
-  quiet : g.F.Folder.read_faults l.folder ≡ g.F.Folder.read_faults l.fn.folder;
+  only_writes : OnlyWrites g.F.Folder l.name l.fn.folder l.folder ⊥;
 }

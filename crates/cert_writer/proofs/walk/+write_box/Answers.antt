@@ -1,6 +1,7 @@
 use Rattle.std.specs.Prelude.{◌≡◌, ◌<◌, ◌+◌, ◌-◌, [], ◌∷◌, length, refl}
 use Rattle.std.proofs.Common.{arith, ap, ◌∙◌}
 use Rattle.std.proofs.lemmas.List.{length-append}
+use Rattle.whole_texts.specs.OnlyWrites.{only_writes_on}
 use Rattle.cert_writer.specs.Courses.{course, OnCourses, GrewToFront}
 use Rattle.cert_writer.proofs.Turn.{begun_later, child_of, turn}
 use Rattle.cert_writer.proofs.walk.+write_box.Goals as goal
@@ -62,10 +63,7 @@ loop-i-preserved g t c = record {
       (c.in_ok-next.ensures.ok q lines states w.place is
       (child_of x c.args.path c.in_ok-own.own.known p old c.in_ok-own.own.pieces c.loop-i.i
       c.loop-i.next mid w c.child.result c.child.ensures _ refl));
-  others = λ other n. c.in_ok-next.ensures.others other n ∙ c.loop-i.invariant.others other n;
-  later = let a = c.in_ok-next.ensures.cause.later in
-      let b = c.loop-i.invariant.later in omega (arith, a, b);
-  quiet = c.in_ok-next.ensures.quiet ∙ c.loop-i.invariant.quiet;
+  only_writes = only_writes_on c.loop-i.invariant.only_writes c.in_ok-next.ensures.only_writes;
 }
 
 pub returns-clause-ok : goal.returns-clause-ok

@@ -1,4 +1,5 @@
-use Rattle.std.proofs.Common.{◌≡◌, ◌≢◌, ◌≤◌, ℕ, List, length, ◌-◌}
+use Rattle.std.proofs.Common.{length, ◌-◌}
+use Rattle.whole_texts.specs.OnlyWrites.{OnlyWrites}
 use Rattle.cert_writer.specs.Courses.{OnCourses, HasDone}
 use Rattle.cert_writer.proofs.walk.+write_box.Given as goal
 
@@ -10,8 +11,5 @@ invariant-loop-i g l = record {
   done : OnCourses l.uni l.plan l.rounds l.path l.fn.parent l.fn.seen (λ c p.
       HasDone c l.path l.own.known p (g.F.Folder.told l.fn.folder l.name) l.own.pieces l.i l.next
       (g.F.Folder.told l.folder l.name));
-  others : (other : List ℕ) → other ≢ l.name
-      → g.F.Folder.told l.folder other ≡ g.F.Folder.told l.fn.folder other;
-  later : g.F.Folder.write_faults l.fn.folder ≤ g.F.Folder.write_faults l.folder;
-  quiet : g.F.Folder.read_faults l.folder ≡ g.F.Folder.read_faults l.fn.folder;
+  only_writes : OnlyWrites g.F.Folder l.name l.fn.folder l.folder ⊥;
 }

@@ -17,8 +17,8 @@ returns-in_err-fresh-clause-err g c =
     let s = c.args.script.now in
     let u = c.args.universe.now in
     let t = subject_in s u c.args.marks.now in
-    let is = is_subject s c.requires.universe.0 u c.args.marks.now c.requires.universe.1
-    c.requires.marks in
+    let made = c.requires.planned.universe in
+    let is = is_subject s made.0 u c.args.marks.now made.1 c.requires.marks in
     let old = g.F.Folder.told c.args.folder.now c.args.name.now in
     let new = g.F.Folder.told c.fresh.new.self c.args.name.now in
     on_err c.from_residual.result (OfProved s c.args.rounds c.args.depth
@@ -37,8 +37,8 @@ returns-in_err-spell_head-clause-err g c =
     let s = c.args.script.now in
     let u = c.args.universe.now in
     let t = subject_in s u c.args.marks.now in
-    let is = is_subject s c.requires.universe.0 u c.args.marks.now c.requires.universe.1
-    c.requires.marks in
+    let made = c.requires.planned.universe in
+    let is = is_subject s made.0 u c.args.marks.now made.1 c.requires.marks in
     let old = g.F.Folder.told c.args.folder.now c.args.name.now in
     let new = g.F.Folder.told c.fresh.new.self c.args.name.now in
     on_err c.from_residual-in_err-spell_head.result
@@ -60,7 +60,7 @@ spell_head-requires-clause-few g c =
 pub spell_head-requires-clause-cases : goal.spell_head-requires-clause-cases
 spell_head-requires-clause-cases g c =
     let s = c.args.script.now in
-    let many = as_many s c.args.depth (cases_of s) c.args.cases.now c.requires.cases in
+    let many = as_many s c.args.depth (cases_of s) c.args.cases.now c.requires.planned.cases in
     let few = c.script_has_room.ensures.cases.few in
     omega (arith, many, few)
 
@@ -69,8 +69,8 @@ returns-in_err-append_all-clause-err g c =
     let s = c.args.script.now in
     let u = c.args.universe.now in
     let t = subject_in s u c.args.marks.now in
-    let is = is_subject s c.requires.universe.0 u c.args.marks.now c.requires.universe.1
-    c.requires.marks in
+    let made = c.requires.planned.universe in
+    let is = is_subject s made.0 u c.args.marks.now made.1 c.requires.marks in
     let old = g.F.Folder.told c.args.folder.now c.args.name.now in
     let fresh = g.F.Folder.told c.fresh.new.self c.args.name.now in
     let new = g.F.Folder.told c.append_all.new.folder c.args.name.now in
@@ -84,7 +84,7 @@ returns-in_err-append_all-clause-err g c =
     lines few proved in
     let bytes = head_spelled w c.dag.result.now c.args.marks.now (length c.args.cases.now)
     c.new-bytes.result.items c.spell_head.new.out.items c.new-bytes.ensures.items c.dag.ensures
-    refl (as_planned s c.args.depth c.args.cases.now u c.args.marks.now c.requires.cases)
+    refl (as_planned s c.args.depth c.args.cases.now u c.args.marks.now c.requires.planned.cases)
     c.in_ok-spell_head.ensures in
     half_headed c.writing_goes_on.ensures s w is st old fresh new
     c.in_ok-fresh.ensures.ok
@@ -96,8 +96,8 @@ write_cases-requires-clause-stands g c =
     let s = c.args.script.now in
     let u = c.args.universe.now in
     let t = subject_in s u c.args.marks.now in
-    let is = is_subject s c.requires.universe.0 u c.args.marks.now c.requires.universe.1
-    c.requires.marks in
+    let made = c.requires.planned.universe in
+    let is = is_subject s made.0 u c.args.marks.now made.1 c.requires.marks in
     let p = c.requires.proved in
     let w = task s (bare u) c.args.rounds c.args.depth t p.1 in
     let st = start c.writing_goes_on.ensures c.scripts_have_roots.ensures.roots
@@ -111,8 +111,8 @@ returns-in_err-seen-clause-err g c =
     let s = c.args.script.now in
     let u = c.args.universe.now in
     let t = subject_in s u c.args.marks.now in
-    let is = is_subject s c.requires.universe.0 u c.args.marks.now c.requires.universe.1
-    c.requires.marks in
+    let made = c.requires.planned.universe in
+    let is = is_subject s made.0 u c.args.marks.now made.1 c.requires.marks in
     let old = g.F.Folder.told c.args.folder.now c.args.name.now in
     let fresh = g.F.Folder.told c.fresh.new.self c.args.name.now in
     let mid = g.F.Folder.told c.append_all.new.folder c.args.name.now in
@@ -127,7 +127,7 @@ returns-in_err-seen-clause-err g c =
     lines few proved in
     let bytes = head_spelled w c.dag.result.now c.args.marks.now (length c.args.cases.now)
     c.new-bytes.result.items c.spell_head.new.out.items c.new-bytes.ensures.items c.dag.ensures
-    refl (as_planned s c.args.depth c.args.cases.now u c.args.marks.now c.requires.cases)
+    refl (as_planned s c.args.depth c.args.cases.now u c.args.marks.now c.requires.planned.cases)
     c.in_ok-spell_head.ensures in
     broken_off c.writing_goes_on.ensures s w is st old fresh mid new
     c.in_ok-fresh.ensures.ok
@@ -140,8 +140,8 @@ returns-in_err-write_end-clause-err g c =
     let s = c.args.script.now in
     let u = c.args.universe.now in
     let t = subject_in s u c.args.marks.now in
-    let is = is_subject s c.requires.universe.0 u c.args.marks.now c.requires.universe.1
-    c.requires.marks in
+    let made = c.requires.planned.universe in
+    let is = is_subject s made.0 u c.args.marks.now made.1 c.requires.marks in
     let old = g.F.Folder.told c.args.folder.now c.args.name.now in
     let fresh = g.F.Folder.told c.fresh.new.self c.args.name.now in
     let mid = g.F.Folder.told c.append_all.new.folder c.args.name.now in
@@ -157,7 +157,7 @@ returns-in_err-write_end-clause-err g c =
     lines few proved in
     let bytes = head_spelled w c.dag.result.now c.args.marks.now (length c.args.cases.now)
     c.new-bytes.result.items c.spell_head.new.out.items c.new-bytes.ensures.items c.dag.ensures
-    refl (as_planned s c.args.depth c.args.cases.now u c.args.marks.now c.requires.cases)
+    refl (as_planned s c.args.depth c.args.cases.now u c.args.marks.now c.requires.planned.cases)
     c.in_ok-spell_head.ensures in
     not_ended c.writing_goes_on.ensures s w is st old fresh mid all new
     c.in_ok-seen.seen c.in_ok-fresh.ensures.ok
@@ -170,8 +170,8 @@ returns-clause-ok g c = λ boxes lines few proved.
     let s = c.args.script.now in
     let u = c.args.universe.now in
     let t = subject_in s u c.args.marks.now in
-    let is = is_subject s c.requires.universe.0 u c.args.marks.now c.requires.universe.1
-    c.requires.marks in
+    let made = c.requires.planned.universe in
+    let is = is_subject s made.0 u c.args.marks.now made.1 c.requires.marks in
     let old = g.F.Folder.told c.args.folder.now c.args.name.now in
     let fresh = g.F.Folder.told c.fresh.new.self c.args.name.now in
     let mid = g.F.Folder.told c.append_all.new.folder c.args.name.now in
@@ -184,7 +184,7 @@ returns-clause-ok g c = λ boxes lines few proved.
     lines few proved in
     let bytes = head_spelled w c.dag.result.now c.args.marks.now (length c.args.cases.now)
     c.new-bytes.result.items c.spell_head.new.out.items c.new-bytes.ensures.items c.dag.ensures
-    refl (as_planned s c.args.depth c.args.cases.now u c.args.marks.now c.requires.cases)
+    refl (as_planned s c.args.depth c.args.cases.now u c.args.marks.now c.requires.planned.cases)
     c.in_ok-spell_head.ensures in
     completed c.writing_goes_on.ensures s w is st old fresh mid all new
     c.in_ok-seen.seen c.in_ok-fresh.ensures.ok

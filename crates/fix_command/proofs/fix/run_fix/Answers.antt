@@ -28,7 +28,7 @@ returns-in-Ok-save g c =
           (subst (IsText 65537 (old c.args.request.program.now)) (search rules)
           c.in-Ok.ensures.text)
           outcome.status outcome.line.items left c.in-Ok-outcome_of.ensures
-          (λ other n. c.in-Ok-save.ensures.others other n ∙ c.in-Ok.ensures.told other)
+          (λ other n. c.in-Ok-save.ensures.only_writes.others other n ∙ c.in-Ok.ensures.told other)
           (subst (λ o. Leaves left o (new name))
           (c.in-Ok.ensures.told name) c.in-Ok-save.ensures.ok)
           (subst (λ line. IsPut outcome.status line (g.O.Sink.taken c.args.out.now)
@@ -49,10 +49,10 @@ returns g c =
           (subst (IsText 65537 (old c.args.request.program.now)) (search rules)
           c.in-Ok.ensures.text)
           outcome.status outcome.line.items left c.in-Ok-outcome_of.ensures
-          (λ other n. c.in-Err-save.ensures.others other n ∙ c.in-Ok.ensures.told other)
+          (λ other n. c.in-Err-save.ensures.only_writes.others other n ∙ c.in-Ok.ensures.told other)
           (subst (λ o. Leaves (begun left) o (new name))
           (c.in-Ok.ensures.told name) c.in-Err-save.ensures.err)
           refl refl
           (subst (λ n. Rose n (g.F.Folder.write_faults c.save.new.folder)) c.in-Ok.ensures.quiet
-          c.in-Err-save.ensures.cause.failed);
+          (c.in-Err-save.ensures.only_writes.cause refl));
     }

@@ -1,14 +1,27 @@
-use Rattle.std.specs.Prelude.{◌≡◌, List, IfOk, map}
-use Rattle.std.proofs.Common.{subst}
+use Rattle.std.specs.Prelude.{◌≡◌, List, All, IfOk, length, map}
+use Rattle.std.proofs.Common.{ap, sym, subst, ◌∙◌}
+use Rattle.rewrite_hints.specs.script_hints.Needs.{HasNormalBounds}
+use Rattle.point_values.specs.Among.{AreAmong}
 use Rattle.point_values.specs.Rows.{Row, assignment_of}
 use Rattle.point_values.specs.Evaluation.{Subject, evaluation_of, IsNarrow}
 use Rattle.point_eval.proofs.Lasting.{cases_among, within_of, judged_is}
 use Rattle.point_eval.proofs.evaluation.evaluate_cases.Goals as goal
 
-pub evaluate-requires-clause-among : goal.evaluate-requires-clause-among
-evaluate-requires-clause-among c = rw c.hypotheses.ensures.value
-    (cases_among c.args.script.now (map (λ case. case.items) c.args.listed.now)
-    c.laws.ensures.cases c.requires.cases)
+pub evaluate-requires-clause-can_evaluate : goal.evaluate-requires-clause-can_evaluate
+evaluate-requires-clause-can_evaluate c =
+    let s = c.args.script.now in
+    let cases = map (λ case. case.items) c.args.listed.now in
+    let hints : c.as_slice.result.now ≡ c.hints.result.now.rewrites = cc in
+    let same : c.as_slice.result.now ≡ s.hints.rewrites = cc in
+    record {
+      assumed = c.hypotheses.ensures.normal;
+      in_cases = c.requires.normal;
+      among = subst (λ claims. AreAmong claims cases) (sym c.hypotheses.ensures.value)
+          (cases_among s cases c.laws.ensures.cases c.requires.cases);
+      claimed = c.goals.ensures.normal;
+      hinted = subst (All HasNormalBounds) (sym hints) c.hints.ensures.normal;
+      marked = c.requires.marks.count ∙ ap length (sym same);
+    }
 
 pub evaluate-requires-clause-within : goal.evaluate-requires-clause-within
 evaluate-requires-clause-within c = within_of c.args.script.now c.nodes.result.now

@@ -8,7 +8,7 @@ returns-clause-text c = subst (λ b. IfOk c.lines_of.result (λ text. text.items
     (lines_are c.args.dag.now c.args.hypotheses.now (map (λ case. case.items) c.args.cases.now)
     c.args.goals.now c.args.hints.now c.args.marks.now c.args.rows.now _ _ _ _
     c.deref.ensures.value c.deref-2.ensures.value c.in_ok-entries.ensures.values
-    c.in_ok-values.ensures.values c.requires.within c.requires.among)
+    c.in_ok-values.ensures.values c.requires.within c.requires.can_evaluate.among)
     c.lines_of.ensures.lines
 
 pub returns-clause-narrow : goal.returns-clause-narrow

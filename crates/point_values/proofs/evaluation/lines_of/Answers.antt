@@ -8,4 +8,4 @@ pub some_case_is_met-claims_hold-requires-clause-narrow :
 some_case_is_met-claims_hold-requires-clause-narrow c =
     narrow_cases (values_of c.args.values.now) c.args.hypotheses.now
     (map (λ case. case.items) c.args.cases.now) c.in_ok-put_hypotheses.ensures.narrow
-    c.requires.among
+    c.requires.can_evaluate.among

@@ -1,4 +1,4 @@
-use Rattle.std.proofs.Common.{refl, ap}
+use Rattle.std.proofs.Common.{Some, refl, sym, ap, ◌∙◌}
 use Rattle.script_answers.specs.Answers.{options_from}
 use Rattle.prove_command.specs.Certified.{name_of}
 use Rattle.prove_command.proofs.Left.{is_proved, is_certified, none_asked}
@@ -22,3 +22,14 @@ returns-clause-made g c =
     (g.F.Folder.told c.args.folder.now) (g.F.Folder.told c.write_proved-written.new.folder)
     refl refl (ap name_of c.in-Some.is)
     c.write_proved-written.ensures.ok c.write_proved-written.ensures.err
+
+pub returns-clause-others : goal.returns-clause-others
+returns-clause-others g c = λ other n.
+    c.write_proved-written.ensures.only_writes.others other
+    (λ e. n (ap name_of c.in-Some.is ∙ ap Some (sym e)))
+
+pub returns-clause-cause : goal.returns-clause-cause
+returns-clause-cause g c = record {
+  later = c.write_proved-written.ensures.only_writes.later;
+  failed = c.write_proved-written.ensures.only_writes.cause;
+}

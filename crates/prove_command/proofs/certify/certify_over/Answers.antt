@@ -10,8 +10,11 @@ prove_over-requires-clause-cases g c κs within =
     subst (λ (cases : List Case). AreCases s c.args.options.depth (cases_of s) cases)
     (sym c.deref.ensures.value) c.in_ok-cases.ensures
 
-pub certify_found-requires-clause-cases : goal.certify_found-requires-clause-cases
-certify_found-requires-clause-cases g c =
+pub certify_found-requires-clause-planned : goal.certify_found-requires-clause-planned
+certify_found-requires-clause-planned g c =
     let s = c.args.script.now in
-    subst (λ (cases : List Case). AreCases s c.args.options.depth (cases_of s) cases)
-    (sym c.deref-2.ensures.value) c.in_ok-cases.ensures
+    record {
+      universe = c.in_ok-found.ensures.universe;
+      cases = subst (λ (cases : List Case). AreCases s c.args.options.depth (cases_of s) cases)
+          (sym c.deref-2.ensures.value) c.in_ok-cases.ensures;
+    }

@@ -1,5 +1,6 @@
-use Rattle.std.proofs.Common.{◌∙◌, arith}
+use Rattle.std.proofs.Common.{Ok, arith}
 use Rattle.std.proofs.Math.Seq.{take-add}
+use Rattle.whole_texts.specs.OnlyWrites.{only_writes_on, only_writes_by}
 use Rattle.whole_texts.proofs.Taking.{on_failure}
 use Rattle.whole_texts.proofs.write.append_all.Goals as goal
 use Rattle.whole_texts.specs.Pieces.{appends_both, rest_of}
@@ -14,7 +15,8 @@ loop-done-preserved g c = record {
   taken = rw (take-add c.loop-done.done c.in_ok-done.field-0 c.args.bytes.now)
       (appends_both _ _ _ _ _ c.loop-done.invariant.taken
       (rw rest_of at c.in_ok-done.ensures.bytes));
-  others = λ other n. c.in_ok-done.ensures.others other n ∙ c.loop-done.invariant.others other n;
-  later = omega (arith, c.in_ok-done.ensures.cause.later, c.loop-done.invariant.later);
-  quiet = c.in_ok-done.ensures.quiet ∙ c.loop-done.invariant.quiet;
+  only_writes =
+      let e = c.in_ok-done.ensures in
+      only_writes_on c.loop-done.invariant.only_writes
+      (only_writes_by (Ok c.in_ok-done.field-0) e.others e.cause e.quiet);
 }
