@@ -19,10 +19,10 @@ use Rattle.command_runs.specs.declared.status.Status.TheVariants as status
 use Rattle.joined_runs.specs.Laws.{HasWritten, HasChecked, WrittenAreAnswered}
 use Rattle.goals.specs.declared.line.Line.{Line}
 use Rattle.prove_command.specs.Command.{IsCutOff, IsCertificateOf, MakesFor, ProveFate}
-use Rattle.prove_command.specs.script_answers.Answers.{IsAnswered, options_of}
+use Rattle.script_answers.specs.Answers.{IsAnswered, options_of}
 use Rattle.check_command.specs.script_checker.Checking.{ComesFor, AreAcceptedFor}
 use Rattle.program_truths.specs.script_grammar.Spells.{View}
-use Rattle.prove_command.specs.script_answers.settler.Answers.{Options}
+use Rattle.script_answers.specs.settler.Answers.{Options}
 
 -- a told text is the one that is told
 pub told_is : {t text : Bytes} (known : Option Bytes) → known ≡ Some text

@@ -14,7 +14,7 @@ use Rattle.joined_runs.proofs.Again.{told_is}
 use Rattle.joined_runs.proofs.Programs.{answered}
 use Rattle.at_command.specs.point_text.Points.{SpellsPoint}
 use Rattle.point_values.specs.Rows.{Row, assignment_of}
-use Rattle.prove_command.specs.script_answers.Answers.{IsAnswered, options_of}
+use Rattle.script_answers.specs.Answers.{IsAnswered, options_of}
 use Rattle.program_truths.specs.script_grammar.Spells.{View, Spells, SpellsOnce}
 
 -- the script, the rows of the point, and the lines that were put

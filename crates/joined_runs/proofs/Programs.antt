@@ -15,7 +15,7 @@ use Rattle.joined_runs.specs.Laws.{HasFixed, HasProved, RunsWithin, FixedProgram
 use Rattle.joined_runs.proofs.Again.{told_is}
 use Rattle.program_truths.specs.Outputs.{OutputsLie}
 use Rattle.prove_command.specs.Command.{ProveFate}
-use Rattle.prove_command.specs.script_answers.Answers.{IsAnswered, options_of}
+use Rattle.script_answers.specs.Answers.{IsAnswered, options_of}
 use Rattle.program_truths.specs.script_grammar.Spells.{Spells as SpellsScript}
 
 -- the program that was turned, and its script

@@ -19,7 +19,7 @@ use Rattle.at_command.specs.point_text.Points.{SpellsPoint}
 use Rattle.point_values.specs.Rows.{Row, assignment_of}
 use Rattle.program_truths.specs.Outputs.{EndsWithin}
 use Rattle.prove_command.specs.Command.{IsProveRun}
-use Rattle.prove_command.specs.script_answers.Answers.{IsAnswered, options_of}
+use Rattle.script_answers.specs.Answers.{IsAnswered, options_of}
 use Rattle.check_command.specs.script_meets.Held.{AreHeld}
 
 -- A run of `prove` was answered: of a script whose text the folder told, with a certificate in a
