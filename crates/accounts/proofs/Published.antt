@@ -1,9 +1,9 @@
 -- What is published is open, and no settled box is.
-use Rattle.std.proofs.Common.{◌≡◌, ℕ, ◌+◌, ◌≤◌, Bool, true, false, cond, List, ap, arith}
+use Rattle.std.proofs.Common.{◌≡◌, ℕ, ◌+◌, ◌≤◌, cond, List, arith}
 use Rattle.accounts.specs.declared.book.OpenBox.{OpenBox}
 use Rattle.accounts.specs.Paths.{Cuts}
 use Rattle.accounts.specs.Weights.{one, times}
-use Rattle.accounts.specs.Account.{Account, if_shown, over_open}
+use Rattle.accounts.specs.Account.{Account, over_open}
 use Rattle.accounts.specs.Balance.{IsOpen, IsBalanced}
 use Rattle.accounts.specs.Published.{PublishedAreOpen, BoxesTell}
 use Rattle.accounts.specs.Sums.{one_same}

@@ -1,13 +1,12 @@
 -- Instances that have four premises at most: all but those of hints.
 use Rattle.std.specs.Prelude.{◌≡◌, ◌+◌, ◌-◌, ◌&&◌, ℕ, Bool, true, false, List, [], ◌∷◌, ◌++◌}
-use Rattle.std.specs.Prelude.{length, Option, Some, None, if◌then◌else◌}
+use Rattle.std.specs.Prelude.{Option, Some, None, if◌then◌else◌}
 use Rattle.std.proofs.Common.{arith}
 use Rattle.fx_model.specs.declared.ExprId.{ExprId}
 use Rattle.fx_model.specs.declared.Node.{Node}
 use Rattle.fx_model.specs.declared.Node.TheVariants as node
 use Rattle.settler.specs.rule_universe.expr_dag.Nodes.{place_of}
 use Rattle.facts.specs.declared.fact.Slot.TheVariants.{Bnd, Abs, Rel, Fix, Nzr}
-use Rattle.facts.specs.declared.hint.HintRow.{HintRow}
 use Rattle.facts.specs.declared.instance.Instance.{Instance}
 use Rattle.settler.specs.rule_universe.pair_closure.Closure.{Pair, is_same}
 use Rattle.settler.specs.rule_universe.pair_closure.Among.{is_among}
@@ -18,7 +17,7 @@ use Rattle.settler.specs.rule_instances.Lists as lists
 use Rattle.settler.specs.rule_instances.Found.{found, both_found, at_error, error_rules, is_sided}
 use Rattle.settler.specs.rule_instances.Found.{pair_rules, at_terms, twin_rules, apart_rules}
 use Rattle.settler.specs.rule_instances.Found.{difference_rules, operation_rules, at_pair}
-use Rattle.settler.specs.rule_instances.Found.{past_pair, past_left, past_right}
+use Rattle.settler.specs.rule_instances.Found.{past_left, past_right}
 use Rattle.settler.specs.rule_instances.InOrder.{each_at, id_at, apart, of_node, past_of, node_of}
 use Rattle.settler.specs.rule_instances.InOrder.{one_left, one_right, of_sides, of_difference}
 use Rattle.settler.specs.rule_instances.InOrder.{of_pair}

@@ -1,7 +1,7 @@
 -- How many premises the instances of hints have.
 use Rattle.std.specs.Prelude.{◌≡◌, ◌<◌, ◌≤◌, ◌+◌, ◌-◌, ◌*◌, ℕ, zero, suc, List, [], ◌∷◌, ◌++◌}
 use Rattle.std.specs.Prelude.{length, map, Some, slice_get, refl}
-use Rattle.std.proofs.Common.{arith, sym, ap, subst, ◌∙◌, inl, inr}
+use Rattle.std.proofs.Common.{arith, ap, inl, inr}
 use Rattle.std.proofs.lemmas.List.{length-append, length-map}
 use Rattle.std.proofs.lemmas.Option.{slice_get_within, slice_get_cases}
 use Rattle.fx_model.specs.declared.ExprId.{ExprId}
@@ -11,10 +11,8 @@ use Rattle.settler.specs.rule_universe.expr_dag.Nodes.{IsAt, IsLawful}
 use Rattle.facts.specs.declared.fact.Slot.TheVariants as slot
 use Rattle.facts.specs.declared.hint.HintRow.{HintRow}
 use Rattle.facts.specs.declared.instance.Instance.{Instance}
-use Rattle.settler.specs.rule_universe.pair_closure.Closure.{Pair}
 use Rattle.settler.specs.rule_instances.Slots.{need_slot, conditions}
 use Rattle.settler.specs.rule_instances.InOrder.{each_at, of_node, of_difference, of_pair, of_hint}
-use Rattle.settler.specs.rule_instances.InOrder.{instance_list}
 use Rattle.script_checker.specs.script_hints.declared.hint.Hint.{Hint}
 use Rattle.script_checker.specs.script_hints.Needs.{need_of}
 use Rattle.script_checker.specs.rewrite_hints.Divisors.{IsDivisor, AreDivisors}

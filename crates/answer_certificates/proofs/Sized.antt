@@ -1,12 +1,11 @@
 -- The universe of a script is small.
-use Rattle.std.specs.Prelude.{◌≡◌, ◌≤◌, ◌+◌, ◌*◌, ◌^◌, List, ◌++◌, length}
+use Rattle.std.specs.Prelude.{◌≡◌, ◌≤◌, ◌+◌, List, ◌++◌, length}
 use Rattle.std.proofs.Common.{arith, sym, subst}
 use Rattle.fx_model.specs.declared.ExprId.{ExprId}
 use Rattle.fx_model.specs.declared.Node.{Node}
 use Rattle.settler.specs.rule_universe.expr_dag.Nodes.{IsAt, IsLawful}
 use Rattle.facts.specs.declared.instance.Instance.{Instance}
 use Rattle.settler.specs.rule_instances.InOrder.{instance_list}
-use Rattle.script_checker.specs.script_grammar.Few.{constraints_in}
 use Rattle.settler.specs.script_truths.Truths.{UniversesExtend}
 use Rattle.settler.specs.rule_universe.Sizes.{beyond_four}
 use Rattle.answer_certificates.specs.Premises.{PremisesAreFew}

@@ -1,5 +1,5 @@
 -- How many premises instances have together beyond four each.
-use Rattle.std.specs.Prelude.{◌≡◌, ◌≤◌, ◌+◌, ◌*◌, ℕ, List, [], ◌∷◌, ◌++◌, length}
+use Rattle.std.specs.Prelude.{◌≤◌, ◌+◌, ◌*◌, List, ◌++◌, length}
 use Rattle.fx_model.specs.declared.ExprId.{ExprId}
 use Rattle.fx_model.specs.declared.Node.{Node}
 use Rattle.settler.specs.rule_universe.expr_dag.Nodes.{IsAt, IsLawful}

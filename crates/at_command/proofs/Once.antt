@@ -1,7 +1,7 @@
 -- One status and one text of lines are defined for a text and a point.
 use Rattle.std.proofs.Common.{◌≡◌, List, Option, Some, refl, sym, ap, ◌∙◌, subst}
 use Rattle.std.proofs.lemmas.Option.{none-some}
-use Rattle.point_text.specs.script_grammar.Spells.{View, Spells, SpellsOnce}
+use Rattle.point_text.specs.script_grammar.Spells.{View, SpellsOnce}
 use Rattle.point_text.specs.script_grammar.Spells as script
 use Rattle.point_text.specs.rewrite_hints.Marks.{marks_are_one}
 use Rattle.point_text.specs.point_values.Rows.{Row, assignment_of}

@@ -4,7 +4,7 @@ ghost use Rattle.std.specs.Prelude.{OnOk, MatchOption, length};
 ghost use Rattle.box_tree.specs.Paths.{IsChild, IsPathOf};
 ghost use Rattle.bisect.specs.Trees.{tree_of, children};
 ghost use Rattle.bisect.specs.Answers.{IsAnswer};
-ghost use Rattle.bisect.specs.Walks.{Seen, boxes_from, seen_by, with_one, after};
+ghost use Rattle.bisect.specs.Walks.{Seen, StaysWithin, boxes_from, seen_by, with_one, after};
 ghost use Rattle.box_tree.specs.Pieces.{piece_count};
 ghost use Rattle.box_tree.specs.Plans.{cut_at};
 
@@ -50,8 +50,7 @@ impl Walk {
         ensures seen { OnOk result (seen_by self.new.boxes self.new.first self.new.leaves.items
             ≡ with_one (seen_by self.old.boxes self.old.first
             self.old.leaves.items) path state pieces) }
-        ensures room { self.new.boxes ≤ self.new.limit }
-        ensures limit { self.new.limit ≡ self.old.limit }
+        ensures within { StaysWithin self.old self.new }
     {
         self.boxes += 1;
         if pieces > 0 {
@@ -89,8 +88,7 @@ pub fn visit<'a, S: Settler>(
         (boxes_from (tree_of S.Entry.cut_at S.Entry.state_at) (36 - length path) path)) }
     ensures over { IfOk result (λ all. all ≡ false → walk.old.limit < walk.old.boxes
         + length (boxes_from (tree_of S.Entry.cut_at S.Entry.state_at) (36 - length path) path)) }
-    ensures room { walk.new.boxes ≤ walk.new.limit }
-    ensures limit { walk.new.limit ≡ walk.old.limit }
+    ensures within { StaysWithin walk.old walk.new }
 {
     if walk.boxes == walk.limit {
         return Ok(false);

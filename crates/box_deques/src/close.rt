@@ -3,9 +3,9 @@ ghost use Rattle.std.specs.Prelude.{◌≡◌, ◌⊎◌, ℕ, List, ◌+◌, �
 ghost use Rattle.std.specs.Prelude.{drop, All, vec_capacity, IfOk, IfErr, OnOk, sum_by};
 ghost use Rattle.crossbeam_deque.specs.Handles.{worker_deque, worker_flavor, worker_view};
 ghost use Rattle.crossbeam_deque.specs.Handles.{SameWorker};
-ghost use Rattle.box_deques.specs.Close.{writes, writes_all, AllBelow, AreHands};
+ghost use Rattle.box_deques.specs.Close.{writes, writes_all, AllBelow, IsLedgerOf};
 ghost use Rattle.box_deques.specs.Views.{with_back};
-ghost use Rattle.box_deques.specs.Rule.{paths_of, taken_by, Belongs};
+ghost use Rattle.box_deques.specs.Rule.{Belongs};
 ghost use Rattle.box_deques.specs.Seen as seen;
 ghost use Rattle.box_deques.specs.Seen.{AllPasses, Each, GaveBack, OwnIsEmpty, takes_on};
 
@@ -157,15 +157,9 @@ impl<T: Task, Q: Naming<T::World>> Lane<T, Q> {
         ensures back { IfErr result (λ e. (e.0 ≡ self) × (hands.new ≡ hands.old)) }
         ensures hands { OnOk result (GaveBack self.number hands.old hands.new) }
         // The ledger.
-        ensures pushes { IfOk result (λ e. e.ledger.pushes ≡ self.pushed) }
-        ensures whole { IfOk result
-            (λ e. e.ledger.pushes ≡ paths_of e.ledger.takes ++ e.ledger.left) }
+        ensures ledger { IfOk result (λ e. IsLedgerOf self hands.old e.ledger) }
         ensures left { IfOk result (λ e. map T.path_of e.left ≡ e.ledger.left) }
         ensures world { IfOk result (λ e. All (λ t. Belongs (T.world t) Q.world) e.left) }
-        ensures owner { IfOk result (λ e. taken_by self.number 0 e.ledger.takes ≡ self.takes) }
-        ensures takes { IfOk result (λ e. AreHands self.number hands.old e.ledger.takes) }
-        ensures workers { IfOk result (λ e.
-            All (λ take. (take.0 ≡ self.number) ⊎ (take.0 < length hands.old)) e.ledger.takes) }
     {
         let room = self.pushed.len();
         let Ok(mut takes) = Vec::with_capacity(alloc, room) else {

@@ -1,5 +1,5 @@
 -- Steps that come by instances, and those of rounds after one another.
-use Rattle.std.specs.Prelude.{◌≡◌, ◌≢◌, ◌⊎◌, ◌<◌, ◌≤◌, ◌+◌, ◌*◌, ◌-◌, ℕ, zero, suc, List, [], ◌∷◌}
+use Rattle.std.specs.Prelude.{◌≡◌, ◌⊎◌, ◌≤◌, ◌+◌, ◌-◌, ℕ, zero, suc, List, [], ◌∷◌}
 use Rattle.std.specs.Prelude.{◌++◌, length, map, Option, Some, None, slice_get, refl}
 use Rattle.std.specs.List.{AllByRecursion}
 use Rattle.std.proofs.Common.{arith, sym, ap, subst, ◌∙◌, inl, inr, ⊎_elim, append_assoc}
@@ -11,7 +11,6 @@ use Rattle.facts.specs.declared.instance.Instance.{Instance}
 use Rattle.facts.specs.Order.{slot_of}
 use Rattle.facts.specs.CommonParts.{all_as, all_last}
 use Rattle.saturate.specs.theorem_list.Concludes.{concludes}
-use Rattle.saturate.specs.derivation.Derivations.{At}
 use Rattle.saturate.specs.derivation.Rounds.{Reads, conclusion}
 use Rattle.saturate.specs.derivation.Parts.{slot_cases, conclusion_reads}
 use Rattle.tree_certificates.specs.cert_bytes.declared.item.StepRow.{StepRow}
@@ -24,9 +23,8 @@ use Rattle.box_trace.specs.declared.ends.Found.{Found}
 use Rattle.box_trace.specs.Tables.{fact_of, number_of, number_or, row_of, row_in, cited_at}
 use Rattle.box_trace.specs.Tables.{known_at, step_at, place_in}
 use Rattle.box_trace.specs.Logs.{kept_in, IsStep, Comes, IsRound, more_by}
-use Rattle.saturate.specs.rule_universe.Sizes.{beyond_four}
-use Rattle.box_trace.specs.Rounds.{premises_in, beyond_in, premises_a_round, IsStepIn, IsEarlier}
-use Rattle.box_trace.specs.Rounds.{IsByInstance, IsRoundOf, AreRounds, IsGivenStep, AreGiven}
+use Rattle.box_trace.specs.Rounds.{premises_in, beyond_in, IsStepIn, IsEarlier}
+use Rattle.box_trace.specs.Rounds.{IsByInstance, IsRoundOf, AreRounds, IsGivenStep}
 use Rattle.box_trace.specs.Rounds.{AreByRounds, AddsSteps, BeginsBy, HasRounds}
 use Rattle.tree_certificates.specs.Cited.{mapped}
 use Rattle.tree_certificates.specs.Coming.{coming}

@@ -1,6 +1,6 @@
 -- A fact that comes to a log keeps it a log: its steps are accepted, and each fact that is known
 -- has its step.
-use Rattle.std.specs.Prelude.{◌≡◌, ◌<◌, ◌≤◌, ◌+◌, ◌==◌, ℕ, false, List, [], ◌∷◌, ◌++◌, length}
+use Rattle.std.specs.Prelude.{◌≡◌, ◌<◌, ◌≤◌, ◌+◌, ◌==◌, ℕ, false, List, [], ◌∷◌, length}
 use Rattle.std.specs.Prelude.{Option, Some, slice_get, map, refl}
 use Rattle.std.proofs.Common.{sym, ◌∙◌, ap, subst, inl, inr, arith}
 use Rattle.std.proofs.lemmas.List.{length-append}
@@ -25,7 +25,7 @@ use Rattle.box_trace.specs.declared.known.Known.{Known}
 use Rattle.box_trace.specs.declared.log.Log.{Log}
 use Rattle.tree_certificates.specs.Sections.{behind, AreAccepted, ArePlaces}
 use Rattle.tree_certificates.specs.Writing.{IsSlotKnown, IsWritable, givens_of}
-use Rattle.tree_certificates.specs.Traces.{HasFields, HaveFields}
+use Rattle.tree_certificates.specs.Traces.{HaveFields}
 use Rattle.box_trace.specs.Tables.{fact_of, number_or, cited_at, known_at, place_in, HasRows}
 use Rattle.box_trace.specs.Logs.{kept_in, IsStep, Comes, InSection, CanCite, GoesOnFrom}
 use Rattle.tree_certificates.specs.Cited.{step_kept, step_new, below_behind, behind_both}

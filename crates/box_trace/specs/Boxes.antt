@@ -2,13 +2,8 @@
 use Rattle.std.specs.Prelude.{◌≡◌, ◌<◌, ◌≤◌, ◌+◌, ◌*◌, ℕ, List, [], ◌∷◌, length, Option, Some, None}
 use Rattle.std.specs.Borrow.{Bor}
 use Rattle.facts.specs.declared.fact.Fact.{Fact}
-use Rattle.facts.specs.declared.fact.Fact.TheVariants as fact
-use Rattle.facts.specs.declared.fact.Slot.TheVariants as slot
-use Rattle.saturate.specs.derivation.Derivations.{At}
 use Rattle.saturate.specs.derivation.Known.{Piece, IsTableAt}
-use Rattle.saturate.specs.derivation.Exists.{joined}
 use Rattle.tree_certificates.specs.cert_checker.Open.{Numbered}
-use Rattle.tree_certificates.specs.cert_checker.Steps.{met_with, IsEnough}
 use Rattle.saturate.specs.rule_universe.Worlds.{World}
 use Rattle.saturate.specs.Universes.{setting_of}
 use Rattle.box_trace.specs.declared.known.Known.{Known}

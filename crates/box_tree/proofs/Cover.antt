@@ -1,18 +1,18 @@
 -- The pieces of a box cover it, and lie in it.
-use Rattle.std.specs.Prelude.{◌≡◌, ℕ, zero, suc, ◌<◌, ◌+◌, ◌-◌, ◌==◌, ◌&&◌, ◌||◌, nat_lt, Bool}
+use Rattle.std.specs.Prelude.{◌≡◌, ℕ, zero, suc, ◌<◌, ◌+◌, ◌-◌, ◌&&◌, nat_lt}
 use Rattle.std.specs.Prelude.{true, false, List, [], ◌∷◌, ◌++◌, length, drop, Option, Some, None}
 use Rattle.std.specs.Prelude.{IfSome, if◌then◌else◌, refl, ◌⊎◌, ⊤, slice_index_or}
 use Rattle.std.specs.List.{AllByRecursion}
 use Rattle.std.specs.Option.{option_map, IsSomeAnd}
-use Rattle.std.proofs.Common.{eq-eqb, sym, ap, ◌∙◌, subst, arith, inl, inr}
-use Rattle.std.proofs.lemmas.Bool.{eqb-true, and_parts}
+use Rattle.std.proofs.Common.{sym, ap, ◌∙◌, subst, arith, inl, inr}
+use Rattle.std.proofs.lemmas.Bool.{and_parts}
 use Rattle.script_hints.specs.fx_model.declared.ExprId.{ExprId}
 use Rattle.script_hints.specs.fx_model.Fraction.{Fraction, ◌≤ℚ◌, lt_le, le_refl, le_trans, le_or_lt}
 use Rattle.script_hints.specs.fx_model.Enclosure.{Lies}
 use Rattle.script_hints.specs.dyadic.declared.number.Dyadic.{Dyadic}
 use Rattle.script_hints.specs.dyadic.declared.number.End.TheVariants as end
 use Rattle.script_hints.specs.dyadic.Values.{value_of}
-use Rattle.script_hints.specs.dyadic.Rising.{point_of, IsRising, IsAboveLast, rising_more}
+use Rattle.script_hints.specs.dyadic.Rising.{IsRising, rising_more}
 use Rattle.script_hints.specs.facts.Order.{is_same}
 use Rattle.script_hints.specs.interval.declared.interval.Interval.{Interval}
 use Rattle.script_hints.specs.interval.Intervals.{range_of}
@@ -22,7 +22,7 @@ use Rattle.script_hints.specs.declared.hint.Cutting.{Cutting}
 use Rattle.box_tree.specs.declared.next.Next.{Next}
 use Rattle.box_tree.specs.declared.next.Next.TheVariants as next
 use Rattle.box_tree.specs.declared.range.SplitRange.{SplitRange}
-use Rattle.box_tree.specs.Ranges.{IsOrdered, IsWithin, is_less, is_inside, range_in, put_range}
+use Rattle.box_tree.specs.Ranges.{IsOrdered, IsWithin, is_inside, range_in, put_range}
 use Rattle.box_tree.specs.Points.{is_above_last, with_point, with_points, asked_points, cut_points}
 use Rattle.box_tree.specs.Points.{half_point, piece_of}
 use Rattle.box_tree.specs.Nexts.{IsWithinNext}
@@ -37,7 +37,7 @@ use Rattle.box_tree.proofs.Put.{range_ordered, put_ordered}
 use Rattle.box_tree.proofs.Within.{forced_step, piece_ordered, forced_within, half_within}
 use Rattle.script_hints.specs.facts.CommonParts.{at_option, expr_same, same_itself}
 use Rattle.script_hints.specs.facts.Held.{some-and}
-use Rattle.box_tree.specs.InRanges.{at_bool, lt_in, above_in, range_var, below_append}
+use Rattle.box_tree.specs.InRanges.{at_bool, above_in, range_var, below_append}
 
 -- ---- one range
 -- some piece of a range has each of its values

@@ -2,7 +2,7 @@
 use Rattle.std.specs.Prelude.{◌≡◌, ℕ, true, List, [], ◌∷◌, Option, Some, None, if◌then◌else◌, refl}
 use Rattle.std.specs.List.{AllByRecursion}
 use Rattle.std.specs.Option.{IsSomeAnd}
-use Rattle.std.proofs.Common.{sym, ap, subst}
+use Rattle.std.proofs.Common.{sym, subst}
 use Rattle.script_hints.specs.fx_model.declared.ExprId.{ExprId}
 use Rattle.script_hints.specs.fx_model.declared.Node.{Node}
 use Rattle.script_hints.specs.fx_model.Enclosure.{Lies}

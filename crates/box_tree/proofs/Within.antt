@@ -1,5 +1,5 @@
 -- Points lie in the ranges that they cut, and rise.
-use Rattle.std.specs.Prelude.{◌≡◌, ℕ, zero, suc, ◌<◌, ◌+◌, Bool, true, false, ◌&&◌, nat_lt, List}
+use Rattle.std.specs.Prelude.{◌≡◌, ℕ, zero, suc, ◌+◌, true, ◌&&◌, nat_lt, List}
 use Rattle.std.specs.Prelude.{[], ◌∷◌, ◌++◌, length, Option, Some, None, IfSome, if◌then◌else◌}
 use Rattle.std.specs.Prelude.{refl, ◌⊎◌, slice_index_or}
 use Rattle.std.specs.List.{AllByRecursion}
@@ -23,7 +23,6 @@ use Rattle.box_tree.specs.Points.{half_point, piece_of}
 use Rattle.box_tree.specs.Nexts.{IsWithinNext}
 use Rattle.box_tree.specs.Regions.{PlanParts, Region, points_in, forced_or, next_forced, half_in}
 use Rattle.box_tree.specs.Regions.{halved_or, next_half, turned, half_of}
-use Rattle.box_tree.proofs.Near.{inside_in}
 use Rattle.box_tree.specs.InRanges.{at_bool, within_at, append_within, inside_within}
 
 -- ---- each piece's ends are in order

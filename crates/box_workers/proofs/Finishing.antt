@@ -4,12 +4,8 @@ use Rattle.std.proofs.Common.{length, All, Option, Some, MatchOption, sym, refl,
 use Rattle.std.proofs.Common.{arith, eq-eqb}
 use Rattle.std.proofs.lemmas.List.Elements.{All-head, All-tail, All-cons, All-nil, All-append}
 use Rattle.accounts.specs.Weights.{total, kids}
-use Rattle.bisect.specs.Trees.{Tree, children, child_count, all_pieces}
+use Rattle.bisect.specs.Trees.{Tree, child_count, all_pieces}
 use Rattle.bisect.specs.Walks.{IsListed}
-use Rattle.bisect.specs.declared.settler.State.{State}
-use Rattle.bisect.specs.declared.settler.State.TheVariants as state
-use Rattle.accounts.specs.box_tree.declared.cut.Cut.{Cut}
-use Rattle.accounts.specs.box_tree.declared.cut.Cut.TheVariants as cut
 use Rattle.accounts.specs.box_tree.Pieces.{piece_count}
 use Rattle.box_workers.specs.declared.fate.Held.{Held}
 use Rattle.box_workers.proofs.Whole.{below_law}

@@ -4,9 +4,10 @@ use Rattle.std.proofs.Common.{take, drop, slice_index_or, sym, refl, ap, ◌∙�
 use Rattle.std.proofs.Common.{inr, Some, length-set, get_or-set_same, get_or-set_other}
 use Rattle.std.proofs.lemmas.Bool.Decides.{eqb_tells}
 use Rattle.std.proofs.lemmas.List.Elements.{All-weaker}
+use Rattle.fx_edge.specs.declared.ledger.Ledger.{Ledger}
 use Rattle.accounts.specs.Weights.{total}
-use Rattle.box_deques.specs.Close.{AreHands}
-use Rattle.box_deques.specs.Rule.{Gone, taken_by, paths_of}
+use Rattle.box_deques.specs.Close.{AreHands, IsLedgerOf}
+use Rattle.box_deques.specs.Rule.{Gone, taken_by}
 use Rattle.box_deques.specs.Seen.{Lane, Seat, Hand, Name, no_seat, seat_at, hand_with, without_pass}
 use Rattle.box_deques.specs.Seen.{AllPasses, GaveBack}
 use Rattle.box_workers.specs.Joins.{no_hand, taken_of_lane, lanes_pushed, lanes_took, CanClose}
@@ -99,11 +100,8 @@ module _ {E : Type 0} (all : List Lane) (first : List Hand) (j : ℕ) (old new :
     (hands hands' : List Hand) (left stayed : List (BoxTask E)) (out : old ≡ l ∷ new)
     (can : CanCloseAll j old hands) (so_far : ClosedSoFar all first j old hands left)
     (gave : GaveBack l.number hands hands') (long : length hands' ≡ length hands)
-    (pushes : List (List ℕ)) (takes : List Gone) (stay : List (List ℕ))
-    (are_pushes : pushes ≡ l.pushed) (whole : pushes ≡ paths_of takes ++ stay)
-    (paths : map (λ (b : BoxTask E). b.path) stayed ≡ stay)
-    (owner : taken_by l.number 0 takes ≡ l.takes) (are : AreHands l.number hands takes)
-    (workers : All (λ e. (e.0 ≡ l.number) ⊎ (e.0 < length hands)) takes) where
+    (ledger : Ledger) (is : IsLedgerOf l hands ledger)
+    (paths : map (λ (b : BoxTask E). b.path) stayed ≡ ledger.left) where
   here : CanClose j l hands × CanCloseAll (j + 1) new hands
   here = subst (λ (ls : List Lane). CanCloseAll j ls hands) out can
 
@@ -118,28 +116,34 @@ module _ {E : Type 0} (all : List Lane) (first : List Hand) (j : ℕ) (old new :
   at_hand e (inl own) = let s = same in let b = here.0.below in omega arith
   at_hand e (inr hand) = hand
 
-  pub close_next : CanCloseAll (j + 1) new hands'
+  close_next : CanCloseAll (j + 1) new hands'
   close_next = can_close_all_stays j l.name hands hands' gave_here long here.0.passes
       (j + 1) new (omega arith) here.1
 
-  pub closed_one : ClosedSoFar all first (j + 1) new hands' (left ++ stayed)
+  closed_one : ClosedSoFar all first (j + 1) new hands' (left ++ stayed)
   closed_one h =
       let before = so_far h in
       let a : lanes_took h j old hands ≡ lanes_took h j (l ∷ new) hands =
       ap (λ (ls : List Lane). lanes_took h j ls hands) out in
       let b : lanes_pushed h old ≡ lanes_pushed h (l ∷ new) = ap (lanes_pushed h) out in
       let t = lanes_took_same j l.name hands hands' gave_here long here.0.passes h (j + 1) new in
+      let takes : List Gone = ledger.takes in
       let o : taken_by j 0 takes ≡ l.takes =
-      subst (λ (n : ℕ). taken_by n 0 takes ≡ l.takes) same owner in
-      let r : AreHands j hands takes = subst (λ (n : ℕ). AreHands n hands takes) same are in
+      subst (λ (n : ℕ). taken_by n 0 takes ≡ l.takes) same is.owner in
+      let r : AreHands j hands takes = subst (λ (n : ℕ). AreHands n hands takes) same is.takes in
       let below : All (λ (e : Gone). e.0 < length hands) takes =
       All-weaker (λ (e : Gone). (e.0 ≡ l.number) ⊎ (e.0 < length hands))
-      (λ (e : Gone). e.0 < length hands) at_hand takes workers in
-      let ledger =
-      ledger_total h j hands l.takes pushes takes stay here.0.below whole below o r here.0.own in
-      let p : total h pushes ≡ total h l.pushed =
-      ap (λ (ps : List (List ℕ)). total h ps) are_pushes in
-      let s : total (λ (b : BoxTask E). h b.path) stayed ≡ total h stay = sym (total_map h
+      (λ (e : Gone). e.0 < length hands) at_hand takes is.workers in
+      let all = ledger_total h j hands l.takes ledger.pushes takes ledger.left here.0.below
+      is.whole below o r here.0.own in
+      let p : total h ledger.pushes ≡ total h l.pushed =
+      ap (λ (ps : List (List ℕ)). total h ps) is.pushes in
+      let s : total (λ (b : BoxTask E). h b.path) stayed ≡ total h ledger.left = sym (total_map h
       (λ (b : BoxTask E). b.path) stayed) ∙ ap (λ (ps : List (List ℕ)). total h ps) paths in
       let c = total_append (λ (b : BoxTask E). h b.path) left stayed in
       omega arith
+
+  -- one lane more is closed, and the others can be closed still
+  pub close_one : ClosedSoFar all first (j + 1) new hands' (left ++ stayed)
+      × CanCloseAll (j + 1) new hands'
+  close_one = (closed_one, close_next)

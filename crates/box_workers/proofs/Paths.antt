@@ -1,9 +1,9 @@
 -- Paths of a plan.
-use Rattle.std.proofs.Common.{◌≡◌, ◌≢◌, ◌⊎◌, inl, inr, ℕ, zero, suc, ◌<◌, ◌≤◌, List, [], ◌∷◌, ◌++◌}
-use Rattle.std.proofs.Common.{sym, refl, ap, ◌∙◌, subst, append_assoc, arith}
+use Rattle.std.proofs.Common.{◌≡◌, inl, inr, ℕ, ◌<◌, List, [], ◌∷◌, ◌++◌}
+use Rattle.std.proofs.Common.{sym, ap, ◌∙◌, subst, append_assoc}
 use Rattle.accounts.specs.Paths.{child}
 use Rattle.accounts.specs.box_tree.Paths.{IsPathOf}
-use Rattle.accounts.specs.Sums.{last_one, child_same, ends}
+use Rattle.accounts.specs.Sums.{child_same, ends}
 
 pub child_path : (pieces : List ℕ → ℕ) (q : List ℕ) (i : ℕ) → IsPathOf pieces q → i < pieces q
     → IsPathOf pieces (child q i)

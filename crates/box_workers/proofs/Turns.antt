@@ -1,8 +1,8 @@
 -- The turns of a worker.
-use Rattle.std.proofs.Common.{◌≡◌, ℕ, ◌+◌, ◌<◌, List, [], ◌∷◌, ◌++◌, All, Option, Some, None}
+use Rattle.std.proofs.Common.{◌≡◌, ℕ, ◌+◌, ◌<◌, List, [], ◌∷◌, ◌++◌, Option, Some, None}
 use Rattle.std.proofs.Common.{IfNone, is_some, false, sym, refl, ap, ◌∙◌, subst, append_assoc}
 use Rattle.std.proofs.Common.{arith}
-use Rattle.std.proofs.lemmas.List.Elements.{All-append, All-cons, All-nil, All-push}
+use Rattle.std.proofs.lemmas.List.Elements.{All-nil, All-push}
 use Rattle.boxcar.specs.Table.{Shelves}
 use Rattle.bisect.specs.Trees.{Tree, child_count}
 use Rattle.bisect.specs.Boxes.{leaf_at}

@@ -1,6 +1,6 @@
 -- Walks over what is left.
 use Rattle.std.proofs.Common.{◌≡◌, ℕ, zero, suc, ◌+◌, ◌-◌, List, [], ◌∷◌, ◌++◌, length, All, sym}
-use Rattle.std.proofs.Common.{refl, ap, ◌∙◌, subst, arith, Result, Ok, Err, IfOk}
+use Rattle.std.proofs.Common.{refl, ap, ◌∙◌, subst, arith}
 use Rattle.std.proofs.lemmas.List.Elements.{All-cons, All-nil, All-append}
 use Rattle.accounts.specs.Weights.{total}
 use Rattle.bisect.specs.Trees.{Tree, child_count}

@@ -7,6 +7,7 @@ ghost use Rattle.box_workers.specs.Gathered.{Went, below, held_rest, held_rest_o
 ghost use Rattle.box_workers.specs.Gathered.{records_rest, left_rest, children_rest, nothing};
 ghost use Rattle.box_workers.specs.Gathered.{IsAccount};
 ghost use Rattle.bisect.specs.Answers.{IsAnswer};
+ghost use Rattle.bisect.specs.Walks.{StaysWithin};
 ghost use Rattle.accounts.specs.box_tree.Paths.{IsPathOf};
 ghost use Rattle.accounts.specs.box_tree.Pieces.{piece_count};
 ghost use Rattle.box_workers.specs.Ends.{TaskFits, HeldFits, RecordFits};
@@ -36,8 +37,7 @@ fn finish_task<S: Settler, G: Gate>(
         (λ g. below (tree_of S.Entry.cut_at S.Entry.state_at) g task.now.path) nothing) }
     ensures over { IfOk result (λ all. all ≡ false → walk.old.limit < walk.old.boxes
         + below (tree_of S.Entry.cut_at S.Entry.state_at) (λ _. 1) task.now.path) }
-    ensures room { walk.new.boxes ≤ walk.new.limit }
-    ensures limit { walk.new.limit ≡ walk.old.limit }
+    ensures within { StaysWithin walk.old walk.new }
 {
     site.visit(task.path, task.parent.as_ref(), walk)
 }
@@ -57,8 +57,7 @@ fn finish_left<S: Settler, G: Gate>(
         (left_rest (tree_of S.Entry.cut_at S.Entry.state_at) left.items) nothing) }
     ensures over { IfOk result (λ all. all ≡ false → walk.old.limit < walk.old.boxes
         + left_rest (tree_of S.Entry.cut_at S.Entry.state_at) left.items (λ _. 1)) }
-    ensures room { walk.new.boxes ≤ walk.new.limit }
-    ensures limit { walk.new.limit ≡ walk.old.limit }
+    ensures within { StaysWithin walk.old walk.new }
 {
     while let Some(task) = left.pop() {
         if !finish_task(site, &task, walk)? {
@@ -88,8 +87,7 @@ fn finish_children<S: Settler, G: Gate>(
         (children_rest (tree_of S.Entry.cut_at S.Entry.state_at) path first count) nothing) }
     ensures over { IfOk result (λ all. all ≡ false → walk.old.limit < walk.old.boxes
         + children_rest (tree_of S.Entry.cut_at S.Entry.state_at) path first count (λ _. 1)) }
-    ensures room { walk.new.boxes ≤ walk.new.limit }
-    ensures limit { walk.new.limit ≡ walk.old.limit }
+    ensures within { StaysWithin walk.old walk.new }
 {
     for piece in first..count {
         if !site.visit(path.child(piece), Some(own), walk)? {
@@ -115,8 +113,7 @@ fn finish_held<S: Settler, G: Gate>(
         (λ g. held_rest (tree_of S.Entry.cut_at S.Entry.state_at) g held.now) nothing) }
     ensures over { IfOk result (λ all. all ≡ false → walk.old.limit < walk.old.boxes
         + held_rest (tree_of S.Entry.cut_at S.Entry.state_at) (λ _. 1) held.now) }
-    ensures room { walk.new.boxes ≤ walk.new.limit }
-    ensures limit { walk.new.limit ≡ walk.old.limit }
+    ensures within { StaysWithin walk.old walk.new }
 {
     site.laws();
     let Some(own) = &held.own else {
@@ -139,8 +136,7 @@ fn see_record(walk: &mut Walk, settled: &mut Vec<Leaf>, split: usize) -> Result<
         × (walk.new.leaves.items ≡ walk.old.leaves.items ++ settled.old.items)) }
     ensures over { IfOk result (λ all. all ≡ false
         → walk.old.limit < walk.old.boxes + (length settled.old.items + split)) }
-    ensures room { walk.new.boxes ≤ walk.new.limit }
-    ensures limit { walk.new.limit ≡ walk.old.limit }
+    ensures within { StaysWithin walk.old walk.new }
 {
     let count = settled.len().saturating_add(split);
     if count > (walk.limit - walk.boxes) as usize {
@@ -166,8 +162,7 @@ fn finish_any_held<S: Settler, G: Gate>(
         (λ g. held_rest_of (tree_of S.Entry.cut_at S.Entry.state_at) g held.now) nothing) }
     ensures over { IfOk result (λ all. all ≡ false → walk.old.limit < walk.old.boxes
         + held_rest_of (tree_of S.Entry.cut_at S.Entry.state_at) (λ _. 1) held.now) }
-    ensures room { walk.new.boxes ≤ walk.new.limit }
-    ensures limit { walk.new.limit ≡ walk.old.limit }
+    ensures within { StaysWithin walk.old walk.new }
 {
     match held {
         Some(held) => finish_held(site, held, walk),
@@ -190,8 +185,7 @@ fn finish_record<S: Settler, G: Gate>(
         (λ g. record_rest (tree_of S.Entry.cut_at S.Entry.state_at) g done) nothing) }
     ensures over { IfOk result (λ all. all ≡ false → walk.old.limit < walk.old.boxes
         + record_rest (tree_of S.Entry.cut_at S.Entry.state_at) (λ _. 1) done) }
-    ensures room { walk.new.boxes ≤ walk.new.limit }
-    ensures limit { walk.new.limit ≡ walk.old.limit }
+    ensures within { StaysWithin walk.old walk.new }
 {
     let Record {
         mut settled,
@@ -219,8 +213,7 @@ fn finish_records<S: Settler, G: Gate>(
         (records_rest (tree_of S.Entry.cut_at S.Entry.state_at) records.items) nothing) }
     ensures over { IfOk result (λ all. all ≡ false → walk.old.limit < walk.old.boxes
         + records_rest (tree_of S.Entry.cut_at S.Entry.state_at) records.items (λ _. 1)) }
-    ensures room { walk.new.boxes ≤ walk.new.limit }
-    ensures limit { walk.new.limit ≡ walk.old.limit }
+    ensures within { StaysWithin walk.old walk.new }
 {
     while let Some(done) = records.pop() {
         if !finish_record(site, done, walk)? {

@@ -4,7 +4,7 @@ ghost use Rattle.std.specs.Prelude.{false, ◌<◌, ◌+◌};
 ghost use Rattle.accounts.specs.box_tree.Paths.{IsChild, IsPathOf};
 ghost use Rattle.box_workers.specs.Gathered.{Went, below, nothing};
 ghost use Rattle.bisect.specs.Trees.{children, tree_of};
-ghost use Rattle.bisect.specs.Walks.{IsListed};
+ghost use Rattle.bisect.specs.Walks.{IsListed, StaysWithin};
 ghost use Rattle.accounts.specs.box_tree.Pieces.{piece_count};
 ghost use Rattle.accounts.specs.box_tree.Plans.{cut_at};
 
@@ -165,8 +165,7 @@ impl<'a, S: Settler, G: Gate> Site<'a, S, G> {
             (λ g. below (tree_of S.Entry.cut_at S.Entry.state_at) g path) nothing) }
         ensures over { IfOk result (λ all. all ≡ false → walk.old.limit < walk.old.boxes
             + below (tree_of S.Entry.cut_at S.Entry.state_at) (λ _. 1) path) }
-        ensures room { walk.new.boxes ≤ walk.new.limit }
-        ensures limit { walk.new.limit ≡ walk.old.limit }
+        ensures within { StaysWithin walk.old walk.new }
     {
         self.plan.laws();
         walks_see();

@@ -3,7 +3,7 @@ use Rattle.std.specs.Prelude.{◌≤◌, ◌+◌, ◌*◌, ℕ, List, [], ◌∷
 use Rattle.cert_bytes.specs.declared.item.Item.{Item}
 use Rattle.cert_bytes.specs.declared.item.Item.TheVariants as item
 use Rattle.cert_bytes.specs.declared.style.Style.{Style}
-use Rattle.cert_bytes.specs.Spelling.{spelling, spelled_from}
+use Rattle.cert_bytes.specs.Spelling.{spelled_from}
 
 -- So many bytes an item: ten for each step that it names, and no more for the rest of it than
 -- these.

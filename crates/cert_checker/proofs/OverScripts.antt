@@ -1,6 +1,6 @@
 -- What is accepted holds, over the script's own nodes.
 use Rattle.std.proofs.Common.{◌≡◌, ◌++◌, ◌∷◌, [], ℕ, zero, suc, List, length, drop, Option, Some}
-use Rattle.std.proofs.Common.{sym, subst, ◌∙◌, arith}
+use Rattle.std.proofs.Common.{sym, subst, arith}
 use Rattle.std.specs.List.{AllByRecursion}
 use Rattle.fx_model.specs.Expression.{Assignment, IsOrdered, value}
 use Rattle.fx_model.specs.declared.Node.{Node}

@@ -1,12 +1,12 @@
 -- How runs end, by what their parts did: the laws that the commands' proofs rest on.
-use Rattle.std.specs.Prelude.{◌≡◌, ◌≢◌, ◌⊎◌, ◌++◌, ℕ, List, [], Bool, true, false, Option, Some}
+use Rattle.std.specs.Prelude.{◌≡◌, ◌≢◌, ◌⊎◌, ℕ, [], Bool, true, false, Option, Some}
 use Rattle.std.specs.Prelude.{None}
 use Rattle.std.specs.Str.{bytes_eq}
 use Rattle.std.specs.Io.KnownBytes.{Appends, Keeps}
 use Rattle.std.proofs.Common.{inl, inr, refl, sym, ap, subst, ◌∙◌, append-nil}
 use Rattle.std.proofs.lemmas.Slice.Eq.{bytes_eq-Decides}
 use Rattle.fx_edge.specs.Outside.{Rose}
-use Rattle.whole_texts.specs.Pieces.{AppendsFront, HoldsAll, HoldsFront}
+use Rattle.whole_texts.specs.Pieces.{AppendsFront}
 use Rattle.whole_texts.specs.declared.read.ReadStop.{ReadStop}
 use Rattle.whole_texts.specs.declared.read.ReadStop.TheVariants as stop
 use Rattle.command_runs.specs.Runs.{Bytes, Run, IsKept, IsSilent, ReadFailed, WriteFailed}

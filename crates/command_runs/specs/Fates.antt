@@ -1,5 +1,5 @@
 -- What a command prints at each status, what it leaves in the file that it writes, and how it ends.
-use Rattle.std.specs.Prelude.{◌≡◌, ◌≢◌, ◌⊎◌, ⊤, List, Option, Some, None, IfSome}
+use Rattle.std.specs.Prelude.{◌≡◌, ◌≢◌, ◌⊎◌, ⊤, Option, Some, None, IfSome}
 use Rattle.whole_texts.specs.Pieces.{HoldsAll, HoldsFront}
 use Rattle.command_runs.specs.Runs.{Bytes, Told, Run, IsKept, IsSilent, Puts, PutsFront, ReadFailed}
 use Rattle.command_runs.specs.Runs.{WriteFailed, PutFailed}

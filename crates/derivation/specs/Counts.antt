@@ -1,5 +1,5 @@
 -- Laws of the count of steps.
-use Rattle.std.specs.Prelude.{◌≡◌, ◌≢◌, ◌<◌, ◌≤◌, ◌+◌, ◌-◌, ◌&&◌, ◌||◌, ℕ, zero, suc, not, Bool}
+use Rattle.std.specs.Prelude.{◌≡◌, ◌≢◌, ◌<◌, ◌≤◌, ◌+◌, ◌-◌, ◌&&◌, ℕ, zero, suc, not, Bool}
 use Rattle.std.specs.Prelude.{true, false, List, [], ◌∷◌, Option, Some, None, length, count_by}
 use Rattle.std.specs.Prelude.{cond, slice_get, Contains, refl}
 use Rattle.std.specs.Ordering.{int_eq}

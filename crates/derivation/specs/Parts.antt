@@ -14,7 +14,7 @@ use Rattle.derivation.specs.Lists.{RuleList}
 use Rattle.goals.specs.facts.declared.instance.Instance.{Instance}
 use Rattle.derivation.specs.Derivations.{At, Beats}
 use Rattle.derivation.specs.Rounds.{IsProper, Reads, all_at, with_first, concluded, conclusion}
-use Rattle.goals.specs.facts.CommonParts.{at_option, void_is}
+use Rattle.goals.specs.facts.CommonParts.{at_option}
 
 pub some_same : {X : Type 0} (a b : X) (o : Option X) → o ≡ Some a → o ≡ Some b → a ≡ b
 some_same a b o e f = let h : Some a ≡ Some b = sym e ∙ f in cc

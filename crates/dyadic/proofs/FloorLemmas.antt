@@ -14,8 +14,8 @@ use lib.Count.{count_leading_zeros}
 use lib.IntN.{neg_ℤ}
 use mir.Syntax.{w128}
 use Rattle.fx_model.specs.Fraction.{Fraction, ◌+ℚ◌, ◌*ℚ◌, ◌≤ℚ◌, ◌<ℚ◌, neg_ℚ, neg-neg, neg-lt}
-use Rattle.fx_model.specs.Fraction.{le_refl, le_trans, lt_by, lt_not, le_lt_trans, le_or_lt}
-use Rattle.fx_model.specs.Fraction.{add_comm, add_assoc, add-neg, zero-add, add-le, add-lt}
+use Rattle.fx_model.specs.Fraction.{le_refl, le_trans, lt_not, le_lt_trans, le_or_lt}
+use Rattle.fx_model.specs.Fraction.{add-le, add-lt}
 use Rattle.fx_model.specs.Fraction.{mul_comm, zero-mul}
 use Rattle.fx_model.specs.Powers.{scaled, scaled-le, scaled-le_out, scaled-lt, scaled-lt_out}
 use Rattle.fx_model.specs.Powers.{scaled-shift, scaled-zero, scaled-add}

@@ -2,10 +2,10 @@
 use Rattle.std.proofs.Common.{◌≡◌, ℕ, ℤ, pos, negsuc, ◌+ℤ◌, ◌*ℤ◌, ◌+◌, ◌-◌, ◌<◌, Bool, true, false}
 use Rattle.std.proofs.Common.{arith, ap, sym, subst, ◌∙◌, inl, inr, ⊎_elim}
 use Rattle.std.proofs.lemmas.Int.{ints}
-use Rattle.fx_model.specs.Fraction.{Fraction, ◌+ℚ◌, ◌*ℚ◌, ◌≤ℚ◌, ◌<ℚ◌, neg_ℚ, inverse_ℚ, zero_ℚ}
+use Rattle.fx_model.specs.Fraction.{Fraction, ◌+ℚ◌, ◌*ℚ◌, ◌≤ℚ◌, ◌<ℚ◌, inverse_ℚ, zero_ℚ}
 use Rattle.fx_model.specs.Fraction.{one_ℚ, one-mul, mul_comm, mul_assoc, mul-add, mul-inverse}
-use Rattle.fx_model.specs.Fraction.{mul-le, mul-le_cancel, mul-lt, add_comm, add_assoc, add-neg}
-use Rattle.fx_model.specs.Fraction.{zero-add, add-le, add-le_out, add-le-add, le_refl, le_trans}
+use Rattle.fx_model.specs.Fraction.{mul-le, mul-le_cancel, mul-lt, add_comm}
+use Rattle.fx_model.specs.Fraction.{add-le, add-le_out, add-le-add, le_refl, le_trans}
 use Rattle.fx_model.specs.Fraction.{le_antisymm, lt_by, lt_not, lt_le, le_lt_trans, le_or_lt}
 use Rattle.fx_model.specs.Powers.{whole, two_to, scaled, two_to-add, two_to-pos, two_to-positive}
 use Rattle.fx_model.specs.Powers.{whole-add, whole-mul, whole-le, whole-lt, zero-whole, one-whole}

@@ -14,10 +14,10 @@ use Rattle.std.specs.declared.cmp.Ordering.TheVariants.{Less, Equal, Greater}
 use Rattle.std.specs.Ordering.{int_cmp, is_eq, eq_by_cmp}
 use Rattle.std.specs.Bool.{Decides, one_answer}
 use borrow.Author.Differences.{product_is}
-use Rattle.fx_model.specs.Fraction.{Fraction, le_ℚ, ◌≤ℚ◌, ◌<ℚ◌, ◌*ℚ◌, le_refl, zero_ℚ, one_ℚ, neg_ℚ}
+use Rattle.fx_model.specs.Fraction.{Fraction, le_ℚ, ◌≤ℚ◌, ◌<ℚ◌, ◌*ℚ◌, le_refl, one_ℚ, neg_ℚ}
 use Rattle.fx_model.specs.Fraction.{mul_comm, one-mul}
-use Rattle.fx_model.specs.Powers.{whole, scaled, scaled-le, scaled-lt, scaled-shift, scaled-zero}
-use Rattle.fx_model.specs.Powers.{scaled-le_out, scaled-lt_out, whole-neg, one-whole, two_to-pos}
+use Rattle.fx_model.specs.Powers.{whole, scaled, scaled-le, scaled-lt, scaled-shift}
+use Rattle.fx_model.specs.Powers.{scaled-lt_out, whole-neg, one-whole, two_to-pos}
 use Rattle.dyadic.specs.declared.number.Dyadic.{Dyadic}
 use Rattle.dyadic.specs.Values.{value_of}
 use Rattle.dyadic.specs.Compared.{value_cmp-equal}

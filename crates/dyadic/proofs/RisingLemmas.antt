@@ -1,15 +1,12 @@
 -- One more point.
 use Rattle.std.proofs.Common.{◌≡◌, ℕ, suc, ◌+◌, ◌-◌, ◌<◌, List, [], ◌∷◌, ◌++◌, length, take}
-use Rattle.std.proofs.Common.{replicate, set, arith, ap, sym, subst, ◌∙◌, ⊎_elim}
-use Rattle.std.proofs.Math.ListN.{get_or-append}
-use Rattle.std.proofs.Math.Seq.{get_or-append_seam, set-append_seam}
-use Rattle.std.proofs.lemmas.List.{length-append, length-set, length-take-le, append_assoc}
+use Rattle.std.proofs.Common.{replicate, set, arith, ap, sym, subst, ◌∙◌}
+use Rattle.std.proofs.Math.Seq.{set-append_seam}
+use Rattle.std.proofs.lemmas.List.{length-set, length-take-le, append_assoc}
 use Rattle.std.proofs.lemmas.List.{take_more_set}
-use Rattle.std.proofs.lemmas.Bool.{cases_lt}
-use Rattle.fx_model.specs.Fraction.{◌<ℚ◌, lt_le, le_lt_trans}
 use Rattle.dyadic.specs.declared.number.Dyadic.{Dyadic}
-use Rattle.dyadic.specs.Values.{value_of, zero_number}
-use Rattle.dyadic.specs.Rising.{point_of, points_in, IsRising, IsAboveLast, IsPadded, rising_more}
+use Rattle.dyadic.specs.Values.{zero_number}
+use Rattle.dyadic.specs.Rising.{points_in, IsRising, IsAboveLast, IsPadded, rising_more}
 use Rattle.dyadic.specs.declared.points.Points.TheInside.{Inside}
 
 pub rising_set : (numbers : List Dyadic) (len : ℕ) (p : Dyadic)

@@ -12,9 +12,9 @@ use Rattle.std.proofs.lemmas.Nat.{pow_pos, pow-add}
 use Rattle.std.proofs.lemmas.Bool.{cases_lt}
 use Rattle.dyadic.proofs.NumberLemmas.{same_cut}
 use lib.Dec.{lt→ltb, T}
-use Rattle.fx_model.specs.Fraction.{Fraction, ◌+ℚ◌, ◌*ℚ◌, neg_ℚ, neg-neg, neg-add, mul_comm}
-use Rattle.fx_model.specs.Fraction.{mul-add, zero-add}
-use Rattle.fx_model.specs.Powers.{whole, two_to, scaled, whole-add, scaled-shift, scaled-zero}
+use Rattle.fx_model.specs.Fraction.{Fraction, ◌+ℚ◌, neg_ℚ, neg-neg, neg-add}
+use Rattle.fx_model.specs.Fraction.{zero-add}
+use Rattle.fx_model.specs.Powers.{whole, scaled, scaled-shift, scaled-zero}
 use Rattle.fx_model.specs.Powers.{scaled-add}
 use Rattle.fx_model.specs.Grid.{signed, signed-size, scaled-neg}
 use Rattle.dyadic.specs.declared.number.Dyadic.{Dyadic}

@@ -1,12 +1,11 @@
 -- Numbers m * 2^e with an odd m: there is one form of each.
-use Rattle.std.specs.Prelude.{◌≡◌, ℕ, ℤ, pos, ◌+ℤ◌, ◌*ℤ◌, ◌≤ℤ◌, ◌<ℤ◌, ◌*◌, ◌+◌, ◌-◌, ◌%◌, ◌^◌}
+use Rattle.std.specs.Prelude.{◌≡◌, ℕ, ℤ, pos, ◌+ℤ◌, ◌*ℤ◌, ◌≤ℤ◌, ◌*◌, ◌+◌, ◌-◌, ◌%◌, ◌^◌}
 use Rattle.std.specs.Int.RustNames.{unsigned_abs}
-use Rattle.std.proofs.Common.{arith, ap, sym, subst, ◌∙◌}
+use Rattle.std.proofs.Common.{arith, ap, sym, ◌∙◌}
 use Rattle.std.proofs.lemmas.Int.{ints, by_lt_z, unsigned_abs-mul}
 use Rattle.std.proofs.lemmas.Nat.{pow-add}
 use borrow.Author.Differences.{up, down}
-use Rattle.fx_model.specs.Fraction.{◌≤ℚ◌, le_refl}
-use Rattle.fx_model.specs.Powers.{scaled, scaled-shift, scaled-le_out, scaled-same}
+use Rattle.fx_model.specs.Powers.{scaled, scaled-shift, scaled-same}
 use Rattle.fx_model.specs.Cut.Gaps.{gap}
 
 -- how far a place is above another

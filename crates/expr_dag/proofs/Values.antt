@@ -1,15 +1,12 @@
 -- The values of nodes stay where more nodes follow.
-use Rattle.std.proofs.Common.{◌≡◌, ℕ, zero, suc, ◌<◌, List, ◌++◌, length, Option, refl, sym, ap}
+use Rattle.std.proofs.Common.{◌≡◌, ℕ, zero, suc, ◌<◌, List, ◌++◌, length, sym, ap}
 use Rattle.std.proofs.Common.{◌∙◌, arith, length-append, slice_index_or}
 use Rattle.std.proofs.lemmas.List.{get_or_append_left}
-use Rattle.literal.specs.fx_model.Fraction.{Fraction, ◌+ℚ◌, ◌-ℚ◌, ◌*ℚ◌, neg_ℚ, abs_ℚ}
-use Rattle.literal.specs.fx_model.Rounded.{rounded}
 use Rattle.literal.specs.fx_model.declared.ExprId.{ExprId}
 use Rattle.literal.specs.fx_model.declared.Node.{Node}
-use Rattle.literal.specs.fx_model.declared.Node.TheVariants.{Var, Lit, Neg, Add, Sub, Mul, Div, Abs}
-use Rattle.literal.specs.fx_model.declared.Node.TheVariants.{Round}
-use Rattle.literal.specs.fx_model.Expression.{Assignment, ChildrenBelow, IsOrdered, node_value}
-use Rattle.literal.specs.fx_model.Expression.{value, value_step, lift₁, lift₂, quotient}
+use Rattle.literal.specs.fx_model.declared.Node.TheVariants.{Var}
+use Rattle.literal.specs.fx_model.Expression.{Assignment, IsOrdered, node_value}
+use Rattle.literal.specs.fx_model.Expression.{value, value_step}
 use Rattle.literal.specs.fx_model.Expression.{same_children}
 
 module _ (nodes more : List Node) (a : Assignment) (o : IsOrdered nodes)

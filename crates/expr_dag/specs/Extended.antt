@@ -1,5 +1,5 @@
 -- A list of nodes that others follow.
-use Rattle.std.specs.Prelude.{◌≡◌, ◌<◌, ℕ, List, ◌++◌, length}
+use Rattle.std.specs.Prelude.{◌≡◌, ◌<◌, List, ◌++◌, length}
 use Rattle.literal.specs.fx_model.Expression.{Assignment, IsOrdered, value}
 use Rattle.literal.specs.fx_model.declared.ExprId.{ExprId}
 use Rattle.literal.specs.fx_model.declared.Node.{Node}

@@ -1,7 +1,7 @@
 -- Rounding to the multiples of a power of two, in eleven directions (Gappa User's Guide, "Rounding
 -- directions").
 pub mod Examples
-use Rattle.std.specs.Prelude.{◌≡◌, ℕ, ℤ, pos, negsuc, ◌+ℤ◌, ◌%◌, ◌==◌, Bool, true, false}
+use Rattle.std.specs.Prelude.{ℤ, negsuc, ◌%◌, ◌==◌, Bool}
 use Rattle.std.specs.Prelude.{if◌then◌else◌}
 use Rattle.std.specs.Int.RustNames.{unsigned_abs}
 use lib.IntN.{neg_ℤ}

@@ -1,7 +1,7 @@
 -- How runs end that come to no command.
-use Rattle.std.specs.Prelude.{◌≡◌, ◌≢◌, Option, Some, None}
+use Rattle.std.specs.Prelude.{◌≡◌, Option, Some, None}
 use Rattle.std.specs.Io.KnownBytes.{Keeps}
-use Rattle.std.proofs.Common.{inl, inr, refl, sym, subst}
+use Rattle.std.proofs.Common.{inr, refl, sym, subst}
 use Rattle.command_line.specs.Usage.{usage_line}
 use Rattle.command_runs.specs.Ends.{IsPutBy, IsOnce, put_runs, starved_of, keeps_file, run_by}
 use Rattle.command_runs.specs.Fates.{Left, IsUntouched, MayWrite}

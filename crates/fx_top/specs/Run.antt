@@ -1,5 +1,5 @@
 -- What a run of each command is.
-use Rattle.std.specs.Prelude.{◌≡◌, List, Option, Some, None}
+use Rattle.std.specs.Prelude.{◌≡◌, Option, Some, None}
 use Rattle.at_command.specs.Command.{IsAtRun}
 use Rattle.batch_command.specs.Command.{IsBatchRun}
 use Rattle.trim_command.specs.check_command.Command.{IsCheckRun}

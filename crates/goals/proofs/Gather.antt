@@ -1,5 +1,5 @@
 -- A line holds of what each of its facts holds of.
-use Rattle.std.specs.Prelude.{◌≡◌, List, Option, Some, None}
+use Rattle.std.specs.Prelude.{◌≡◌, List, Some, None}
 use Rattle.std.specs.Option.{IsSomeAnd}
 use Rattle.std.proofs.Common.{subst, inl, inr, ⊎_elim}
 use Rattle.facts.specs.fx_model.Fraction.{Fraction}

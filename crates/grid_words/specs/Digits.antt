@@ -9,8 +9,8 @@ use Rattle.std.proofs.lemmas.Bool.{ltb-true, ltb-false}
 use Rattle.std.proofs.lemmas.Int.{ints, by_lt_z}
 use lib.Dec.{ltb}
 use Rattle.fx_model.specs.Fraction.{Fraction, ◌*ℚ◌, ◌≤ℚ◌, ◌<ℚ◌, zero_ℚ, one_ℚ, le_ℚ, floor_ℚ}
-use Rattle.fx_model.specs.Fraction.{le_trans, le_antisymm, lt_le, lt_not, lt_by, mul-le}
-use Rattle.fx_model.specs.Fraction.{mul-le_cancel, mul_comm, mul_assoc, one-mul, zero-mul, times-le}
+use Rattle.fx_model.specs.Fraction.{le_trans, le_antisymm, lt_not}
+use Rattle.fx_model.specs.Fraction.{mul_comm, mul_assoc, one-mul, zero-mul, times-le}
 use Rattle.fx_model.specs.Fraction.{times-lt}
 use Rattle.fx_model.specs.Powers.{whole, two_to, scaled, whole-le, zero-whole, one-whole}
 use Rattle.fx_model.specs.Powers.{two_to-add, two_to-pos, two_to-positive, floor_low, floor_high}

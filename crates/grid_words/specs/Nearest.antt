@@ -6,10 +6,10 @@ use Rattle.std.proofs.Common.{arith, sym, ap, ◌∙◌, subst, inl, inr}
 use Rattle.std.proofs.lemmas.Bool.{ltb-true, ltb-false}
 use Rattle.std.proofs.lemmas.Int.{ints}
 use lib.Dec.{ltb}
-use Rattle.fx_model.specs.Fraction.{Fraction, ◌≤ℚ◌, zero_ℚ, neg_ℚ, le_ℚ, le_refl, le_total, neg-le}
-use Rattle.fx_model.specs.Fraction.{neg-neg, add-neg, zero-add, neg_up}
+use Rattle.fx_model.specs.Fraction.{Fraction, zero_ℚ, neg_ℚ, le_ℚ, le_refl, le_total}
+use Rattle.fx_model.specs.Fraction.{neg-neg, neg_up}
 use Rattle.fx_model.specs.Powers.{scaled}
-use Rattle.fx_model.specs.Grid.{Bound, Below, At, Above, IsOnGrid, IsDown, IsUp, neg_bound}
+use Rattle.fx_model.specs.Grid.{Bound, At, Above, IsOnGrid, IsDown, IsUp, neg_bound}
 use Rattle.fx_model.specs.Grid.{IsDown-neg, IsUp-neg, IsDown-unique, neg_bound-neg}
 use Rattle.fx_model.specs.Cut.{Cuts, Full, up_is_exact, up_top, next_grid, top, down_beyond}
 use Rattle.fx_model.specs.Cut.{up_beyond}

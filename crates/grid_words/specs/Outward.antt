@@ -1,13 +1,13 @@
 -- The least interval with ends on the grid that holds a given one, and what enclosures have in
 -- common.
 use Rattle.std.specs.Prelude.{◌≡◌}
-use Rattle.std.proofs.Common.{refl, sym, subst, ⊎_elim}
-use Rattle.fx_model.specs.Fraction.{Fraction, ◌-ℚ◌, ◌+ℚ◌, ◌≤ℚ◌, one_ℚ, le_trans, le_refl, le_or_lt}
-use Rattle.fx_model.specs.Fraction.{lt_le, lt_not, minus_one, plus_one}
+use Rattle.std.proofs.Common.{refl, sym, subst}
+use Rattle.fx_model.specs.Fraction.{Fraction, ◌-ℚ◌, ◌+ℚ◌, one_ℚ, le_trans}
+use Rattle.fx_model.specs.Fraction.{lt_not, minus_one, plus_one}
 use Rattle.fx_model.specs.Grid.{Bound, Below, At, Above, IsOnGrid}
 use Rattle.fx_model.specs.Enclosure.{Range, IsFrom, IsUpTo, Lies, IsInfimum, IsSupremum}
-use Rattle.fx_model.specs.Enclosure.{IsEnclosure, IsOrdered, infimum_at, supremum_at, in_enclosure}
-use Rattle.fx_model.specs.Enclosure.{member_of, ordered_by, low_lies, high_lies, deep, far}
+use Rattle.fx_model.specs.Enclosure.{IsEnclosure, IsOrdered, infimum_at, supremum_at}
+use Rattle.fx_model.specs.Enclosure.{member_of, low_lies, high_lies, deep, far}
 use Rattle.fx_model.specs.Enclosure.{enclosure_same}
 use Rattle.grid_words.specs.Nearest.{down, up, down_is, up_is}
 

@@ -1,11 +1,11 @@
 -- The best intervals of products and quotients.
 use Rattle.std.specs.Prelude.{◌≡◌, ◌⊎◌, refl}
-use Rattle.std.proofs.Common.{sym, subst, ⊎_elim, inl, inr}
+use Rattle.std.proofs.Common.{sym, subst, ⊎_elim}
 use Rattle.fx_model.specs.Fraction.{Fraction, ◌*ℚ◌, ◌/ℚ◌, ◌≤ℚ◌, zero_ℚ, inverse_ℚ, le_refl}
 use Rattle.fx_model.specs.Grid.{Bound, At}
 use Rattle.fx_model.specs.Enclosure.{Range, Lies, IsEnclosure, IsOrdered, IsFinite, Products}
 use Rattle.fx_model.specs.Enclosure.{Quotients, IsProduct, IsQuotient, whole_line, in_enclosure}
-use Rattle.fx_model.specs.Enclosure.{finite_or, product_holds, member_of, ordered_by}
+use Rattle.fx_model.specs.Enclosure.{product_holds, member_of, ordered_by}
 use Rattle.grid_words.specs.Signs.{inverse_falls}
 use Rattle.grid_words.specs.Corners.{corners, corners_are}
 use Rattle.fx_model.specs.Enclosure.Unique.{both_or}

@@ -4,8 +4,8 @@ use Rattle.std.proofs.Common.{sym, subst, ◌∙◌, ⊎_elim, inl, inr}
 use Rattle.fx_model.specs.Fraction.{Fraction, zero_ℚ, neg_ℚ, abs_ℚ, abs-from, le_ℚ, le_total}
 use Rattle.fx_model.specs.Fraction.{le_or_lt, lt_le, neg-neg}
 use Rattle.fx_model.specs.Grid.{Bound, Below, At, Above, neg_bound}
-use Rattle.fx_model.specs.Enclosure.{Range, IsFrom, IsUpTo, Lies, IsOrdered, Sizes, IsSize, BoundLe}
-use Rattle.fx_model.specs.Enclosure.{within_in, member_of, ordered_by, enclosure_ordered, mirror}
+use Rattle.fx_model.specs.Enclosure.{Range, IsUpTo, Lies, IsOrdered, Sizes, IsSize, BoundLe}
+use Rattle.fx_model.specs.Enclosure.{member_of, ordered_by, enclosure_ordered, mirror}
 use Rattle.fx_model.specs.Enclosure.{lies_mirror, lies_mirrored, from-le, up_to-le}
 use Rattle.grid_words.specs.Outward.{outward, outward_exact}
 use Rattle.grid_words.specs.Signs.{neg_up, neg_down, abs_down}

@@ -1,11 +1,10 @@
 -- The best intervals of sums, differences and negatives.
-use Rattle.std.specs.Prelude.{◌≡◌}
 use Rattle.std.proofs.Common.{refl, sym, subst, ap, ◌∙◌}
-use Rattle.fx_model.specs.Fraction.{Fraction, ◌+ℚ◌, ◌-ℚ◌, neg_ℚ, neg-le, neg-neg}
-use Rattle.fx_model.specs.Grid.{Bound, Below, At, Above, neg_bound}
-use Rattle.fx_model.specs.Enclosure.{Range, IsFrom, IsUpTo, Lies, IsOrdered, Negations, Sums}
+use Rattle.fx_model.specs.Fraction.{◌+ℚ◌, ◌-ℚ◌, neg_ℚ, neg-neg}
+use Rattle.fx_model.specs.Grid.{Bound, Below, At, Above}
+use Rattle.fx_model.specs.Enclosure.{Range, Lies, IsOrdered, Negations, Sums}
 use Rattle.fx_model.specs.Enclosure.{Differences, IsNegation, IsSum, IsDifference, LowSum, HighSum}
-use Rattle.fx_model.specs.Enclosure.{sum_is, member_of, ordered_by, enclosure_ordered}
+use Rattle.fx_model.specs.Enclosure.{sum_is, member_of, enclosure_ordered}
 use Rattle.fx_model.specs.Enclosure.{enclosure_same, mirror, lies_mirror, lies_mirrored}
 use Rattle.fx_model.specs.Enclosure.{mirror_ordered}
 use Rattle.grid_words.specs.Nearest.{down, up, down_is, up_is}

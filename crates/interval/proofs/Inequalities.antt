@@ -1,11 +1,10 @@
 -- The order of fractions and ends.
-use Rattle.std.specs.Prelude.{◌≡◌, ℤ, pos, ◌≤ℤ◌, Bool, true, false, IsTrue}
-use Rattle.std.proofs.Common.{refl, sym, subst, ap, ◌∙◌, ⊎_elim}
-use Rattle.dyadic.specs.fx_model.Fraction.{Fraction, ◌≤ℚ◌, zero_ℚ, le_trans, le_antisymm, le_or_lt}
+use Rattle.std.specs.Prelude.{◌≡◌, Bool, true, false, IsTrue}
+use Rattle.std.proofs.Common.{sym, ◌∙◌, ⊎_elim}
+use Rattle.dyadic.specs.fx_model.Fraction.{Fraction, ◌≤ℚ◌, le_trans, le_or_lt}
 use Rattle.dyadic.specs.fx_model.Fraction.{lt_le}
-use Rattle.dyadic.specs.fx_model.Powers.{scaled, scaled-le, scaled-zero, scaled-le_out}
 use Rattle.dyadic.specs.fx_model.Grid.{Bound, Below, At, Above, IsDown}
-use Rattle.dyadic.specs.fx_model.Enclosure.{BoundLe, IsFrom, IsUpTo, within_in}
+use Rattle.dyadic.specs.fx_model.Enclosure.{BoundLe}
 
 -- ---- ends
 pub bound_total : (b c : Bound) → ¬ (BoundLe b c) → BoundLe c b

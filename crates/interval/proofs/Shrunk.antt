@@ -14,7 +14,7 @@ use Rattle.dyadic.specs.fx_model.Fraction.{Fraction, ◌≤ℚ◌, ◌<ℚ◌, n
 use Rattle.dyadic.specs.fx_model.Fraction.{neg-le}
 use Rattle.dyadic.specs.fx_model.Powers.{scaled, IsMultiple, scaled-le, scaled-lt, scaled-lt_out}
 use Rattle.dyadic.specs.fx_model.Powers.{scaled-shift}
-use Rattle.dyadic.specs.fx_model.Grid.{Bound, Below, At, Above, IsOnGrid, neg_bound, scaled-neg}
+use Rattle.dyadic.specs.fx_model.Grid.{Bound, Below, At, Above, IsOnGrid, neg_bound}
 use Rattle.dyadic.specs.fx_model.Grid.{neg_over, neg_under, multiple-neg}
 use Rattle.interval.specs.Multiples.{IsMultipleDown, IsMultipleUp, IsEndDown, IsEndUp}
 

@@ -2,8 +2,8 @@
 use Rattle.std.specs.Prelude.{◌≡◌, ◌⊎◌, Bool, false, IsTrue}
 use Rattle.std.proofs.Common.{refl, sym, subst, ap, ◌∙◌, ⊎_elim}
 use Rattle.dyadic.specs.fx_model.Fraction.{Fraction, ◌+ℚ◌, ◌*ℚ◌, ◌-ℚ◌, ◌≤ℚ◌, ◌<ℚ◌, zero_ℚ, one_ℚ}
-use Rattle.dyadic.specs.fx_model.Fraction.{neg_ℚ, abs_ℚ, abs-from, abs-below, le_trans, le_refl}
-use Rattle.dyadic.specs.fx_model.Fraction.{le_antisymm, le_or_lt, lt_le, lt_not, neg-neg, neg-mul}
+use Rattle.dyadic.specs.fx_model.Fraction.{neg_ℚ, abs_ℚ, abs-from, le_trans, le_refl}
+use Rattle.dyadic.specs.fx_model.Fraction.{le_or_lt, lt_le, lt_not, neg-neg, neg-mul}
 use Rattle.dyadic.specs.fx_model.Fraction.{mul-le, minus_one, plus_one, zero-add, one-mul}
 use Rattle.dyadic.specs.fx_model.Fraction.{add-le-add, lt_le_trans}
 use Rattle.dyadic.specs.fx_model.Grid.{Bound, Below, At, Above, neg_bound, neg_bound-neg}
@@ -14,7 +14,7 @@ use Rattle.dyadic.specs.fx_model.Enclosure.{deep, far, low_lies, high_lies, from
 use Rattle.dyadic.specs.fx_model.Enclosure.{enclosure_same, enclosure_ordered, from-le, up_to-le}
 use Rattle.interval.specs.Exact.{IsExact}
 use Rattle.interval.specs.Squares.{LowSquare, HighSquare}
-use Rattle.grid_words.specs.Signs.{neg_zero, neg_up, neg_down, mul-neg, times_up, zero_one}
+use Rattle.grid_words.specs.Signs.{neg_up, neg_down, mul-neg, times_up, zero_one}
 use Rattle.grid_words.specs.Signs.{abs_down}
 use Rattle.interval.proofs.Inequalities.{bound_by}
 use Rattle.grid_words.specs.AbsoluteValues.{abs-square, abs-not_negative}

@@ -1,16 +1,16 @@
 -- Enclosures of negatives, and of sets that are intervals with ends on the grid.
 use Rattle.std.specs.Prelude.{◌≡◌}
-use Rattle.std.proofs.Common.{refl, sym, subst, ap, ⊎_elim}
-use Rattle.dyadic.specs.fx_model.Fraction.{Fraction, ◌-ℚ◌, ◌≤ℚ◌, one_ℚ, neg_ℚ, le_trans, le_refl}
-use Rattle.dyadic.specs.fx_model.Fraction.{le_or_lt, lt_le, lt_not, neg-le, neg-neg, minus_one}
+use Rattle.std.proofs.Common.{refl, sym, subst}
+use Rattle.dyadic.specs.fx_model.Fraction.{Fraction, ◌-ℚ◌, one_ℚ, neg_ℚ, le_trans}
+use Rattle.dyadic.specs.fx_model.Fraction.{lt_not, neg-neg, minus_one}
 use Rattle.dyadic.specs.fx_model.Grid.{Bound, Below, At, Above, IsOnGrid-neg, neg_bound, neg_over}
 use Rattle.dyadic.specs.fx_model.Grid.{neg_under, neg_bound-neg}
-use Rattle.dyadic.specs.fx_model.Enclosure.{Range, IsFrom, IsUpTo, Lies, IsInfimum, IsSupremum}
-use Rattle.dyadic.specs.fx_model.Enclosure.{IsEnclosure, IsOrdered, Negations, in_enclosure}
-use Rattle.dyadic.specs.fx_model.Enclosure.{member_of, ordered_by, mirror, enclosure_ordered}
-use Rattle.dyadic.specs.fx_model.Enclosure.{infimum_same, supremum_same, enclosure_same, from_neg}
-use Rattle.dyadic.specs.fx_model.Enclosure.{up_to_neg, lies_mirror, lies_mirrored, mirror_ordered}
-use Rattle.dyadic.specs.fx_model.Enclosure.{low_lies, high_lies, deep, far}
+use Rattle.dyadic.specs.fx_model.Enclosure.{Range, IsFrom, Lies, IsInfimum, IsSupremum}
+use Rattle.dyadic.specs.fx_model.Enclosure.{IsEnclosure, IsOrdered, Negations}
+use Rattle.dyadic.specs.fx_model.Enclosure.{member_of, mirror}
+use Rattle.dyadic.specs.fx_model.Enclosure.{enclosure_same}
+use Rattle.dyadic.specs.fx_model.Enclosure.{lies_mirror, lies_mirrored, mirror_ordered}
+use Rattle.dyadic.specs.fx_model.Enclosure.{low_lies, deep}
 use Rattle.dyadic.specs.Made.{IsGridBound}
 use Rattle.interval.specs.Exact.{IsExact}
 

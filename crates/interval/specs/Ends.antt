@@ -1,7 +1,7 @@
 -- The ends of an interval.
 use Rattle.std.specs.Prelude.{◌≡◌, Option, Some, None}
 use Rattle.dyadic.specs.fx_model.Fraction.{Fraction}
-use Rattle.dyadic.specs.fx_model.Grid.{Bound, At, neg_bound}
+use Rattle.dyadic.specs.fx_model.Grid.{Bound, At}
 use Rattle.dyadic.specs.fx_model.Enclosure.{Range, IsOrdered, IsOrdered-prop}
 use Rattle.dyadic.specs.declared.number.Dyadic.{Dyadic}
 use Rattle.dyadic.specs.declared.number.End.{End}

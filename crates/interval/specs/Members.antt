@@ -1,5 +1,5 @@
 -- What lies in intervals, and intervals within intervals by what lies in them.
-use Rattle.std.specs.Prelude.{◌≡◌, ◌&&◌, Bool, true, false, refl}
+use Rattle.std.specs.Prelude.{◌≡◌, ◌&&◌, Bool, true, refl}
 use Rattle.std.proofs.Common.{sym, subst, ⊎_elim}
 use Rattle.std.proofs.lemmas.Bool.{and_parts}
 use Rattle.dyadic.specs.fx_model.Fraction.{Fraction, ◌+ℚ◌, ◌-ℚ◌, ◌≤ℚ◌, zero_ℚ, one_ℚ, le_refl}

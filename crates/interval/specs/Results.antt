@@ -1,15 +1,15 @@
 -- The results of operations as intervals: functions, each with the law that it is the best
 -- interval.
 use Rattle.std.specs.Prelude.{◌≡◌, ◌⊎◌, Bool, true, false, not, ◌&&◌, Option, Some, None, refl}
-use Rattle.std.proofs.Common.{sym, ap, ◌∙◌, subst, inl, inr, ⊎_elim}
+use Rattle.std.proofs.Common.{sym, ap, ◌∙◌, subst, ⊎_elim}
 use Rattle.dyadic.specs.fx_model.Fraction.{Fraction, zero_ℚ, ◌≤ℚ◌, le_refl, le_antisymm}
 use Rattle.dyadic.specs.fx_model.Grid.{Bound, Below, At, Above}
 use Rattle.dyadic.specs.fx_model.Enclosure.{Range, IsOrdered, IsFrom, IsUpTo, Lies, BoundLe}
 use Rattle.dyadic.specs.fx_model.Enclosure.{IsEnclosure, IsInfimum, IsSupremum, Sums, Differences}
-use Rattle.dyadic.specs.fx_model.Enclosure.{Negations, Sizes, Products, Quotients, IsFinite}
+use Rattle.dyadic.specs.fx_model.Enclosure.{Negations, Sizes, Products, Quotients}
 use Rattle.dyadic.specs.fx_model.Enclosure.{whole_line, IsNegation, IsSize, IsSum, IsDifference}
 use Rattle.dyadic.specs.fx_model.Enclosure.{IsProduct, IsQuotient, enclosure_unique, product_unique}
-use Rattle.dyadic.specs.fx_model.Enclosure.{finite_or, enclosure_ordered}
+use Rattle.dyadic.specs.fx_model.Enclosure.{enclosure_ordered}
 use Rattle.grid_words.specs.Sums.{sum_range, sum_range_is, sum_range_ordered, difference_range}
 use Rattle.grid_words.specs.Sums.{difference_range_is, difference_range_ordered, negation_range}
 use Rattle.grid_words.specs.Sums.{negation_range_is, negation_range_ordered}

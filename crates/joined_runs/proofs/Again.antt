@@ -1,6 +1,6 @@
 -- What `prove` wrote, `check` answers.
 use Rattle.std.specs.Prelude.{◌≡◌, ◌≤◌, ◌⊎◌, ◌^◌, List, length, Option, Some, None, IfSome}
-use Rattle.std.proofs.Common.{inl, inr, refl, sym, ap, ◌∙◌, subst}
+use Rattle.std.proofs.Common.{inl, inr, refl, sym, ◌∙◌, subst}
 use Rattle.cert_bytes.specs.declared.style.Style.TheVariants.{First}
 use Rattle.cert_bytes.specs.Reading.{cursor}
 use Rattle.cert_checker.specs.Contexts.{Context}
@@ -12,9 +12,8 @@ use Rattle.command_line.specs.Check.{AskedCheck}
 use Rattle.command_line.specs.Reading.{Asked}
 use Rattle.command_runs.specs.Fates.{Left, Leaves, Makes, Written, IsTold, EndsIn, Comes}
 use Rattle.fx_edge.specs.Outside.{Rose}
-use Rattle.command_runs.specs.Fates.Left.{Kept, Whole, Begun}
+use Rattle.command_runs.specs.Fates.Left.{Whole}
 use Rattle.command_runs.specs.Runs.{Bytes, Run, Puts}
-use Rattle.command_runs.specs.declared.status.Status.{Status}
 use Rattle.command_runs.specs.declared.status.Status.TheVariants as status
 use Rattle.joined_runs.specs.Laws.{HasWritten, HasChecked, WrittenAreAnswered}
 use Rattle.goals.specs.declared.line.Line.{Line}

@@ -1,15 +1,14 @@
 -- What `prove` answered holds at a point that `at` says to meet.
-use Rattle.std.specs.Prelude.{◌≡◌, List, Option, Some, None}
-use Rattle.std.proofs.Common.{refl, sym, subst, ◌∙◌}
+use Rattle.std.specs.Prelude.{◌≡◌, List, Some, None}
+use Rattle.std.proofs.Common.{subst}
 use Rattle.at_command.specs.Command.{AtFate}
 use Rattle.at_command.specs.Laws.{MeetingIsMet}
 use Rattle.at_command.specs.Told.{AtPrints, IsEvaluated}
 use Rattle.command_line.specs.At.{AskedAt}
-use Rattle.command_line.specs.Reading.{Asked}
 use Rattle.command_runs.specs.Fates.{EndsIn}
 use Rattle.command_runs.specs.Runs.{Bytes, Run, Puts}
 use Rattle.command_runs.specs.declared.status.Status.TheVariants as status
-use Rattle.joined_runs.specs.Laws.{HasProved, HasEvaluated, HoldsAtPoint, PointsAreHeld}
+use Rattle.joined_runs.specs.Laws.{HasEvaluated, HoldsAtPoint, PointsAreHeld}
 use Rattle.joined_runs.proofs.Again.{told_is}
 use Rattle.joined_runs.proofs.Programs.{answered}
 use Rattle.at_command.specs.point_text.Points.{SpellsPoint}

@@ -1,9 +1,9 @@
 -- What `fix` wrote and `prove` answered, no run of the program wraps.
-use Rattle.std.specs.Prelude.{◌≡◌, List, Option, Some, None}
-use Rattle.std.proofs.Common.{refl, sym, subst, ◌∙◌}
+use Rattle.std.specs.Prelude.{◌≡◌, Some}
+use Rattle.std.proofs.Common.{refl, subst}
 use Rattle.command_line.specs.Fix.{AskedFix}
 use Rattle.command_line.specs.Reading.{Asked}
-use Rattle.command_runs.specs.Fates.{Left, Leaves, EndsIn}
+use Rattle.command_runs.specs.Fates.{Leaves, EndsIn}
 use Rattle.command_runs.specs.Fates.Left.{Whole}
 use Rattle.command_runs.specs.Runs.{Bytes, Run, Puts}
 use Rattle.command_runs.specs.declared.status.Status.TheVariants as status
@@ -11,7 +11,7 @@ use Rattle.fix_command.specs.Command.{FixFate}
 use Rattle.fixprog.specs.First.{Spells}
 use Rattle.fixprog.specs.Grammar.{Program}
 use Rattle.fixprog.specs.Turned.{script_of}
-use Rattle.joined_runs.specs.Laws.{HasFixed, HasProved, RunsWithin, FixedProgramsAreSound}
+use Rattle.joined_runs.specs.Laws.{HasFixed, HasProved, FixedProgramsAreSound}
 use Rattle.joined_runs.proofs.Again.{told_is}
 use Rattle.program_truths.specs.Outputs.{OutputsLie}
 use Rattle.prove_command.specs.Command.{ProveFate}

@@ -3,11 +3,11 @@ use Rattle.std.proofs.Common.{◌≡◌, ℕ, ℤ, pos, ◌+ℤ◌, ◌*◌, ◌
 use Rattle.std.proofs.Common.{ap, ◌∙◌, subst, arith}
 use Rattle.std.proofs.lemmas.Int.{ints}
 use Rattle.std.proofs.lemmas.Bool.{ltb-true, lt-ltb}
-use Rattle.interval.specs.fx_model.Fraction.{Fraction, ◌*ℚ◌, ◌≤ℚ◌, ◌<ℚ◌, zero_ℚ, lt_by, lt_not}
+use Rattle.interval.specs.fx_model.Fraction.{Fraction, ◌*ℚ◌, ◌≤ℚ◌, ◌<ℚ◌, zero_ℚ}
 use Rattle.interval.specs.fx_model.Fraction.{lt_le, mul-le_cancel, mul-lt, mul-lt_cancel, mul_comm}
 use Rattle.interval.specs.fx_model.Fraction.{mul_assoc, zero-mul}
 use Rattle.interval.specs.literal.Tens.{whole_positive}
-use Rattle.interval.specs.fx_model.Powers.{whole, two_to, scaled, whole-mul, scaled-lt}
+use Rattle.interval.specs.fx_model.Powers.{whole, scaled, scaled-lt}
 use Rattle.interval.specs.fx_model.Powers.{scaled-lt_out, scaled-le, scaled-shift, scaled-zero}
 use Rattle.interval.specs.fx_model.Cut.Digits.{scaled_times}
 

@@ -1,7 +1,7 @@
 -- The split variables of a script that the judge lets pass have ranges: those that the judge finds
 -- by their names.
-use Rattle.std.proofs.Common.{◌≡◌, ◌⊎◌, inl, inr, List, [], ◌∷◌, ◌++◌, Some, None, Bool, true}
-use Rattle.std.proofs.Common.{false, ◌||◌, if◌then◌else◌, refl, sym, ap, ◌∙◌, subst, true≢false}
+use Rattle.std.proofs.Common.{◌≡◌, inl, inr, List, [], ◌∷◌, ◌++◌, Some, None, Bool, true}
+use Rattle.std.proofs.Common.{false, if◌then◌else◌, refl, sym, ◌∙◌, subst, true≢false}
 use Rattle.std.proofs.Common.{arith}
 use Rattle.std.specs.List.{AllByRecursion, list_any}
 use Rattle.std.specs.Option.{is_some}
@@ -31,7 +31,7 @@ use Rattle.script_hints.specs.script_nodes.Known.{Known, named}
 use Rattle.script_hints.specs.script_nodes.Values.{expr_value}
 use Rattle.script_hints.specs.script_nodes.Definitions.{name_text, definition_value}
 use Rattle.script_claims.specs.declared.claim.Claim.{Claim}
-use Rattle.script_claims.specs.Claims.{Claims, formula_claims}
+use Rattle.script_claims.specs.Claims.{formula_claims}
 use Rattle.script_hints.specs.declared.hint.Split.{Split}
 use Rattle.script_hints.specs.Hints.{needs_value, same_number, with_variable, cutting_of}
 use Rattle.script_hints.specs.Hints.{HintsSoFar, with_halved, with_names, with_halving, with_hint}
@@ -57,7 +57,7 @@ use Rattle.node_counts.proofs.Aliases.{Stands, nothing_stands, definition_stands
 use Rattle.node_counts.proofs.BoundRanges.{HaveIntervals, range_read}
 use Rattle.node_counts.proofs.PropRanges.{Ranged, IsConjunction, Each, cases_held, each_count}
 use Rattle.node_counts.proofs.PropRanges.{formula_formed}
-use Rattle.script_judge.specs.facts.CommonParts.{all_as, all_last}
+use Rattle.script_judge.specs.facts.CommonParts.{all_last}
 
 part_no_range : (r : Due) → IsOfPart r → IsNoRange r
 part_no_range d.Range h = h

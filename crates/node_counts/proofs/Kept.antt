@@ -1,6 +1,6 @@
 -- What the judge keeps: the limit of nodes, that names of operators are defined, and that a
 -- variable with a range is a name that was seen.
-use Rattle.std.proofs.Common.{◌≡◌, ◌⊎◌, inl, inr, ℕ, ◌<◌, ◌≤◌, nat_lt, List, [], ◌∷◌, ◌++◌, length}
+use Rattle.std.proofs.Common.{◌≡◌, inl, inr, ℕ, ◌<◌, ◌≤◌, nat_lt, List, [], ◌∷◌, ◌++◌, length}
 use Rattle.std.proofs.Common.{map, Option, Some, None, Bool, true, false, not, ◌&&◌, ◌||◌}
 use Rattle.std.proofs.Common.{if◌then◌else◌, refl, sym, ap, ◌∙◌, subst, arith}
 use Rattle.std.specs.List.{AllByRecursion, list_any}
@@ -14,7 +14,6 @@ use Rattle.script_judge.specs.script_words.Words.{Word, name, rounding, literal,
 use Rattle.script_judge.specs.script_shape.declared.due.Due.{Due}
 use Rattle.script_judge.specs.script_shape.declared.due.Due.TheVariants as d
 use Rattle.script_judge.specs.script_shape.Roles.{Leaf}
-use Rattle.script_judge.specs.declared.refusal.RefusalKind.{RefusalKind}
 use Rattle.script_judge.specs.declared.counts.Counts.{Counts}
 use Rattle.script_judge.specs.Names.{Name, is_among, is_some_among, is_used, defines, with_some}
 use Rattle.script_judge.specs.Names.{ended, operand_name, split_name, plain_text}
@@ -36,7 +35,7 @@ use Rattle.node_counts.proofs.InParts.{arrow_in_parts, AreFilled, filled_more, s
 use Rattle.script_judge.specs.Numbers.{Notes, has_no_pieces, is_past_lsb, is_past_pieces}
 use Rattle.script_judge.specs.Judge.{Seen, seen_after, has_arrow, is_on_wrong_side, form_kind}
 use Rattle.script_judge.specs.Judge.{form_refusal, limit_kind, is_past_cases, limit_refusal}
-use Rattle.script_judge.specs.Judge.{or_else, refusal_at, fails, both_none}
+use Rattle.script_judge.specs.Judge.{refusal_at, fails, both_none}
 
 -- ---- names that were seen
 

@@ -17,8 +17,8 @@ use Rattle.script_hints.specs.script_nodes.Known.{Name, Known, PlacedNode, entry
 use Rattle.script_hints.specs.script_nodes.Known.{variables_with, variable_put, name_put, named}
 use Rattle.script_hints.specs.script_nodes.Values.{then_rounded, fused_sum, expr_value, term_value}
 use Rattle.script_hints.specs.script_nodes.Values.{factor_value, atom_value}
-use Rattle.node_counts.proofs.There.{past, stays, joins, any_before, any_last, node_stays}
-use Rattle.node_counts.proofs.There.{node_joins, absent, found, has_node, itself_eq, name_joins}
+use Rattle.node_counts.proofs.There.{past, stays, joins, any_before, node_stays}
+use Rattle.node_counts.proofs.There.{node_joins, absent, found, has_node, name_joins}
 use Rattle.node_counts.proofs.There.{same_place}
 
 -- ---- the number of a name

@@ -5,14 +5,14 @@ use Rattle.std.specs.List.{flat_map, AllByRecursion}
 use Rattle.script_judge.specs.fx_model.declared.ExprId.{ExprId}
 use Rattle.script_judge.specs.script_words.declared.class.Spelled.TheVariants as spelled
 use Rattle.script_judge.specs.script_words.declared.class.Symbol.TheVariants as s
-use Rattle.script_judge.specs.script_words.Words.{Word, sign}
+use Rattle.script_judge.specs.script_words.Words.{sign}
 use Rattle.script_judge.specs.script_shape.declared.due.Due.{Due}
 use Rattle.script_judge.specs.script_shape.declared.due.Due.TheVariants as d
 use Rattle.script_judge.specs.script_shape.Tree.{Whole, natural, opposite, Expr, Prop, lies_in}
 use Rattle.script_judge.specs.script_shape.Tree.{relative_in, at_most, at_least, multiple, Stated}
 use Rattle.script_judge.specs.script_shape.Tree.{affirmed, denied, Formula, single, and, or}
 use Rattle.script_judge.specs.script_shape.Tree.{implies}
-use Rattle.script_judge.specs.script_shape.Roles.{Leaf, at, whole_leaves, special_leaves}
+use Rattle.script_judge.specs.script_shape.Roles.{Leaf, whole_leaves, special_leaves}
 use Rattle.script_judge.specs.script_shape.Roles.{expr_leaves, prop_leaves, stated_leaves}
 use Rattle.script_judge.specs.script_shape.Roles.{formula_leaves}
 use Rattle.script_judge.specs.script_shape.Inner.{EachRole, IsInner, each_of_both, each_as}

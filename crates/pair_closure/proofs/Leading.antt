@@ -1,11 +1,11 @@
 -- What a difference leads to, read off the nodes of its sides and the rows of the pairs.
-use Rattle.std.specs.Prelude.{◌≡◌, ◌≢◌, ◌⊎◌, ◌↔◌, ◌<◌, ◌≤◌, ℕ, List, length}
+use Rattle.std.specs.Prelude.{◌≡◌, ◌≢◌, ◌⊎◌, ◌↔◌, ◌<◌, List, length}
 use Rattle.std.proofs.Common.{inl, inr, arith, ap, sym, subst}
 use Rattle.expr_dag.specs.fx_model.declared.ExprId.{ExprId}
 use Rattle.expr_dag.specs.fx_model.declared.Node.{Node}
 use Rattle.expr_dag.specs.fx_model.declared.Node.TheVariants.{Var, Lit, Neg, Add, Sub, Mul, Div}
 use Rattle.expr_dag.specs.fx_model.declared.Node.TheVariants.{Abs, Round}
-use Rattle.expr_dag.specs.fx_model.Expression.{ChildrenBelow, IsOrdered}
+use Rattle.expr_dag.specs.fx_model.Expression.{IsOrdered}
 use Rattle.expr_dag.specs.Nodes.{IsAt, one_node}
 use Rattle.pair_closure.specs.Reached.{Has}
 use Rattle.pair_closure.specs.Reached.IsReached.{begin, lead}

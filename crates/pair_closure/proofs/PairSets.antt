@@ -1,20 +1,17 @@
 -- What one more pair does to a set of pairs.
-use Rattle.std.specs.Prelude.{◌≡◌, ◌<◌, ◌==◌, ◌&&◌, ◌+◌, Option, None, position, is_some, take, ℕ}
+use Rattle.std.specs.Prelude.{◌≡◌, ◌<◌, ◌+◌, Option, None, position, is_some, take, ℕ}
 use Rattle.std.specs.Prelude.{Bool, true, false, if◌then◌else◌, List, [], ◌∷◌, ◌++◌, Some}
 use Rattle.std.specs.Prelude.{slice_get, length, refl}
 use Rattle.std.specs.List.{IsDistinct, list_any}
-use Rattle.std.proofs.Common.{inl, inr, arith, ap, sym, ◌∙◌, subst, eqb-true, true≢false, get_or}
+use Rattle.std.proofs.Common.{inl, inr, arith, ap, sym, ◌∙◌, subst, true≢false, get_or}
 use Rattle.std.proofs.Common.{add-one, take_all}
 use Rattle.std.proofs.lemmas.List.Quantifiers.{position-Some}
 use Rattle.std.proofs.Math.Seq.{take-suc}
 use Rattle.std.proofs.lemmas.Option.{slice_get_within, get_or_from_slice_get, slice_get-get_or}
 use Rattle.std.proofs.lemmas.Bool.{cases_lt}
 use Rattle.std.proofs.lemmas.Map.Keys.{apart_from_distinct}
-use Rattle.std.proofs.lemmas.List.Folds.{list_any_at}
 use Rattle.indexmap.specs.IndexSet.{insert_key}
 use Rattle.indexmap.proofs.CallerLemmas.{Contains-list_any}
-use Rattle.expr_dag.specs.fx_model.declared.ExprId.{ExprId}
-use Rattle.expr_dag.specs.fx_model.contracts.ExprIdPartialEq.TheImpl as id_eq
 use Rattle.pair_closure.specs.Closure.{Pair}
 use Rattle.pair_closure.specs.Among.{same_pair, is_among, IsPlaceOf}
 use Rattle.pair_closure.specs.Look.{exact, itself, among_in}

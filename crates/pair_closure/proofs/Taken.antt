@@ -1,5 +1,5 @@
 -- The front of a list.
-use Rattle.std.specs.Prelude.{◌≡◌, ◌<◌, ℕ, zero, suc, List, [], ◌∷◌, Some, take, slice_get, refl}
+use Rattle.std.specs.Prelude.{◌≡◌, ◌<◌, ℕ, zero, suc, List, [], ◌∷◌, Some, take, slice_get}
 use Rattle.std.proofs.Common.{arith}
 use Rattle.pair_closure.specs.Members.{none_at}
 

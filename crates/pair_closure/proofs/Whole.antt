@@ -6,7 +6,7 @@ use Rattle.std.proofs.lemmas.List.{length-map}
 use Rattle.std.proofs.lemmas.Option.{slice_get-map, slice_get_within, slice_get-get_or}
 use Rattle.expr_dag.specs.fx_model.declared.ExprId.{ExprId}
 use Rattle.expr_dag.specs.fx_model.declared.Node.{Node}
-use Rattle.expr_dag.specs.fx_model.declared.Node.TheVariants.{Sub, Var}
+use Rattle.expr_dag.specs.fx_model.declared.Node.TheVariants.{Var}
 use Rattle.expr_dag.specs.Nodes.{IsAt}
 use Rattle.pair_closure.specs.Reached.{Has, IsListOf}
 use Rattle.pair_closure.specs.Reached.IsReached.{begin, lead}

@@ -1,5 +1,5 @@
 -- What the second sides of a first side are, and that none stands twice.
-use Rattle.std.specs.Prelude.{◌≡◌, ◌↔◌, Bool, true, false, if◌then◌else◌, List, [], ◌∷◌, ◌++◌, refl}
+use Rattle.std.specs.Prelude.{◌≡◌, ◌↔◌, Bool, true, false, if◌then◌else◌, List, [], ◌∷◌, refl}
 use Rattle.std.proofs.Common.{inl, inr, ap, sym, subst}
 use Rattle.expr_dag.specs.fx_model.declared.ExprId.{ExprId}
 use Rattle.pair_closure.specs.Reached.{Has, IsEachOnce}

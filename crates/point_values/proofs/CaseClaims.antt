@@ -1,8 +1,8 @@
 -- What the hypotheses have, each case has.
-use Rattle.std.specs.Prelude.{◌≡◌, ◌+◌, ◌<◌, ℕ, ℤ, zero, suc, List, [], ◌∷◌, slice_get, Bool, true}
+use Rattle.std.specs.Prelude.{◌≡◌, ◌+◌, ℕ, ℤ, zero, suc, List, [], ◌∷◌, slice_get, Bool, true}
 use Rattle.std.specs.Prelude.{false, Option, Some, None, if◌then◌else◌, refl}
 use Rattle.std.specs.List.{AllByRecursion}
-use Rattle.std.proofs.Common.{sym, ap, ◌∙◌, subst}
+use Rattle.std.proofs.Common.{sym, subst}
 use Rattle.std.proofs.lemmas.Option.{none-some, same_Some}
 use Rattle.fx_model.specs.Fraction.{Fraction}
 use Rattle.fx_model.specs.declared.ExprId.{ExprId}
@@ -10,7 +10,6 @@ use Rattle.script_claims.specs.declared.claim.Claim.{Claim}
 use Rattle.exact_fractions.specs.Wide.{are_narrow}
 use Rattle.point_values.specs.Numbers.{claim_numbers, wide_from}
 use Rattle.point_values.specs.Among.{IsAmong, AreAmong, IsNarrowClaim}
-use Rattle.point_values.specs.Within.{ClaimIsWithin}
 use Rattle.point_values.specs.declared.place.Place.{Place}
 use Rattle.point_values.specs.declared.place.Place.TheVariants as place
 

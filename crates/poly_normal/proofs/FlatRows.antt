@@ -1,11 +1,10 @@
 -- Flat lists read as terms.
 use Rattle.std.specs.Prelude.{◌≡◌, ℕ, ℤ, pos, ◌+◌, ◌*◌, ◌<◌, ◌≤◌, List, [], ◌∷◌, ◌++◌, take, drop}
 use Rattle.std.specs.Prelude.{length, slice_index_or, refl}
-use Rattle.std.proofs.Common.{arith, sym, ap, ◌∙◌, zero, suc, length-append, length-drop}
+use Rattle.std.proofs.Common.{arith, sym, ap, ◌∙◌, zero, suc, length-drop}
 use Rattle.std.proofs.lemmas.List.{take-append-le, drop-append-le, drop-drop, take-append-drop}
 use Rattle.std.proofs.Math.Seq.{take-length}
 use Rattle.std.proofs.Math.Nat.{mul-le-mul_right}
-use Rattle.poly_normal.specs.Polynomial.{Term, Polynomial}
 use Rattle.poly_normal.specs.Rows.{rows, no_term}
 
 pub length-rows : (w : ℕ) (cs : List ℤ) (ps : List ℕ) → length (rows w cs ps) ≡ length cs

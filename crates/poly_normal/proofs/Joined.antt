@@ -1,15 +1,15 @@
 -- A polynomial whose monomials rise has each monomial once, so its list of terms says what it is.
 use Rattle.std.specs.Prelude.{◌≡◌, ◌≢◌, ◌↔◌, ℕ, ℤ, pos, ◌+ℤ◌, ◌+◌, ◌*◌, Bool, true, false, not}
 use Rattle.std.specs.Prelude.{◌||◌, ◌&&◌, ◌==◌, if◌then◌else◌, List, [], ◌∷◌, map, filter, length}
-use Rattle.std.specs.Prelude.{unsigned_abs, refl, ⊤}
+use Rattle.std.specs.Prelude.{unsigned_abs, refl}
 use Rattle.std.specs.List.{IsDistinct, AllByRecursion}
 use Rattle.std.specs.Cmp.{IsEquivalence}
-use Rattle.std.specs.Set.{distinct_count, is_member}
+use Rattle.std.specs.Set.{is_member}
 use Rattle.std.specs.Ordering.{ordering_reverse}
 use Rattle.std.specs.declared.cmp.Ordering.{Ordering}
 use Rattle.std.specs.declared.cmp.Ordering.TheVariants.{Less, Equal, Greater}
-use Rattle.std.proofs.Common.{arith, sym, ap, ◌∙◌, zero, suc, subst}
-use Rattle.std.proofs.lemmas.Bool.{eqb-true, eq-eqb}
+use Rattle.std.proofs.Common.{arith, sym, ap, ◌∙◌, suc, subst}
+use Rattle.std.proofs.lemmas.Bool.{eqb-true}
 use Rattle.std.proofs.lemmas.Cmp.{nat_list_cmp_total}
 use Rattle.std.proofs.lemmas.Int.{ints}
 use Rattle.std.proofs.lemmas.Map.Made.{length-from_keys, is_member-filter}

@@ -1,12 +1,12 @@
 -- Sums of terms with equal coefficients have equal values.
 use Rattle.std.specs.Prelude.{◌≡◌, ℕ, ℤ, pos, neg_ℤ, ◌+ℤ◌, ◌+◌, ◌≤◌, Bool, true, false}
-use Rattle.std.specs.Prelude.{if◌then◌else◌, List, [], ◌∷◌, ◌++◌, length, refl}
+use Rattle.std.specs.Prelude.{if◌then◌else◌, [], ◌∷◌, ◌++◌, length, refl}
 use Rattle.std.proofs.Common.{arith, sym, ap, ◌∙◌, zero, suc, subst}
 use Rattle.std.proofs.lemmas.Int.{ints}
-use Rattle.expr_dag.specs.fx_model.Fraction.{Fraction, ◌+ℚ◌, ◌*ℚ◌, neg_ℚ, zero_ℚ, add_assoc}
+use Rattle.expr_dag.specs.fx_model.Fraction.{Fraction, ◌+ℚ◌, ◌*ℚ◌, zero_ℚ, add_assoc}
 use Rattle.expr_dag.specs.fx_model.Fraction.{zero-add, zero-mul}
 use Rattle.expr_dag.specs.fx_model.Powers.{whole, whole-add, zero-whole}
-use Rattle.poly_normal.specs.Polynomial.{Monomial, same_monomial, Term, Polynomial, coefficient_of}
+use Rattle.poly_normal.specs.Polynomial.{Monomial, same_monomial, Polynomial, coefficient_of}
 use Rattle.poly_normal.specs.Polynomial.{IsEqual, negation}
 use Rattle.poly_normal.proofs.Fractions.{add-mul, add_swap, same_from_difference}
 use Rattle.poly_normal.proofs.Values.{same_monomial-self, same_monomial-true, monomial_value}

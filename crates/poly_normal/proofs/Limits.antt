@@ -1,21 +1,20 @@
 -- Joined polynomials with their weights and degrees: sums, negations, products, whole numbers and
 -- atoms; the limits.
-use Rattle.std.specs.Prelude.{◌≡◌, ◌≢◌, ◌⊎◌, ℕ, ℤ, pos, negsuc, neg_ℤ, ◌+ℤ◌, ◌+◌, ◌*◌, ◌≤◌, ◌<◌}
-use Rattle.std.specs.Prelude.{◌^◌, max, unsigned_abs, Option, Some, None, List, [], ◌∷◌, ◌++◌}
+use Rattle.std.specs.Prelude.{◌≡◌, ℕ, ℤ, pos, negsuc, neg_ℤ, ◌+ℤ◌, ◌+◌, ◌*◌, ◌≤◌, ◌<◌}
+use Rattle.std.specs.Prelude.{max, unsigned_abs, Option, Some, None, [], ◌∷◌, ◌++◌}
 use Rattle.std.specs.Prelude.{length, replicate, slice_set, refl}
 use Rattle.std.specs.List.{AllByRecursion}
-use Rattle.std.proofs.Common.{arith, sym, ap, ◌∙◌, zero, suc, subst, inl, inr}
+use Rattle.std.proofs.Common.{arith, sym, ap, ◌∙◌, zero, suc, subst, inr}
 use Rattle.std.proofs.lemmas.Int.{ints}
 use Rattle.std.proofs.Math.Nat.{mul-le-mul}
-use Rattle.poly_normal.specs.Polynomial.{Monomial, Term, Polynomial, coefficient_of, IsEqual}
-use Rattle.poly_normal.specs.Polynomial.{term_count, negation, product}
+use Rattle.poly_normal.specs.Polynomial.{Monomial, Polynomial, coefficient_of, IsEqual}
+use Rattle.poly_normal.specs.Polynomial.{negation, product}
 use Rattle.poly_normal.specs.Rows.{with_term, IsBefore, IsRising, size_of, IsRow, AllRows, IsJoined}
 use Rattle.poly_normal.specs.Rows.{IsSumOf, IsProductOf}
 use Rattle.poly_normal.specs.Form.{Side}
-use Rattle.poly_normal.specs.Mark.{IsTooLarge}
 use Rattle.poly_normal.specs.TermsOf.{polynomial_of}
 use Rattle.poly_normal.specs.Places.{zero_row, unit_row}
-use Rattle.poly_normal.specs.Limited.{IsLike, side_of, IsLimited, IsWithin}
+use Rattle.poly_normal.specs.Limited.{IsLimited, IsWithin}
 use Rattle.poly_normal.specs.declared.terms.Terms.{Terms}
 use Rattle.poly_normal.specs.declared.limited.Limited.{Limited}
 use Rattle.poly_normal.proofs.Merge.{with_term-rising, with_term-all, with_term-size}

@@ -1,6 +1,6 @@
 -- Marks on the subexpressions of two expressions: from the last node down, the operands of marked
 -- nodes get marked.
-use Rattle.std.specs.Prelude.{◌≡◌, ◌⊎◌, ◌↔◌, ℕ, ◌-◌, ◌≤◌, ◌<◌, Bool, true, false, List, [], ◌∷◌}
+use Rattle.std.specs.Prelude.{◌≡◌, ◌⊎◌, ℕ, ◌-◌, ◌≤◌, ◌<◌, Bool, true, false, List}
 use Rattle.std.specs.Prelude.{slice_index_or, length, replicate, refl}
 use Rattle.std.proofs.Common.{arith, sym, ap, ◌∙◌, zero, suc, subst, inl, inr}
 use Rattle.std.proofs.lemmas.List.{get_or_default}

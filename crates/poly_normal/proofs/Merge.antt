@@ -1,7 +1,7 @@
 -- Two joined polynomials as one: term by term, by rising monomial.
-use Rattle.std.specs.Prelude.{◌≡◌, ◌≢◌, ◌⊎◌, ℕ, ℤ, pos, negsuc, ◌+ℤ◌, ◌+◌, ◌≤◌, Bool, true, false}
-use Rattle.std.specs.Prelude.{if◌then◌else◌, ◌<◌, List, [], ◌∷◌, ◌++◌, drop, length, slice_index_or}
-use Rattle.std.specs.Prelude.{unsigned_abs, refl, ⊤}
+use Rattle.std.specs.Prelude.{◌≡◌, ◌⊎◌, ℕ, ℤ, pos, negsuc, ◌+ℤ◌, ◌+◌, ◌≤◌, Bool, true, false}
+use Rattle.std.specs.Prelude.{if◌then◌else◌, ◌<◌, [], ◌∷◌, ◌++◌, drop, length, slice_index_or}
+use Rattle.std.specs.Prelude.{unsigned_abs, refl}
 use Rattle.std.specs.List.{AllByRecursion}
 use Rattle.std.specs.Cmp.Lexicographic.{slice_cmp}
 use Rattle.std.specs.Ordering.{nat_cmp, ordering_reverse}
@@ -16,7 +16,7 @@ use Rattle.std.proofs.lemmas.Map.Text.{is_eq-slice_cmp}
 use Rattle.std.proofs.lemmas.Slice.Eq.{bytes_eq-Decides}
 use Rattle.std.specs.Ordering.{is_eq}
 use Rattle.poly_normal.specs.Polynomial.{Monomial, same_monomial, Term, Polynomial, coefficient_of}
-use Rattle.poly_normal.specs.Rows.{with_term, IsBefore, IsRising, size_of, no_term, IsRow, AllRows}
+use Rattle.poly_normal.specs.Rows.{with_term, IsBefore, IsRising, size_of, no_term, IsRow}
 use Rattle.poly_normal.specs.Rows.{IsSumOf}
 
 abbrev pub order : Monomial → Monomial → Ordering

@@ -1,26 +1,25 @@
 -- The form of a node over rows stands for its form, so limits are passed by both or by neither.
-use Rattle.std.specs.Prelude.{◌≡◌, ◌⊎◌, ◌↔◌, ◌&&◌, ℕ, pos, ◌+◌, ◌≤◌, ◌<◌, ◌^◌, Bool, true, false}
-use Rattle.std.specs.Prelude.{Option, Some, None, List, [], ◌∷◌, ◌++◌, take, length, slice_index_or}
+use Rattle.std.specs.Prelude.{◌≡◌, ℕ, Bool, true, false}
+use Rattle.std.specs.Prelude.{Some, List, [], ◌∷◌, take, length, slice_index_or}
 use Rattle.std.specs.Prelude.{refl}
-use Rattle.std.proofs.Common.{arith, sym, ap, ◌∙◌, zero, suc, subst, inl, inr}
+use Rattle.std.proofs.Common.{arith, ◌∙◌, inl, inr}
 use Rattle.expr_dag.specs.fx_model.declared.ExprId.{ExprId}
 use Rattle.expr_dag.specs.fx_model.declared.Node.{Node}
 use Rattle.expr_dag.specs.fx_model.declared.Node.TheVariants.{Var, Lit, Neg, Add, Sub, Mul, Div}
 use Rattle.expr_dag.specs.fx_model.declared.Node.TheVariants.{Abs, Round}
-use Rattle.poly_normal.specs.Polynomial.{Polynomial, IsEqual, term_count}
+use Rattle.poly_normal.specs.Polynomial.{Polynomial, term_count}
 use Rattle.poly_normal.specs.Rows.{AllRows}
 use Rattle.poly_normal.specs.Form.{Side, Form, product, negation, node_form}
 use Rattle.poly_normal.specs.Mark.{IsOperand, IsTooLarge, HasTooLarge}
 use Rattle.poly_normal.specs.Parts.{is_atom_node}
-use Rattle.poly_normal.specs.Places.{trues, spread_side}
+use Rattle.poly_normal.specs.Places.{trues}
 use Rattle.poly_normal.specs.Ratio.{reduced_top, reduced_bottom}
 use Rattle.poly_normal.specs.TermsOf.{polynomial_of}
 use Rattle.poly_normal.specs.Limited.{IsLike, side_of}
-use Rattle.poly_normal.specs.Quotients.{quotient_of, HasRows, IsFormOf, row_form}
+use Rattle.poly_normal.specs.Quotients.{quotient_of, IsFormOf, row_form}
 use Rattle.poly_normal.specs.declared.limited.Limited.{Limited}
 use Rattle.poly_normal.specs.declared.forms.Quotient.{Quotient}
 use Rattle.poly_normal.proofs.Joined.{term_count-rising}
-use Rattle.poly_normal.proofs.Weights.{count-equal}
 use Rattle.poly_normal.proofs.Spread.{HasWidth}
 use Rattle.poly_normal.proofs.Placed.{IsPlaced, placed-like, placed-large, placed-product}
 use Rattle.poly_normal.proofs.Placed.{placed-sum, placed-negation, placed-constant, placed-atom}

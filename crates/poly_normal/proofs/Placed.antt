@@ -1,14 +1,12 @@
 -- Sides over rows against the sides that they stand for.
-use Rattle.std.specs.Prelude.{◌≡◌, ◌⊎◌, ◌↔◌, ℕ, ℤ, pos, ◌+◌, ◌*◌, ◌≤◌, ◌<◌, ◌^◌, max, Bool, true}
-use Rattle.std.specs.Prelude.{false, Option, Some, None, List, [], ◌∷◌, ◌++◌, take, length}
+use Rattle.std.specs.Prelude.{◌≡◌, ◌↔◌, ℕ, pos, ◌+◌, ◌*◌, ◌≤◌, ◌<◌, ◌^◌, max, Bool, true}
+use Rattle.std.specs.Prelude.{false, Option, Some, None, List, [], ◌∷◌, take}
 use Rattle.std.specs.Prelude.{slice_index_or, refl}
-use Rattle.std.proofs.Common.{arith, sym, ap, ◌∙◌, zero, suc, subst, inl, inr}
-use Rattle.poly_normal.specs.Polynomial as polynomial
-use Rattle.poly_normal.specs.Polynomial.{Monomial, Term, Polynomial, coefficient_of, IsEqual}
-use Rattle.poly_normal.specs.Polynomial.{term_count}
-use Rattle.poly_normal.specs.Form.{Side, Form, constant, atom, sum, negation, difference, product}
-use Rattle.poly_normal.specs.Mark.{IsTooLarge, HasTooLarge}
-use Rattle.poly_normal.specs.Places.{trues, spread, spread_polynomial, spread_side, zero_row}
+use Rattle.std.proofs.Common.{sym, ap, ◌∙◌, subst, inl, inr}
+use Rattle.poly_normal.specs.Polynomial.{coefficient_of}
+use Rattle.poly_normal.specs.Form.{Side, constant, atom, sum, negation, difference, product}
+use Rattle.poly_normal.specs.Mark.{IsTooLarge}
+use Rattle.poly_normal.specs.Places.{trues, spread, spread_polynomial, spread_side}
 use Rattle.poly_normal.specs.Places.{unit_row}
 use Rattle.poly_normal.specs.Limited.{IsLike, IsLimited, side_of, constant_side, atom_side}
 use Rattle.poly_normal.specs.declared.limited.Limited.{Limited}

@@ -1,7 +1,7 @@
 -- A product, row by row and half by half.
 use Rattle.std.specs.Prelude.{◌≡◌, ◌≢◌, ℕ, ℤ, pos, negsuc, neg_ℤ, ◌+ℤ◌, ◌*ℤ◌, ◌+◌, ◌-◌, ◌*◌, ◌≤◌}
-use Rattle.std.specs.Prelude.{◌<◌, List, [], ◌∷◌, ◌++◌, map, take, drop, length, slice_index_or}
-use Rattle.std.specs.Prelude.{slice_range, FitsSigned, ◌^◌, unsigned_abs, refl, ⊤}
+use Rattle.std.specs.Prelude.{◌<◌, [], ◌∷◌, ◌++◌, map, take, drop, length, slice_index_or}
+use Rattle.std.specs.Prelude.{slice_range, FitsSigned, ◌^◌, unsigned_abs, refl}
 use Rattle.std.specs.List.{AllByRecursion}
 use Rattle.std.specs.Cmp.{ranks, nat_cmp_is}
 use Rattle.std.specs.Ordering.{nat_cmp, ordering_then, MatchOrdering}
@@ -11,7 +11,7 @@ use Rattle.std.proofs.Common.{arith, sym, ap, ◌∙◌, zero, suc, subst, appen
 use Rattle.std.proofs.lemmas.List.{append-nil, drop-drop, take-append-drop}
 use Rattle.std.proofs.Math.Seq.{take-add}
 use mir.Syntax.{w128}
-use Rattle.std.proofs.lemmas.Int.{ints, unsigned_abs-mul, fits_signed_from_abs}
+use Rattle.std.proofs.lemmas.Int.{unsigned_abs-mul, fits_signed_from_abs}
 use Rattle.std.proofs.Math.Nat.{mul-pos, mul-le-mul_right, mul-le-mul}
 use Rattle.poly_normal.specs.Polynomial.{Monomial, monomial_product, Term, Polynomial}
 use Rattle.poly_normal.specs.Polynomial.{coefficient_of, term_product, product}

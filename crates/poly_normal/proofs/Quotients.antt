@@ -3,22 +3,21 @@
 use Rattle.std.specs.Prelude.{◌≡◌, ℕ, ℤ, pos, negsuc, ◌+ℤ◌, ◌≤ℤ◌, ◌+◌, ◌*◌, ◌^◌, ◌/◌, ◌%◌, ◌<◌, ◌≤◌}
 use Rattle.std.specs.Prelude.{◌==◌, ◌&&◌, Bool, true, false, if◌then◌else◌, Option, Some, None}
 use Rattle.std.specs.Prelude.{List, slice_index_or, length, unwrap_or, refl}
-use Rattle.std.proofs.Common.{arith, sym, ap, ◌∙◌, zero, suc, subst, lit<}
+use Rattle.std.proofs.Common.{arith, sym, ap, ◌∙◌, zero, suc, subst}
 use Rattle.std.proofs.lemmas.Bool.{eqb-true}
 use Rattle.std.proofs.lemmas.Int.{ints}
 use Rattle.std.proofs.lemmas.Nat.{div-add-mod'}
-use Rattle.std.proofs.Math.Nat.{mul-pos, pow-suc, pow-zero}
+use Rattle.std.proofs.Math.Nat.{mul-pos}
 use borrow.Author.Differences.{up, down}
 use Rattle.expr_dag.specs.fx_model.Fraction.{Fraction, ◌+ℚ◌, ◌-ℚ◌, ◌*ℚ◌, ◌/ℚ◌, inverse_ℚ, neg_ℚ}
-use Rattle.expr_dag.specs.fx_model.Fraction.{zero_ℚ, one_ℚ, abs_ℚ, is_zero_ℚ, is_zero_not, ◌≤ℚ◌}
-use Rattle.expr_dag.specs.fx_model.Fraction.{le_refl, mul_comm, mul_assoc, one-mul, neg-mul}
+use Rattle.expr_dag.specs.fx_model.Fraction.{zero_ℚ, is_zero_ℚ, is_zero_not, ◌≤ℚ◌}
+use Rattle.expr_dag.specs.fx_model.Fraction.{le_refl, mul_comm, mul_assoc, neg-mul}
 use Rattle.expr_dag.specs.fx_model.Fraction.{mul-inverse}
 use Rattle.expr_dag.specs.fx_model.Powers.{whole, two_to, whole-mul, whole-le_out, zero-whole}
 use Rattle.expr_dag.specs.fx_model.Powers.{one-whole, two_to-add, two_to-pos}
 use Rattle.expr_dag.specs.fx_model.Expression.{Assignment, ten_to, literal_value, lift₁, lift₂}
 use Rattle.expr_dag.specs.fx_model.Expression.{quotient, node_value, value, value_step}
 use Rattle.expr_dag.specs.fx_model.Expression.{ChildrenBelow, IsOrdered}
-use Rattle.expr_dag.specs.fx_model.Rounded.{rounded}
 use Rattle.expr_dag.specs.fx_model.declared.Literal.{Literal}
 use Rattle.expr_dag.specs.fx_model.declared.ExprId.{ExprId}
 use Rattle.expr_dag.specs.fx_model.declared.Node.{Node}
@@ -29,7 +28,7 @@ use Rattle.poly_normal.specs.Form.{Form, atom_form, literal_form, literal_top, l
 use Rattle.poly_normal.specs.Form.{literal_divisor, common_divisor_to, negation_form, sum_form}
 use Rattle.poly_normal.specs.Form.{difference_form, product_form, quotient_form, node_form, form}
 use Rattle.poly_normal.specs.Mark.{AreEqual, HaveEqualValues}
-use Rattle.poly_normal.proofs.Fractions.{add-zero, mul-one, mul-neg, middle_products}
+use Rattle.poly_normal.proofs.Fractions.{mul-one, middle_products}
 use Rattle.poly_normal.proofs.Fractions.{product_not_zero, cancel, sum_over, product_over}
 use Rattle.poly_normal.proofs.Fractions.{quotient_over, same_from_cross}
 use Rattle.poly_normal.proofs.Values.{polynomial_value, value-atom, value-constant, value-append}

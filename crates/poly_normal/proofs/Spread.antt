@@ -1,10 +1,9 @@
 -- Spreading rows keeps products and the order, so it forgets nothing.
-use Rattle.std.specs.Prelude.{◌≡◌, ◌≢◌, ◌⊎◌, ◌↔◌, ℕ, ℤ, pos, neg_ℤ, ◌*ℤ◌, ◌+◌, ◌<◌, ◌≤◌, Bool, true}
-use Rattle.std.specs.Prelude.{false, ◌&&◌, List, [], ◌∷◌, ◌++◌, map, length, replicate, slice_set}
+use Rattle.std.specs.Prelude.{◌≡◌, ◌↔◌, ℕ, ℤ, neg_ℤ, ◌*ℤ◌, ◌+◌, ◌<◌, Bool, true}
+use Rattle.std.specs.Prelude.{false, List, [], ◌∷◌, ◌++◌, map, length}
 use Rattle.std.specs.Prelude.{slice_index_or, take, refl}
 use Rattle.std.specs.List.{AllByRecursion}
-use Rattle.std.specs.Cmp.Lexicographic.{slice_cmp}
-use Rattle.std.specs.Ordering.{nat_cmp, ordering_then}
+use Rattle.std.specs.Ordering.{ordering_then}
 use Rattle.std.specs.Cmp.{nat_cmp_is}
 use Rattle.std.proofs.lemmas.Bool.{cases_order}
 use Rattle.poly_normal.specs.Rows.{no_term}
@@ -17,7 +16,7 @@ use Rattle.poly_normal.specs.Polynomial.{term_product, product, term_count}
 use Rattle.poly_normal.specs.Rows.{with_term, IsBefore, IsRising}
 use Rattle.poly_normal.specs.Places.{trues, with_power, spread, spread_polynomial, zero_row}
 use Rattle.poly_normal.specs.Places.{unit_row}
-use Rattle.poly_normal.proofs.Merge.{order, same_from_order, turned, merge, all-merge}
+use Rattle.poly_normal.proofs.Merge.{order, same_from_order, turned, all-merge}
 use Rattle.poly_normal.proofs.Merge.{with_term-all}
 use Rattle.poly_normal.proofs.Joined.{term_count-rising, same_from_equal, same_term}
 use Rattle.poly_normal.proofs.Joined.{not_before_itself}

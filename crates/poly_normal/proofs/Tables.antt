@@ -1,16 +1,16 @@
 -- The table of forms, entry by entry, and what it comes to at the end.
-use Rattle.std.specs.Prelude.{◌≡◌, ◌⊎◌, ◌↔◌, ◌&&◌, ℕ, ◌+◌, ◌<◌, ◌≤◌, Bool, true, false, Option}
+use Rattle.std.specs.Prelude.{◌≡◌, ◌⊎◌, ◌&&◌, ℕ, ◌+◌, ◌<◌, Bool, true, false, Option}
 use Rattle.std.specs.Prelude.{Some, None, List, [], ◌∷◌, ◌++◌, take, length, slice_index_or, refl}
-use Rattle.std.proofs.Common.{arith, sym, ap, ◌∙◌, zero, suc, subst, inl, inr}
+use Rattle.std.proofs.Common.{arith, sym, ap, ◌∙◌, subst, inl, inr}
 use Rattle.expr_dag.specs.fx_model.Expression.{IsOrdered, ChildrenBelow}
 use Rattle.expr_dag.specs.fx_model.declared.ExprId.{ExprId}
 use Rattle.expr_dag.specs.fx_model.declared.Node.{Node}
 use Rattle.expr_dag.specs.fx_model.declared.Node.TheVariants.{Var}
-use Rattle.poly_normal.specs.Form.{Side, Form, form, product, node_form}
+use Rattle.poly_normal.specs.Form.{Side, Form, form, product}
 use Rattle.poly_normal.specs.Mark.{IsOperand, IsPart, IsTooLarge, HasTooLarge, PassesLimit}
 use Rattle.poly_normal.specs.Mark.{AreEqual, Answers, left_product, right_product}
 use Rattle.poly_normal.specs.Mark.IsPart.{itself, operand}
-use Rattle.poly_normal.specs.Parts.{marked, is_atom_node, AreParts}
+use Rattle.poly_normal.specs.Parts.{is_atom_node, AreParts}
 use Rattle.poly_normal.specs.Places.{places, trues, count_of, spread}
 use Rattle.poly_normal.specs.Limited.{IsLike, side_of}
 use Rattle.poly_normal.specs.Quotients.{quotient_of, HasRows, IsFormOf, IsKnown, known_form}
@@ -22,7 +22,7 @@ use Rattle.poly_normal.specs.declared.sameness.Sameness.TheVariants.{Same, Diffe
 use Rattle.std.proofs.lemmas.List.{get_or_append_left}
 use Rattle.std.proofs.Math.Seq.{get_or-append_seam}
 use Rattle.std.proofs.lemmas.Bool.{cases_lt}
-use Rattle.std.specs.Prelude.{IsSome, IfOk, Result, Ok, not}
+use Rattle.std.specs.Prelude.{IsSome, IfOk, Result, Ok}
 use Rattle.std.proofs.Common.{length-append}
 use Rattle.std.proofs.lemmas.List.{get_or_default}
 use Rattle.std.proofs.Math.ListN.{get_or-eq_default}

@@ -1,7 +1,7 @@
 -- How many marked atoms come before a node.
-use Rattle.std.specs.Prelude.{◌≡◌, ◌&&◌, ℕ, ◌+◌, ◌<◌, ◌≤◌, Bool, true, false, if◌then◌else◌, List}
+use Rattle.std.specs.Prelude.{◌≡◌, ◌&&◌, ℕ, ◌+◌, ◌<◌, ◌≤◌, Bool, true, false, List}
 use Rattle.std.specs.Prelude.{[], ◌∷◌, take, length, slice_index_or, refl}
-use Rattle.std.proofs.Common.{arith, sym, ap, ◌∙◌, zero, suc, subst}
+use Rattle.std.proofs.Common.{arith, sym, ap, ◌∙◌, zero, suc}
 use Rattle.std.proofs.lemmas.Bool.{and_from}
 use Rattle.expr_dag.specs.fx_model.declared.Node.{Node}
 use Rattle.expr_dag.specs.fx_model.declared.Node.TheVariants.{Var}

@@ -1,19 +1,18 @@
 -- The value of a polynomial at fractions for its atoms depends on its coefficients alone.
-use Rattle.std.specs.Prelude.{◌≡◌, ℕ, ℤ, pos, neg_ℤ, ◌+ℤ◌, ◌*ℤ◌, ◌+◌, ◌≤◌, Bool, true, false, cond}
-use Rattle.std.specs.Prelude.{◌==◌, ◌&&◌, List, [], ◌∷◌, ◌++◌, map, length, replicate, refl}
+use Rattle.std.specs.Prelude.{◌≡◌, ℕ, ℤ, pos, ◌+◌, Bool, true, false}
+use Rattle.std.specs.Prelude.{◌==◌, ◌&&◌, [], ◌∷◌, ◌++◌, map, replicate, refl}
 use Rattle.std.proofs.Common.{arith, sym, ap, ◌∙◌, zero, suc}
 use Rattle.std.proofs.lemmas.Bool.{eqb-true, eq-eqb}
-use Rattle.std.proofs.lemmas.Int.{ints}
-use Rattle.expr_dag.specs.fx_model.Fraction.{Fraction, ◌+ℚ◌, ◌*ℚ◌, neg_ℚ, zero_ℚ, one_ℚ, add_comm}
-use Rattle.expr_dag.specs.fx_model.Fraction.{add_assoc, zero-add, mul_assoc, one-mul, zero-mul}
+use Rattle.expr_dag.specs.fx_model.Fraction.{Fraction, ◌+ℚ◌, ◌*ℚ◌, neg_ℚ, zero_ℚ, one_ℚ}
+use Rattle.expr_dag.specs.fx_model.Fraction.{add_assoc, zero-add, one-mul, zero-mul}
 use Rattle.expr_dag.specs.fx_model.Fraction.{mul-add, neg-mul, neg-add}
-use Rattle.expr_dag.specs.fx_model.Powers.{whole, whole-add, whole-mul, whole-neg, zero-whole}
+use Rattle.expr_dag.specs.fx_model.Powers.{whole, whole-mul, whole-neg, zero-whole}
 use Rattle.expr_dag.specs.fx_model.Powers.{one-whole}
 use Rattle.poly_normal.specs.Polynomial.{Monomial, atom_monomial, monomial_product, same_monomial}
-use Rattle.poly_normal.specs.Polynomial.{Term, Polynomial, coefficient_of, IsEqual, negation}
+use Rattle.poly_normal.specs.Polynomial.{Term, Polynomial, negation}
 use Rattle.poly_normal.specs.Polynomial.{term_product, product, atom, constant}
 use Rattle.poly_normal.proofs.Fractions.{add-zero, mul-one, mul-zero, add-mul, middle_products}
-use Rattle.poly_normal.proofs.Fractions.{add_swap, same_from_difference, power, power-add}
+use Rattle.poly_normal.proofs.Fractions.{power, power-add}
 
 -- ---- equal monomials
 pub same_monomial-self : (m : Monomial) → same_monomial m m ≡ true

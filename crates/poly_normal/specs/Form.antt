@@ -1,5 +1,5 @@
 -- An expression as a quotient of two polynomials, with their weights and degrees.
-use Rattle.std.specs.Prelude.{◌≡◌, ℕ, ℤ, pos, neg_ℤ, ◌+◌, ◌*◌, ◌/◌, ◌%◌, ◌^◌, max, unsigned_abs}
+use Rattle.std.specs.Prelude.{ℕ, ℤ, pos, ◌+◌, ◌*◌, ◌/◌, ◌%◌, ◌^◌, max, unsigned_abs}
 use Rattle.std.specs.Prelude.{suc, zero, ◌==◌, ◌&&◌, if◌then◌else◌, List, [], ◌∷◌, ◌++◌}
 use Rattle.std.specs.Prelude.{slice_index_or, length}
 use borrow.Author.Differences.{up, down}

@@ -1,10 +1,9 @@
 -- What the code's polynomials and quotients stand for, and when they are within the limits.
-use Rattle.std.specs.Prelude.{◌≡◌, ◌+◌, ◌≤◌, ◌<◌, ◌^◌, ℕ, pos, Bool, Option, Some, None, List, []}
+use Rattle.std.specs.Prelude.{◌≡◌, ◌<◌, ℕ, pos, Option, Some, None, []}
 use Rattle.std.specs.Prelude.{◌∷◌, length}
-use Rattle.poly_normal.specs.Polynomial.{Polynomial, IsEqual}
-use Rattle.poly_normal.specs.Rows.{IsRising, IsJoined}
-use Rattle.poly_normal.specs.Form.{Side, Form}
-use Rattle.poly_normal.specs.Mark.{IsTooLarge, HasTooLarge}
+use Rattle.poly_normal.specs.Polynomial.{IsEqual}
+use Rattle.poly_normal.specs.Form.{Side}
+use Rattle.poly_normal.specs.Mark.{IsTooLarge}
 use Rattle.poly_normal.specs.TermsOf.{polynomial_of}
 use Rattle.poly_normal.specs.Places.{zero_row, unit_row}
 use Rattle.poly_normal.specs.declared.terms.Terms.{Terms}

@@ -1,5 +1,5 @@
 -- When two expressions are the same rational function.
-use Rattle.std.specs.Prelude.{◌≡◌, ◌⊎◌, ℕ, ◌+◌, ◌<◌, ◌≤◌, ◌^◌, List, slice_index_or, length, Option}
+use Rattle.std.specs.Prelude.{◌≡◌, ◌⊎◌, ◌<◌, ◌≤◌, ◌^◌, List, slice_index_or, length}
 use Rattle.std.specs.Prelude.{Some}
 use Rattle.expr_dag.specs.fx_model.Fraction.{Fraction}
 use Rattle.expr_dag.specs.fx_model.Expression.{Assignment, value, IsOrdered}

@@ -1,5 +1,5 @@
 -- Which nodes are subexpressions, as marks: one for each node.
-use Rattle.std.specs.Prelude.{◌≡◌, ◌⊎◌, ◌↔◌, ℕ, ◌<◌, Bool, true, false, List, slice_index_or}
+use Rattle.std.specs.Prelude.{◌≡◌, ◌⊎◌, ◌↔◌, Bool, true, false, List, slice_index_or}
 use Rattle.std.specs.Prelude.{length}
 use Rattle.expr_dag.specs.fx_model.declared.ExprId.{ExprId}
 use Rattle.expr_dag.specs.fx_model.declared.Node.{Node}

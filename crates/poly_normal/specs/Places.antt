@@ -1,9 +1,9 @@
 -- Rows and monomials: a row has a power for each atom that occurs, a monomial one for each node.
-use Rattle.std.specs.Prelude.{◌≡◌, ℕ, ◌+◌, Bool, true, false, ◌&&◌, if◌then◌else◌, zero, suc, List}
+use Rattle.std.specs.Prelude.{ℕ, Bool, true, false, ◌&&◌, zero, suc, List}
 use Rattle.std.specs.Prelude.{[], ◌∷◌, map, replicate, slice_set}
 use Rattle.expr_dag.specs.fx_model.declared.Node.{Node}
 use Rattle.poly_normal.specs.Polynomial.{Monomial, Polynomial}
-use Rattle.poly_normal.specs.Form.{Side, Form}
+use Rattle.poly_normal.specs.Form.{Side}
 use Rattle.poly_normal.specs.Parts.{is_atom_node}
 
 -- for each node whether it is a marked atom

@@ -1,7 +1,6 @@
 -- The polynomial that a value of `Terms` stands for.
-use Rattle.std.specs.Prelude.{ℕ}
 use Rattle.poly_normal.specs.Polynomial.{Polynomial}
-use Rattle.poly_normal.specs.Rows.{rows, IsJoined}
+use Rattle.poly_normal.specs.Rows.{rows}
 use Rattle.poly_normal.specs.declared.terms.Terms.{Terms}
 
 -- The terms in order, each coefficient with its own row of powers as monomial.

@@ -1,12 +1,11 @@
 -- A polynomial is joined in one way at most.
-use Rattle.std.specs.Prelude.{◌≡◌, ◌≢◌, ℕ, ℤ, pos, ◌≤◌, List, [], ◌∷◌, length}
-use Rattle.std.specs.List.{AllByRecursion, AllByRecursion-prop}
+use Rattle.std.specs.Prelude.{ℕ, [], ◌∷◌}
 use Rattle.std.specs.Ordering.{Ordering-set}
 use Rattle.std.proofs.Props.{props}
 use Rattle.std.proofs.Math.Nat.{ℕ_set}
 use Rattle.std.proofs.Math.Bridge.{le_prop}
-use Rattle.poly_normal.specs.Polynomial.{Monomial, Term, Polynomial}
-use Rattle.poly_normal.specs.Rows.{IsBefore, IsRising, IsRow, AllRows, IsJoined}
+use Rattle.poly_normal.specs.Polynomial.{Monomial, Polynomial}
+use Rattle.poly_normal.specs.Rows.{IsBefore, IsRising, AllRows, IsJoined}
 
 before-prop : (m : Monomial) (p : Polynomial) → IsProp (IsBefore m p)
 before-prop m p = hlevel (props, Ordering-set)

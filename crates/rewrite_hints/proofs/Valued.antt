@@ -1,12 +1,11 @@
 -- An expression whose divisors have values other than 0 has a value.
 use Rattle.std.specs.Prelude.{◌≡◌, ◌≢◌, ◌<◌, ℕ, zero, suc, Bool, true, false, if◌then◌else◌, Option}
-use Rattle.std.specs.Prelude.{Some, None, List, [], ◌∷◌, map, slice_get, slice_index_or, length}
+use Rattle.std.specs.Prelude.{Some, None, List, map, slice_index_or, length}
 use Rattle.std.specs.Prelude.{refl}
 use Rattle.std.specs.Option.{IsSomeAnd}
 use Rattle.std.specs.List.{AllByRecursion}
 use Rattle.std.proofs.Common.{inl, inr, arith, ap, sym, ◌∙◌, subst}
 use Rattle.std.proofs.lemmas.Option.{slice_get_within, slice_get-get_or, get_or_from_slice_get}
-use Rattle.std.proofs.lemmas.Option.{none-some}
 use Rattle.script_hints.specs.fx_model.Fraction.{Fraction, ◌+ℚ◌, ◌-ℚ◌, ◌*ℚ◌, ◌/ℚ◌, neg_ℚ, abs_ℚ}
 use Rattle.script_hints.specs.fx_model.Fraction.{zero_ℚ}
 use Rattle.script_hints.specs.fx_model.Fraction.{is_zero_ℚ, is_zero_out}
@@ -20,14 +19,12 @@ use Rattle.script_hints.specs.fx_model.declared.Node.TheVariants.{Var, Lit, Neg,
 use Rattle.script_hints.specs.fx_model.declared.Node.TheVariants.{Abs, Round}
 use Rattle.poly_normal.specs.expr_dag.Nodes.{IsAt}
 use Rattle.poly_normal.specs.expr_dag.Shapes.{node_at-value}
-use Rattle.script_hints.specs.facts.declared.hint.HintRow.{HintRow}
 use Rattle.script_hints.specs.facts.Rows.{IsMet, row_by_values}
-use Rattle.script_hints.specs.declared.hint.Hint.{Hint}
 use Rattle.script_hints.specs.Needs.{need_of}
 use Rattle.script_hints.specs.Meets.{MetSidesAreEqual}
 use Rattle.rewrite_hints.specs.Divisors.{Occurs, IsDivisor, IsMadeOf}
 use Rattle.rewrite_hints.specs.Divisors.Occurs.{itself, inside}
-use Rattle.rewrite_hints.specs.Rows.{IsRowOf, RowsAreTrue, EqualSidesAreMet}
+use Rattle.rewrite_hints.specs.Rows.{RowsAreTrue, EqualSidesAreMet}
 use Rattle.script_hints.specs.facts.Known.{some_out}
 use Rattle.script_hints.specs.facts.CommonParts.{all_at}
 

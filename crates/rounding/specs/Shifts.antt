@@ -11,7 +11,7 @@ use Rattle.std.proofs.Math.Nat.{mul-le-mul_left, pow-le-pow_right}
 use lib.IntN.{neg_ℤ}
 use Rattle.interval.specs.fx_model.Fraction.{Fraction, ◌+ℚ◌, ◌*ℚ◌, neg_ℚ, ◌≤ℚ◌, ◌<ℚ◌, le_or_lt}
 use Rattle.interval.specs.fx_model.Fraction.{lt_not, le_trans, lt_le_trans, le_lt_trans, lt_le}
-use Rattle.interval.specs.fx_model.Fraction.{add_assoc, add_comm, neg-add, neg-neg, middle_sums}
+use Rattle.interval.specs.fx_model.Fraction.{add_comm, neg-add, neg-neg, middle_sums}
 use Rattle.interval.specs.fx_model.Powers.{whole, whole-add, whole-le, scaled, scaled-le, scaled-lt}
 use Rattle.interval.specs.fx_model.Powers.{scaled-shift, two_to, floor_low, floor_high}
 use Rattle.interval.specs.fx_model.Powers.{floor_unique}

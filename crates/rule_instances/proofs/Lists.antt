@@ -1,5 +1,5 @@
 -- Lists of instances with different numbers, and what stands behind a test.
-use Rattle.std.specs.Prelude.{◌≡◌, ◌&&◌, ◌||◌, Bool, true, false, not, List, [], ◌∷◌, ◌++◌}
+use Rattle.std.specs.Prelude.{◌≡◌, ◌&&◌, Bool, true, false, not, List, [], ◌∷◌, ◌++◌}
 use Rattle.std.specs.List.{list_any}
 use Rattle.std.proofs.Common.{inl, inr, ap, sym, ◌∙◌, eqb, eq-eqb, true≢false, refl}
 use Rattle.std.proofs.lemmas.Bool.{and_parts, not-true, or_parts}

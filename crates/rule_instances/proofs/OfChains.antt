@@ -1,7 +1,7 @@
 -- The lists of a difference past other expressions have exactly its chains, each once.
-use Rattle.std.specs.Prelude.{◌≡◌, ◌≢◌, ◌⊎◌, ◌↔◌, ◌&&◌, ℕ, Bool, true, false, not, if◌then◌else◌}
-use Rattle.std.specs.Prelude.{List, [], ◌∷◌, Some, slice_get, refl}
-use Rattle.std.proofs.Common.{inl, inr, ap, sym, ◌∙◌, subst, true≢false}
+use Rattle.std.specs.Prelude.{◌≡◌, ◌⊎◌, ◌↔◌, ◌&&◌, ℕ, Bool, true, false, not, if◌then◌else◌}
+use Rattle.std.specs.Prelude.{List, [], ◌∷◌, Some, refl}
+use Rattle.std.proofs.Common.{inl, inr, ap, sym, ◌∙◌, subst}
 use Rattle.std.proofs.lemmas.Bool.{and_parts, not-true}
 use Rattle.fx_model.specs.declared.ExprId.{ExprId}
 use Rattle.fx_model.specs.declared.Node.{Node}
@@ -11,15 +11,15 @@ use Rattle.facts.specs.declared.fact.Slot.TheVariants as slot
 use Rattle.pair_closure.specs.Reached.{Has, IsEachOnce}
 use Rattle.pair_closure.specs.Closure.{Pair, AreApart, is_same}
 use Rattle.pair_closure.specs.Members.{no_member, has_first, once_nil}
-use Rattle.pair_closure.specs.Ids.{same_ids, not_same, apart_ids}
+use Rattle.pair_closure.specs.Ids.{not_same, apart_ids}
 use Rattle.facts.specs.declared.instance.Instance.{Instance}
 use Rattle.rule_instances.specs.Slots.{rule}
 use Rattle.rule_instances.specs.Instances.{OfChain}
 use Rattle.rule_instances.specs.Instances.OfChain.{rule_75, rule_76}
-use Rattle.rule_instances.specs.Found.{past_left, past_right, both_found}
+use Rattle.rule_instances.specs.Found.{past_left, past_right}
 use Rattle.rule_instances.specs.InOrder.{each_at, apart, one_left, one_right}
 use Rattle.rule_instances.proofs.OfDifferences.{both_out, both_in, both_once, one_out, one_once}
-use Rattle.rule_instances.proofs.Each.{At, at_place, place_at, each_out, each_in, each_once}
+use Rattle.rule_instances.proofs.Each.{at_place, place_at, each_out, each_in, each_once}
 use Rattle.rule_instances.proofs.Families.{first_of}
 
 -- ---- the test

@@ -2,7 +2,7 @@
 -- each once.
 use Rattle.std.specs.Prelude.{◌≡◌, ◌⊎◌, ◌↔◌, Bool, true, false, if◌then◌else◌, Option, Some, None}
 use Rattle.std.specs.Prelude.{List, [], ◌∷◌, refl}
-use Rattle.std.proofs.Common.{inl, inr, ap, sym, subst, eq-eqb}
+use Rattle.std.proofs.Common.{inl, inr, ap, sym, subst}
 use Rattle.fx_model.specs.declared.ExprId.{ExprId}
 use Rattle.fx_model.specs.declared.Direction.{Direction}
 use Rattle.fx_model.specs.declared.Direction.TheVariants.{Zr, Aw}

@@ -1,5 +1,5 @@
 -- The sides of a difference are nodes.
-use Rattle.std.specs.Prelude.{◌<◌, ℕ, List, length}
+use Rattle.std.specs.Prelude.{◌<◌, List, length}
 use Rattle.std.proofs.Common.{arith, subst}
 use Rattle.std.proofs.lemmas.Option.{slice_get_within, get_or_from_slice_get}
 use Rattle.fx_model.specs.declared.ExprId.{ExprId}

@@ -1,13 +1,13 @@
 -- The list of all instances has exactly these, each once.
-use Rattle.std.specs.Prelude.{◌≡◌, ◌≢◌, ◌⊎◌, ◌↔◌, ◌<◌, ℕ, zero, suc, List, [], ◌∷◌, ◌++◌, Some}
-use Rattle.std.specs.Prelude.{slice_get, slice_index_or, length, refl}
+use Rattle.std.specs.Prelude.{◌≡◌, ◌≢◌, ◌⊎◌, ◌↔◌, ◌<◌, ℕ, List, [], ◌∷◌, ◌++◌, Some}
+use Rattle.std.specs.Prelude.{slice_get, length, refl}
 use Rattle.std.specs.List.{AllByRecursion}
 use Rattle.std.proofs.Common.{inl, inr, arith, ap, sym, ◌∙◌}
-use Rattle.std.proofs.lemmas.Option.{slice_get-get_or, slice_get_within}
+use Rattle.std.proofs.lemmas.Option.{slice_get-get_or}
 use Rattle.fx_model.specs.declared.ExprId.{ExprId}
 use Rattle.fx_model.specs.declared.Node.{Node}
 use Rattle.fx_model.specs.declared.Node.TheVariants.{Var, Lit, Neg, Add, Sub, Mul, Div, Abs, Round}
-use Rattle.pair_closure.specs.expr_dag.Nodes.{IsAt, place_of, one_node}
+use Rattle.pair_closure.specs.expr_dag.Nodes.{IsAt, place_of}
 use Rattle.facts.specs.declared.fact.Slot.{Slot}
 use Rattle.facts.specs.declared.fact.Slot.TheVariants as slot
 use Rattle.facts.specs.declared.hint.HintRow.{HintRow}
@@ -20,7 +20,7 @@ use Rattle.facts.specs.declared.instance.Instance.{Instance}
 use Rattle.pair_closure.specs.Among.{is_among}
 use Rattle.rule_instances.specs.Slots.{rule, rewriting}
 use Rattle.rule_instances.specs.Lists.{at_any, at_operation}
-use Rattle.rule_instances.specs.Found.{at_error, at_terms, at_pair, past_pair}
+use Rattle.rule_instances.specs.Found.{at_error, at_terms, at_pair}
 use Rattle.rule_instances.specs.InOrder.{each_at, id_at, of_node, node_of, one_left, one_right}
 use Rattle.rule_instances.specs.InOrder.{of_sides, of_difference, past_of, of_pair, of_hint}
 use Rattle.rule_instances.specs.InOrder.{instance_list}
@@ -35,9 +35,9 @@ use Rattle.rule_instances.specs.Instances.IsInstance.{of_any, of_operation, of_e
 use Rattle.rule_instances.specs.Instances.IsInstance.{of_chain, of_pair as by_pair}
 use Rattle.rule_instances.specs.Instances.IsInstance.{of_hint as by_hint}
 use Rattle.rule_instances.proofs.Each.{At, at_place, place_at, each_out, each_in, each_once}
-use Rattle.rule_instances.proofs.Families.{kind, expression_of, home, any_home, operation_home}
+use Rattle.rule_instances.proofs.Families.{kind, home, any_home, operation_home}
 use Rattle.rule_instances.proofs.Families.{operation_node, error_home, terms_home, chain_home}
-use Rattle.rule_instances.proofs.Families.{pair_home, pair_read, hint_read}
+use Rattle.rule_instances.proofs.Families.{pair_read, hint_read}
 use Rattle.rule_instances.proofs.Lists.{given_out, given_once}
 use Rattle.rule_instances.proofs.Operations.{any_list, operation_list}
 use Rattle.rule_instances.proofs.OfDifferences.{error_list, terms_list}

@@ -1,14 +1,9 @@
 -- One more instance of a round.
-use Rattle.std.specs.Prelude.{◌≡◌, ◌≢◌, ◌⊎◌, ◌<◌, ◌+◌, ℕ, Bool, true, false, List, [], ◌∷◌, ◌++◌}
-use Rattle.std.specs.Prelude.{length, Some, None, slice_get, slice_set, Contains, refl}
-use Rattle.std.proofs.Common.{sym, ◌∙◌, ap, subst, inl, inr, arith, rules, get_or, take, drop}
-use Rattle.std.proofs.Common.{add-one, zero, suc}
-use lib.ListN.{replicate}
-use Rattle.std.proofs.lemmas.List.{drop_all, take_all, append-nil, map-append}
-use Rattle.std.proofs.Math.Seq.{take-suc}
+use Rattle.std.specs.Prelude.{◌≡◌, ◌≢◌, ◌⊎◌, ◌<◌, ◌+◌, ℕ, Bool, false, List, [], ◌∷◌, ◌++◌}
+use Rattle.std.specs.Prelude.{Some, None, slice_get, Contains}
+use Rattle.std.proofs.Common.{sym, ◌∙◌, ap, subst, inl, inr, rules}
+use Rattle.std.proofs.lemmas.List.{map-append}
 use Rattle.std.proofs.lemmas.List.Elements.{Contains-push, Contains-push_cases}
-use Rattle.std.proofs.lemmas.List.Elements.{Contains-append_left}
-use Rattle.std.proofs.lemmas.Option.{slice_get_read}
 use Rattle.rule_universe.specs.facts.declared.fact.Fact.{Fact}
 use Rattle.rule_universe.specs.facts.declared.fact.Slot.{Slot}
 use Rattle.rule_universe.specs.facts.declared.fact.Fact.TheVariants as fact
@@ -19,7 +14,7 @@ use Rattle.rule_universe.specs.facts.Meets.{meet-IsMeet}
 use Rattle.rule_universe.specs.derivation.Lists.{RuleList, IsOnTargetList}
 use Rattle.rule_universe.specs.facts.declared.instance.Instance.{Instance}
 use Rattle.rule_universe.specs.derivation.Derivations.{Setting, At}
-use Rattle.rule_universe.specs.derivation.Rounds.{conclusion, IsAhead, IsSame, Grows}
+use Rattle.rule_universe.specs.derivation.Rounds.{conclusion, IsAhead, Grows}
 use Rattle.rule_universe.specs.derivation.Changes.{IsQuiet, IsListed}
 use Rattle.rule_universe.specs.derivation.Counts.{IsRisen, risen_after}
 use Rattle.rule_universe.specs.derivation.Parts.{conclusion_reads, slot_cases, stronger_slot}

@@ -1,6 +1,6 @@
 -- One answer is defined for a text.
 use Rattle.std.specs.Prelude.{◌⊎◌, slice_get}
-use Rattle.std.proofs.Common.{◌≡◌, ◌≢◌, inl, inr, ℕ, List, length, Some, refl, sym, ap, ◌∙◌, subst}
+use Rattle.std.proofs.Common.{◌≡◌, ◌≢◌, inl, inr, ℕ, List, length, Some, refl, sym, ◌∙◌, subst}
 use Rattle.script_texts.specs.goals.declared.line.Line.{Line}
 use Rattle.script_texts.specs.script_judge.First.{FirstsAreUnique}
 use Rattle.script_texts.specs.script_grammar.Spells.{View, Spells, SpellsOnce, NeverBoth}

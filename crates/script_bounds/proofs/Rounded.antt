@@ -3,7 +3,7 @@ use Rattle.std.specs.Prelude.{◌≡◌, Some, refl}
 use Rattle.std.proofs.Common.{sym, subst, ap, ◌∙◌}
 use Rattle.literal_order.specs.fx_model.Fraction.{Fraction, ◌≤ℚ◌, le_refl, le_antisymm}
 use Rattle.literal_order.specs.fx_model.Grid.{Bound, Below, At, Above, IsDown, IsUp}
-use Rattle.literal_order.specs.fx_model.Enclosure.{Range, Lies, IsEnclosure, IsInfimum, IsSupremum}
+use Rattle.literal_order.specs.fx_model.Enclosure.{Range, Lies, IsEnclosure}
 use Rattle.literal_order.specs.fx_model.Enclosure.{IsOrdered, enclosure_unique, member_of}
 use Rattle.literal_order.specs.fx_model.Enclosure.{enclosure_ordered}
 use Rattle.literal_order.specs.grid_words.Nearest.{down, up}

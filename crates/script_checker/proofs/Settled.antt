@@ -1,7 +1,6 @@
 -- A goal is true where a fact that settles it holds.
-use Rattle.std.proofs.Common.{◌≡◌, List, Some, None, subst, inl, inr, ⊎_elim}
+use Rattle.std.proofs.Common.{◌≡◌, List, Some, None, subst}
 use Rattle.std.specs.Option.{IsSomeAnd}
-use Rattle.fx_model.specs.Fraction.{Fraction, ◌-ℚ◌, ◌/ℚ◌, one_ℚ}
 use Rattle.fx_model.specs.Enclosure.{Lies, within_in}
 use Rattle.fx_model.specs.Expression.{Assignment, value}
 use Rattle.fx_model.specs.declared.Node.{Node}
@@ -11,7 +10,7 @@ use Rattle.rewrite_hints.specs.facts.declared.fact.Fact.{Fact}
 use Rattle.rewrite_hints.specs.facts.declared.fact.Fact.TheVariants as fact
 use Rattle.rewrite_hints.specs.facts.Holds.{Holds, IsRelated}
 use Rattle.rewrite_hints.specs.facts.Held.{some-and, related-wider}
-use Rattle.rewrite_hints.specs.facts.Order.{IsWithin, slot_of as slot_of_fact}
+use Rattle.rewrite_hints.specs.facts.Order.{slot_of as slot_of_fact}
 use Rattle.cert_checker.specs.goals.declared.goal.Want.{Want}
 use Rattle.cert_checker.specs.goals.declared.goal.Want.TheVariants.{Ask, Inside}
 use Rattle.cert_checker.specs.goals.Lies.{LiesAt, AreZeroAt}

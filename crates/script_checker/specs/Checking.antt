@@ -1,5 +1,5 @@
 -- What checking a script's certificate answers, and what its lines promise.
-use Rattle.std.specs.Prelude.{◌≡◌, ⊤, ℕ, List, Some, Result, Ok, Err, IfOk, slice_get}
+use Rattle.std.specs.Prelude.{◌≡◌, ⊤, ℕ, List, Result, Ok, Err, IfOk}
 use Rattle.fx_model.specs.Expression.{Assignment, IsOrdered}
 use Rattle.cert_checker.specs.goals.declared.line.Line.{Line}
 use Rattle.script_meets.specs.script_grammar.Spells.{View}

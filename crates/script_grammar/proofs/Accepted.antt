@@ -22,7 +22,7 @@ use Rattle.script_grammar.specs.declared.reading.ParseStop.{ParseStop}
 use Rattle.script_grammar.specs.declared.reading.ParseStop.TheVariants as stop
 use Rattle.script_grammar.specs.Meaning.{Meaning, meaning_of}
 use Rattle.script_grammar.specs.Steps as steps
-use Rattle.script_grammar.specs.Steps.{Step, defining, claiming, hinting, read_leaves, all_read}
+use Rattle.script_grammar.specs.Steps.{hinting, read_leaves, all_read}
 use Rattle.script_grammar.specs.Steps.{ReadsScripts}
 use Rattle.script_grammar.specs.Spells.{View, view_of, Spells, IsSpelled, SpellsOnce, SpellsAll}
 use Rattle.script_grammar.specs.Views.{step_of}

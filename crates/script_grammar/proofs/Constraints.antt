@@ -1,21 +1,18 @@
 -- Each constraint of a hint is written in four words at least.
-use Rattle.std.specs.Prelude.{◌≡◌, ◌≤◌, ◌+◌, ◌*◌, ◌^◌, ℕ, suc, List, [], ◌∷◌, ◌++◌, length, Option}
-use Rattle.std.specs.Prelude.{Some, None, option_to_list, refl}
-use Rattle.std.proofs.Common.{arith, sym, ap, ◌∙◌, subst}
+use Rattle.std.specs.Prelude.{◌≡◌, ◌≤◌, ◌+◌, ◌*◌, ◌^◌, ℕ, List, [], ◌∷◌, ◌++◌, length, Option}
+use Rattle.std.specs.Prelude.{None, option_to_list, refl}
+use Rattle.std.proofs.Common.{arith, sym, ap, subst}
 use Rattle.std.proofs.lemmas.List.{length-append}
-use Rattle.node_counts.specs.fx_model.declared.ExprId.{ExprId}
 use Rattle.goal_spans.specs.script_words.declared.class.Symbol.TheVariants as s
-use Rattle.goal_spans.specs.script_words.declared.class.Spelled.TheVariants as spelled
 use Rattle.goal_spans.specs.script_words.declared.lex.Token.{Token}
 use Rattle.goal_spans.specs.script_words.Lex.{TokensAreFew}
 use Rattle.goal_spans.specs.script_words.Named.{Naming, nothing, naming_after, defined_by}
-use Rattle.goal_spans.specs.script_words.Named.{token_word, words_from, words_of}
+use Rattle.goal_spans.specs.script_words.Named.{token_word, words_from}
 use Rattle.goal_spans.specs.script_words.declared.class.Number.TheVariants as digits_kind
 use Rattle.goal_spans.specs.script_words.Words.{Word, literal, sign}
-use Rattle.goal_spans.specs.script_shape.Tree.{AnyName, name_words, Special, Whole, natural}
-use Rattle.goal_spans.specs.script_shape.Tree.{opposite, whole_words, digits_words, Bound, unsigned}
-use Rattle.goal_spans.specs.script_shape.Tree.{positive, negative, bound_words, Operator, fixed}
-use Rattle.goal_spans.specs.script_shape.Tree.{int, special_words, operator_words, Expr, term, sum}
+use Rattle.goal_spans.specs.script_shape.Tree.{Bound, unsigned}
+use Rattle.goal_spans.specs.script_shape.Tree.{positive, negative, bound_words}
+use Rattle.goal_spans.specs.script_shape.Tree.{operator_words, Expr, term, sum}
 use Rattle.goal_spans.specs.script_shape.Tree.{difference, expr_words, Term, factor, product}
 use Rattle.goal_spans.specs.script_shape.Tree.{quotient, term_words, Factor, negation, atom}
 use Rattle.goal_spans.specs.script_shape.Tree.{factor_words, Atom, number, variable, parenthesized}
@@ -23,26 +20,25 @@ use Rattle.goal_spans.specs.script_shape.Tree.{absolute, called, rounded, fused,
 use Rattle.goal_spans.specs.script_shape.Tree.{nonzero, below, not_above, above, not_below}
 use Rattle.goal_spans.specs.script_shape.Tree.{need_words, NeedList, last_need, more_needs}
 use Rattle.goal_spans.specs.script_shape.Tree.{need_list_words, Needs, always, provided}
-use Rattle.goal_spans.specs.script_shape.Tree.{needs_words, CutForm, cut_words, Names, last_name}
+use Rattle.goal_spans.specs.script_shape.Tree.{needs_words, Names, last_name}
 use Rattle.goal_spans.specs.script_shape.Tree.{more_names, Halving, halved_by, with_goal}
-use Rattle.goal_spans.specs.script_shape.Tree.{halving_words, Hint, rewrite, like, split, halving}
+use Rattle.goal_spans.specs.script_shape.Tree.{Hint, rewrite, like, split, halving}
 use Rattle.goal_spans.specs.script_shape.Tree.{hint_words, Hints, no_hint, hint, hints_words}
 use Rattle.goal_spans.specs.script_shape.Tree.{formula_words, Script, formula, define}
 use Rattle.goal_spans.specs.script_shape.Tree.{definition_words, script_words}
 use Rattle.node_counts.specs.script_judge.declared.refusal.Refusal.{Refusal}
 use Rattle.node_counts.specs.script_judge.Reading.{IsReadable}
 use Rattle.node_counts.specs.script_judge.First.{IsFirstRefusal, unread, read}
-use Rattle.node_counts.specs.script_nodes.Known.{Known, PlacedNode, named, nothing_known}
+use Rattle.node_counts.specs.script_nodes.Known.{Known, nothing_known}
 use Rattle.node_counts.specs.script_nodes.Values.{expr_value}
-use Rattle.node_counts.specs.script_nodes.Definitions.{name_text, definition_value}
+use Rattle.node_counts.specs.script_nodes.Definitions.{definition_value}
 use Rattle.node_counts.specs.script_claims.Claims.{formula_claims}
 use Rattle.node_counts.specs.script_hints.declared.hint.Hint.{Hint as Row}
-use Rattle.node_counts.specs.script_hints.declared.hint.HintList.{HintList}
 use Rattle.node_counts.specs.script_hints.Hints.{NeedsSoFar, with_need, with_need_list, needs_value}
 use Rattle.node_counts.specs.script_hints.Hints.{HintsSoFar, with_halved, with_names, with_halving}
 use Rattle.node_counts.specs.script_hints.Hints.{with_hint, with_hints, no_hints}
 use Rattle.script_grammar.specs.Meaning.{meaning_from}
-use Rattle.script_grammar.specs.Spells.{View, Spells}
+use Rattle.script_grammar.specs.Spells.{View}
 use Rattle.script_grammar.specs.Few.{constraints_in, SpelledHaveFewConstraints}
 
 -- ---- what is written has words

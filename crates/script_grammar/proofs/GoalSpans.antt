@@ -1,7 +1,7 @@
 -- Each goal of a script has its words.
 use Rattle.std.specs.Prelude.{◌≡◌, ℕ, ◌+◌, List, [], ◌∷◌, ◌++◌, length, refl}
 use Rattle.std.proofs.Common.{sym, ap, ◌∙◌, length-append}
-use Rattle.goal_spans.specs.script_shape.Tree.{Stated, Formula, single, and, or, implies, Script}
+use Rattle.goal_spans.specs.script_shape.Tree.{Formula, single, and, or, implies, Script}
 use Rattle.goal_spans.specs.script_shape.Tree.{formula, define, formula_words, definition_words}
 use Rattle.node_counts.specs.script_nodes.Known.{Known, nothing_known}
 use Rattle.node_counts.specs.script_nodes.Definitions.{definition_value}

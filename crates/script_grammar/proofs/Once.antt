@@ -8,7 +8,7 @@ use Rattle.goal_spans.specs.script_shape.Tree.{Script, script_words}
 use Rattle.goal_spans.specs.script_shape.Roles.{script_leaves, HasRoles, LeavesAreOfTrees}
 use Rattle.node_counts.specs.script_judge.declared.refusal.Refusal.{Refusal}
 use Rattle.node_counts.specs.script_judge.Reading as reading
-use Rattle.node_counts.specs.script_judge.Reading.{Reading, IsReadable, IsReadingOf, IsFaultOf}
+use Rattle.node_counts.specs.script_judge.Reading.{IsFaultOf}
 use Rattle.node_counts.specs.script_judge.Reading.{IsScriptText, fault}
 use Rattle.node_counts.specs.script_judge.First.{IsFirstRefusal, unread, read, first_of, refusal_of}
 use Rattle.node_counts.specs.script_judge.First.{FirstsAreUnique}
@@ -17,7 +17,7 @@ use Rattle.goal_spans.specs.Spans.{goal_spans}
 use Rattle.goal_spans.specs.Reading.{spans_read, ReadsSpans}
 use Rattle.script_grammar.specs.Meaning.{Meaning, meaning_of}
 use Rattle.script_grammar.specs.Steps as steps
-use Rattle.script_grammar.specs.Steps.{Step, defining, claiming, hinting, read_leaves, all_read}
+use Rattle.script_grammar.specs.Steps.{Step, defining, claiming, hinting, read_leaves}
 use Rattle.script_grammar.specs.Steps.{ReadsScripts}
 use Rattle.script_grammar.specs.Spells.{view_of, SpellsOnce, NeverBoth, SpellsAll}
 

@@ -1,15 +1,14 @@
 -- A script that a text spells has few nodes, few hints and few goals, and its splits have ranges.
-use Rattle.std.specs.Prelude.{◌≡◌, ℕ, ◌≤◌, List, length, Option, Some, None, Bool, true, false}
-use Rattle.std.specs.Prelude.{if◌then◌else◌, refl}
+use Rattle.std.specs.Prelude.{◌≡◌, ℕ, ◌≤◌, List, length, Option, None}
+use Rattle.std.specs.Prelude.{refl}
 use Rattle.std.proofs.Common.{◌<◌, sym, ap, ◌∙◌, subst, arith}
 use Rattle.goal_spans.specs.script_words.Lex.{LexesOnce}
 use Rattle.goal_spans.specs.script_words.Named.{words_of}
 use Rattle.goal_spans.specs.script_shape.Tree.{Script, script_words, formula, define}
 use Rattle.goal_spans.specs.script_shape.Roles.{Leaf, script_leaves, LeavesAreOfTrees}
 use Rattle.node_counts.specs.script_judge.declared.refusal.Refusal.{Refusal}
-use Rattle.node_counts.specs.script_judge.declared.fault.Fault.{Fault}
 use Rattle.node_counts.specs.script_judge.Reading.{Reading, IsReadingOf, fault}
-use Rattle.node_counts.specs.script_judge.First.{IsFirstRefusal, unread, read, first_of, refusal_of}
+use Rattle.node_counts.specs.script_judge.First.{IsFirstRefusal, unread, read, refusal_of}
 use Rattle.node_counts.specs.script_judge.First.{second_none, none_found}
 use Rattle.node_counts.specs.script_judge.Judge.{Judged, nothing_seen}
 use Rattle.node_counts.specs.script_nodes.Known.{Known, nothing_known}

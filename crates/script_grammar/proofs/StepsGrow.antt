@@ -1,10 +1,7 @@
 -- Nodes never go while the words of a script are read.
 use Rattle.std.proofs.Common.{◌≡◌, ℕ, ◌<◌, ◌≤◌, List, [], ◌∷◌, length, get_or, Bool, true, false}
-use Rattle.std.proofs.Common.{if◌then◌else◌, Result, Ok, Err, sym, ap, ◌∙◌, arith, le_refl}
+use Rattle.std.proofs.Common.{if◌then◌else◌, ap, ◌∙◌, arith, le_refl}
 use Rattle.std.proofs.Common.{le_trans}
-use Rattle.std.specs.Result.{IsErrAnd}
-use Rattle.node_counts.specs.expr_dag.declared.dag.DagFault.{DagFault}
-use Rattle.node_counts.specs.expr_dag.declared.dag.DagFault.TheVariants.{Full}
 use Rattle.goal_spans.specs.script_words.Words.{Word}
 use Rattle.goal_spans.specs.script_shape.declared.due.Due.{Due}
 use Rattle.goal_spans.specs.script_shape.Roles.{Leaf, leaves_of}

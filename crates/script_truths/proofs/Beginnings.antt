@@ -13,7 +13,6 @@ use Rattle.box_tree.specs.script_claims.Facts.{hypothesis_fact}
 use Rattle.box_tree.specs.script_claims.Meets.{IsTrueAt}
 use Rattle.script_meets.specs.script_grammar.Spells.{View}
 use Rattle.script_meets.specs.script_grammar.Names.{ClaimIsOf, HintIsOf}
-use Rattle.script_meets.specs.Meets.{Meets}
 use Rattle.universe.specs.pair_closure.Members.{has_all}
 use Rattle.universe.specs.rule_universe.Worlds.{World}
 use Rattle.universe.specs.rule_universe.Wholes.{all_contained}

@@ -1,10 +1,9 @@
 -- A goal is true where a fact that settles it holds.
 use Rattle.std.specs.Prelude.{◌≡◌, ℕ, List, Some, None, length, refl}
 use Rattle.std.specs.Option.{IsSomeAnd}
-use Rattle.std.proofs.Common.{inl, inr, ⊎_elim, subst}
+use Rattle.std.proofs.Common.{subst}
 use Rattle.fx_model.specs.declared.ExprId.{ExprId}
 use Rattle.fx_model.specs.declared.Node.{Node}
-use Rattle.fx_model.specs.Fraction.{Fraction, ◌-ℚ◌, ◌/ℚ◌, one_ℚ}
 use Rattle.fx_model.specs.Enclosure.{Lies, within_in}
 use Rattle.fx_model.specs.Expression.{Assignment, value}
 use Rattle.theorem_list.specs.interval.declared.interval.Interval.{Interval}

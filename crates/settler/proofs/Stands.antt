@@ -13,7 +13,7 @@ use Rattle.saturate.specs.goals.Stronger.{StrongerSettles}
 use Rattle.saturate.specs.derivation.Derivations.{Setting, At, IsClosed}
 use Rattle.saturate.specs.derivation.Lists.{IsLawful}
 use Rattle.saturate.specs.derivation.Known.{Piece, Known, IsTableAt}
-use Rattle.saturate.specs.derivation.Settled.{IsMet, IsFirstUnmet, IsState}
+use Rattle.saturate.specs.derivation.Settled.{IsMet, IsState}
 use Rattle.saturate.specs.derivation.Settled as box
 use Rattle.saturate.specs.derivation.Decided.{state_in}
 use Rattle.saturate.specs.derivation.Parts.{some_same}

@@ -9,7 +9,7 @@ use Rattle.expr_dag.specs.fx_model.Enclosure.{Lies, IsFrom, IsUpTo, BoundLe, Sum
 use Rattle.expr_dag.specs.fx_model.Enclosure.{in_enclosure, product_holds, ordered_by, higher_from}
 use Rattle.expr_dag.specs.fx_model.declared.Node.TheVariants as node
 use Rattle.facts.specs.grid_words.Signs.{neg_down}
-use Rattle.facts.specs.grid_words.AbsoluteValues.{abs-not_negative, abs-mul, abs-div, product_up}
+use Rattle.facts.specs.grid_words.AbsoluteValues.{abs-not_negative, abs-div, product_up}
 use Rattle.facts.specs.grid_words.Products.{quotient_holds}
 use Rattle.facts.specs.dyadic.Ends.{bound_of}
 use Rattle.facts.specs.dyadic.Extremes.{BoundLe-refl, greater_end}

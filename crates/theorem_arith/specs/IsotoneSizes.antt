@@ -3,9 +3,9 @@ use Rattle.std.specs.Prelude.{◌≡◌, Bool, true, false, ◌&&◌, [], ◌∷
 use Rattle.std.specs.Prelude.{if◌then◌else◌, refl}
 use Rattle.std.proofs.Common.{sym, ap, subst}
 use Rattle.std.proofs.lemmas.Bool.{and_parts, and_from}
-use Rattle.expr_dag.specs.fx_model.Fraction.{Fraction, ◌≤ℚ◌, zero_ℚ, neg_ℚ, abs_ℚ, le_trans}
-use Rattle.expr_dag.specs.fx_model.Grid.{Bound, Below, At, Above, neg_bound}
-use Rattle.expr_dag.specs.fx_model.Enclosure.{IsFrom, BoundLe, Negations, Sizes, in_enclosure}
+use Rattle.expr_dag.specs.fx_model.Fraction.{zero_ℚ, neg_ℚ, abs_ℚ, le_trans}
+use Rattle.expr_dag.specs.fx_model.Grid.{Bound, neg_bound}
+use Rattle.expr_dag.specs.fx_model.Enclosure.{BoundLe, Negations, Sizes, in_enclosure}
 use Rattle.expr_dag.specs.fx_model.Enclosure.{member_of, ordered_by, higher_from}
 use Rattle.expr_dag.specs.fx_model.declared.ExprId.{ExprId}
 use Rattle.expr_dag.specs.fx_model.declared.Node.TheVariants as node

@@ -14,17 +14,15 @@ use Rattle.expr_dag.specs.fx_model.declared.Node.TheVariants as node
 use Rattle.facts.specs.grid_words.Products.{quotient_holds}
 use Rattle.facts.specs.interval.declared.interval.Interval.{Interval}
 use Rattle.facts.specs.interval.Intervals.{range_of}
-use Rattle.facts.specs.interval.Literals.{Alone}
 use Rattle.facts.specs.interval.Results.{negation_of, negation_of-is, sum_of, sum_of-is}
 use Rattle.facts.specs.interval.Results.{difference_of, difference_of-is, product_of, product_of-is}
-use Rattle.facts.specs.interval.Results.{quotient_of, quotient_of-is, point_of, point_of-is}
+use Rattle.facts.specs.interval.Results.{quotient_of, quotient_of-is, point_of}
 use Rattle.facts.specs.interval.Results.{whole_interval}
 use Rattle.expr_dag.specs.Shapes.{is_at, node_at-value}
 use Rattle.facts.specs.declared.fact.Fact.{Fact}
 use Rattle.facts.specs.declared.fact.Fact.TheVariants as fact
 use Rattle.facts.specs.declared.fact.Slot.TheVariants as slot
 use Rattle.facts.specs.Holds.{Holds}
-use Rattle.facts.specs.CommonParts.{if-some}
 use Rattle.facts.specs.Promises.{IsSound}
 use Rattle.facts.specs.Conclusions.{bnd_of, given}
 use Rattle.expr_dag.specs.Lifted.{at_node, lifted_quotient, lifted_twice, lifted₁, lifted₂}

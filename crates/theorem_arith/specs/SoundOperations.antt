@@ -15,10 +15,8 @@ use Rattle.facts.specs.grid_words.AbsoluteValues.{abs-not_negative, abs-neg, abs
 use Rattle.facts.specs.grid_words.AbsoluteValues.{abs-square, abs-add, abs-sub, abs-add_least}
 use Rattle.facts.specs.grid_words.AbsoluteValues.{abs-sub_least, abs-add_other, abs-sub_other}
 use Rattle.facts.specs.grid_words.Products.{quotient_holds}
-use Rattle.facts.specs.dyadic.declared.number.End.{End}
 use Rattle.facts.specs.dyadic.Ends.{bound_of}
-use Rattle.facts.specs.dyadic.Order.{le_bound}
-use Rattle.facts.specs.dyadic.Extremes.{greater_end, chosen}
+use Rattle.facts.specs.dyadic.Extremes.{greater_end}
 use Rattle.facts.specs.interval.declared.interval.Interval.{Interval}
 use Rattle.facts.specs.interval.Intervals.{range_of}
 use Rattle.facts.specs.interval.Meets.{interval_from, interval_from-some, from_greater}
@@ -33,7 +31,6 @@ use Rattle.facts.specs.declared.fact.Slot.TheVariants as slot
 use Rattle.facts.specs.Parts.{size_within}
 use Rattle.facts.specs.Within.{on_half_line}
 use Rattle.facts.specs.Holds.{Holds}
-use Rattle.facts.specs.CommonParts.{if-some}
 use Rattle.facts.specs.Promises.{IsSound}
 use Rattle.facts.specs.Conclusions.{abs_of, given}
 use Rattle.expr_dag.specs.Lifted.{at_node, lifted_quotient, lifted_twice, lifted₁, lifted₂}

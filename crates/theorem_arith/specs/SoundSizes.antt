@@ -4,9 +4,9 @@ use Rattle.std.specs.Prelude.{slice_get, if◌then◌else◌, refl}
 use Rattle.std.specs.Option.{IsSomeAnd}
 use Rattle.std.proofs.Common.{sym, ap, subst, ◌∙◌, inl, inr, ⊎_elim}
 use Rattle.std.proofs.lemmas.Bool.{and_parts}
-use Rattle.expr_dag.specs.fx_model.Fraction.{Fraction, ◌≤ℚ◌, neg_ℚ, abs_ℚ, le_trans, neg-le}
+use Rattle.expr_dag.specs.fx_model.Fraction.{Fraction, neg_ℚ, abs_ℚ}
 use Rattle.expr_dag.specs.fx_model.Fraction.{neg-neg}
-use Rattle.expr_dag.specs.fx_model.Grid.{Bound, Below, At, Above, neg_bound}
+use Rattle.expr_dag.specs.fx_model.Grid.{Bound, neg_bound}
 use Rattle.expr_dag.specs.fx_model.Enclosure.{IsFrom, IsUpTo, Lies, BoundLe, Sizes, Negations}
 use Rattle.expr_dag.specs.fx_model.Enclosure.{in_enclosure, up_to_neg, higher_from, lower_up_to}
 use Rattle.expr_dag.specs.fx_model.Expression.{Assignment, IsOrdered, value, lift₁}

@@ -6,12 +6,11 @@ use Rattle.std.specs.Option.{IsSomeAnd}
 use Rattle.std.proofs.Common.{sym, ap, subst, ◌∙◌, ⊎_elim, arith}
 use Rattle.std.proofs.lemmas.Int.{ints}
 use Rattle.std.proofs.lemmas.Bool.{eqb-true, or_cases}
-use lib.IntN.{neg_ℤ}
 use Rattle.rounding.specs.fx_model.Fraction.{Fraction, ◌+ℚ◌, ◌-ℚ◌, ◌*ℚ◌, ◌≤ℚ◌, neg_ℚ, le_antisymm}
 use Rattle.rounding.specs.fx_model.Fraction.{le_trans}
-use Rattle.rounding.specs.fx_model.Powers.{IsMultiple, scaled, scaled-zero, whole, two_to}
-use Rattle.rounding.specs.fx_model.Powers.{whole-add, scaled-add}
-use Rattle.rounding.specs.fx_model.Grid.{scaled-neg, scaled-mul, multiple-neg}
+use Rattle.rounding.specs.fx_model.Powers.{IsMultiple, scaled, scaled-zero}
+use Rattle.rounding.specs.fx_model.Powers.{scaled-add}
+use Rattle.rounding.specs.fx_model.Grid.{scaled-mul, multiple-neg}
 use Rattle.rounding.specs.fx_model.Enclosure.{Lies}
 use Rattle.rounding.specs.fx_model.Expression.{Assignment, IsOrdered, value, lift₁, literal_value}
 use Rattle.rounding.specs.fx_model.Rounded.{rounded}
@@ -37,7 +36,6 @@ use Rattle.theorem_arith.specs.facts.CommonParts.{if-some, expr_same}
 use Rattle.theorem_arith.specs.facts.Held.{multiple-lower, some-and}
 use Rattle.theorem_arith.specs.facts.Order.{is_same}
 use Rattle.theorem_arith.specs.facts.Promises.{IsSound}
-use Rattle.rounding.specs.Sums.{add-mul}
 use Rattle.rounding.specs.Rounded.{rounded_multiple, rounded-finer}
 use Rattle.rounding.specs.Places.{less, not_less}
 use Rattle.theorem_arith.specs.facts.Conclusions.{fix_of, given}

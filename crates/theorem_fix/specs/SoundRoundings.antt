@@ -24,15 +24,13 @@ use Rattle.rounding.specs.declared.sign.Sign.TheVariants.{Unknown, NotNegative, 
 use Rattle.rounding.specs.Rounded.{rounded-le}
 use Rattle.rounding.specs.Errors.{HasSign, HasPlace, error_range}
 use Rattle.rounding.specs.ErrorLaws.{error_lies}
-use Rattle.theorem_arith.specs.facts.declared.fact.Fact.{Fact}
 use Rattle.theorem_arith.specs.facts.declared.fact.Fact.TheVariants as fact
 use Rattle.theorem_arith.specs.facts.declared.fact.Slot.TheVariants as slot
-use Rattle.theorem_arith.specs.facts.Holds.{Holds}
 use Rattle.theorem_arith.specs.facts.Held.{some-and}
-use Rattle.theorem_arith.specs.facts.CommonParts.{if-some, expr_same}
+use Rattle.theorem_arith.specs.facts.CommonParts.{expr_same}
 use Rattle.theorem_arith.specs.facts.Order.{is_same}
 use Rattle.theorem_arith.specs.facts.Promises.{IsSound}
-use Rattle.theorem_arith.specs.facts.Conclusions.{bnd_of, given}
+use Rattle.theorem_arith.specs.facts.Conclusions.{given}
 use Rattle.rounding.specs.interval.Outward.{outward_of_lies}
 use Rattle.theorem_fix.specs.Shapes.{rounding_at, error_rounding_of, error_rounding_at}
 use Rattle.theorem_fix.specs.SoundMultiples.{at_rounding, rounding_of_out}

@@ -1,6 +1,6 @@
 -- The lists that a script gives are those of a universe.
-use Rattle.std.specs.Prelude.{◌≡◌, ◌≤◌, ◌++◌, ℕ, List, [], Some, length, map, slice_get, refl}
-use Rattle.std.proofs.Common.{inr, sym, subst, ap, ◌∙◌}
+use Rattle.std.specs.Prelude.{◌≡◌, ◌≤◌, ◌++◌, ℕ, List, [], Some, length, map, slice_get}
+use Rattle.std.proofs.Common.{inr, subst, ap, ◌∙◌}
 use Rattle.fx_model.specs.declared.Node.{Node}
 use Rattle.fx_model.specs.Expression.{IsOrdered}
 use Rattle.rule_universe.specs.facts.declared.fact.Fact.{Fact}

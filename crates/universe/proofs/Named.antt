@@ -42,7 +42,7 @@ use Rattle.rewrite_hints.specs.script_hints.declared.hint.Constraint.{Constraint
 use Rattle.rewrite_hints.specs.script_hints.declared.hint.Constraint.TheVariants as constraint
 use Rattle.rewrite_hints.specs.script_hints.Needs.{need_of}
 use Rattle.script_grammar.specs.Spells.{View}
-use Rattle.script_grammar.specs.Names.{IsNode, AreNodes, ClaimIsOf, ConstraintIsOf, HintIsOf}
+use Rattle.script_grammar.specs.Names.{AreNodes, ClaimIsOf, ConstraintIsOf, HintIsOf}
 use Rattle.script_grammar.specs.Names.{NamesNodes}
 use Rattle.universe.specs.Starts.{sides_of, whole_difference, claim_pairs, claims_pairs, hint_pairs}
 use Rattle.universe.specs.Starts.{hints_pairs, starting_pairs}

@@ -1,5 +1,5 @@
 -- How a run of `upgrade` ends, by what came of the certificate.
-use Rattle.std.specs.Prelude.{◌≡◌, ◌≢◌, ◌≤◌, ◌<◌, ◌⊎◌, ⊤, ℕ, List, Option, Some, None, Result, Ok}
+use Rattle.std.specs.Prelude.{◌≡◌, ◌≢◌, ◌<◌, ◌⊎◌, List, Option, Some, None, Result, Ok}
 use Rattle.std.specs.Prelude.{Err, IsErrOf, length}
 use Rattle.std.specs.Io.KnownBytes.{Keeps}
 use Rattle.std.proofs.Common.{inl, inr, refl, sym, ap, subst, ◌∙◌, arith}
@@ -7,12 +7,11 @@ use Rattle.cert_bytes.specs.declared.fault.CertFault.{CertFault}
 use Rattle.cert_bytes.specs.declared.item.Item.{Item}
 use Rattle.cert_bytes.specs.declared.style.Seen.{Seen}
 use Rattle.cert_bytes.specs.Certificates.{AreCertificate}
-use Rattle.cert_bytes.specs.Fronts.{IsFront as IsFrontOf}
 use Rattle.cert_bytes.specs.ReadOut.{HasFault}
 use Rattle.command_runs.specs.whole_texts.Pieces.{HoldsAll as HoldsWhole, HoldsFront as HoldsPart}
 use Rattle.cert_upgrade.specs.Answers.{ComesOf, ComesOfAny, MayBecome, IsTooLong}
 use Rattle.cert_upgrade.specs.Files.{Holds, HoldsFront}
-use Rattle.cert_upgrade.specs.Items.{AreItemsOf, ItemsAreOne}
+use Rattle.cert_upgrade.specs.Items.{ItemsAreOne}
 use Rattle.cert_upgrade.specs.Spelled.{most}
 use Rattle.cert_bytes.specs.Spelling.{certificate_of}
 use Rattle.cert_bytes.specs.Styles.{seen_in}
@@ -24,15 +23,13 @@ use Rattle.command_runs.specs.whole_texts.declared.read.ReadStop.TheVariants as 
 use Rattle.command_runs.specs.Ends.{IsPutBy, IsLinePutBy, IsStopPutBy, IsOnce, put_runs, line_runs}
 use Rattle.command_runs.specs.Ends.{stop_runs, starved_runs, unwritten_runs, exhausted_runs}
 use Rattle.command_runs.specs.Ends.{kept_all, run_by}
-use Rattle.command_runs.specs.Fates.{Left, Leaves, begun, Fate, Written, AreTold, Runs, IsUntouched}
-use Rattle.command_runs.specs.Fates.{MayWrite}
-use Rattle.command_runs.specs.Fates.Ending.{Done}
+use Rattle.command_runs.specs.Fates.{Left, Leaves, Fate, Written, AreTold, Runs}
 use Rattle.command_runs.specs.Fates.Left.{Kept, Whole, Begun}
-use Rattle.command_runs.specs.Runs.{Bytes, Told, Run, IsKept, IsSilent, ReadFailed, WriteFailed}
+use Rattle.command_runs.specs.Runs.{Bytes, Run, IsKept, IsSilent, ReadFailed, WriteFailed}
 use Rattle.command_runs.specs.Statuses.{read_fault_line}
 use Rattle.command_runs.specs.declared.status.Status.{Status}
 use Rattle.command_runs.specs.declared.status.Status.TheVariants as status
-use Rattle.upgrade_command.specs.Command.{MayBecomeOf, IsBegunOf, UpgradeTold, UpgradeFate}
+use Rattle.upgrade_command.specs.Command.{MayBecomeOf, UpgradeFate}
 use Rattle.upgrade_command.specs.Command.{MayRewrite, IsUpgradeRun}
 
 -- ---- what a file holds

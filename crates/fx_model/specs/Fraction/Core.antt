@@ -5,20 +5,13 @@ pub mod Order
 pub mod Laws
 pub mod Floor
 pub mod Inverse
-use Rattle.std.specs.Prelude.{◌≡◌, ◌⊎◌, ℕ, ◌*◌, ◌+◌, ◌-◌, ◌/◌, ◌≤◌, ◌<◌, ◌^◌, Bool, true, false}
-use Rattle.std.specs.Prelude.{cond, nat_le, nat_lt, IsTrue, IsFalse, not, refl}
-use Rattle.std.proofs.Common.{arith, sym, ap, ◌∙◌, subst, lit<, inl, inr}
-use Rattle.std.proofs.Math.Nat.{mul-le-mul_left, mul-le-mul_right, mul-pos}
+use Rattle.std.specs.Prelude.{◌≡◌, ℕ, ◌*◌, ◌+◌, ◌-◌, ◌/◌, ◌≤◌, ◌<◌, Bool, true, false}
+use Rattle.std.specs.Prelude.{IsTrue, IsFalse, not, refl}
+use Rattle.std.proofs.Common.{arith, sym, ap, lit<}
+use Rattle.std.proofs.Math.Nat.{mul-le-mul_right}
 use mathlib.Core.Quot.{Quot, mk, sound, ind, lift, Quot-set}
 use mathlib.Core.Bool.{Bool-set}
-use mathlib.Core.HLevel.{Π_prop, →_prop}
-use lib.Dec.{T, leb, le→leb, leb→le, nleb→lt}
-use lib.IntN.{neg_ℤ, ℤ_set}
-use borrow.Author.Differences.{up, down, neg_is, same_in}
-use Rattle.std.specs.Prelude.{ℤ, pos}
-use Rattle.std.proofs.Common.{⊎_elim, zero, suc}
-use Rattle.std.proofs.lemmas.Nat.{div-add-mod', mod_below}
-use Rattle.std.proofs.lemmas.Bool.{cases_lt}
+use lib.Dec.{T, leb, le→leb, leb→le}
 
 -- A fraction as it is written, (plus - minus) / den. The numerator is a difference of two natural
 -- numbers, so that no sign occurs.

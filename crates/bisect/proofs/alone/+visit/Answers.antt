@@ -33,8 +33,8 @@ loop-i-init g t c =
           c.cut.result c.in_ok-entry.field-0.state c.children-count.result
           (above_bottom tree c.args.path c.cut.result c.cut.ensures.bottom e)
           c.in_ok-see.ensures.seen c.in_ok-entry.ensures.state c.children-count.ensures.count e;
-      room = c.see.ensures.room;
-      limit = c.see.ensures.limit;
+      room = c.see.ensures.within.room;
+      limit = c.see.ensures.within.limit;
     }
 
 pub visit-requires-clause-path : goal.visit-requires-clause-path
@@ -68,8 +68,8 @@ loop-i-preserved g t c = record {
       c.loop-i.invariant.seen c.loop-i-test.true c.child.ensures
       (seen_by c.visit.new.walk.boxes c.visit.new.walk.first c.visit.new.walk.leaves.items)
       (c.in_ok-visit.ensures.seen c.if-not-branch.false);
-  room = c.visit.ensures.room;
-  limit = c.visit.ensures.limit ∙ c.loop-i.invariant.limit;
+  room = c.visit.ensures.within.room;
+  limit = c.visit.ensures.within.limit ∙ c.loop-i.invariant.limit;
 }
 
 pub returns-clause-seen : goal.returns-clause-seen

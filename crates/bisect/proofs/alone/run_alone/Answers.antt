@@ -35,8 +35,8 @@ returns-in-Some g c =
     let r = walk_sees t w (boxes_from t 36 []) (whole_walk t c.root.result c.new.result.items w
     c.root.ensures c.new.ensures.items (c.in_ok-visit.ensures.seen c.if-not-branch.false)) in
     let n = r.0 in
-    let l = c.visit.ensures.limit in
-    let m = c.visit.ensures.room in (
+    let l = c.visit.ensures.within.limit in
+    let m = c.visit.ensures.within.room in (
       boxes_from t 36 [],
       are_boxes t (shallow t (cut_at c.args.plan.now) c.requires.plan c.laws.ensures),
       (omega (arith, n, l, m), sym r.1 ∙ c.in-Some.is, n),
@@ -49,8 +49,8 @@ returns-in-None g c =
     let r = walk_sees t w (boxes_from t 36 []) (whole_walk t c.root.result c.new.result.items w
     c.root.ensures c.new.ensures.items (c.in_ok-visit.ensures.seen c.if-not-branch.false)) in
     let n = r.0 in
-    let l = c.visit.ensures.limit in
-    let m = c.visit.ensures.room in (
+    let l = c.visit.ensures.within.limit in
+    let m = c.visit.ensures.within.room in (
       boxes_from t 36 [],
       are_boxes t (shallow t (cut_at c.args.plan.now) c.requires.plan c.laws.ensures),
       (omega (arith, n, l, m), sym r.1 ∙ c.in-None.is, n, c.from_vec.ensures ∙ r.2),

@@ -32,7 +32,7 @@ returns-then-not-branch-2 g c =
       too_many_left t c.laws.ensures c.args.records.items c.args.left.items fits c.requires.account
           c.finish_records.new.walk.boxes c.finish_records.new.walk.limit c.args.limit
           c.finish_records.new.walk.leaves.items first
-          (c.in_ok-finish_records.ensures.limit ∙ c.walk-walk.ensures.1) over,
+          (c.in_ok-finish_records.ensures.within.limit ∙ c.walk-walk.ensures.1) over,
     )
 
 pub returns-in-Some : goal.returns-in-Some
@@ -53,9 +53,9 @@ returns-in-Some g c =
     c.finish_records.new.walk.leaves.items c.finish_left.new.walk.leaves.items
     c.sort_leaves.new.leaves.items first second c.sort_leaves.ensures.permutation
     c.sort_leaves.ensures.sorted in
-    let room = c.in_ok-finish_left.ensures.room in
-    let limit = c.in_ok-finish_left.ensures.limit ∙ c.in_ok-finish_records.ensures.limit
-    ∙ c.walk-walk.ensures.1 in (
+    let room = c.in_ok-finish_left.ensures.within.room in
+    let limit = c.in_ok-finish_left.ensures.within.limit
+    ∙ c.in_ok-finish_records.ensures.within.limit ∙ c.walk-walk.ensures.1 in (
       boxes_from t 36 [],
       c.laws.ensures.boxes,
       (
@@ -89,9 +89,9 @@ returns-in-None g c =
     c.finish_records.new.walk.leaves.items c.finish_left.new.walk.leaves.items
     c.sort_leaves.new.leaves.items first second c.sort_leaves.ensures.permutation
     c.sort_leaves.ensures.sorted in
-    let room = c.in_ok-finish_left.ensures.room in
-    let limit = c.in_ok-finish_left.ensures.limit ∙ c.in_ok-finish_records.ensures.limit
-    ∙ c.walk-walk.ensures.1 in (
+    let room = c.in_ok-finish_left.ensures.within.room in
+    let limit = c.in_ok-finish_left.ensures.within.limit
+    ∙ c.in_ok-finish_records.ensures.within.limit ∙ c.walk-walk.ensures.1 in (
       boxes_from t 36 [],
       c.laws.ensures.boxes,
       (

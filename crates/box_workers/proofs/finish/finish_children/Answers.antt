@@ -26,6 +26,6 @@ loop-piece-preserved g c = (
       c.args.first c.loop-piece.piece c.args.count c.child.ensures c.loop-piece-test.true
       _ c.loop-piece.walk.boxes _ _ c.loop-piece.walk.leaves.items _ c.loop-piece.invariant.0
       (c.in_ok-visit.ensures.all c.if-not-branch.false),
-  c.in_ok-visit.ensures.room,
-  c.in_ok-visit.ensures.limit ∙ c.loop-piece.invariant.2,
+  c.in_ok-visit.ensures.within.room,
+  c.in_ok-visit.ensures.within.limit ∙ c.loop-piece.invariant.2,
 )

@@ -1,4 +1,4 @@
-use Rattle.std.proofs.Common.{refl, arith, length}
+use Rattle.std.proofs.Common.{refl, length}
 use Rattle.whole_texts.specs.OnlyWrites.{only_writes_on}
 use Rattle.cert_bytes.specs.Styles.{seen_after}
 use Rattle.cert_rewriting.proofs.Written.{on_err, writing_front}

@@ -1,7 +1,6 @@
-use Rattle.std.proofs.Common.{◌≡◌, ◌≤◌, ◌+◌, Result, Ok, None, refl, ap, subst, ◌∙◌, arith}
+use Rattle.std.proofs.Common.{◌≡◌, ◌≤◌, ◌+◌, Ok, None, ap, subst, ◌∙◌, arith}
 use Rattle.cert_bytes.specs.declared.item.Item.{Item}
 use Rattle.cert_bytes.specs.declared.item.Item.TheVariants as item
-use Rattle.cert_checker.specs.declared.fault.TakeStop.{TakeStop}
 use Rattle.cert_checker.specs.Contexts.{Context}
 use Rattle.cert_checker.specs.After.{after}
 use Rattle.cert_checker.specs.Standing.{Standing, Takes, TakesBehind}

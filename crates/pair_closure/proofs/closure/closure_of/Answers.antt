@@ -1,4 +1,4 @@
-use Rattle.std.proofs.Common.{◌≡◌, Ok, Err, ap, subst}
+use Rattle.std.proofs.Common.{Ok, Err, ap, subst}
 use Rattle.std.specs.Option.{IfSome}
 use Rattle.pair_closure.specs.Reached.{Has, IsListOf}
 use Rattle.pair_closure.specs.Closure.{IsPair, AreKnown, IsTaken, AreRising}

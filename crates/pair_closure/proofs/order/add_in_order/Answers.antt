@@ -1,5 +1,4 @@
-use Rattle.std.proofs.Common.{◌≡◌, ◌<◌, ◌≤◌, ◌++◌, length, map, take, arith, sym, ap, ◌∙◌, subst}
-use Rattle.std.proofs.Common.{length-append}
+use Rattle.std.proofs.Common.{◌<◌, ◌++◌, length, map, take, arith, sym, ap, ◌∙◌, subst}
 use Rattle.std.proofs.lemmas.List.{append-nil}
 use Rattle.expr_dag.specs.Nodes.{IsAbsent}
 use Rattle.pair_closure.specs.Closure.{difference_of}

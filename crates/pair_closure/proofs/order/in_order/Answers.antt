@@ -1,10 +1,8 @@
-use Rattle.std.proofs.Common.{◌≡◌, ◌<◌, ◌≤◌, ◌↔◌, ◌++◌, length, map, arith, sym, ap, ◌∙◌, subst}
-use Rattle.std.proofs.Common.{refl}
+use Rattle.std.proofs.Common.{◌<◌, ◌≤◌, ◌↔◌, ◌++◌, length, map, arith, sym, ap, ◌∙◌, subst}
 use Rattle.expr_dag.specs.fx_model.declared.Node.{Node}
 use Rattle.expr_dag.specs.Nodes.{IsAbsent}
 use Rattle.pair_closure.specs.Reached.{Has}
-use Rattle.pair_closure.specs.Closure.{Pair, IsKnownPair, difference_of}
-use Rattle.pair_closure.specs.Differences.{IsBehind}
+use Rattle.pair_closure.specs.Closure.{IsKnownPair, difference_of}
 use Rattle.pair_closure.proofs.Behind.{listed_by, behind_known, absent_behind, same_nodes}
 use Rattle.pair_closure.proofs.order.in_order.Goals as goal
 

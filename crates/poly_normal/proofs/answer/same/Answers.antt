@@ -1,15 +1,14 @@
-use Rattle.std.proofs.Common.{arith, sym, ap, ◌∙◌, subst, ◌≡◌, ◌<◌, length, slice_index_or, Option}
+use Rattle.std.proofs.Common.{sym, ap, ◌∙◌, subst, ◌≡◌, ◌<◌, length, slice_index_or, Option}
 use Rattle.std.proofs.Common.{Some, None, List}
 use Rattle.std.specs.Prelude.{IsSome}
 use Rattle.std.proofs.lemmas.Result.{IfOk-weaker}
 use Rattle.poly_normal.specs.Form.{form}
-use Rattle.poly_normal.specs.Mark.{Answers}
 use Rattle.poly_normal.specs.Parts.{AreParts}
 use Rattle.poly_normal.specs.Places.{places}
-use Rattle.poly_normal.specs.Table.{IsPassed, AreKnown}
+use Rattle.poly_normal.specs.Table.{AreKnown}
 use Rattle.poly_normal.specs.declared.forms.Quotient.{Quotient}
 use Rattle.poly_normal.proofs.Quotients.{same_values}
-use Rattle.poly_normal.proofs.Tables.{closed_parts, passes, stands_inside, stands_some, left_stands}
+use Rattle.poly_normal.proofs.Tables.{closed_parts, stands_inside, stands_some, left_stands}
 use Rattle.poly_normal.proofs.Tables.{right_stands, rows_left, rows_right, answered, law_from}
 use Rattle.poly_normal.proofs.answer.same.Goals as goal
 

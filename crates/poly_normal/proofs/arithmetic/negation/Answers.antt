@@ -1,4 +1,4 @@
-use Rattle.std.proofs.Common.{arith, sym, ◌∙◌, ap, neg_ℤ}
+use Rattle.std.proofs.Common.{arith, ◌∙◌, neg_ℤ}
 use Rattle.std.proofs.lemmas.Int.{ints}
 use Rattle.poly_normal.specs.Polynomial.{Term}
 use Rattle.poly_normal.specs.TermsOf.{polynomial_of}

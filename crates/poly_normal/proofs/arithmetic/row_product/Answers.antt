@@ -5,7 +5,6 @@ use Rattle.std.proofs.lemmas.Int.{ints, to_z-of_z}
 use Rattle.poly_normal.specs.Polynomial.{term_product, monomial_product}
 use Rattle.poly_normal.specs.Rows.{no_term}
 use Rattle.poly_normal.specs.TermsOf.{polynomial_of}
-use Rattle.poly_normal.proofs.Merge.{coefficient-size}
 use Rattle.poly_normal.proofs.Products.{step_map, product_fits, length-product, term_is}
 use Rattle.poly_normal.proofs.arithmetic.row_product.Goals as goal
 

@@ -1,7 +1,6 @@
-use Rattle.std.proofs.Common.{arith, sym, ◌∙◌, ap, ◌≡◌, ◌+ℤ◌, to_z, of_z, inl, inr, ◌≤◌, ◌⊎◌}
+use Rattle.std.proofs.Common.{arith, sym, ◌∙◌, ap, inl, inr, ◌≤◌, ◌⊎◌}
 use Rattle.std.proofs.Common.{length, slice_index_or}
-use mir.Syntax.{w128}
-use Rattle.std.proofs.lemmas.Int.{ints, fits_signed_from_abs, to_z-of_z}
+use Rattle.std.proofs.lemmas.Int.{ints}
 use Rattle.poly_normal.specs.Rows.{no_term}
 use Rattle.poly_normal.specs.TermsOf.{polynomial_of}
 use Rattle.poly_normal.proofs.Merge.{order, coefficient-size, step_equal, merge_done, merge_sums}

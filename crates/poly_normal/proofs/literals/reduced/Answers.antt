@@ -1,4 +1,4 @@
-use Rattle.std.proofs.Common.{arith, sym, ap, inl, ◌≡◌, ◌<◌, ◌≤◌, ◌/◌, ◌^◌}
+use Rattle.std.proofs.Common.{arith, sym, ap, inl, ◌≡◌, ◌/◌}
 use Rattle.poly_normal.specs.Form.{common_divisor_to}
 use Rattle.poly_normal.proofs.Divisors.{divisor_is, divisor_positive, quotient_below}
 use Rattle.poly_normal.proofs.literals.reduced.Goals as goal

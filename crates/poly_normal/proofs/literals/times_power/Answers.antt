@@ -1,4 +1,4 @@
-use Rattle.std.proofs.Common.{arith, ◌∙◌, ◌*◌, ◌^◌, ◌≤◌, refl}
+use Rattle.std.proofs.Common.{arith, ◌^◌}
 use Rattle.std.proofs.Math.Nat.{one-le-pow, mul-le-mul_left}
 use Rattle.poly_normal.proofs.Divisors.{power-step, power-past}
 use Rattle.poly_normal.proofs.literals.times_power.Goals as goal

@@ -1,9 +1,9 @@
-use Rattle.std.proofs.Common.{arith, sym, ap, ◌∙◌, subst, length, false, true, refl, ◌≡◌, suc, ◌-◌}
+use Rattle.std.proofs.Common.{arith, sym, ap, ◌∙◌, subst, length, false, true, refl, ◌≡◌, ◌-◌}
 use Rattle.std.proofs.Common.{replicate, slice_index_or}
 use Rattle.std.proofs.lemmas.List.{get_or_read}
 use Rattle.expr_dag.specs.fx_model.declared.ExprId.{ExprId}
 use Rattle.poly_normal.specs.Parts.{marked}
-use Rattle.poly_normal.proofs.Marks.{IsMarkedFrom, start, unmarked, step_marked, step_unmarked}
+use Rattle.poly_normal.proofs.Marks.{IsMarkedFrom, start, unmarked, step_marked}
 use Rattle.poly_normal.proofs.Marks.{marked_parts}
 use Rattle.poly_normal.proofs.parts.parts.Goals as goal
 

@@ -1,8 +1,8 @@
-use Rattle.std.proofs.Common.{arith, sym, ap, ◌∙◌, ◌≡◌, ◌++◌, ◌∷◌, pos, [], slice_set, refl, length}
+use Rattle.std.proofs.Common.{arith, ap, ◌∙◌, ◌≡◌, ◌++◌, ◌∷◌, pos, [], slice_set, refl, length}
 use Rattle.std.proofs.Common.{ℕ, List}
 use Rattle.poly_normal.specs.Polynomial.{Polynomial}
 use Rattle.poly_normal.specs.TermsOf.{polynomial_of}
-use Rattle.poly_normal.specs.Places.{unit_row, zero_row}
+use Rattle.poly_normal.specs.Places.{unit_row}
 use Rattle.poly_normal.proofs.Limits.{atom_joined, atom_equal}
 use Rattle.poly_normal.proofs.sides.atom.Goals as goal
 

@@ -1,6 +1,6 @@
-use Rattle.std.proofs.Common.{arith, sym, ◌∙◌, refl, ◌+◌, ◌*◌, ◌≡◌, ◌<◌, ◌^◌}
+use Rattle.std.proofs.Common.{arith, sym, ◌∙◌, ◌+◌, ◌*◌, ◌<◌, ◌^◌}
 use Rattle.std.specs.Prelude.{max}
-use Rattle.poly_normal.specs.Form.{Side, sum, product}
+use Rattle.poly_normal.specs.Form.{sum, product}
 use Rattle.poly_normal.specs.Limited.{side_of}
 use Rattle.poly_normal.specs.TermsOf.{polynomial_of}
 use Rattle.poly_normal.proofs.Limits.{product_joined, sum_joined, joined_as, limited, products_room}

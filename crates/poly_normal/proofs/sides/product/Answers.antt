@@ -1,5 +1,5 @@
-use Rattle.std.proofs.Common.{arith, sym, ◌∙◌, refl, ◌+◌, ◌*◌}
-use Rattle.poly_normal.specs.Form.{Side, product}
+use Rattle.std.proofs.Common.{sym, refl, ◌+◌, ◌*◌}
+use Rattle.poly_normal.specs.Form.{product}
 use Rattle.poly_normal.specs.Limited.{side_of}
 use Rattle.poly_normal.specs.TermsOf.{polynomial_of}
 use Rattle.poly_normal.proofs.Limits.{product_joined, joined_as, limited}

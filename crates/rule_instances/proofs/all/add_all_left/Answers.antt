@@ -1,6 +1,5 @@
 use Rattle.std.proofs.Common.{slice_index_or, arith}
 use Rattle.std.proofs.lemmas.Option.{slice_get-get_or}
-use Rattle.fx_model.specs.declared.ExprId.{ExprId}
 use Rattle.rule_instances.specs.InOrder.{one_left, id_at}
 use Rattle.rule_instances.proofs.Each.{start, more, end}
 use Rattle.rule_instances.proofs.all.add_all_left.Goals as goal

@@ -1,4 +1,3 @@
-use Rattle.std.proofs.Common.{sym}
 use Rattle.std.proofs.lemmas.Result.{on_ok_weaker}
 use Rattle.rule_instances.proofs.Behind.{sides_behind}
 use Rattle.rule_instances.proofs.all.add_difference.Goals as goal

@@ -1,5 +1,4 @@
-use Rattle.std.proofs.Common.{◌<◌, length, sym, ◌∙◌, subst}
-use Rattle.fx_model.specs.declared.ExprId.{ExprId}
+use Rattle.std.proofs.Common.{sym, ◌∙◌, subst}
 use Rattle.pair_closure.specs.Reached.{Has, IsListOf}
 use Rattle.rule_instances.specs.Instances.{IsInstance}
 use Rattle.rule_instances.proofs.Behind.{all_behind}

@@ -1,11 +1,10 @@
-use Rattle.std.proofs.Common.{arith, ◌≡◌, ℕ, Some, false, ◌+◌, ◌<◌, length, ap, subst, ◌∙◌, inl}
-use Rattle.std.proofs.Common.{inr, refl, List, [], slice_get}
-use Rattle.std.proofs.lemmas.Option.{slice_get_within, slice_get-get_or, slice_get_cases}
+use Rattle.std.proofs.Common.{arith, Some, false, ◌+◌, ◌<◌, length, ap, subst, ◌∙◌, inl}
+use Rattle.std.proofs.Common.{inr, refl, List}
+use Rattle.std.proofs.lemmas.Option.{slice_get_within, slice_get-get_or}
 use Rattle.std.specs.List.{Contains}
 use Rattle.std.proofs.lemmas.List.Sums.{count_by_more_yes, count_by_more_no}
 use Rattle.rule_universe.specs.facts.declared.fact.Slot.TheVariants as slot
 use Rattle.rule_universe.specs.facts.declared.fact.Fact.TheVariants as fact
-use Rattle.rule_universe.specs.facts.declared.instance.Instance.{Instance}
 use Rattle.rule_universe.specs.derivation.Rounds.{AllSeen}
 use Rattle.rule_universe.specs.derivation.Ahead.{ahead_begin, ahead_fewer, ahead_void}
 use Rattle.rule_universe.specs.declared.placed.Placed.{Placed}

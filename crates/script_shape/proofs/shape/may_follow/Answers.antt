@@ -1,7 +1,6 @@
 use Rattle.std.proofs.Common.{◌<◌, length, reverse, get_or, ap, ◌∙◌, arith}
 use Rattle.std.proofs.lemmas.List.{take_more}
 use Rattle.script_words.specs.Kept.{words_in}
-use Rattle.script_shape.specs.Shape.{run, start}
 use Rattle.script_shape.specs.Shape as spec
 use Rattle.script_shape.proofs.Shaped.{any_word, one_more, steps_none, steps_some}
 use Rattle.script_shape.proofs.Next.{began_run, refused_front}

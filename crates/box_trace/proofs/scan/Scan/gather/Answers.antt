@@ -1,7 +1,6 @@
-use Rattle.std.proofs.Common.{◌≡◌, ◌<◌, ℕ, Some, false, List, length, slice_get, ap, subst, inl}
-use Rattle.std.proofs.Common.{inr, ◌∙◌, arith}
-use Rattle.std.proofs.lemmas.Option.{slice_get_cases, slice_get-get_or}
-use Rattle.facts.specs.declared.instance.Instance.{Instance}
+use Rattle.std.proofs.Common.{◌<◌, Some, false, length, ap, subst}
+use Rattle.std.proofs.Common.{◌∙◌, arith}
+use Rattle.std.proofs.lemmas.Option.{slice_get-get_or}
 use Rattle.box_trace.specs.Tables.{known_at}
 use Rattle.box_trace.specs.Scans.{IsVisited}
 use Rattle.box_trace.proofs.Scanned.{scanned_beaten}

@@ -1,4 +1,4 @@
-use Rattle.std.proofs.Common.{sym, ◌∙◌, arith, pos}
+use Rattle.std.proofs.Common.{arith, pos}
 use Rattle.std.proofs.lemmas.List.{get_or_read}
 use Rattle.std.proofs.lemmas.Int.{ints}
 use Rattle.poly_normal.proofs.FlatRows.{length-rows, coefficient-rows}

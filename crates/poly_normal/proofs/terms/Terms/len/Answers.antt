@@ -1,4 +1,4 @@
-use Rattle.std.proofs.Common.{sym, ◌∙◌, arith}
+use Rattle.std.proofs.Common.{arith}
 use Rattle.poly_normal.proofs.FlatRows.{length-rows}
 use Rattle.poly_normal.proofs.terms.Terms.len.Goals as goal
 

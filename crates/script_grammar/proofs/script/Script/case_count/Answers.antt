@@ -1,4 +1,4 @@
-use Rattle.std.proofs.Common.{◌≡◌, ◌≤◌, length, sym, ap, ◌∙◌, subst, arith}
+use Rattle.std.proofs.Common.{◌≤◌, sym, ap, ◌∙◌, subst, arith}
 use Rattle.node_counts.specs.script_cases.Cases.{cases, case_count}
 use Rattle.node_counts.specs.script_cases.Counted.{cases_are_counted}
 use Rattle.script_grammar.specs.Spells.{View}
