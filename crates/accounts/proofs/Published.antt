@@ -3,7 +3,7 @@ use Rattle.std.proofs.Common.{◌≡◌, ℕ, ◌+◌, ◌≤◌, cond, List, ar
 use Rattle.accounts.specs.declared.book.OpenBox.{OpenBox}
 use Rattle.accounts.specs.Paths.{Cuts}
 use Rattle.accounts.specs.Weights.{one, times}
-use Rattle.accounts.specs.Account.{Account, over_open}
+use Rattle.accounts.specs.Account.{Account, over_open, if_shown}
 use Rattle.accounts.specs.Balance.{IsOpen, IsBalanced}
 use Rattle.accounts.specs.Published.{PublishedAreOpen, BoxesTell}
 use Rattle.accounts.specs.Sums.{one_same}

@@ -1,6 +1,6 @@
 -- A script's subject is what derivations over its universe use.
 use Rattle.std.specs.Prelude.{◌≡◌, ◌<◌, ◌≤◌, ◌^◌, ℕ, zero, suc, List, [], ◌∷◌, ◌++◌, length, map}
-use Rattle.std.specs.Prelude.{Option, Some, None, slice_get, refl}
+use Rattle.std.specs.Prelude.{Some, None, slice_get, refl}
 use Rattle.std.proofs.Common.{sym, ◌∙◌, ap, subst, inl, inr, arith}
 use Rattle.std.proofs.lemmas.List.{append_assoc, length-append}
 use Rattle.std.proofs.lemmas.Bool.{cases_lt}
@@ -12,19 +12,17 @@ use Rattle.fx_model.specs.Expression.{ChildrenBelow}
 use Rattle.settler.specs.rule_universe.expr_dag.Nodes.{IsAbsent}
 use Rattle.facts.specs.declared.fact.Fact.{Fact}
 use Rattle.script_checker.specs.script_claims.declared.claim.Claim.{Claim}
-use Rattle.script_checker.specs.script_claims.Facts.{hypothesis_fact}
+use Rattle.script_checker.specs.script_claims.Facts.{facts_of}
 use Rattle.script_checker.specs.script_grammar.Spells.{View}
 use Rattle.script_checker.specs.script_grammar.Cases.{cases_of}
 use Rattle.settler.specs.script_truths.Truths.{HasUniverse}
 use Rattle.script_checker.specs.rewrite_hints.Marks.{rows_are_one}
 use Rattle.settler.specs.rule_universe.pair_closure.Closure.{difference_of, IsFollowed}
 use Rattle.settler.specs.rule_universe.Worlds.{World}
-use Rattle.settler.specs.universe.Universes as universe
 use Rattle.tree_certificates.specs.cert_bytes.Certificates.{HasShortParts}
 use Rattle.tree_certificates.specs.cert_checker.declared.subject.Subject.{Subject}
 use Rattle.tree_certificates.specs.cert_checker.Steps.{case_facts}
 use Rattle.tree_certificates.specs.cert_checker.Faults.{IsVariableBelow, IsFurther, JudgesNode}
-use Rattle.script_checker.specs.Subjects as checker
 use Rattle.tree_certificates.specs.Trees.{AreTaken}
 use Rattle.answer_certificates.specs.Scripts.{HasRoom}
 use Rattle.answer_certificates.specs.Laws.{SubjectsAreOfUniverses}
@@ -123,28 +121,17 @@ module _ (s : View) (claims : List Claim) (u : World) (has : HasUniverse s claim
   )
 
 -- ---- hypotheses and rows
-with_same : (o : Option Fact) (xs ys : List Fact) → xs ≡ ys
-    → checker.with_fact o xs ≡ universe.with_fact o ys
-with_same None xs ys e = e
-with_same (Some f) xs ys e = ap (λ l. f ∷ l) e
-
-facts_same : (cs : List Claim) → checker.facts_of cs ≡ universe.facts_of cs
-facts_same [] = refl
-facts_same (c ∷ cs) =
-    with_same (hypothesis_fact c) (checker.facts_of cs) (universe.facts_of cs) (facts_same cs)
-
 -- the facts of the case in a place
 case_at : (cs : List (List Claim)) (k : ℕ) (claims : List Claim) → slice_get cs k ≡ Some claims
-    → case_facts (map checker.facts_of cs) k ≡ checker.facts_of claims
+    → case_facts (map facts_of cs) k ≡ facts_of claims
 case_at [] k claims e = cc
-case_at (c ∷ cs) zero claims e = let same : c ≡ claims = cc in ap checker.facts_of same
+case_at (c ∷ cs) zero claims e = let same : c ≡ claims = cc in ap facts_of same
 case_at (c ∷ cs) (suc k) claims e = case_at cs k claims e
 
 pub subjects_are_of_universes : SubjectsAreOfUniverses
 subjects_are_of_universes s claims u has room case there t is = record {
   facts = ap (λ (cs : List (List Fact)). case_facts cs case) is.cases
-      ∙ (case_at (cases_of s) case claims there
-      ∙ (facts_same claims ∙ sym has.universe.hypotheses));
+      ∙ (case_at (cases_of s) case claims there ∙ sym has.universe.hypotheses);
   rows = rows_are_one s.nodes s.hints.rewrites t.hints u.hints is.hints has.universe.hints;
   wanted = is.goals ∙ sym has.universe.goals;
   few_goals = room.goals;

@@ -16,9 +16,8 @@ use Rattle.facts.specs.CommonParts.{expr_same, same_expr, all_as}
 use Rattle.tree_certificates.specs.derivation.Derivations.{Setting, given}
 use Rattle.tree_certificates.specs.derivation.Known.{Piece, Known}
 use Rattle.script_checker.specs.script_claims.declared.claim.Claim.{Claim}
-use Rattle.script_checker.specs.script_claims.Facts.{hypothesis_fact}
+use Rattle.script_checker.specs.script_claims.Facts.{hypothesis_fact, with_fact, facts_of}
 use Rattle.settler.specs.rule_universe.pair_closure.Reached.{Has, has_contains}
-use Rattle.settler.specs.universe.Universes.{with_fact, facts_of}
 use Rattle.settler.specs.box_tree.declared.range.SplitRange.{SplitRange}
 use Rattle.settler.specs.box_tree.Ranges.{range_in, put_range}
 use Rattle.settler.specs.box_tree.Points.{piece_of}

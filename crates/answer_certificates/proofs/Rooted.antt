@@ -11,10 +11,11 @@ use Rattle.goals.specs.declared.goal.Goal.{Goal}
 use Rattle.goals.specs.declared.line.Line.{Line}
 use Rattle.goals.specs.declared.line.Line.TheVariants as line
 use Rattle.script_checker.specs.script_claims.declared.claim.Claim.{Claim}
+use Rattle.script_checker.specs.script_claims.Facts.{goal_of, facts_of}
 use Rattle.script_checker.specs.script_grammar.Spells.{View}
 use Rattle.script_checker.specs.script_grammar.Cases.{cases_of}
 use Rattle.settler.specs.rule_universe.Worlds.{World}
-use Rattle.settler.specs.universe.Universes.{goal_of, UniversesAreOne}
+use Rattle.settler.specs.universe.Universes.{UniversesAreOne}
 use Rattle.settler.specs.saturate.Universes.{setting_of}
 use Rattle.settler.specs.box_tree.Regions.{PlanParts}
 use Rattle.settler.specs.bisect.declared.settler.State.{State}
@@ -31,7 +32,7 @@ use Rattle.tree_certificates.specs.cert_bytes.declared.style.Style.TheVariants.{
 use Rattle.tree_certificates.specs.cert_bytes.Spelling.{spelled_from}
 use Rattle.tree_certificates.specs.cert_checker.declared.subject.Subject.{Subject}
 use Rattle.tree_certificates.specs.cert_checker.Accepted.{Accepts}
-use Rattle.script_checker.specs.Subjects.{IsSubjectOf, facts_of}
+use Rattle.script_checker.specs.Subjects.{IsSubjectOf}
 use Rattle.tree_certificates.specs.Trees.{Tree, lines_of_tree, steps_in}
 use Rattle.tree_certificates.specs.Roots.{Root, IsRoot, AreRoots, steps_in_roots, lines_of_roots}
 use Rattle.tree_certificates.specs.Laws.{CertificatesExist}

@@ -19,6 +19,7 @@ use Rattle.script_checker.specs.script_claims.declared.claim.Claim.TheVariants.{
 use Rattle.script_checker.specs.script_claims.declared.claim.Claim.TheVariants.{Multiple, Above}
 use Rattle.script_checker.specs.script_claims.declared.claim.Claim.TheVariants.{Below}
 use Rattle.script_checker.specs.script_claims.Facts.{hypothesis_fact, slot_of}
+use Rattle.script_checker.specs.script_claims.Facts.{goal_of, with_fact, facts_of}
 use Rattle.script_checker.specs.script_grammar.Spells.{View, SpelledAreShort}
 use Rattle.script_checker.specs.script_grammar.Names.{ClaimIsOf}
 use Rattle.script_checker.specs.script_grammar.Cases.{cases_of}
@@ -33,8 +34,7 @@ use Rattle.settler.specs.script_truths.Truths.{HasUniverse}
 use Rattle.settler.specs.rule_universe.Worlds.{World, IsSlot, HasSlot, IsWhole}
 use Rattle.settler.specs.universe.Starts.{claim_pairs, claims_pairs, hints_pairs}
 use Rattle.settler.specs.universe.Cases.{AreHypotheses, cases_have_hypotheses}
-use Rattle.settler.specs.universe.Universes.{HypothesesHaveSlots, assumed, goal_of, with_fact}
-use Rattle.settler.specs.universe.Universes.{facts_of}
+use Rattle.settler.specs.universe.Universes.{HypothesesHaveSlots, assumed}
 use Rattle.tree_certificates.specs.cert_checker.Faults.{IsVariable}
 use Rattle.answer_certificates.specs.Scripts.{in_case, IsCaseOf, IsBuilt, ScriptsHaveRoom}
 use Rattle.answer_certificates.specs.Scripts.{GoalsHaveSlots}

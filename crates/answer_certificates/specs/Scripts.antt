@@ -8,6 +8,7 @@ use Rattle.settler.specs.rule_universe.expr_dag.Nodes.{IsAt, IsLawful}
 use Rattle.goals.specs.declared.goal.Goal.{Goal}
 use Rattle.script_checker.specs.node_counts.Few.{HasFewHints}
 use Rattle.script_checker.specs.script_claims.declared.claim.Claim.{Claim}
+use Rattle.script_checker.specs.script_claims.Facts.{facts_of}
 use Rattle.script_checker.specs.script_grammar.Spells.{View, Spells}
 use Rattle.script_checker.specs.script_grammar.Names.{NamesNodes}
 use Rattle.script_checker.specs.script_grammar.Cases.{cases_of}
@@ -15,7 +16,7 @@ use Rattle.script_checker.specs.script_grammar.Few.{constraints_in}
 use Rattle.settler.specs.script_truths.Truths.{HasUniverse}
 use Rattle.settler.specs.rule_universe.Worlds.{World, HasSlot, IsWhole}
 use Rattle.settler.specs.rule_universe.Assumed.{assuming}
-use Rattle.settler.specs.universe.Universes.{IsUniverse, facts_of}
+use Rattle.settler.specs.universe.Universes.{IsUniverse}
 use Rattle.tree_certificates.specs.cert_checker.Faults.{IsVariable}
 
 -- A certificate has room for a case, u being the universe in which its claims are assumed.

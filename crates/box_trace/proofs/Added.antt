@@ -1,5 +1,5 @@
 -- Steps that come by instances, and those of rounds after one another.
-use Rattle.std.specs.Prelude.{◌≡◌, ◌⊎◌, ◌≤◌, ◌+◌, ◌-◌, ℕ, zero, suc, List, [], ◌∷◌}
+use Rattle.std.specs.Prelude.{◌≡◌, ◌≢◌, ◌⊎◌, ◌≤◌, ◌+◌, ◌-◌, ℕ, zero, suc, List, [], ◌∷◌}
 use Rattle.std.specs.Prelude.{◌++◌, length, map, Option, Some, None, slice_get, refl}
 use Rattle.std.specs.List.{AllByRecursion}
 use Rattle.std.proofs.Common.{arith, sym, ap, subst, ◌∙◌, inl, inr, ⊎_elim, append_assoc}
@@ -12,8 +12,10 @@ use Rattle.facts.specs.Order.{slot_of}
 use Rattle.facts.specs.CommonParts.{all_as, all_last}
 use Rattle.saturate.specs.theorem_list.Concludes.{concludes}
 use Rattle.saturate.specs.derivation.Rounds.{Reads, conclusion}
-use Rattle.saturate.specs.derivation.Parts.{slot_cases, conclusion_reads}
+use Rattle.saturate.specs.derivation.Parts.{slot_cases, none_some, conclusion_reads}
 use Rattle.tree_certificates.specs.cert_bytes.declared.item.StepRow.{StepRow}
+use Rattle.tree_certificates.specs.cert_checker.declared.given.Given.{Given}
+use Rattle.tree_certificates.specs.cert_checker.Given.{given_number, given_of, given_back}
 use Rattle.saturate.specs.rule_universe.Worlds.{World}
 use Rattle.saturate.specs.rule_universe.declared.placed.Placed.{Placed}
 use Rattle.box_trace.specs.declared.known.Cited.{Cited}
@@ -26,6 +28,7 @@ use Rattle.box_trace.specs.Logs.{kept_in, IsStep, Comes, IsRound, more_by}
 use Rattle.box_trace.specs.Rounds.{premises_in, beyond_in, IsStepIn, IsEarlier}
 use Rattle.box_trace.specs.Rounds.{IsByInstance, IsRoundOf, AreRounds, IsGivenStep}
 use Rattle.box_trace.specs.Rounds.{AreByRounds, AddsSteps, BeginsBy, HasRounds}
+use Rattle.box_trace.proofs.Logged.{ComesGiven}
 use Rattle.tree_certificates.specs.Cited.{mapped}
 use Rattle.tree_certificates.specs.Coming.{coming}
 
@@ -186,42 +189,44 @@ module _ (u : World) (now : Known) where
       ]
 
 -- ---- what is given
-module _ (u : World) (Given : ℕ → Type 0) where
+module _ (u : World) (Old : ℕ → Type 0) where
   pub gives_none : (first : ℕ) (log : Log) → log.steps.items ≡ []
-      → ((n : ℕ) → IsStepIn u log.known n → Given n) → BeginsBy u Given 0 first log
+      → ((n : ℕ) → IsStepIn u log.known n → Old n) → BeginsBy u Old 0 first log
   gives_none first log e k = record {
     given =
         ((let l = ap length e in omega (arith, l)), subst (AllByRecursion IsGivenStep) (sym e) tt);
     known = λ n w. inl (k n w);
   }
 
-  pub gives_slack : (most m first : ℕ) (log : Log) → most ≤ m → BeginsBy u Given most first log
-      → BeginsBy u Given m first log
+  pub gives_slack : (most m first : ℕ) (log : Log) → most ≤ m → BeginsBy u Old most first log
+      → BeginsBy u Old m first log
   gives_slack most m first log l b = record {
     given = ((let a = b.given.0 in omega (arith, a, l)), b.given.1);
     known = b.known;
   }
 
   -- a fact that is given comes
-  pub gives_more : (most first rule arg : ℕ) (old new : Log) (c : Fact) → 100 ≤ rule
-      → old.first ≡ first → BeginsBy u Given most first old → Comes u old rule arg [] c new
-      → BeginsBy u Given (most + 1) first new
-  gives_more most first rule arg old new c r f b come =
+  pub gives_more : (most first : ℕ) (g : Given) (arg : ℕ) (old new : Log) (c : Fact)
+      → old.first ≡ first → BeginsBy u Old most first old → ComesGiven u old g arg c new
+      → BeginsBy u Old (most + 1) first new
+  gives_more most first g arg old new c f b come =
       elim come [
         | inl y ↦
-            (let P : Log → Type 0 = λ l. BeginsBy u Given (most + 1) first l in
+            (let P : Log → Type 0 = λ l. BeginsBy u Old (most + 1) first l in
             subst P (sym y.3) (gives_slack most (most + 1) first old (omega arith) b))
         | inr y ↦
-            (let row = Row u old new rule arg [] c in
-            let l = longer u old new rule arg [] c y in
+            (let row = Row u old new (given_number g) arg [] c in
+            let l = longer u old new (given_number g) arg [] c y in
+            let is : given_of row.rule ≢ None =
+            λ e. none_some g (given_of (given_number g)) e (given_back g) in
             record {
               given = (
                 (let a = b.given.0 in omega (arith, a, l)),
                 subst (AllByRecursion IsGivenStep) (sym y.steps)
-                    (all_last IsGivenStep old.steps.items row b.given.1 (r, refl)),
+                    (all_last IsGivenStep old.steps.items row b.given.1 (is, refl)),
               );
               known = λ n k.
-                  elim (step_known u old new rule arg [] c y n k) [
+                  elim (step_known u old new (given_number g) arg [] c y n k) [
                     | inl h ↦ elim (b.known n h) [
                       | inl g ↦ inl g
                       | inr g ↦ inr (g.0, (let s = g.1 in omega (arith, s, l)))

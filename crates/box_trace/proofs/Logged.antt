@@ -1,6 +1,6 @@
 -- A fact that comes to a log keeps it a log: its steps are accepted, and each fact that is known
 -- has its step.
-use Rattle.std.specs.Prelude.{◌≡◌, ◌<◌, ◌≤◌, ◌+◌, ◌==◌, ℕ, false, List, [], ◌∷◌, length}
+use Rattle.std.specs.Prelude.{◌≡◌, ◌<◌, ◌≤◌, ◌+◌, ℕ, List, [], ◌∷◌, length}
 use Rattle.std.specs.Prelude.{Option, Some, slice_get, map, refl}
 use Rattle.std.proofs.Common.{sym, ◌∙◌, ap, subst, inl, inr, arith}
 use Rattle.std.proofs.lemmas.List.{length-append}
@@ -17,8 +17,10 @@ use Rattle.saturate.specs.derivation.Exists.{joined, with_fact-improves}
 use Rattle.tree_certificates.specs.cert_bytes.declared.item.StepRow.{StepRow}
 use Rattle.tree_certificates.specs.cert_bytes.Certificates.{IsCounted, IsShort}
 use Rattle.tree_certificates.specs.cert_checker.Open.{Numbered, with_step}
-use Rattle.tree_certificates.specs.cert_checker.Steps.{step_fact, step_facts, gives, met_with}
-use Rattle.tree_certificates.specs.cert_checker.Steps.{IsEnough, IsConcluded, target_of}
+use Rattle.tree_certificates.specs.cert_checker.declared.given.Given.{Given}
+use Rattle.tree_certificates.specs.cert_checker.Given.{given_number, given_low}
+use Rattle.tree_certificates.specs.cert_checker.Steps.{step_fact, step_facts, gives, gives_by}
+use Rattle.tree_certificates.specs.cert_checker.Steps.{met_with, IsEnough, IsConcluded, target_of}
 use Rattle.saturate.specs.rule_universe.Worlds.{World}
 use Rattle.saturate.specs.Universes.{setting_of}
 use Rattle.box_trace.specs.declared.known.Known.{Known}
@@ -30,8 +32,21 @@ use Rattle.box_trace.specs.Tables.{fact_of, number_or, cited_at, known_at, place
 use Rattle.box_trace.specs.Logs.{kept_in, IsStep, Comes, InSection, CanCite, GoesOnFrom}
 use Rattle.tree_certificates.specs.Cited.{step_kept, step_new, below_behind, behind_both}
 use Rattle.tree_certificates.specs.Cited.{accepted_both, premises_found, fields_more, mapped}
-use Rattle.tree_certificates.specs.Cited.{reads_length, differs}
+use Rattle.tree_certificates.specs.Cited.{reads_length}
 use Rattle.tree_certificates.specs.Coming.{aims, enough, coming_accepted, met_by, coming}
+
+-- ---- what is given
+-- c comes by what is given, which takes no premises.
+abbrev pub ComesGiven : World → Log → Given → ℕ → Fact → Log → Type 0
+ComesGiven u old g arg c new = Comes u old (given_number g) arg [] c new
+
+-- what comes by a rule and premises that are told to be those
+pub comes_given : (u : World) (old : Log) (rule arg : ℕ) (premises : List ℕ) (c : Fact)
+    (new : Log) (g : Given) (a : ℕ) → rule ≡ given_number g → arg ≡ a → premises ≡ []
+    → Comes u old rule arg premises c new → ComesGiven u old g a c new
+comes_given u old rule arg premises c new g a d e f w =
+    subst (λ n. Comes u old n a [] c new) d
+    (subst (λ n. Comes u old rule n [] c new) e (subst (λ ps. Comes u old rule arg ps c new) f w))
 
 -- ---- what becomes of the table
 module _ (u : World) (old new : Log) (rule arg : ℕ) (premises : List ℕ) (c : Fact) where
@@ -190,10 +205,9 @@ module _ (u : World) (w : IsWritable (setting_of u) u.hints) where
       gives (givens_of (setting_of u) u.hints cut)
       (coming i.rule i.arg premises o n c) ps (met_by o c) ≡ Some c
   instance_gives cut i o c ps premises n e p =
-      let l : i.rule < 100 = w.low i.rule i.arg ps i.target c e in
-      let a : (i.rule == 100) ≡ false = differs i.rule 100 l in
-      let b : (i.rule == 101) ≡ false = differs i.rule 101 (omega (arith, l)) in
-      let d : (i.rule == 102) ≡ false = differs i.rule 102 (omega (arith, l)) in
+      let g = givens_of (setting_of u) u.hints cut in
+      let row = coming i.rule i.arg premises o n c in
+      let none = given_low i.rule (w.low i.rule i.arg ps i.target c e) in
       let here : concludes u.nodes u.hints i.rule i.arg ps (slot_of c) ≡ Some c =
       elim (w.on_target i.rule i.arg ps i.target c e) [
         | inl q ↦ ap (concludes u.nodes u.hints i.rule i.arg ps) q ∙ e
@@ -202,7 +216,7 @@ module _ (u : World) (w : IsWritable (setting_of u) u.hints) where
       ] in
       let z : concludes u.nodes u.hints i.rule i.arg ps (target_of (joined o c) (met_by o c))
       ≡ Some c = ap (concludes u.nodes u.hints i.rule i.arg ps) (aims o c p) ∙ here in
-      rw (a, b, d) z
+      ap (gives_by g row ps (met_by o c)) none ∙ z
 
   target_known : (k : ℕ) (i : Instance) (ps : List Fact) (c : Fact)
       → slice_get u.instances k ≡ Some i

@@ -1,5 +1,5 @@
 -- What a box begins with, in each section where its steps may stand.
-use Rattle.std.specs.Prelude.{◌≡◌, ◌<◌, ◌≤◌, ◌+◌, ℕ, List, [], length, Option, Some, None}
+use Rattle.std.specs.Prelude.{◌≡◌, ◌<◌, ◌≤◌, ◌+◌, ℕ, [], length, Option, Some, None}
 use Rattle.std.specs.Prelude.{slice_get, refl}
 use Rattle.std.proofs.Common.{sym, ◌∙◌, ap, subst, arith}
 use Rattle.std.proofs.lemmas.Option.{slice_get_within}
@@ -17,6 +17,9 @@ use Rattle.saturate.specs.derivation.Rounds.{IsBlank}
 use Rattle.saturate.specs.derivation.Parts.{none_some}
 use Rattle.saturate.specs.derivation.Exists.{joined}
 use Rattle.tree_certificates.specs.cert_bytes.Certificates.{IsShort}
+use Rattle.tree_certificates.specs.cert_checker.declared.given.Given.{Given}
+use Rattle.tree_certificates.specs.cert_checker.declared.given.Given.TheVariants as given
+use Rattle.tree_certificates.specs.cert_checker.Given.{given_number, given_short}
 use Rattle.tree_certificates.specs.cert_checker.Open.{Numbered}
 use Rattle.tree_certificates.specs.cert_checker.Steps.{met_with, IsEnough, whole_line}
 use Rattle.tree_certificates.specs.cert_checker.Steps.{variable_fact}
@@ -29,19 +32,12 @@ use Rattle.tree_certificates.specs.Sections.{behind, AreAccepted, ArePlaces}
 use Rattle.tree_certificates.specs.Writing.{IsSlotKnown, IsWritable, givens_of}
 use Rattle.tree_certificates.specs.Traces.{IsCutTo, HaveFields}
 use Rattle.box_trace.specs.Tables.{known_at, place_in, HasRows}
-use Rattle.box_trace.specs.Logs.{Comes, InSection}
+use Rattle.box_trace.specs.Logs.{InSection}
 use Rattle.box_trace.specs.Boxes.{IsSectionBelow, BeginsWithin, BeginsBelow}
 use Rattle.box_trace.proofs.Rows.{same_known, same_places, same_rows}
-use Rattle.box_trace.proofs.Logged.{Suffices, comes_rows, comes_first, comes_few, comes_section}
+use Rattle.box_trace.proofs.Logged.{ComesGiven, Suffices, comes_rows, comes_first, comes_few}
+use Rattle.box_trace.proofs.Logged.{comes_section}
 use Rattle.tree_certificates.specs.Coming.{enough, met_by_interval, met_by, line_joined}
-
--- what comes by a rule that is told by its number
-pub comes_as : (u : World) (old : Log) (rule arg : ℕ) (premises : List ℕ) (c : Fact)
-    (new : Log) (r a : ℕ) → rule ≡ r → arg ≡ a → premises ≡ [] → Comes u old rule arg premises c new
-    → Comes u old r a [] c new
-comes_as u old rule arg premises c new r a d e f w =
-    subst (λ n. Comes u old n a [] c new) d
-    (subst (λ n. Comes u old rule n [] c new) e (subst (λ ps. Comes u old rule arg ps c new) f w))
 
 -- rows of nothing
 pub blank_rows : (u : World) (k : Known)
@@ -69,17 +65,20 @@ module _ (u : World) (first : ℕ) where
   }
 
   -- A fact comes that is given.
-  module _ (most : ℕ) (old new : Log) (rule arg : ℕ) (c : Fact) (b : BeginsWithin u first most old)
-      (come : Comes u old rule arg [] c new)
+  module _ (most : ℕ) (old new : Log) (g : Given) (arg : ℕ) (c : Fact)
+      (b : BeginsWithin u first most old) (come : ComesGiven u old g arg c new)
       (suffices : IsWritable (setting_of u) u.hints
-      → (rule < 256) × IsShort arg × IsSlotKnown u.nodes (slot_of c)
-      × ((s : Numbered) → Suffices u None s old new rule arg [] c [])) where
+      → IsShort arg × IsSlotKnown u.nodes (slot_of c)
+      × ((s : Numbered) → Suffices u None s old new (given_number g) arg [] c [])) where
+    abbrev Rule : ℕ
+    Rule = given_number g
+
     pub begins_more : BeginsWithin u first (most + 1) new
     begins_more = record {
-      rows = comes_rows u old new rule arg [] c b.rows come;
-      first_is = comes_first u old new rule arg [] c come ∙ b.first_is;
+      rows = comes_rows u old new Rule arg [] c b.rows come;
+      first_is = comes_first u old new Rule arg [] c come ∙ b.first_is;
       few =
-          (let a = b.few in let d = comes_few u old new rule arg [] c come in omega (arith, a, d));
+          (let a = b.few in let d = comes_few u old new Rule arg [] c come in omega (arith, a, d));
       steps = λ w s n.
           let i : InSection u None s old = record {
             below = n.1;
@@ -87,9 +86,9 @@ module _ (u : World) (first : ℕ) where
             traced = (b.steps w s n).0;
             fields = (b.steps w s n).1;
           } in
-          let j = comes_section u None s old new rule arg [] c b.rows.proper
-          (omega arith, (suffices w).0, (suffices w).1)
-          (suffices w).2 [] refl ((suffices w).3 s) come i in
+          let j = comes_section u None s old new Rule arg [] c b.rows.proper
+          (omega arith, given_short g, (suffices w).0)
+          (suffices w).1 [] refl ((suffices w).2 s) come i in
           (j.traced, j.fields);
     }
 
@@ -104,12 +103,12 @@ module _ (u : World) (first : ℕ) where
 
   -- A hypothesis comes.
   pub begins_hypothesis : (k : ℕ) (old new : Log) (c : Fact) → slice_get u.hypotheses k ≡ Some c
-      → BeginsWithin u first k old → Comes u old 100 k [] c new → BeginsWithin u first (k + 1) new
+      → BeginsWithin u first k old → ComesGiven u old given.Hypothesis k c new
+      → BeginsWithin u first (k + 1) new
   begins_hypothesis k old new c e b come =
       let o : Option Fact = known_at u old.known (slot_of c) in
       let P : Option Fact → Type 0 = λ x. IsEnough (met_with x (met_by o c)) (joined o c) in
-      begins_more k old new 100 k c b come (λ w. (
-        omega arith,
+      begins_more k old new given.Hypothesis k c b come (λ w. (
         (let l = slice_get_within u.hypotheses k c e in
             let m = w.few_hypotheses in omega (arith, l, m)),
         w.hypotheses k c e,
@@ -119,7 +118,7 @@ module _ (u : World) (first : ℕ) where
   -- The line of a variable comes.
   pub begins_line : (n v most : ℕ) (old new : Log) → slice_get u.nodes n ≡ Some (node.Var v)
       → BeginsWithin u first most old
-      → Comes u old 101 0 [] (fact.Bnd (record { 0 = n }) whole_interval) new
+      → ComesGiven u old given.Variable 0 (fact.Bnd (record { 0 = n }) whole_interval) new
       → BeginsWithin u first (most + 1) new
   begins_line n v most old new e b come =
       let x : ExprId = record { 0 = n } in
@@ -129,8 +128,7 @@ module _ (u : World) (first : ℕ) where
       let line : whole_line u.nodes (joined o c) ≡ Some c =
       ap (whole_line u.nodes) j.1 ∙ ap (variable_fact x) e in
       let P : Option Fact → Type 0 = λ y. IsEnough (met_with y (met_by o c)) (joined o c) in
-      begins_more most old new 101 0 c b come (λ w. (
-        omega arith,
+      begins_more most old new given.Variable 0 c b come (λ w. (
         omega arith,
         slice_get_within u.nodes n (node.Var v) e,
         λ s. subst P (sym line) (enough o c (λ h q. b.rows.proper (slot_of c) h q)),
@@ -164,23 +162,24 @@ module _ (u : World) (piece : Piece) (parent : Known) (first : ℕ)
       }
 
   -- The piece comes.
-  pub begins_below : (piece.0).0 < length u.nodes → Comes u old 102 0 [] Piece_fact new
-      → BeginsBelow u piece parent first new
+  pub begins_below : (piece.0).0 < length u.nodes
+      → ComesGiven u old given.Piece 0 Piece_fact new → BeginsBelow u piece parent first new
   begins_below known come =
+      let rule = given_number given.Piece in
       let rows : HasRows u old.known = same_rows u parent old.known e r in
       let o : Option Fact = known_at u old.known (slot.Bnd piece.0) in
       record {
-        rows = comes_rows u old new 102 0 [] Piece_fact rows come;
-        first_is = comes_first u old new 102 0 [] Piece_fact come ∙ f;
+        rows = comes_rows u old new rule 0 [] Piece_fact rows come;
+        first_is = comes_first u old new rule 0 [] Piece_fact come ∙ f;
         few = (let a : length old.steps.items ≡ 0 = ap length none in
-            let d = comes_few u old new 102 0 [] Piece_fact come in omega (arith, a, d));
+            let d = comes_few u old new rule 0 [] Piece_fact come in omega (arith, a, d));
         steps = λ w s p sec.
             let P : Option Fact → Type 0 =
             λ m. IsEnough (met_with (Some p) m) (joined o Piece_fact) in
             let cut : IsCutTo (known_at u old.known) p piece =
             subst (λ (at : At). IsCutTo at p piece) (sym (same_known u parent old.known e)) sec.2 in
-            let j = comes_section u (Some p) s old new 102 0 [] Piece_fact rows.proper
-            (omega arith, omega arith, omega arith) known [] refl
+            let j = comes_section u (Some p) s old new rule 0 [] Piece_fact rows.proper
+            (omega arith, given_short given.Piece, omega arith) known [] refl
             (subst P (sym (met_by_interval o piece.0 piece.1)) cut) come (old_section s p sec) in
             (j.traced, j.fields);
       }

@@ -1,6 +1,6 @@
 -- The steps of a box, round by round.
-use Rattle.std.specs.Prelude.{◌≡◌, ◌⊎◌, ◌<◌, ◌≤◌, ◌+◌, ◌*◌, ◌-◌, ℕ, zero, suc, List, [], ◌∷◌, ◌++◌}
-use Rattle.std.specs.Prelude.{length, take, Option, Some, None, slice_get}
+use Rattle.std.specs.Prelude.{◌≡◌, ◌≢◌, ◌⊎◌, ◌<◌, ◌≤◌, ◌+◌, ◌*◌, ◌-◌, ℕ, zero, suc, List, []}
+use Rattle.std.specs.Prelude.{◌∷◌, ◌++◌, length, take, Option, Some, None, slice_get}
 use Rattle.std.specs.Borrow.{Bor}
 use Rattle.std.specs.List.{AllByRecursion}
 use Rattle.fx_model.specs.declared.Node.{Node}
@@ -8,6 +8,7 @@ use Rattle.fx_model.specs.declared.Node.TheVariants.{Var}
 use Rattle.facts.specs.declared.fact.Slot.{Slot}
 use Rattle.facts.specs.declared.instance.Instance.{Instance}
 use Rattle.tree_certificates.specs.cert_bytes.declared.item.StepRow.{StepRow}
+use Rattle.tree_certificates.specs.cert_checker.Given.{given_of}
 use Rattle.saturate.specs.rule_universe.Worlds.{World}
 use Rattle.saturate.specs.rule_universe.Sizes.{beyond_four}
 use Rattle.box_trace.specs.declared.known.Known.{Known}
@@ -73,9 +74,9 @@ AreRounds u Given first start (suc n) rows =
     × IsRoundOf u (IsEarlier Given first (start + length before)) last
 
 -- ---- what is given
--- The step takes no premises: its rule is that of a hypothesis, of a variable or of a piece.
+-- The step takes no premises: it is given, as a hypothesis, the line of a variable, or a piece.
 abbrev pub IsGivenStep : StepRow → Type 0
-IsGivenStep row = (100 ≤ row.rule) × (row.premises ≡ [])
+IsGivenStep row = (given_of row.rule ≢ None) × (row.premises ≡ [])
 
 -- at most so many steps, each of them given
 abbrev pub AreGiven : ℕ → List StepRow → Type 0

@@ -1,4 +1,5 @@
 //! The steps that a box's facts come by.
+ghost use Rattle.tree_certificates.specs.cert_checker.Given.{given_number};
 ghost use Rattle.tree_certificates.specs.Coming.{with_by};
 ghost use Rattle.std.specs.Prelude.{◌≡◌, ◌<◌, ◌+◌, ◌^◌, [], Some, IfNone, IfSome, OnOk, length};
 ghost use Rattle.facts.specs.Order.{slot_of, IsStronger};
@@ -13,7 +14,7 @@ use facts::{Fact, meet, slot, stronger};
 use fx_edge::Items;
 use saturate::Universe;
 use std::alloc::{AllocError, Global};
-use tree_certificates::StepRow;
+use tree_certificates::{Given, StepRow};
 
 /// The steps so far, the first with this number, and what they come to.
 #[derive(Drop)]
@@ -32,14 +33,14 @@ pub(crate) struct Source {
 }
 
 impl Source {
-    // A rule that takes no premises.
-    pub(crate) fn given(alloc: Global, rule: u8, arg: u16) -> Source
-        ensures rule { result.rule ≡ rule }
+    // What is given takes no premises.
+    pub(crate) fn given(alloc: Global, given: Given, arg: u16) -> Source
+        ensures rule { result.rule ≡ given_number given }
         ensures arg { result.arg ≡ arg }
         ensures premises { result.premises ≡ [] }
     {
         Source {
-            rule,
+            rule: given.number(),
             arg,
             premises: Items::from_vec(Vec::new(alloc)),
         }

@@ -19,6 +19,7 @@ use fx_model::ExprId;
 use interval::Interval;
 use saturate::Universe;
 use std::alloc::{AllocError, Global};
+use tree_certificates::Given;
 
 // The hypothesis with this number.
 fn hypothesis(uni: &Universe, k: usize) -> Fact
@@ -57,14 +58,14 @@ pub(crate) fn root_start(alloc: Global, uni: &Universe, first: u64) -> Result<Lo
     for k in 0..uni.hyps().len() {
         let fact = hypothesis(uni, k);
         let place = uni.place(slot(&fact));
-        let source = Source::given(alloc, 100, k as u16);
+        let source = Source::given(alloc, Given::Hypothesis, k as u16);
         let _hypothesis = log.come(uni, fact, place, source)?;
     }
     let dag = uni.dag();
     for n in 0..dag.len() {
         if let Node::Var(_) = dag.node(ExprId(n)) {
             let line = Fact::Bnd(ExprId(n), Interval::whole());
-            let origin = Source::given(alloc, 101, 0);
+            let origin = Source::given(alloc, Given::Variable, 0);
             let _variable = log.come(uni, line, n, origin)?;
         }
     }
@@ -91,7 +92,7 @@ pub(crate) fn child_start(
     uni.laws();
     let known = parent.copy(alloc)?;
     let mut log = begin(alloc, first, known);
-    let source = Source::given(alloc, 102, 0);
+    let source = Source::given(alloc, Given::Piece, 0);
     let _piece = log.come(uni, Fact::Bnd(piece.0, piece.1), (piece.0).0, source)?;
     Ok(log)
 }

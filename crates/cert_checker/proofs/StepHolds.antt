@@ -22,12 +22,16 @@ use Rattle.goals.specs.facts.Held.{IsStronger-Holds, meet-Holds}
 use Rattle.goals.specs.facts.Order.{meet_of}
 use Rattle.theorem_list.specs.Concludes.{concludes}
 use Rattle.cert_bytes.specs.declared.item.StepRow.{StepRow}
+use Rattle.cert_checker.specs.declared.given.Given.{Given}
+use Rattle.cert_checker.specs.declared.given.Given.TheVariants.{Hypothesis, Variable, Piece}
 use Rattle.cert_checker.specs.declared.open.Citable.{Citable}
 use Rattle.cert_checker.specs.Contexts.{Context, open_piece}
 use Rattle.cert_checker.specs.declared.subject.Subject.{Subject}
 use Rattle.cert_checker.specs.Steps.{step_fact, before, step_facts, IsMetWith, variable_fact}
 use Rattle.cert_checker.specs.Steps.{or_else, whole_line, without, only_for, target_of, case_facts}
-use Rattle.cert_checker.specs.Steps.{Givens, givens, gives, met_with, IsEnough, IsConcluded}
+use Rattle.cert_checker.specs.Given.{given_of}
+use Rattle.cert_checker.specs.Steps.{Givens, givens, gives, given_fact, gives_by, met_with}
+use Rattle.cert_checker.specs.Steps.{IsEnough, IsConcluded}
 use Rattle.cert_checker.proofs.Shown.{AllHold}
 
 -- nothing is given, or what holds
@@ -140,23 +144,22 @@ module _ (nodes : List Node) (a : Assignment) (ordered : IsOrdered nodes) where
   by_rule hints rules number arg ps t None e h = tt
   by_rule hints rules number arg ps t (Some f) e h = rules number arg ps t f e h
 
-  given : (g : Givens) → g.nodes ≡ nodes → RulesHold nodes a g.hints
-      → AllByRecursion (Holds nodes a) g.facts → HoldsIf nodes a g.piece
-      → (row : StepRow) (ps : List Fact) (w : Option Fact) → AllByRecursion (Holds nodes a) ps
-      → HoldsIf nodes a (gives g row ps w)
-  given g e rules facts piece row ps w h =
-      let P : List Node → Type 0 =
-      λ ns. HoldsIf nodes a (if row.rule == 100 then without ps (slice_get g.facts row.arg)
-      else (if row.rule == 101 then without ps (only_for row.arg (whole_line ns row.fact))
-      else (if row.rule == 102 then without ps (only_for row.arg g.piece)
-      else concludes ns g.hints row.rule row.arg ps (target_of row.fact w)))) in
-      subst P (sym e)
-      (at_test (row.rule == 100) _ _ (HoldsIf nodes a)
-      (no_premises ps (slice_get g.facts row.arg) (hypothesis g.facts row.arg facts))
-      (at_test (row.rule == 101) _ _ (HoldsIf nodes a)
-      (no_premises ps _ (no_arg row.arg _ (whole row.fact)))
-      (at_test (row.rule == 102) _ _ (HoldsIf nodes a) (no_premises ps _ (no_arg row.arg _ piece))
-      (by_rule g.hints rules row.rule row.arg ps (target_of row.fact w) _ refl h))))
+  module _ (g : Givens) (e : g.nodes ≡ nodes) (facts : AllByRecursion (Holds nodes a) g.facts)
+      (piece : HoldsIf nodes a g.piece) (row : StepRow) where
+    given : (k : Given) → HoldsIf nodes a (given_fact g row k)
+    given Hypothesis = hypothesis g.facts row.arg facts
+    given Variable = subst (λ ns. HoldsIf nodes a (only_for row.arg (whole_line ns row.fact)))
+        (sym e) (no_arg row.arg _ (whole row.fact))
+    given Piece = no_arg row.arg g.piece piece
+
+    gives_by-holds : RulesHold nodes a g.hints → (ps : List Fact) (w : Option Fact)
+        → AllByRecursion (Holds nodes a) ps
+        → (o : Option Given) → HoldsIf nodes a (gives_by g row ps w o)
+    gives_by-holds rules ps w h (Some k) = no_premises ps (given_fact g row k) (given k)
+    gives_by-holds rules ps w h None =
+        subst (λ ns. HoldsIf nodes a (concludes ns g.hints row.rule row.arg ps
+        (target_of row.fact w))) (sym e)
+        (by_rule g.hints rules row.rule row.arg ps (target_of row.fact w) _ refl h)
 
   met_by : (g w m : Fact) (o : Option Fact) → meet_of g w ≡ o → Holds nodes a g
       → Holds nodes a w → HoldsIf nodes a o
@@ -184,4 +187,5 @@ module _ (nodes : List Node) (a : Assignment) (ordered : IsOrdered nodes) where
       subst AllIf q.2.found (all_cited c.steps row.premises steps) in
       let k = met_cited c.steps row.with w steps q.2.met in
       enough (met_with (gives (givens s c) row ps w) w) row.fact (met (gives (givens s c) row ps w)
-      w (given (givens s c) e rules facts piece row ps w h) k) q.3.enough
+      w (gives_by-holds (givens s c) e facts piece row rules ps w h (given_of row.rule)) k)
+      q.3.enough

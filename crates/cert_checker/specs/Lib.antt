@@ -12,6 +12,7 @@ pub use Rattle.theorem_list.specs.theorem_rel as theorem_rel
 pub mod Own
 pub mod Open
 pub mod Contexts
+pub mod Given
 pub mod Steps
 pub mod Faults
 pub mod After

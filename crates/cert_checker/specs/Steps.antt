@@ -12,8 +12,11 @@ use Rattle.goals.specs.facts.declared.hint.HintRow.{HintRow}
 use Rattle.goals.specs.facts.Order.{slot_of, IsStronger, meet_of, AreUnlike}
 use Rattle.theorem_list.specs.Concludes.{concludes}
 use Rattle.cert_bytes.specs.declared.item.StepRow.{StepRow}
+use Rattle.cert_checker.specs.declared.given.Given.{Given}
+use Rattle.cert_checker.specs.declared.given.Given.TheVariants.{Hypothesis, Variable, Piece}
 use Rattle.cert_checker.specs.declared.open.Citable.{Citable}
 use Rattle.cert_checker.specs.Contexts.{Context, open_piece}
+use Rattle.cert_checker.specs.Given.{given_of}
 use Rattle.cert_checker.specs.declared.subject.Subject.{Subject}
 
 -- ---- what a step cites
@@ -136,15 +139,22 @@ givens s c = record {
   piece = open_piece c.cuts;
 }
 
--- What the rule of a step gives. Rule 100 gives hypothesis number arg, 101 the whole line for a
--- variable, and 102 the piece of the cut that made the section; these take no premises. All others
--- are those of the list.
+-- What a step is given: hypothesis number arg, the whole line for a variable, or the piece of the
+-- cut that made the section.
+abbrev pub given_fact : Givens → StepRow → Given → Option Fact
+given_fact g row Hypothesis = slice_get g.facts row.arg
+given_fact g row Variable = only_for row.arg (whole_line g.nodes row.fact)
+given_fact g row Piece = only_for row.arg g.piece
+
+-- What is given, without premises; or else what the rule of the list concludes.
+abbrev pub gives_by : Givens → StepRow → List Fact → Option Fact → Option Given → Option Fact
+gives_by g row premises with (Some given) = without premises (given_fact g row given)
+gives_by g row premises with None =
+    concludes g.nodes g.hints row.rule row.arg premises (target_of row.fact with)
+
+-- What the rule of a step gives.
 abbrev pub gives : Givens → StepRow → List Fact → Option Fact → Option Fact
-gives g row premises with =
-    if row.rule == 100 then without premises (slice_get g.facts row.arg)
-    else (if row.rule == 101 then without premises (only_for row.arg (whole_line g.nodes row.fact))
-    else (if row.rule == 102 then without premises (only_for row.arg g.piece)
-    else concludes g.nodes g.hints row.rule row.arg premises (target_of row.fact with)))
+gives g row premises with = gives_by g row premises with (given_of row.rule)
 
 -- a fact met with another, where there are both; none where they are on two slots
 abbrev pub met_with : Option Fact → Option Fact → Option Fact

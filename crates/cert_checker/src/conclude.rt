@@ -8,6 +8,7 @@ ghost use Rattle.cert_checker.specs.Steps as spec;
 ghost use Rattle.cert_checker.specs.Steps.{Givens, Concludes, IsMetWith, IsLike, Found};
 
 use crate::cuts::Cuts;
+use crate::given::Given;
 use crate::open::OpenSteps;
 use crate::subject::Subject;
 use cert_bytes::{Dag, StepRow};
@@ -102,24 +103,19 @@ fn gives(
       piece = open_piece cuts.now;
     }) row.now premises.now with }
 {
-    if row.rule == 100 {
-        return without(premises, hypothesis(subject.facts(case), row.arg));
+    match Given::of(row.rule) {
+        Some(Given::Hypothesis) => without(premises, hypothesis(subject.facts(case), row.arg)),
+        Some(Given::Variable) => without(premises, only_for(row.arg, whole_line(nodes, &row.fact))),
+        Some(Given::Piece) => without(premises, only_for(row.arg, cuts.open_piece())),
+        None => conclude(
+            nodes,
+            subject.hints.as_slice(),
+            row.rule,
+            row.arg,
+            premises,
+            target_of(&row.fact, with),
+        ),
     }
-    if row.rule == 101 {
-        return without(premises, only_for(row.arg, whole_line(nodes, &row.fact)));
-    }
-    if row.rule == 102 {
-        return without(premises, only_for(row.arg, cuts.open_piece()));
-    }
-    let target = target_of(&row.fact, with);
-    conclude(
-        nodes,
-        subject.hints.as_slice(),
-        row.rule,
-        row.arg,
-        premises,
-        target,
-    )
 }
 
 fn hypothesis(facts: &[Fact], arg: u16) -> Option<Fact>

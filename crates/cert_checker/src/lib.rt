@@ -10,6 +10,7 @@ mod check;
 mod conclude;
 mod cuts;
 mod fault;
+mod given;
 mod judge;
 mod keep;
 mod laws;
@@ -21,6 +22,7 @@ mod subject;
 pub use chain::Chain;
 pub use check::check_subject;
 pub use fault::{CheckFault, CheckStop, TakeStop};
+pub use given::Given;
 pub use keep::{Accepted, accepted_items};
 pub use laws::{
     accepted_lines_hold, bytes_are_accepted, each_case_has_its_root, items_are_judged_once,

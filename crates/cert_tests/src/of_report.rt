@@ -13,7 +13,7 @@ use report::parts::part;
 use report::proved::{answer_text, put_goal_line};
 use report::refusals::refusal_line;
 use report::runs::{boxes_text, expressions_text};
-use script_judge::refusal::{LimitKind, Refusal, RefusalKind};
+use script_judge::{LimitKind, Refusal, RefusalKind};
 use script_words::words::read_words;
 use std::alloc::{AllocError, Global};
 use std::process::Abort;
@@ -50,7 +50,7 @@ fn goal_line(
 }
 
 #[test]
-fn goals(rt: HostRuntime) -> Result<(), Fail> {
+fn each_goal_has_its_line(rt: HostRuntime) -> Result<(), Fail> {
     let product = range(&rt, at(&rt, 3, 0), at(&rt, 5, 1));
     let half = range(&rt, End::Low, at(&rt, 1, -4));
     let above = range(&rt, at(&rt, 1, 0), End::High);
@@ -93,7 +93,7 @@ fn goals(rt: HostRuntime) -> Result<(), Fail> {
 }
 
 #[test]
-fn answers(rt: HostRuntime) -> Result<(), Fail> {
+fn an_answer_has_its_goals_and_then_its_hints(rt: HostRuntime) -> Result<(), Fail> {
     let text: &[u8] = b"{ x*y in ? /\\ x-/y in ? /\\ x in ? }";
     assert!(rt; text.len() < 1000);
     let read = read_words(rt.alloc(), text)?;
@@ -118,7 +118,7 @@ fn answers(rt: HostRuntime) -> Result<(), Fail> {
 }
 
 #[test]
-fn refusals(rt: HostRuntime) -> Result<(), Fail> {
+fn each_refusal_has_its_line(rt: HostRuntime) -> Result<(), Fail> {
     for (kind, at, wanted) in [
         (RefusalKind::Unexpected, 0, "script: Unexpected at 0\n"),
         (RefusalKind::BadBound, 10, "script: BadBound at 10\n"),
@@ -152,7 +152,7 @@ fn refusals(rt: HostRuntime) -> Result<(), Fail> {
 }
 
 #[test]
-fn certificates(rt: HostRuntime) -> Result<(), Fail> {
+fn each_fault_of_a_certificate_has_its_line(rt: HostRuntime) -> Result<(), Fail> {
     for (kind, at, wanted) in [
         (CertKind::BadMagic, 0, "certificate: BadMagic at 0\n"),
         (CertKind::Truncated, 142, "certificate: Truncated at 142\n"),
@@ -185,7 +185,7 @@ fn certificates(rt: HostRuntime) -> Result<(), Fail> {
 }
 
 #[test]
-fn limit_lines(rt: HostRuntime) -> Result<(), Fail> {
+fn each_limit_has_its_line(rt: HostRuntime) -> Result<(), Fail> {
     assert_eq!(rt;
         expressions_text(),
         "limit: more than 1024 expressions\n".as_bytes()
@@ -196,7 +196,7 @@ fn limit_lines(rt: HostRuntime) -> Result<(), Fail> {
 }
 
 #[test]
-fn parts(rt: HostRuntime) {
+fn a_part_ends_where_its_list_ends(rt: HostRuntime) {
     let items = [4, 5, 6];
     let rows: [(usize, usize, &[u8]); 6] = [
         (0, 3, &[4, 5, 6]),

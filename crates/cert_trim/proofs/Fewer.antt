@@ -5,7 +5,7 @@ use Rattle.cert_bytes.specs.declared.item.StepRow.{StepRow}
 use Rattle.cert_bytes.specs.declared.item.Item.{Item}
 use Rattle.cert_bytes.specs.declared.item.Item.TheVariants as item
 use Rattle.cert_bytes.specs.Sizes.{most_bytes_in}
-use Rattle.cert_trim.specs.Trimmed.{new_number, number_behind_all, moved_row, trimmed_by}
+use Rattle.cert_trim.specs.Trimmed.{new_number, number_behind_all, moved_row, trimmed_by, if_used}
 use Rattle.cert_trim.specs.Behind.{AreFewer}
 use Rattle.cert_trim.proofs.Counts.{not_less_all}
 use Rattle.cert_trim.proofs.Ordered.{still_spelled}

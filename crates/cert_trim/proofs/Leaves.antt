@@ -12,12 +12,12 @@ use Rattle.cert_checker.specs.Contexts.{Context}
 use Rattle.cert_checker.specs.Steps.{givens, IsConcluded}
 use Rattle.cert_checker.specs.After.{after, around_of, cuts_behind}
 use Rattle.cert_checker.specs.Accepted.{LeadsTo}
-use Rattle.cert_trim.specs.Trimmed.{new_number, number_behind_all, moved_row, trimmed_by}
+use Rattle.cert_trim.specs.Trimmed.{new_number, number_behind_all, moved_row, trimmed_by, if_used}
 use Rattle.cert_trim.specs.Used.{cited, AreUsed, AreEnough}
 use Rattle.cert_trim.specs.Behind.{stays_behind, trimmed_behind, section_of, with_next}
 use Rattle.cert_trim.specs.Behind.{IsLeafOrDead, LeavesAreTrimmed}
 use Rattle.cert_trim.proofs.Numbers.{on_both, next_of_used, next_of_unused}
-use Rattle.cert_trim.proofs.Kept.{kept, renumbered, kept_append, found_again}
+use Rattle.cert_trim.proofs.Kept.{kept, renumbered, kept_append, found_again, if_kept}
 use Rattle.cert_trim.proofs.Kept.{concluded_again, settled_again, shown_again}
 use Rattle.cert_trim.proofs.Enough.{cite_earlier}
 use Rattle.cert_trim.proofs.AllUsed.{left_count}

@@ -14,11 +14,11 @@ use Rattle.cert_checker.specs.After.{after, around_of, cuts_behind, case_behind,
 use Rattle.cert_checker.specs.Accepted.{LeadsTo}
 use Rattle.cert_checker.specs.Faults.{HasCases}
 use Rattle.cert_bytes.specs.declared.order.DueItem.TheVariants.{Head}
-use Rattle.cert_trim.specs.Trimmed.{new_number, moved_row, trimmed_by}
+use Rattle.cert_trim.specs.Trimmed.{new_number, moved_row, trimmed_by, if_used}
 use Rattle.cert_trim.specs.Used.{cited, AreUsed, AreEnough}
 use Rattle.cert_trim.specs.Law.{TrimmedAreAccepted}
 use Rattle.cert_trim.proofs.Numbers.{on_both, next_of_used, next_of_unused}
-use Rattle.cert_trim.proofs.Kept.{kept, renumbered, kept_append, found_again}
+use Rattle.cert_trim.proofs.Kept.{kept, renumbered, kept_append, found_again, if_kept}
 use Rattle.cert_trim.proofs.Kept.{concluded_again, settled_again, shown_again}
 use Rattle.cert_trim.proofs.CasesFirst.{CasesFirst, Begins, cases_first, still_one, still_told}
 use Rattle.cert_trim.proofs.CasesFirst.{goes_first}

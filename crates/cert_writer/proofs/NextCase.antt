@@ -5,9 +5,9 @@ use Rattle.std.proofs.Common.{sym, ◌∙◌, ap, subst, append-nil}
 use Rattle.std.proofs.lemmas.List.{drop_more}
 use Rattle.std.proofs.lemmas.Option.{slice_get_within, get_or_from_slice_get}
 use Rattle.answer_certificates.specs.script_claims.declared.claim.Claim.{Claim}
+use Rattle.answer_certificates.specs.script_claims.Facts.{facts_of}
 use Rattle.answer_certificates.specs.script_grammar.Cases.{cases_of}
 use Rattle.answer_certificates.specs.script_grammar.Spells.{View}
-use Rattle.answer_certificates.specs.universe.Universes.{facts_of}
 use Rattle.box_trace.specs.rule_universe.Worlds.{World, IsWhole as IsWholeWorld}
 use Rattle.answer_certificates.specs.box_tree.Pieces.{piece_count}
 use Rattle.answer_certificates.specs.box_tree.Plans.{cut_at, piece_at}

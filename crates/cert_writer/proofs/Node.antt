@@ -12,7 +12,7 @@ use Rattle.goals.specs.facts.Meets.{IsStronger-antisymm}
 use Rattle.goals.specs.declared.goal.Goal.{Goal}
 use Rattle.derivation.specs.Derivations.{Setting, At}
 use Rattle.derivation.specs.Known.{Piece, Known, IsTableAt}
-use Rattle.derivation.specs.Settled.{IsMet}
+use Rattle.derivation.specs.Settled.{IsSettled}
 use Rattle.derivation.specs.Parts.{none_some}
 use Rattle.answer_certificates.specs.box_tree.declared.cut.Cut.{Cut}
 use Rattle.answer_certificates.specs.box_tree.declared.cut.Cut.TheVariants.{Forced, Half, Bottom}
@@ -63,12 +63,12 @@ module _ (u : Setting) (goals : List Goal) (height : ℕ) (pieces : List Piece) 
 
   -- Where each goal is settled by the table's fact, it is met,
   met : (gs : List Goal) → AllSettled at gs → (k : ℕ) (g : Goal) → slice_get gs k ≡ Some g
-      → IsMet u height pieces g
+      → IsSettled u height pieces g
   met [] a k g e = cc
   met (x ∷ gs) a zero g e =
       let same : x ≡ g = cc in
       let f : Fact = (a.0).0 in
-      subst (IsMet u height pieces) same (f, (best.reached x.of f (a.0).1).1, (a.0).2)
+      subst (IsSettled u height pieces) same (f, (best.reached x.of f (a.0).1).1, (a.0).2)
   met (x ∷ gs) a (suc k) g e = met gs a.1 k g e
 
   -- and a best known fact is the table's.
@@ -98,7 +98,7 @@ module _ (u : Setting) (goals : List Goal) (height : ℕ) (pieces : List Piece) 
   not_cut (Half x m) (state.Settled facts) w h = refl
   not_cut (Half x m) (state.Open k) w h = let first = w.1 in elim h [
     | inl v ↦ absurd (w.0 (known_void v))
-    | inr a ↦ absurd (first.unmet (met goals a k first.goal first.there))
+    | inr a ↦ absurd (first.still_open (met goals a k first.goal first.there))
   ]
   not_cut Bottom state.Void w h = refl
   not_cut Bottom (state.Settled facts) w h = refl

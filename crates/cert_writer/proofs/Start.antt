@@ -9,6 +9,7 @@ use Rattle.goals.specs.declared.goal.Goal.{Goal}
 use Rattle.goals.specs.declared.line.Line.{Line}
 use Rattle.goals.specs.declared.line.Line.TheVariants as line
 use Rattle.answer_certificates.specs.script_claims.declared.claim.Claim.{Claim}
+use Rattle.answer_certificates.specs.script_claims.Facts.{facts_of}
 use Rattle.answer_certificates.specs.script_grammar.Cases.{cases_of}
 use Rattle.answer_certificates.specs.script_grammar.Spells.{View}
 use Rattle.box_trace.specs.rule_universe.Worlds.{World}
@@ -20,7 +21,7 @@ use Rattle.box_trace.specs.saturate.Universes.{setting_of}
 use Rattle.cert_trim.specs.cert_bytes.declared.item.Item.{Item}
 use Rattle.box_trace.specs.cert_checker.declared.subject.Subject.{Subject}
 use Rattle.answer_certificates.specs.script_checker.rewrite_hints.Marks.{AreMarks}
-use Rattle.answer_certificates.specs.script_checker.Subjects.{IsSubjectOf, facts_of}
+use Rattle.answer_certificates.specs.script_checker.Subjects.{IsSubjectOf}
 use Rattle.box_trace.specs.tree_certificates.Roots.{Root, AreRoots, IsRoot, steps_in_roots}
 use Rattle.box_trace.specs.tree_certificates.Roots.{lines_of_roots}
 use Rattle.box_trace.specs.tree_certificates.Trees.{Tree}

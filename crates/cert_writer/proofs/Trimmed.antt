@@ -18,7 +18,7 @@ use Rattle.box_trace.specs.cert_checker.Accepted.{LeadsTo}
 use Rattle.box_trace.specs.tree_certificates.Sections.{AllBelow}
 use Rattle.box_trace.specs.tree_certificates.Walks.{behind_steps}
 use Rattle.box_trace.specs.tree_certificates.Moves.{lead_both}
-use Rattle.cert_trim.specs.Trimmed.{number_behind_all, moved_row, trimmed_by}
+use Rattle.cert_trim.specs.Trimmed.{number_behind_all, moved_row, trimmed_by, if_used}
 use Rattle.cert_trim.specs.Used.{CiteEarlier}
 use Rattle.cert_trim.specs.Behind.{stays_behind, trimmed_behind, with_next, IsLeafOrDead, IsOpenAt}
 use Rattle.cert_trim.specs.Behind.{LeavesAreTrimmed, CertificatesStaySo, AreFewer, section_of}

@@ -3,9 +3,9 @@ use Rattle.std.specs.Prelude.{◌≡◌, ℕ, List, [], ◌∷◌, ◌++◌, dro
 use Rattle.goals.specs.facts.declared.hint.HintMark.{HintMark}
 use Rattle.goals.specs.declared.line.Line.{Line}
 use Rattle.answer_certificates.specs.script_claims.declared.claim.Claim.{Claim}
+use Rattle.answer_certificates.specs.script_claims.Facts.{goal_of, facts_of}
 use Rattle.answer_certificates.specs.script_grammar.Cases.{cases_of}
 use Rattle.answer_certificates.specs.script_grammar.Spells.{View}
-use Rattle.answer_certificates.specs.script_checker.Subjects.{facts_of, goal_of}
 use Rattle.box_trace.specs.rule_universe.Assumed.{assuming}
 use Rattle.box_trace.specs.rule_universe.Worlds.{World}
 use Rattle.answer_certificates.specs.universe.Universes.{IsUniverse}

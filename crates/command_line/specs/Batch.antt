@@ -1,7 +1,7 @@
 -- What the words after `batch` ask for.
 use Rattle.std.specs.Prelude.{ℕ, List, Option, Some, None, codes, if◌then◌else◌}
 use Rattle.clap.specs.Words.{App, Text, with_rule}
-use Rattle.command_line.specs.Simple.{name_rule, bare_app, are_names, Texts, read_by}
+use Rattle.command_line.specs.Simple.{name_rule, bare_app, are_names, Texts, read_by, ◌>>=◌}
 use Rattle.command_line.specs.Options.{with_options, options_from, AreWithin}
 use Rattle.command_line.specs.declared.batch.BatchRequest.{BatchRequest}
 

@@ -1,7 +1,7 @@
 -- What the words after a command of two names ask for.
 use Rattle.std.specs.Prelude.{List, Option, Some, None, if◌then◌else◌}
 use Rattle.clap.specs.Words.{App, Text, with_rule}
-use Rattle.command_line.specs.Simple.{name_rule, bare_app, are_names, Texts, read_by}
+use Rattle.command_line.specs.Simple.{name_rule, bare_app, are_names, Texts, read_by, ◌>>=◌}
 use Rattle.command_line.specs.declared.names.TwoNames.{TwoNames}
 
 -- the command as clap sees it, by its own name and the ids of its two names

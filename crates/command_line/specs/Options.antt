@@ -2,7 +2,7 @@
 use Rattle.std.specs.Prelude.{◌≤◌, ℕ, Option, Some, codes}
 use Rattle.clap.specs.Words.{App, with_rule}
 use Rattle.command_line.specs.Numbers.{number_or}
-use Rattle.command_line.specs.Simple.{option_rule, Texts}
+use Rattle.command_line.specs.Simple.{option_rule, Texts, ◌>>=◌}
 use Rattle.command_line.specs.declared.options.Options.{Options}
 
 -- a command with these options too

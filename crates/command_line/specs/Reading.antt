@@ -3,6 +3,7 @@ use Rattle.std.specs.Prelude.{ℕ, List, Option, Some, None, codes, if◌then◌
 use Rattle.std.specs.Option.{option_map}
 use Rattle.clap.specs.Words.{App, Text, with_rule}
 use Rattle.command_line.specs.Simple.{option_rule, name_rule, bare_app, are_names, Texts, read_by}
+use Rattle.command_line.specs.Simple.{◌>>=◌}
 use Rattle.command_line.specs.Options.{with_options, options_from, AreWithin}
 use Rattle.command_line.specs.declared.prove.Request.{Request}
 

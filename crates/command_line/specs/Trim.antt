@@ -1,7 +1,7 @@
 -- What the words after `trim` ask for.
 use Rattle.std.specs.Prelude.{◌&&◌, Bool, List, Option, Some, None, codes, if◌then◌else◌}
 use Rattle.clap.specs.Words.{App, Text, with_rule}
-use Rattle.command_line.specs.Simple.{name_rule, are_names, Texts, read_by}
+use Rattle.command_line.specs.Simple.{name_rule, are_names, Texts, read_by, ◌>>=◌}
 use Rattle.command_line.specs.Names.{names_app}
 use Rattle.command_line.specs.declared.trim.TrimRequest.{TrimRequest}
 

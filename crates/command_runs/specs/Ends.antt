@@ -14,7 +14,7 @@ use Rattle.command_runs.specs.Runs.{PutFailed}
 use Rattle.command_runs.specs.Fates.{Left, Fate, Leaves, begun, Written, IsBrokenOff, IsUntouched}
 use Rattle.command_runs.specs.Fates.{BreaksOff, Ending, ending, EndsBy, EndsIn, Runs, Comes}
 use Rattle.command_runs.specs.Fates.{AreTold, IsExact, IsRunOf, OrUnread, IsKeptFile}
-use Rattle.command_runs.specs.Fates.Ending.{Done, Cut, Starved}
+use Rattle.command_runs.specs.Fates.Ending.{Done, BrokeOff, Starved}
 use Rattle.command_runs.specs.Fates.Left.{Kept, Whole, Begun}
 use Rattle.command_runs.specs.Statuses.{read_fault_line}
 use Rattle.command_runs.specs.declared.status.Status.{Status}
@@ -61,7 +61,7 @@ module _ (name : Option Bytes) (P Q : Fate) (r : Run)
 
   ends_wider : (e : Ending) (s : Status) → EndsBy e s name P r → EndsBy e s name Q r
   ends_wider Done s (lines, left, p, d) = (lines, left, wider s lines left p, d)
-  ends_wider Cut s b = breaks_wider b
+  ends_wider BrokeOff s b = breaks_wider b
   ends_wider Starved s (inl u) = inl u
   ends_wider Starved s (inr b) = inr (breaks_wider b)
 
@@ -128,7 +128,7 @@ module _ (name : Option Bytes) (P : Fate) (r : Run) where
       put_ends (inl (same, took)) =
           ends_at s Done same done (lines, left, p, record { put = took; file = file })
       put_ends (inr (same, took, rose)) =
-          ends_at status.WriteFault Cut same refl (
+          ends_at status.WriteFault BrokeOff same refl (
             s,
             lines,
             left,
@@ -143,7 +143,7 @@ module _ (name : Option Bytes) (P : Fate) (r : Run) where
 
       put_cause : IsPutBy s lines r → r.status ≡ status.WriteFault → PutFailed r
       put_cause (inl (same, took)) f =
-          let cut : ending s ≡ Cut = ap ending (sym same ∙ f) in absurd (cc (sym done ∙ cut))
+          let cut : ending s ≡ BrokeOff = ap ending (sym same ∙ f) in absurd (cc (sym done ∙ cut))
       put_cause (inr (same, took, rose)) f = rose
 
       pub put_runs : IsPutBy s lines r → Runs name P r
@@ -166,7 +166,8 @@ module _ (name : Option Bytes) (P : Fate) (r : Run) where
       pub unwritten_runs : r.status ≡ status.WriteFault → name ≢ None → WriteFailed r
           → Runs name P r
       unwritten_runs same named failed = record {
-        ends = ends_at status.WriteFault Cut same refl (s, lines, left, p, broken (λ _. failed));
+        ends = ends_at status.WriteFault BrokeOff same refl
+            (s, lines, left, p, broken (λ _. failed));
         others = others;
         cause = λ _. inr (named, failed);
       }
@@ -207,7 +208,7 @@ unread_or : (t : Status) → (t ≡ status.ReadFault) ⊎ (t ≢ status.ReadFaul
 unread_or status.ReadFault = inl refl
 unread_or _ = inr (λ e. cc e)
 
-cut_is : (t : Status) → ending t ≡ Cut → t ≡ status.WriteFault
+cut_is : (t : Status) → ending t ≡ BrokeOff → t ≡ status.WriteFault
 cut_is status.WriteFault e = refl
 cut_is _ e = absurd (cc e)
 
@@ -220,7 +221,7 @@ module _ (name : Option Bytes) (Reads : Bytes → Type 0) (P : Fate) (r : Run)
   comes : (e : Ending) (t : Status) → ending t ≡ e → EndsBy e t name P r → (s : Status)
       (lines : Bytes) (left : Left) → AreTold Reads r.before.told → s ≢ status.ReadFault
       → P s lines left → Comes s t
-  comes Cut t is b s lines left told n p = inr (inr (inl (cut_is t is)))
+  comes BrokeOff t is b s lines left told n p = inr (inr (inl (cut_is t is)))
   comes Starved t is b s lines left told n p = inr (inr (inr (starved_is t is)))
   comes Done t is (ms, m, q, d) s lines left told n p = comes_by (unread_or t) where
     comes_by : (t ≡ status.ReadFault) ⊎ (t ≢ status.ReadFault) → Comes s t
@@ -239,7 +240,7 @@ module _ (name : Option Bytes) (P : Fate) (r : Run) (MayChange : Status → Type
     (cut : MayChange status.WriteFault) (starved : MayChange status.OutOfMemory) where
   kept_ends : (e : Ending) (t : Status) → ending t ≡ e → ¬ MayChange t → EndsBy e t name P r
       → (n : Bytes) → name ≡ Some n → IsKept r n
-  kept_ends Cut t is still b = absurd (still (subst MayChange (sym (cut_is t is)) cut))
+  kept_ends BrokeOff t is still b = absurd (still (subst MayChange (sym (cut_is t is)) cut))
   kept_ends Starved t is still b = absurd (still (subst MayChange (sym (starved_is t is)) starved))
   kept_ends Done t is still (lines, left, p, d) = λ n named.
       subst (λ l. Leaves l (r.before.told n) (r.after.told n)) (keeps t lines left still p)
@@ -342,7 +343,7 @@ module _ (name : Option Bytes) (P : Fate) (r : Run) (h : Runs name P r) where
     by_end : (e : Ending) → ending r.status ≡ e → EndsBy e r.status name P r
         → EndsBy Done r.status name P r ⊎ (r.status ≡ status.OutOfMemory)
     by_end Done is d = inl d
-    by_end Cut is b = absurd (all_written writes puts (cut_is r.status is))
+    by_end BrokeOff is b = absurd (all_written writes puts (cut_is r.status is))
     by_end Starved is b = inr (starved_is r.status is)
 
 -- The same of a run by a fate beside read faults, in which no read failed either: its status and

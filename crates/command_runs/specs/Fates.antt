@@ -62,13 +62,13 @@ BreaksOff name P r = (s : Status) × (lines : Bytes) × (left : Left) × P s lin
 -- The ways in which a run ends: it came to its end; it broke off; or memory ran out.
 pub data Ending : Type 0 where
   Done : Ending
-  Cut : Ending
+  BrokeOff : Ending
   Starved : Ending
 
 -- The way in which a run of this status ends; each comes to its end but for a write fault and lack
 -- of memory.
 abbrev pub ending : Status → Ending
-ending status.WriteFault = Cut
+ending status.WriteFault = BrokeOff
 ending status.OutOfMemory = Starved
 ending s = Done
 
@@ -77,7 +77,7 @@ ending s = Done
 abbrev pub EndsBy : Ending → Status → Option Bytes → Fate → Run → Type 0
 EndsBy Done s name P r =
     (lines : Bytes) × (left : Left) × P s lines left × IsDone name lines left r
-EndsBy Cut s name P r = BreaksOff name P r
+EndsBy BrokeOff s name P r = BreaksOff name P r
 EndsBy Starved s name P r = IsUntouched r ⊎ BreaksOff name P r
 
 -- How a run of this status ends, in the way that the status has.

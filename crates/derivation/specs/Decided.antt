@@ -29,35 +29,34 @@ is_within i j =
     le_bound (range_of j).low (range_of i).low && le_bound (range_of i).high (range_of j).high
 
 -- whether the interval is what is wanted
-abbrev pub meets : Want → Interval → Bool
-meets Ask i = is_finite i
-meets (Inside (Some bounds)) i = is_within i bounds
-meets (Inside None) i = false
+abbrev pub is_wanted : Want → Interval → Bool
+is_wanted Ask i = is_finite i
+is_wanted (Inside (Some bounds)) i = is_within i bounds
+is_wanted (Inside None) i = false
 
 -- whether the fact that is there, if any, has what is wanted
-abbrev pub answers : Want → Option Fact → Bool
-answers want (Some (fact.Bnd x i)) = meets want i
-answers want (Some (fact.Rel x y (Some e))) = meets want e.interval
-answers want (Some (fact.Rel x y None)) = true
-answers want _ = false
+abbrev pub has_wanted : Want → Option Fact → Bool
+has_wanted want (Some (fact.Bnd x i)) = is_wanted want i
+has_wanted want (Some (fact.Rel x y (Some e))) = is_wanted want e.interval
+has_wanted want (Some (fact.Rel x y None)) = true
+has_wanted want _ = false
 
 -- whether the table's fact on the goal's slot settles it
-abbrev pub is_met : (Slot → Option Fact) → Goal → Bool
-is_met at goal = answers goal.want (at goal.of)
+abbrev pub is_settled : (Slot → Option Fact) → Goal → Bool
+is_settled at goal = has_wanted goal.want (at goal.of)
 
 -- The number of a goal of a list, if any, where one goal more stands before the list.
 abbrev pub one_later : Option ℕ → Option ℕ
 one_later None = None
 one_later (Some k) = Some (suc k)
 
--- the least goal that isn't met
-abbrev pub first_unmet : (Slot → Option Fact) → List Goal → Option ℕ
-first_unmet at [] = None
-first_unmet at (goal ∷ goals) =
-    if is_met at goal then one_later (first_unmet at goals) else Some zero
+-- the least goal that isn't settled
+abbrev pub first_open : (Slot → Option Fact) → List Goal → Option ℕ
+first_open at [] = None
+first_open at (goal ∷ goals) =
+    if is_settled at goal then one_later (first_open at goals) else Some zero
 
--- What a box comes to, by its VOID fact, if it has one, and by its first goal that isn't met, if
--- any.
+-- What a box comes to, by its VOID fact, if it has one, and by its first open goal, if any.
 abbrev pub state_by : Option Fact → Option ℕ → State
 state_by (Some f) o = void
 state_by None None = settled
@@ -65,4 +64,4 @@ state_by None (Some k) = unsettled k
 
 -- what a box with this best table comes to
 abbrev pub state_in : (Slot → Option Fact) → List Goal → State
-state_in at goals = state_by (at slot.Void) (first_unmet at goals)
+state_in at goals = state_by (at slot.Void) (first_open at goals)

@@ -17,7 +17,7 @@ use Rattle.derivation.specs.Lists.{RuleList}
 use Rattle.derivation.specs.Derivations.{Setting, At, given, drawn, none, next}
 use Rattle.derivation.specs.Known.{Known}
 use Rattle.derivation.specs.Settled.{settled, void, unsettled}
-use Rattle.derivation.specs.Decided.{answers, state_in}
+use Rattle.derivation.specs.Decided.{has_wanted, state_in}
 use Rattle.derivation.specs.Counted.{is_touched}
 
 abbrev numbered : ℕ → ExprId
@@ -77,24 +77,25 @@ child_goes_on i j = drawn 0 (from_to 1 2) refl (next (slot.Bnd (numbered 1))
     (fact.Bnd (numbered 1) i) refl (given (inr (inr (one_step i)))) none) refl
 
 -- ---- what settles a goal
-line_is_no_answer : (x : ExprId) → answers Ask (Some (fact.Bnd x whole_interval)) ≡ false
+line_is_no_answer : (x : ExprId) → has_wanted Ask (Some (fact.Bnd x whole_interval)) ≡ false
 line_is_no_answer x = refl
 
 line_is_inside_the_line : (x : ExprId)
-    → answers (Inside (Some whole_interval)) (Some (fact.Bnd x whole_interval)) ≡ true
+    → has_wanted (Inside (Some whole_interval)) (Some (fact.Bnd x whole_interval)) ≡ true
 line_is_inside_the_line x = refl
 
 crossing_bounds_hold_nothing : (x : ExprId) (i : Interval)
-    → answers (Inside None) (Some (fact.Bnd x i)) ≡ false
+    → has_wanted (Inside None) (Some (fact.Bnd x i)) ≡ false
 crossing_bounds_hold_nothing x i = refl
 
-zeros_settle_all : (x y : ExprId) → answers (Inside None) (Some (fact.Rel x y None)) ≡ true
+zeros_settle_all : (x y : ExprId) → has_wanted (Inside None) (Some (fact.Rel x y None)) ≡ true
 zeros_settle_all x y = refl
 
-sizes_settle_nothing : (x : ExprId) (s : Size) → answers Ask (Some (fact.Abs x s)) ≡ false
+sizes_settle_nothing : (x : ExprId) (s : Size) → has_wanted Ask (Some (fact.Abs x s)) ≡ false
 sizes_settle_nothing x s = refl
 
-multiples_settle_nothing : (x : ExprId) (k : FixPlace) → answers Ask (Some (fact.Fix x k)) ≡ false
+multiples_settle_nothing : (x : ExprId) (k : FixPlace)
+    → has_wanted Ask (Some (fact.Fix x k)) ≡ false
 multiples_settle_nothing x k = refl
 
 -- ---- what a box comes to

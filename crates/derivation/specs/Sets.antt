@@ -9,7 +9,7 @@ use Rattle.goals.specs.declared.goal.Goal.{Goal}
 use Rattle.derivation.specs.Derivations.{Setting, Derives, DeriveEach, given, drawn, met, none}
 use Rattle.derivation.specs.Derivations.{next}
 use Rattle.derivation.specs.Known.{Piece, IsLine, IsGiven, GivenAt, Known}
-use Rattle.derivation.specs.Settled.{IsMet, State, settled, void, unsettled, IsState}
+use Rattle.derivation.specs.Settled.{IsSettled, State, settled, void, unsettled, IsState}
 
 -- The second setting has the rules and nodes of the first, and each of its hypotheses and
 -- instances, in any order.
@@ -57,9 +57,9 @@ module _ (u v : Setting) (all : HasAll u v) where
       → Known v height pieces f
   known_more height pieces f d = derived_more (leaf_more height pieces) d
 
-  met_more : (height : ℕ) (pieces : List Piece) (goal : Goal) → IsMet u height pieces goal
-      → IsMet v height pieces goal
-  met_more height pieces goal m = (m.0, known_more height pieces m.0 m.1, m.2)
+  settled_more : (height : ℕ) (pieces : List Piece) (goal : Goal) → IsSettled u height pieces goal
+      → IsSettled v height pieces goal
+  settled_more height pieces goal m = (m.0, known_more height pieces m.0 m.1, m.2)
 
 -- Boxes come to one thing over both, where each has what the other has.
 pub state_same : (u v : Setting) → HasAll u v → HasAll v u
@@ -68,14 +68,14 @@ pub state_same : (u v : Setting) → HasAll u v → HasAll v u
 state_same u v to back goals height pieces void w = known_more u v to height pieces _ w
 state_same u v to back goals height pieces settled w = (
   λ k. w.0 (known_more v u back height pieces _ k),
-  λ k goal e. met_more u v to height pieces goal (w.1 k goal e),
+  λ k goal e. settled_more u v to height pieces goal (w.1 k goal e),
 )
 state_same u v to back goals height pieces (unsettled k) w = (
   λ n. w.0 (known_more v u back height pieces _ n),
   record {
     goal = w.1.goal;
     there = w.1.there;
-    unmet = λ m. w.1.unmet (met_more v u back height pieces w.1.goal m);
-    before = λ j goal l e. met_more u v to height pieces goal (w.1.before j goal l e);
+    still_open = λ m. w.1.still_open (settled_more v u back height pieces w.1.goal m);
+    before = λ j goal l e. settled_more u v to height pieces goal (w.1.before j goal l e);
   },
 )

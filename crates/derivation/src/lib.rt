@@ -5,7 +5,7 @@
 // What callers name of the crates below.
 pub use expr_dag::{Dag, Node};
 pub use goals::{
-    Fact, FixPlace, Goal, HintMark, HintRow, Interval, RelativeError, Size, Slot, answers, meet,
+    Fact, FixPlace, Goal, HintMark, HintRow, Interval, RelativeError, Size, Slot, has_wanted, meet,
     settling_facts, slot, stronger,
 };
 

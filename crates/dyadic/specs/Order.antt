@@ -7,6 +7,7 @@ use Rattle.std.specs.Ordering.{ordering_reverse}
 use Rattle.std.specs.Cmp.{IsTotalOrder, both_ways, on_total}
 use Rattle.fx_model.specs.Fraction.{Fraction, le_ℚ, le_total, le_trans}
 use Rattle.fx_model.specs.Grid.{Bound, Below, At, Above}
+pub use Rattle.fx_model.specs.Grid.{le_bound}
 use Rattle.dyadic.specs.declared.number.Dyadic.{Dyadic}
 use Rattle.dyadic.specs.declared.number.End.{End}
 use Rattle.dyadic.specs.Values.{value_of}
@@ -19,16 +20,6 @@ cmp_by le x y = cond (le x y) (cond (le y x) Equal Less) Greater
 -- how two numbers compare: as the fractions that they stand for
 abbrev pub value_cmp : Dyadic → Dyadic → Ordering
 value_cmp a b = cmp_by le_ℚ (value_of a) (value_of b)
-
--- minus infinity is at most everything, and everything at most plus infinity
-abbrev pub le_bound : Bound → Bound → Bool
-le_bound Below c = true
-le_bound (At g) Below = false
-le_bound (At g) (At h) = le_ℚ g h
-le_bound (At g) Above = true
-le_bound Above Below = false
-le_bound Above (At h) = false
-le_bound Above Above = true
 
 -- how two ends compare: as what they stand for
 abbrev pub end_cmp : End → End → Ordering

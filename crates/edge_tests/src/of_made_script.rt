@@ -37,7 +37,7 @@ const ROWS: [(u8, [&str; 5]); 3] = [
 ];
 
 #[test]
-fn texts(rt: HostRuntime) -> Result<(), Fail> {
+fn each_number_has_its_made_script(rt: HostRuntime) -> Result<(), Fail> {
     for (n, lines) in ROWS {
         let text = made_script(rt.alloc(), n)?;
         let mut whole = Vec::new(rt.alloc());

@@ -4,11 +4,11 @@
 pub mod fault;
 mod format;
 mod judge;
-pub mod lex;
+mod lex;
 mod part;
 mod print;
 mod program;
 mod reader;
-pub mod token;
+mod token;
 pub mod turn;
 mod word;

@@ -6,7 +6,8 @@ pub mod SumEnds
 pub mod Isotone
 pub mod Ends
 pub mod Unique
-pub use Rattle.fx_model.specs.Enclosure.Sets.{Range, IsFrom, IsUpTo, Lies, Set, IsInfimum}
+pub use Rattle.fx_model.specs.Enclosure.Sets.{Range, from_ends, IsFrom, IsUpTo, Lies, Set}
+pub use Rattle.fx_model.specs.Enclosure.Sets.{IsInfimum}
 pub use Rattle.fx_model.specs.Enclosure.Sets.{IsSupremum, IsEnclosure, Negations, Sizes, Squares}
 pub use Rattle.fx_model.specs.Enclosure.Sets.{Sums, Differences, Products, Quotients, MultiplesIn}
 pub use Rattle.fx_model.specs.Enclosure.Sets.{IsFinite, whole_line, IsNegation, IsSize, IsSquare}

@@ -6,7 +6,7 @@ use mathlib.Core.Bool.{xor}
 use Rattle.std.proofs.Common.{arith, sym, subst, ap, ◌∙◌, refl}
 use Rattle.std.proofs.lemmas.Int.{ints}
 use lib.IntN.{neg_ℤ}
-use Rattle.fx_model.specs.Fraction.{Fraction, ◌*ℚ◌, ◌≤ℚ◌, le_antisymm, neg_ℚ, neg-le, neg-neg}
+use Rattle.fx_model.specs.Fraction.{Fraction, ◌*ℚ◌, ◌≤ℚ◌, le_ℚ, le_antisymm, neg_ℚ, neg-le, neg-neg}
 use Rattle.fx_model.specs.Fraction.{neg-mul, mul_comm, mul_assoc}
 use Rattle.fx_model.specs.Powers.{scaled, two_to, whole, whole-neg, whole-mul, two_to-add}
 use Rattle.fx_model.specs.Powers.{IsMultiple}
@@ -30,6 +30,17 @@ pub data Bound : Type 0 where
   Below : Bound
   At : Fraction → Bound
   Above : Bound
+
+-- Whether the first end is at or below the second: minus infinity is below all else, plus infinity
+-- above all else.
+abbrev pub le_bound : Bound → Bound → Bool
+le_bound Below c = true
+le_bound (At g) Below = false
+le_bound (At g) (At h) = le_ℚ g h
+le_bound (At g) Above = true
+le_bound Above Below = false
+le_bound Above (At h) = false
+le_bound Above Above = true
 
 -- `down(x)` is g: the greatest grid number not above x, or minus infinity where there is none.
 abbrev pub IsDown : Fraction → Bound → Type 0

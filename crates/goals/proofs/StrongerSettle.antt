@@ -14,10 +14,10 @@ use Rattle.facts.specs.Laws.{IsWithin-trans}
 use Rattle.goals.specs.declared.goal.Want.{Want}
 use Rattle.goals.specs.declared.goal.Want.TheVariants.{Ask, Inside}
 use Rattle.goals.specs.declared.goal.Goal.{Goal}
-use Rattle.goals.specs.Settles.{IsWanted, Answers, Settles}
+use Rattle.goals.specs.Settles.{IsWanted, HasWanted, Settles}
 use Rattle.goals.specs.Holds.{IsOfGoal}
 
-pub of_goal : (want : Want) (f : Fact) → Answers want f → IsOfGoal f
+pub of_goal : (want : Want) (f : Fact) → HasWanted want f → IsOfGoal f
 of_goal want (fact.Bnd x i) a = tt
 of_goal want (fact.Rel x y e) a = tt
 of_goal want _ a = absurd a
@@ -44,27 +44,27 @@ wanted_within (Inside None) i j w m = absurd m
 
 -- ---- facts
 -- on one slot, and answering
-abbrev AlsoAnswers : Want → Fact → Fact → Type 0
-AlsoAnswers want f g = (g ≡ fact.Void) ⊎ ((slot_of g ≡ slot_of f) × Answers want g)
+abbrev AlsoHasWanted : Want → Fact → Fact → Type 0
+AlsoHasWanted want f g = (g ≡ fact.Void) ⊎ ((slot_of g ≡ slot_of f) × HasWanted want g)
 
-answers_stronger : (want : Want) (f g : Fact) → Answers want f
-    → IsStronger g f → AlsoAnswers want f g
-answers_stronger want f fact.Void a s = inl refl
-answers_stronger want (fact.Bnd x i) (fact.Bnd y j) a s =
+has_wanted_stronger : (want : Want) (f g : Fact) → HasWanted want f
+    → IsStronger g f → AlsoHasWanted want f g
+has_wanted_stronger want f fact.Void a s = inl refl
+has_wanted_stronger want (fact.Bnd x i) (fact.Bnd y j) a s =
     inr (ap slot.Bnd s.0, wanted_within want i j s.1 a)
-answers_stronger want (fact.Rel x y d) (fact.Rel z w None) a s =
+has_wanted_stronger want (fact.Rel x y d) (fact.Rel z w None) a s =
     inr (λ k. slot.Rel (s.0 k) (s.1 k), tt)
-answers_stronger want (fact.Rel x y (Some d)) (fact.Rel z w (Some e)) a s =
+has_wanted_stronger want (fact.Rel x y (Some d)) (fact.Rel z w (Some e)) a s =
     inr (λ k. slot.Rel (s.0 k) (s.1 k), wanted_within want d.interval e.interval s.2 a)
-answers_stronger want (fact.Rel x y None) (fact.Rel z w (Some e)) a s = absurd s.2
-answers_stronger want (fact.Abs x i) g a s = absurd a
-answers_stronger want (fact.Fix x k) g a s = absurd a
-answers_stronger want (fact.Nzr x) g a s = absurd a
-answers_stronger want fact.Void g a s = absurd a
-answers_stronger want _ _ a s = absurd s
+has_wanted_stronger want (fact.Rel x y None) (fact.Rel z w (Some e)) a s = absurd s.2
+has_wanted_stronger want (fact.Abs x i) g a s = absurd a
+has_wanted_stronger want (fact.Fix x k) g a s = absurd a
+has_wanted_stronger want (fact.Nzr x) g a s = absurd a
+has_wanted_stronger want fact.Void g a s = absurd a
+has_wanted_stronger want _ _ a s = absurd s
 
 pub settles_stronger : (goal : Goal) (f g : Fact) → Settles goal f → IsStronger g f
     → (g ≡ fact.Void) ⊎ Settles goal g
 settles_stronger goal f g h s =
-    ⊎_elim (λ v. inl v) (λ (p : (slot_of g ≡ slot_of f) × Answers goal.want g). inr
-    (p.0 ∙ h.0, p.1)) (answers_stronger goal.want f g h.1 s)
+    ⊎_elim (λ v. inl v) (λ (p : (slot_of g ≡ slot_of f) × HasWanted goal.want g). inr
+    (p.0 ∙ h.0, p.1)) (has_wanted_stronger goal.want f g h.1 s)

@@ -19,12 +19,12 @@ IsWanted (Inside None) i = ⊥
 
 -- The fact's interval is what is wanted. That both sides are 0 is enough, whatever is wanted of a
 -- relative error.
-abbrev pub Answers : Want → Fact → Type 0
-Answers want (fact.Bnd x i) = IsWanted want i
-Answers want (fact.Rel x y (Some e)) = IsWanted want e.interval
-Answers want (fact.Rel x y None) = ⊤
-Answers want _ = ⊥
+abbrev pub HasWanted : Want → Fact → Type 0
+HasWanted want (fact.Bnd x i) = IsWanted want i
+HasWanted want (fact.Rel x y (Some e)) = IsWanted want e.interval
+HasWanted want (fact.Rel x y None) = ⊤
+HasWanted want _ = ⊥
 
--- The fact settles the goal: it stands on the goal's slot, and answers what is wanted.
+-- The fact settles the goal: it stands on the goal's slot, and has what is wanted.
 abbrev pub Settles : Goal → Fact → Type 0
-Settles goal f = (slot_of f ≡ goal.of) × Answers goal.want f
+Settles goal f = (slot_of f ≡ goal.of) × HasWanted goal.want f

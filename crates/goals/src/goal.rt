@@ -1,7 +1,7 @@
 ghost use Rattle.std.specs.Prelude.{◌↔◌, IsTrue};
 ghost use Rattle.facts.specs.fx_model.Enclosure.{IsFinite};
 ghost use Rattle.facts.specs.interval.Intervals.{range_of};
-ghost use Rattle.goals.specs.Settles.{IsWanted, Answers, Settles};
+ghost use Rattle.goals.specs.Settles.{IsWanted, HasWanted, Settles};
 
 use facts::{End, Fact, Interval, Slot, slot};
 
@@ -45,9 +45,9 @@ fn is_wanted(want: Want, range: Interval) -> bool
 }
 
 /// Whether the fact's interval is what is wanted. That both sides of a relative goal are 0 is
-/// enough, whatever is wanted. Facts that are neither bounds nor relative errors answer nothing.
-pub fn answers(want: Want, fact: &Fact) -> bool
-    ensures { IsTrue result ↔ Answers want fact.now }
+/// enough, whatever is wanted. Facts that are neither bounds nor relative errors never have it.
+pub fn has_wanted(want: Want, fact: &Fact) -> bool
+    ensures { IsTrue result ↔ HasWanted want fact.now }
 {
     match *fact {
         Fact::Bnd(_, interval) => is_wanted(want, interval),
@@ -57,9 +57,9 @@ pub fn answers(want: Want, fact: &Fact) -> bool
     }
 }
 
-/// Whether the fact settles the goal: it stands on the goal's slot and answers what is wanted.
+/// Whether the fact settles the goal: it stands on the goal's slot and has what is wanted.
 pub fn settles(goal: &Goal, fact: &Fact) -> bool
     ensures { IsTrue result ↔ Settles goal.now fact.now }
 {
-    slot(fact) == goal.of && answers(goal.want, fact)
+    slot(fact) == goal.of && has_wanted(goal.want, fact)
 }

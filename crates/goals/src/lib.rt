@@ -11,6 +11,6 @@ mod goal;
 mod laws;
 mod line;
 
-pub use goal::{Goal, Want, answers, settles};
+pub use goal::{Goal, Want, has_wanted, settles};
 pub use laws::{lines_hold, settling_facts};
 pub use line::Line;

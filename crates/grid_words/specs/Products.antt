@@ -5,7 +5,7 @@ use Rattle.fx_model.specs.Fraction.{Fraction, ◌*ℚ◌, ◌/ℚ◌, ◌≤ℚ�
 use Rattle.fx_model.specs.Grid.{Bound, At}
 use Rattle.fx_model.specs.Enclosure.{Range, Lies, IsEnclosure, IsOrdered, IsFinite, Products}
 use Rattle.fx_model.specs.Enclosure.{Quotients, IsProduct, IsQuotient, whole_line, in_enclosure}
-use Rattle.fx_model.specs.Enclosure.{product_holds, member_of, ordered_by}
+use Rattle.fx_model.specs.Enclosure.{product_holds, member_of, ordered_by, from_ends}
 use Rattle.grid_words.specs.Signs.{inverse_falls}
 use Rattle.grid_words.specs.Corners.{corners, corners_are}
 use Rattle.fx_model.specs.Enclosure.Unique.{both_or}
@@ -66,9 +66,6 @@ module _ (a b c d : Fraction) (i : a ≤ℚ b) (j : c ≤ℚ d) where
 -- ---- any ends
 finite_ends : (r : Range) (f : IsFinite r) → r ≡ closed f.0 f.1
 finite_ends r f = λ i. record { low = f.2 i; high = f.3 i }
-
-abbrev from_ends : Bound → Bound → Range
-from_ends low high = record { low = low; high = high }
 
 product_infinite : (a b c d : Bound) → ¬ (IsFinite (from_ends a b) × IsFinite (from_ends c d))
     → product_ends a b c d ≡ whole_line

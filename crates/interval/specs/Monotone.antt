@@ -5,7 +5,7 @@ use Rattle.dyadic.specs.fx_model.Fraction.{Fraction, neg-le}
 use Rattle.dyadic.specs.fx_model.Grid.{Bound, Below, At, Above, neg_bound}
 use Rattle.dyadic.specs.fx_model.Enclosure.{Range, IsOrdered, IsFinite, BoundLe, Within, within_in}
 use Rattle.dyadic.specs.fx_model.Enclosure.{enclosure_isotone, Negations, Sizes, Sums, Differences}
-use Rattle.dyadic.specs.fx_model.Enclosure.{Products, Quotients, whole_line}
+use Rattle.dyadic.specs.fx_model.Enclosure.{Products, Quotients, whole_line, from_ends}
 use Rattle.dyadic.specs.declared.number.End.{End}
 use Rattle.dyadic.specs.Ends.{bound_of}
 use Rattle.dyadic.specs.Extremes.{BoundLe-trans, greater_end, greater_above, greater_least}
@@ -94,9 +94,6 @@ difference_of-within i j k l v w = enclosure_isotone (Differences (range_of k) (
 
 -- ---- products and quotients: where the greater intervals are finite, so are the smaller; else the
 -- whole line holds everything
-abbrev from_ends : Bound → Bound → Range
-from_ends low high = record { low = low; high = high }
-
 finite_ends : (b c : Bound) (g h : Fraction) → IsOrdered b c → BoundLe (At g) b → BoundLe c (At h)
     → IsFinite (from_ends b c)
 finite_ends (At x) (At y) g h o l m = (x, y, refl, refl)

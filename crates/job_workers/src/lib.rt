@@ -10,5 +10,4 @@ mod task;
 mod workers;
 
 pub use job::Job;
-pub use task::JobTask;
 pub use workers::run_jobs;

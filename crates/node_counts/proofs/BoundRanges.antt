@@ -21,8 +21,8 @@ use Rattle.script_judge.specs.literal.Spelling.{IsLiteral, IsWithin, written}
 use Rattle.script_judge.specs.literal.Normal.{IsReading, IsPastLimits}
 use Rattle.script_judge.specs.literal_order.declared.written.Written.{Written}
 use Rattle.script_judge.specs.literal_order.Values.{written_value}
-use Rattle.script_judge.specs.bound_order.Texts.{IsNumber}
-use Rattle.script_judge.specs.bound_order.Tests.{number_at, down_number, up_number}
+use Rattle.script_judge.specs.script_bounds.Texts.{IsNumber}
+use Rattle.script_judge.specs.script_bounds.Tests.{number_at, down_number, up_number}
 use Rattle.script_judge.specs.script_words.declared.class.Symbol.TheVariants as s
 use Rattle.script_judge.specs.script_words.Words.{Word, literal, sign}
 use Rattle.script_judge.specs.script_shape.declared.due.Due.{Due}

@@ -1,5 +1,5 @@
 -- What callers name of the crates below.
-pub use Rattle.script_judge.specs.bound_order as bound_order
+pub use Rattle.script_judge.specs.script_bounds as script_bounds
 pub use Rattle.script_hints.specs.expr_dag as expr_dag
 pub use Rattle.script_judge.specs.facts as facts
 pub use Rattle.script_judge.specs.fx_model as fx_model

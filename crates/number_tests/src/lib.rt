@@ -2,8 +2,6 @@
 #![tactic(auto)]
 
 #[cfg(test)]
-mod of_bound_order;
-#[cfg(test)]
 mod of_dyadic;
 #[cfg(test)]
 mod of_exact_fractions;

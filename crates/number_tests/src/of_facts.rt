@@ -53,7 +53,7 @@ fn fix(rt: &impl Abort, exponent: i16) -> Fact {
 }
 
 #[test]
-fn meets(rt: HostRuntime) {
+fn two_facts_of_one_slot_have_their_meet(rt: HostRuntime) {
     meet_is_the_weakest_as_strong_as_both();
     let none = Fact::Rel(X, Y, None);
     let rows = [
@@ -120,7 +120,7 @@ fn meets(rt: HostRuntime) {
 }
 
 #[test]
-fn orders(rt: HostRuntime) {
+fn the_stronger_of_two_facts_is_told(rt: HostRuntime) {
     stronger_is_an_order();
     void_and_none_are_strongest();
     held_facts();

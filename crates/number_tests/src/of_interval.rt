@@ -103,7 +103,7 @@ fn compares_intervals(rt: HostRuntime) {
 }
 
 #[test]
-fn divides(rt: HostRuntime) {
+fn quotients_have_no_divisor_with_zero(rt: HostRuntime) {
     let of = |lo: i64, hi: i64| range(&rt, lo, hi);
     for (x, y, wanted) in [
         (of(4, 8), of(1, 2), Some(of(2, 8))),

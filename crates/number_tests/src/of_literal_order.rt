@@ -21,7 +21,7 @@ fn below(a: &str, a_negative: bool, b: &str, b_negative: bool) -> Result<bool, L
 }
 
 #[test]
-fn sizes(rt: HostRuntime) -> Result<(), Fail> {
+fn literals_are_compared_by_their_values(rt: HostRuntime) -> Result<(), Fail> {
     let rows = [
         ("0", "1", true),
         ("1", "0", false),
@@ -51,7 +51,7 @@ fn sizes(rt: HostRuntime) -> Result<(), Fail> {
 }
 
 #[test]
-fn signs(rt: HostRuntime) -> Result<(), Fail> {
+fn literals_are_compared_with_their_signs(rt: HostRuntime) -> Result<(), Fail> {
     let rows = [
         ("1", true, "1", false, true),
         ("1", false, "1", true, false),
@@ -69,7 +69,7 @@ fn signs(rt: HostRuntime) -> Result<(), Fail> {
 }
 
 #[test]
-fn enclosures(rt: HostRuntime) -> Result<(), Fail> {
+fn two_spellings_have_one_enclosure(rt: HostRuntime) -> Result<(), Fail> {
     let half = written("0.5", true)?.enclosed();
     assert!(rt; half == written("1b-1", true)?.enclosed());
     assert!(rt; half != half.neg());

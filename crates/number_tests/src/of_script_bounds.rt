@@ -1,12 +1,14 @@
 // Written bounds at values that were worked out by hand.
+ghost use Rattle.std.specs.Prelude.{◌<◌};
 ghost use Rattle.literal_order.specs.Values.{IsWritten};
 
 use dyadic::{Dyadic, End};
 use interval::Interval;
 use literal::read;
 use literal_order::Written;
-use script_bounds::{above, below, inward, outward};
+use script_bounds::{above, below, inward, is_too_low, outward, read_number};
 use std::process::Abort;
+use std::test::Fail;
 
 // The bound that is written with this text, a minus perhaps before its literal. None for no text.
 fn written(rt: &impl Abort, text: &str) -> Option<Written>
@@ -93,4 +95,25 @@ fn needs_leave_out_a_number_of_the_grid(rt: HostRuntime) {
         assert_eq!(rt; below(bound, strict), under, "below {text}");
         assert_eq!(rt; above(bound, strict), over, "above {text}");
     }
+}
+
+#[test]
+fn a_number_is_too_low_where_it_rounds_to_minus_one(rt: HostRuntime) -> Result<(), Fail> {
+    let rows: [(bool, &[u8], Option<bool>); 7] = [
+        (true, b"1", Some(true)),
+        (true, b"0.999999999999999999999999999999", Some(true)),
+        (true, b"0.9999999999999999", Some(false)),
+        (true, b"1b512", Some(true)),
+        (false, b"1b-512", Some(false)),
+        (false, b"0", Some(false)),
+        (true, b"1e-31", None),
+    ];
+    for (negative, text, want) in rows {
+        let answer = match read_number(negative, text) {
+            Some(number) => Some(is_too_low(number)),
+            None => None,
+        };
+        assert_eq!(rt; answer, want, "{text:?}");
+    }
+    Ok(())
 }

@@ -67,7 +67,8 @@ fn evaluate_cases(
     )
 }
 
-/// What the script's claims and assumed hints are at the point, as lines.
+/// What the script's claims and assumed hints are at the point, as lines; or the first place with
+/// a number that is too wide.
 pub fn evaluate(
     alloc: Global,
     script: &Script<'_>,

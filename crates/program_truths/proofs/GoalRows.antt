@@ -10,7 +10,7 @@ use Rattle.std.proofs.lemmas.Slice.Eq.{bytes_eq-Decides}
 use Rattle.fx_model.specs.Fraction.{le_ℚ}
 use Rattle.fx_model.specs.Powers.{scaled-le}
 use Rattle.literal_order.specs.Values.{written_value}
-use Rattle.bound_order.specs.Tests.{is_less}
+use Rattle.script_bounds.specs.Tests.{is_less}
 use Rattle.script_shape.specs.Tree.{Bound, unsigned, positive, negative}
 use Rattle.script_nodes.specs.Literals.{LiteralsAreTold, LiteralsAreTested, SpelledOnce}
 use Rattle.script_nodes.specs.Written.{bound_written}

@@ -6,7 +6,7 @@ use Rattle.fx_model.specs.Grid.{signed}
 use Rattle.fx_model.specs.Expression.{literal_value}
 use Rattle.literal.specs.Spelling.{IsWithin, written}
 use Rattle.literal.specs.Normal.{IsPastLimits}
-use Rattle.bound_order.specs.Texts.{IsNumber}
+use Rattle.script_bounds.specs.Texts.{IsNumber}
 use Rattle.script_words.specs.declared.class.Symbol.TheVariants as s
 use Rattle.script_words.specs.Words.{Word, name, literal, sign}
 use Rattle.script_shape.specs.declared.due.Due.{Due}

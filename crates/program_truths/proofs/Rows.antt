@@ -5,7 +5,7 @@ use Rattle.std.proofs.Common.{arith, append_assoc}
 use Rattle.std.specs.Str.Parse.{digits_value}
 use Rattle.std.specs.Fmt.{decimal, digits}
 use Rattle.fx_model.specs.Fraction.{Fraction}
-use Rattle.bound_order.specs.Tests.{is_less}
+use Rattle.script_bounds.specs.Tests.{is_less}
 use Rattle.script_words.specs.declared.class.Symbol.TheVariants as s
 use Rattle.script_words.specs.declared.class.Spelled.TheVariants as spelled
 use Rattle.script_words.specs.Words.{name, sign}

@@ -10,7 +10,7 @@ use Rattle.command_runs.specs.Runs.{Bytes, Run, IsKept, IsSilent, Puts, PutsFron
 use Rattle.command_runs.specs.Runs.{WriteFailed}
 use Rattle.command_runs.specs.Fates.{Left, Leaves, Makes, Written, OfText, Ending, IsUntouched}
 use Rattle.command_runs.specs.Fates.{BreaksOff, EndsBy, EndsIn, begun, ending}
-use Rattle.command_runs.specs.Fates.Ending.{Done, Cut, Starved}
+use Rattle.command_runs.specs.Fates.Ending.{Done, BrokeOff, Starved}
 use Rattle.command_runs.specs.Fates.Left.{Kept}
 use Rattle.command_runs.specs.Statuses.{read_fault_line}
 use Rattle.command_runs.specs.declared.status.Status.{Status}
@@ -154,7 +154,7 @@ module _ (a : Asked) (r : Run) where
       → IsSilent r ⊎ PutsLines HoldsCertificate
   behind_by Done (lines, left, p, d) = silent_or r.status lines (whole_front lines d.put)
       (whole_has left d.file (IsSilent r) (λ c. c.silent) r.status lines p)
-  behind_by Cut b = behind_cut b
+  behind_by BrokeOff b = behind_cut b
   behind_by Starved (inl u) = inl u.silent
   behind_by Starved (inr b) = behind_cut b
 

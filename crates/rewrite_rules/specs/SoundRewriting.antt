@@ -27,7 +27,7 @@ use Rattle.facts.specs.declared.fact.Fact.TheVariants as fact
 use Rattle.facts.specs.declared.fact.Slot.TheVariants as slot
 use Rattle.facts.specs.Holds.{Holds}
 use Rattle.facts.specs.Order.{is_same}
-use Rattle.facts.specs.CommonParts.{expr_same}
+use Rattle.facts.specs.CommonParts.{if-some, expr_same}
 use Rattle.facts.specs.Held.{some-and}
 use Rattle.facts.specs.Conclusions.{given}
 use Rattle.rewrite_rules.specs.Rewriting.{is_under, shows, show_needs, show_row, rewritten}

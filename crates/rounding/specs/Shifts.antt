@@ -5,13 +5,14 @@ use Rattle.std.specs.Int.Signed.{shr_z}
 use Rattle.std.specs.Int.RustNames.{unsigned_abs}
 use Rattle.std.proofs.Common.{arith, sym, ap, ◌∙◌, subst, ⊎_elim, lit≤, min, zero, suc}
 use Rattle.std.proofs.lemmas.Int.{ints}
-use Rattle.std.proofs.lemmas.Nat.{div-add-mod', mod_below, pow_pos}
+use Rattle.std.proofs.lemmas.Nat.{pow_pos}
 use Rattle.std.proofs.lemmas.Bool.{cases_lt}
 use Rattle.std.proofs.Math.Nat.{mul-le-mul_left, pow-le-pow_right}
 use lib.IntN.{neg_ℤ}
 use Rattle.interval.specs.fx_model.Fraction.{Fraction, ◌+ℚ◌, ◌*ℚ◌, neg_ℚ, ◌≤ℚ◌, ◌<ℚ◌, le_or_lt}
 use Rattle.interval.specs.fx_model.Fraction.{lt_not, le_trans, lt_le_trans, le_lt_trans, lt_le}
 use Rattle.interval.specs.fx_model.Fraction.{add_comm, neg-add, neg-neg, middle_sums}
+use Rattle.interval.specs.fx_model.Fraction.Core.Floor.{div_bounds}
 use Rattle.interval.specs.fx_model.Powers.{whole, whole-add, whole-le, scaled, scaled-le, scaled-lt}
 use Rattle.interval.specs.fx_model.Powers.{scaled-shift, two_to, floor_low, floor_high}
 use Rattle.interval.specs.fx_model.Powers.{floor_unique}
@@ -22,9 +23,6 @@ use Rattle.rounding.specs.Nearest.{halves}
 use Rattle.rounding.specs.Rounded.{two_to-zero, mul-whole_one}
 
 -- ---- a shift to the right lies between two multiples
-div_bounds : (n d : ℕ) → 0 < d → (n / d * d ≤ n) × (n < n / d * d + d)
-div_bounds n d h = let e = div-add-mod' n d in let l = mod_below n d h in (omega arith, omega arith)
-
 div_small : (n d : ℕ) → 0 < d → n / d ≤ n
 div_small n d h = let b = div_bounds n d h in let m = mul-le-mul_left (n / d) h in omega arith
 

@@ -4,9 +4,9 @@
 
 // What callers name of the crates below.
 pub use derivation::{
-    Dag, Fact, FixPlace, HintMark, HintRow, Interval, Node, RelativeError, Size, Slot, answers,
-    best_tables_exist, boxes_come_to_one_state, known_facts_hold, meet, settling_facts, slot,
-    stronger,
+    Dag, Fact, FixPlace, HintMark, HintRow, Interval, Node, RelativeError, Size, Slot,
+    best_tables_exist, boxes_come_to_one_state, has_wanted, known_facts_hold, meet, settling_facts,
+    slot, stronger,
 };
 pub use rule_instances::{Closure, ClosureFault, closure_of, closures_are_one, instances_of};
 

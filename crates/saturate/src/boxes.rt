@@ -105,7 +105,7 @@ pub fn settle_counted<C: Concludes>(
     ensures table { IfOk result (λ settled.
         IsItsTableIn (setting_by C.rules uni.now) rounds piece parent.entry (table_of settled)) }
     // Void comes exactly where VOID is known, and Open exactly where the box isn't settled, with
-    // the least goal that isn't met.
+    // the least goal that isn't settled.
     ensures state { IfOk result (λ settled.
         IsItsStateIn (setting_by C.rules uni.now) uni.now.goals rounds piece parent.entry
         (state_of settled)) }

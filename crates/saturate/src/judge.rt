@@ -1,31 +1,31 @@
 //! What a box with a best table comes to.
 ghost use Rattle.std.specs.Prelude.{◌≡◌, ◌≤◌, length};
-ghost use Rattle.rule_universe.specs.derivation.Decided.{is_met, first_unmet, state_in};
+ghost use Rattle.rule_universe.specs.derivation.Decided.{is_settled, first_open, state_in};
 ghost use Rattle.saturate.specs.Tables.{fact_at};
 ghost use Rattle.saturate.specs.Universes.{setting_of};
 ghost use Rattle.saturate.specs.Boxes.{table_of, state_of};
 
 use crate::kept::Table;
 use crate::settled::Settled;
-use rule_universe::{Goal, answers};
+use rule_universe::{Goal, has_wanted};
 
 // Whether the table's fact on the goal's slot is what is wanted.
-fn is_met(table: &Table, goal: Goal) -> bool
-    ensures { result ≡ is_met (fact_at table.now) goal }
+fn is_settled(table: &Table, goal: Goal) -> bool
+    ensures { result ≡ is_settled (fact_at table.now) goal }
 {
     match table.strongest(goal.of) {
-        Some(found) => answers(goal.want, &found),
+        Some(found) => has_wanted(goal.want, &found),
         None => false,
     }
 }
 
-// The least goal that isn't met.
-fn first_unmet(table: &Table, goals: &[Goal]) -> Option<u16>
+// The least goal that isn't settled.
+fn first_open(table: &Table, goals: &[Goal]) -> Option<u16>
     requires { length goals.now ≤ 65535 }
-    ensures { result ≡ first_unmet (fact_at table.now) goals.now }
+    ensures { result ≡ first_open (fact_at table.now) goals.now }
 {
     for (k, goal) in goals.iter().enumerate() {
-        if !is_met(table, *goal) {
+        if !is_settled(table, *goal) {
             return Some(k as u16);
         }
     }
@@ -41,7 +41,7 @@ pub(crate) fn judge(table: Table, goals: &[Goal]) -> Settled
     if table.void {
         return Settled::Void(table);
     }
-    match first_unmet(&table, goals) {
+    match first_open(&table, goals) {
         Some(k) => Settled::Open(table, k),
         None => Settled::Done(table),
     }

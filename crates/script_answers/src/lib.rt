@@ -15,4 +15,4 @@ pub use answers::{answer, answer_alone, proved_lines};
 pub use found::{Found, prove_over, prove_script, prove_script_alone, unbuilt_line};
 pub use laws::{made_answers_are_one, text_answers_are_one};
 pub use made::made_answer;
-pub use options::{Options, made_options, options_of};
+pub use options::{Options, options_of};

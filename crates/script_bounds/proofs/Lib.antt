@@ -1,3 +1,4 @@
+mod Readings
 mod Rounded
 mod Inside
 mod Needs

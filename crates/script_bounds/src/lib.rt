@@ -1,5 +1,5 @@
-//! Bounds of propositions as they are written, and the intervals with ends on the grid that stand
-//! for them.
+//! Bounds as they are written: the numbers that they stand for, and the intervals with ends on the
+//! grid that stand for bounds of propositions.
 #![tactic(auto)]
 
 // What callers name of the crates below.
@@ -8,8 +8,10 @@ pub use facts::{Fact, HintMark, HintRow, Items, Need, Path};
 mod bound;
 mod laws;
 mod need;
+mod numbers;
 
 pub use bound::{inward, outward};
 pub use laws::{inward_is_greatest, needs_are_enough, needs_are_exact, outward_is_least};
-pub use literal_order::Written;
+pub use literal_order::{Dyadic, LiteralFault, Written, read_bytes};
 pub use need::{above, below};
+pub use numbers::{down, is_too_low, read_number, up};

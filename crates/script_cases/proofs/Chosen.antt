@@ -1,7 +1,7 @@
 -- The case that chosen conjunctions make, and what is left behind the first of them.
 use Rattle.std.specs.Prelude.{◌≡◌, ℕ, zero, suc, ◌+◌, ◌*◌, ◌/◌, ◌%◌, ◌<◌, ◌≤◌, ◌-◌, List, [], ◌∷◌}
 use Rattle.std.specs.Prelude.{◌++◌, length, take, drop, slice_get, get_or, Some, refl}
-use Rattle.std.specs.List.{AllByRecursion, flat_map}
+use Rattle.std.specs.List.{flat_map}
 use Rattle.std.proofs.Common.{ap, sym, ◌∙◌, arith, subst}
 use Rattle.std.proofs.Math.Nat.{mul-div_cancel_left, mod-lt, div-lt_iff_lt-mul}
 use Rattle.std.proofs.lemmas.Option.{slice_get-get_or}
@@ -11,7 +11,7 @@ use Rattle.script_cases.specs.Choice.{choice, left_by, AreLeft}
 use Rattle.script_cases.specs.Gaps.{gaps}
 use Rattle.script_cases.specs.Marks.{pieces, AreMarks}
 use Rattle.script_cases.proofs.Counts.{counted as counted_of, rising}
-use Rattle.script_cases.proofs.Pieces.{length_pieces}
+use Rattle.script_cases.proofs.Pieces.{pieces_within}
 use Rattle.script_cases.proofs.Lengths.{count_of_gaps, gaps_positive, in_two}
 use Rattle.script_cases.proofs.Taken.{split, piece_get}
 
@@ -44,11 +44,6 @@ module _ {X : Type 0} (items : List X) (ends : List ℕ) where
   abbrev all : List (List X)
   all = pieces 0 items ends
 
-  long : (later : List ℕ) → AllByRecursion (λ e. e ≤ length ends) later
-      → AllByRecursion (λ e. e ≤ length all) later
-  long later h =
-      subst (λ n. AllByRecursion (λ e. e ≤ n) later) (sym (length_pieces 0 items ends)) h
-
   pub record Next (from end number count : ℕ) (later : List ℕ) : Type 0 where
     pub width : 0 < end - from
     pub positive : 0 < count / (end - from)
@@ -67,7 +62,7 @@ module _ {X : Type 0} (items : List X) (ends : List ℕ) where
       let p : 0 < count / (end - from) =
       omega (q, gaps_positive end later t.rising.1, arith) in
       let cases_are : case_count (pieces end all later) ≡ count / (end - from) =
-      count_of_gaps end all later (long later t.parts_within.1) ∙ sym q in
+      count_of_gaps end all later (pieces_within items ends later t.parts_within.1) ∙ sym q in
       let less = subst (λ n. number < n) t.counted t.is_case in
       let k : number / (count / (end - from)) < end - from =
       (div-lt_iff_lt-mul p).1 (subst (λ n. number < (end - from) * n) (sym q) less) in

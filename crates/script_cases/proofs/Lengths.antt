@@ -2,13 +2,16 @@
 use Rattle.std.specs.Prelude.{◌≡◌, ℕ, zero, suc, ◌*◌, ◌<◌, ◌≤◌, ◌-◌, List, [], ◌∷◌, length, take}
 use Rattle.std.specs.Prelude.{drop, get_or, refl}
 use Rattle.std.specs.List.{AllByRecursion}
-use Rattle.std.proofs.Common.{ap, sym, ◌∙◌, arith}
+use Rattle.std.proofs.Common.{ap, sym, ◌∙◌, arith, Vec, vec_len}
 use Rattle.std.proofs.lemmas.List.{length-take, length-drop}
 use Rattle.std.proofs.Math.Nat.{mul-le-mul_left}
 use Rattle.std.proofs.Math.Seq.{take-length}
 use Rattle.script_cases.specs.Cases.{case_count}
 use Rattle.script_cases.specs.Gaps.{gaps, AreRising}
 use Rattle.script_cases.specs.Marks.{pieces, left_over, start_at, IsFilled}
+
+pub long : {X Z : Type 0} (v : Vec X Z) → vec_len v ≡ length v.items
+long v = omega (arith, v.ok.0)
 
 -- a piece is as long as its places say
 pub length_piece : {X : Type 0} (from end : ℕ) (xs : List X) → end ≤ length xs

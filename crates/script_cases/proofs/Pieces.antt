@@ -2,20 +2,10 @@
 use Rattle.std.specs.Prelude.{◌≡◌, ℕ, zero, suc, ◌≤◌, ◌-◌, List, [], ◌∷◌, ◌++◌, length, take, drop}
 use Rattle.std.specs.Prelude.{refl}
 use Rattle.std.specs.List.{AllByRecursion}
-use Rattle.std.proofs.Common.{ap, sym, ◌∙◌, arith}
+use Rattle.std.proofs.Common.{ap, sym, ◌∙◌, arith, subst}
 use Rattle.std.proofs.lemmas.List.{take-append-le, drop-append-le}
 use Rattle.std.proofs.Math.Seq.{take-length}
 use Rattle.script_cases.specs.Marks.{pieces, left_over}
-
-pub all_joined : {X : Type 0} (P : X → Type 0) (a b : List X) → AllByRecursion P a
-    → AllByRecursion P b → AllByRecursion P (a ++ b)
-all_joined P [] b p q = q
-all_joined P (x ∷ a) b p q = (p.0, all_joined P a b p.1 q)
-
-pub all_as : {X : Type 0} (P Q : X → Type 0) → ((x : X) → P x → Q x) → (xs : List X)
-    → AllByRecursion P xs → AllByRecursion Q xs
-all_as P Q f [] p = tt
-all_as P Q f (x ∷ xs) p = (f x p.0, all_as P Q f xs p.1)
 
 less_nothing : (n : ℕ) → n - 0 ≡ n
 less_nothing n = omega arith
@@ -79,3 +69,10 @@ pub length_pieces : {X : Type 0} (from : ℕ) (xs : List X) (ends : List ℕ)
     → length (pieces from xs ends) ≡ length ends
 length_pieces from xs [] = refl
 length_pieces from xs (end ∷ ends) = ap suc (length_pieces end xs ends)
+
+-- the pieces are as many as the places where they end
+pub pieces_within : {X : Type 0} (items : List X) (ends later : List ℕ)
+    → AllByRecursion (λ e. e ≤ length ends) later
+    → AllByRecursion (λ e. e ≤ length (pieces 0 items ends)) later
+pieces_within items ends later h =
+    subst (λ n. AllByRecursion (λ e. e ≤ n) later) (sym (length_pieces 0 items ends)) h

@@ -5,8 +5,9 @@ use Rattle.std.proofs.Common.{ap, sym, ◌∙◌, arith, subst}
 use Rattle.std.proofs.lemmas.List.{length-append}
 use Rattle.script_cases.specs.Parts.{Parts, with_item, behind_or, behind_arrow}
 use Rattle.script_cases.specs.Marks.{pieces, left_over, parts_by, IsFilled, AreMarks}
-use Rattle.script_cases.proofs.Pieces.{all_joined, all_as, pieces_more, left_over_more, pieces_end}
-use Rattle.script_cases.proofs.Pieces.{left_over_end, length_pieces}
+use Rattle.script_cases.proofs.Pieces.{pieces_more, left_over_more, pieces_end}
+use Rattle.script_cases.proofs.Pieces.{left_over_end, length_pieces, pieces_within}
+use Rattle.script_cases.specs.Lists.{all_joined, all_as}
 
 module _ {X : Type 0} (items : List X) (ends parts : List ℕ) (m : AreMarks items ends parts) where
   abbrev of_pieces : List X → List X → List (List X) → Parts X
@@ -43,17 +44,16 @@ module _ {X : Type 0} (items : List X) (ends parts : List ℕ) (m : AreMarks ite
   abbrev last : List X
   last = left_over 0 items ends
 
-  within_pieces : AllByRecursion (λ e. e ≤ length old) parts
-  within_pieces = subst (λ n. AllByRecursion (λ e. e ≤ n) parts)
-      (sym (length_pieces 0 items ends)) m.parts_within
+  within : AllByRecursion (λ e. e ≤ length old) parts
+  within = pieces_within items ends parts m.parts_within
 
   same_before : pieces 0 (pieces 0 items one_more) parts ≡ pieces 0 old parts
   same_before = ap (λ cs. pieces 0 cs parts) (pieces_end 0 items ends)
-      ∙ pieces_more 0 old (last ∷ []) parts within_pieces
+      ∙ pieces_more 0 old (last ∷ []) parts within
 
   more_ended : left_over 0 (pieces 0 items one_more) parts ≡ left_over 0 old parts ++ (last ∷ [])
   more_ended = ap (λ cs. left_over 0 cs parts) (pieces_end 0 items ends)
-      ∙ left_over_more 0 old (last ∷ []) parts (omega arith) within_pieces
+      ∙ left_over_more 0 old (last ∷ []) parts (omega arith) within
 
   pub conjunction_marks : AreMarks items one_more parts
   conjunction_marks = record {

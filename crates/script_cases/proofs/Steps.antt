@@ -9,7 +9,7 @@ use Rattle.script_cases.specs.Cases.{cases}
 use Rattle.script_cases.specs.Counted.{cases_are_counted}
 use Rattle.script_cases.specs.Gaps.{gaps, AreRising}
 use Rattle.script_cases.specs.Marks.{pieces}
-use Rattle.script_cases.proofs.Pieces.{length_pieces}
+use Rattle.script_cases.proofs.Pieces.{pieces_within}
 use Rattle.script_cases.proofs.Lengths.{length_piece, count_of_gaps, gaps_positive, in_two}
 use Rattle.script_cases.proofs.Taken.{split, piece_get}
 
@@ -28,14 +28,11 @@ module _ {X : Type 0} (items : List X) (ends : List ℕ) where
   abbrev all : List (List X)
   all = pieces 0 items ends
 
-  long : (later : List ℕ) → AllByRecursion (λ e. e ≤ length ends) later
-      → AllByRecursion (λ e. e ≤ length all) later
-  long later h = subst (λ n. AllByRecursion (λ e. e ≤ n) later) (sym (length_pieces 0 items ends)) h
-
   counted : (from : ℕ) (later : List ℕ) → AllByRecursion (λ e. e ≤ length ends) later
       → length (cases (pieces from all later)) ≡ gaps from later
   counted from later h =
-      cases_are_counted (pieces from all later) ∙ count_of_gaps from all later (long later h)
+      cases_are_counted (pieces from all later)
+      ∙ count_of_gaps from all later (pieces_within items ends later h)
 
   pub nothing_taken : (parts : List ℕ) (number : ℕ)
       → AllByRecursion (λ e. e ≤ length ends) parts → AreRising 0 parts → number < gaps 0 parts
@@ -84,7 +81,12 @@ module _ {X : Type 0} (items : List X) (ends : List ℕ) where
       (left / (end - from)) (counted end later t.within.1 ∙ sym q)
       (take (end - from) (drop from all)) number t.rest p t.at in
       let k : number / (left / (end - from)) < end - from =
-      omega (s.within, length_piece from end all (long (end ∷ later) t.within).0, arith) in
+      omega (
+        s.within,
+        length_piece from end all
+            (pieces_within items ends (end ∷ later) t.within).0,
+        arith,
+      ) in
       record {
         positive = p;
         within = omega (k, t.within.0, arith);

@@ -5,6 +5,7 @@ use Rattle.std.proofs.Math.Nat.{suc-mul}
 use Rattle.std.proofs.Common.{sym, ap, ◌∙◌, arith}
 use Rattle.std.proofs.lemmas.List.{length-map, length-append}
 use Rattle.script_cases.specs.Parts.{Parts, part_of, behind_arrow, begun_cases}
+use Rattle.script_cases.specs.Lists.{all_joined, all_front, all_behind}
 use Rattle.script_cases.specs.Cases.{with_first, cases, case_count, all_items}
 
 -- ---- the number of cases
@@ -58,34 +59,22 @@ few_before p =
 -- ---- the items of a case
 
 module _ {X : Type 0} (P : X → Type 0) where
-  joined : (a b : List X) → AllByRecursion P a → AllByRecursion P b → AllByRecursion P (a ++ b)
-  joined [] b p q = q
-  joined (x ∷ a) b p q = (p.0, joined a b p.1 q)
-
-  apart : (a b : List X) → AllByRecursion P (a ++ b) → AllByRecursion P a × AllByRecursion P b
-  apart [] b p = (tt, p)
-  apart (x ∷ a) b p = let r = apart a b p.1 in ((p.0, r.0), r.1)
-
   all_with_first : (c : List X) (later : List (List X)) → AllByRecursion P c → AllByRecursion
       (AllByRecursion P) later → AllByRecursion (AllByRecursion P) (with_first later c)
   all_with_first c [] p q = tt
-  all_with_first c (r ∷ later) p q = (joined c r p q.0, all_with_first c later p q.1)
-
-  both_lists : (a b : List (List X)) → AllByRecursion (AllByRecursion P) a
-      → AllByRecursion (AllByRecursion P) b → AllByRecursion (AllByRecursion P) (a ++ b)
-  both_lists [] b p q = q
-  both_lists (x ∷ a) b p q = (p.0, both_lists a b p.1 q)
+  all_with_first c (r ∷ later) p q = (all_joined P c r p q.0, all_with_first c later p q.1)
 
   all_of_part : (p : List (List X)) (later : List (List X))
       → AllByRecursion P (flat_map (λ c. c) p) → AllByRecursion (AllByRecursion P) later
       → AllByRecursion (AllByRecursion P) (flat_map (with_first later) p)
   all_of_part [] later h q = tt
-  all_of_part (c ∷ p) later h q = let s = apart c _ h in
-      both_lists (with_first later c) _ (all_with_first c later s.0 q) (all_of_part p later s.1 q)
+  all_of_part (c ∷ p) later h q = all_joined (AllByRecursion P) (with_first later c) _
+      (all_with_first c later (all_front P c _ h) q) (all_of_part p later (all_behind P c _ h) q)
 
   -- What all items have, those of each case have.
   pub all_of_cases : (parts : List (List (List X)))
       → AllByRecursion P (all_items parts) → AllByRecursion (AllByRecursion P) (cases parts)
   all_of_cases [] h = (tt, tt)
-  all_of_cases (p ∷ ps) h = let s = apart (flat_map (λ c. c) p) (all_items ps) h in
-      all_of_part p (cases ps) s.0 (all_of_cases ps s.1)
+  all_of_cases (p ∷ ps) h =
+      all_of_part p (cases ps) (all_front P (flat_map (λ c. c) p) (all_items ps) h)
+      (all_of_cases ps (all_behind P (flat_map (λ c. c) p) (all_items ps) h))

@@ -1,3 +1,4 @@
+pub mod Lists
 pub mod Cases
 pub mod Parts
 pub mod Met

@@ -2,7 +2,7 @@
 use Rattle.std.specs.Prelude.{◌≡◌, suc, ◌*◌, List, [], ◌∷◌, ◌++◌, map, refl}
 use Rattle.std.specs.List.{flat_map}
 use Rattle.std.proofs.Common.{sym, ap, ◌∙◌}
-use Rattle.std.proofs.lemmas.List.{length-map}
+use Rattle.std.proofs.lemmas.List.{length-map, map-append}
 use Rattle.script_cases.specs.Cases.{with_first, cases, case_count}
 use Rattle.script_cases.specs.Parts.{Parts, with_item, behind_or, behind_arrow, begun_cases}
 
@@ -16,29 +16,17 @@ map_parts f p = record {
 }
 
 module _ {X Y : Type 0} (f : X → Y) where
-  map_joined : (a b : List X) → map f (a ++ b) ≡ map f a ++ map f b
-  map_joined [] b = refl
-  map_joined (x ∷ a) b = ap (λ l. f x ∷ l) (map_joined a b)
-
-  map_lists : (a b : List (List X)) → map (map f) (a ++ b) ≡ map (map f) a ++ map (map f) b
-  map_lists [] b = refl
-  map_lists (x ∷ a) b = ap (λ l. map f x ∷ l) (map_lists a b)
-
-  map_before : (a b : List (List (List X)))
-      → map (map (map f)) (a ++ b) ≡ map (map (map f)) a ++ map (map (map f)) b
-  map_before [] b = refl
-  map_before (x ∷ a) b = ap (λ l. map (map f) x ∷ l) (map_before a b)
-
   map_first : (c : List X) (later : List (List X))
       → map (map f) (with_first later c) ≡ with_first (map (map f) later) (map f c)
   map_first c [] = refl
-  map_first c (r ∷ later) = λ i. map_joined c r i ∷ map_first c later i
+  map_first c (r ∷ later) = λ i. map-append f c r i ∷ map_first c later i
 
   map_part : (p : List (List X)) (later : List (List X)) → map (map f)
       (flat_map (with_first later) p) ≡ flat_map (with_first (map (map f) later)) (map (map f) p)
   map_part [] later = refl
-  map_part (c ∷ p) later = map_lists (with_first later c) (flat_map (with_first later) p) ∙ (λ i.
-      map_first c later i ++ map_part p later i)
+  map_part (c ∷ p) later =
+      map-append (map f) (with_first later c) (flat_map (with_first later) p)
+      ∙ (λ i. map_first c later i ++ map_part p later i)
 
   -- The cases of such parts are the cases with each item as what it stands for.
   pub cases_mapped : (parts : List (List (List X)))
@@ -58,18 +46,18 @@ module _ {X Y : Type 0} (f : X → Y) where
   pub item_mapped : (p : Parts X) (x : X)
       → map_parts f (with_item p x) ≡ with_item (map_parts f p) (f x)
   item_mapped p x = λ i. record {
-    items = map_joined p.items (x ∷ []) i;
+    items = map-append f p.items (x ∷ []) i;
     before = map
         (map (map f)) p.before;
     ended = map (map f) p.ended;
-    last = map_joined p.last (x ∷ []) i;
+    last = map-append f p.last (x ∷ []) i;
   }
 
   pub or_mapped : (p : Parts X) → map_parts f (behind_or p) ≡ behind_or (map_parts f p)
   or_mapped p = λ i. record {
     items = map f p.items;
     before = map (map (map f)) p.before;
-    ended = map_lists p.ended (p.last ∷ []) i;
+    ended = map-append (map f) p.ended (p.last ∷ []) i;
     last = [];
   }
 
@@ -77,7 +65,7 @@ module _ {X Y : Type 0} (f : X → Y) where
   arrow_mapped p =
       (λ i. record {
         items = map f p.items;
-        before = map_before p.before ((p.ended ++ (p.last ∷ [])) ∷ []) i;
+        before = map-append (map (map f)) p.before ((p.ended ++ (p.last ∷ [])) ∷ []) i;
         ended = [];
         last = [];
       })
@@ -86,4 +74,4 @@ module _ {X Y : Type 0} (f : X → Y) where
         before = map (map (map f)) p.before ++ (c ∷ []);
         ended = [];
         last = [];
-      }) (map_lists p.ended (p.last ∷ []))
+      }) (map-append (map f) p.ended (p.last ∷ []))

@@ -2,6 +2,7 @@
 use Rattle.std.specs.Prelude.{◌⊎◌, ◌↔◌, List, [], ◌∷◌, ◌++◌}
 use Rattle.std.specs.List.{flat_map, AllByRecursion}
 use Rattle.std.proofs.Common.{inl, inr, ⊎_elim}
+use Rattle.script_cases.specs.Lists.{all_joined, all_front, all_behind}
 use Rattle.script_cases.specs.Cases.{with_first, cases}
 
 -- Some item has the property.
@@ -18,14 +19,6 @@ abbrev pub IsSomeMet : {X : Type 0} → (X → Type 0) → List (List (List X)) 
 IsSomeMet P parts = SomeOf (AllByRecursion P) (cases parts)
 
 module _ {X : Type 0} (P : X → Type 0) where
-  all_joined : (a b : List X) → AllByRecursion P a → AllByRecursion P b → AllByRecursion P (a ++ b)
-  all_joined [] b p q = q
-  all_joined (x ∷ a) b p q = (p.0, all_joined a b p.1 q)
-
-  all_apart : (a b : List X) → AllByRecursion P (a ++ b) → AllByRecursion P a × AllByRecursion P b
-  all_apart [] b p = (tt, p)
-  all_apart (x ∷ a) b p = let r = all_apart a b p.1 in ((p.0, r.0), r.1)
-
   some_left : (xs ys : List (List X))
       → SomeOf (AllByRecursion P) xs → SomeOf (AllByRecursion P) (xs ++ ys)
   some_left [] ys h = absurd h
@@ -46,13 +39,13 @@ module _ {X : Type 0} (P : X → Type 0) where
       → SomeOf (AllByRecursion P) later → SomeOf (AllByRecursion P) (with_first later c)
   begin_with c [] p h = absurd h
   begin_with c (r ∷ later) p h = ⊎_elim (λ q.
-      inl (all_joined c r p q)) (λ q. inr (begin_with c later p q)) h
+      inl (all_joined P c r p q)) (λ q. inr (begin_with c later p q)) h
 
   begins_with : (c : List X) (later : List (List X)) → SomeOf
       (AllByRecursion P) (with_first later c) → AllByRecursion P c × SomeOf (AllByRecursion P) later
   begins_with c [] h = absurd h
-  begins_with c (r ∷ later) h = ⊎_elim (λ q. let s = all_apart c r q in
-      (s.0, inl s.1)) (λ q. let s = begins_with c later q in (s.0, inr s.1)) h
+  begins_with c (r ∷ later) h = ⊎_elim (λ q. (all_front P c r q, inl (all_behind P c r q)))
+      (λ q. let s = begins_with c later q in (s.0, inr s.1)) h
 
   part_to : (p : List (List X)) (later : List (List X)) → SomeOf (AllByRecursion P) p
       → SomeOf (AllByRecursion P) later → SomeOf (AllByRecursion P) (flat_map (with_first later) p)

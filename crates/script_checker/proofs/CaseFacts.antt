@@ -12,6 +12,7 @@ use Rattle.script_cases.specs.Counted.{all_of_cases}
 use Rattle.script_cases.specs.Met.{SomeOf, met_in_some_case}
 use Rattle.script_meets.specs.script_claims.declared.claim.Claim.{Claim}
 use Rattle.script_meets.specs.script_claims.Meets.{IsTrueAt}
+use Rattle.script_meets.specs.script_claims.Facts.{facts_of}
 use Rattle.script_meets.specs.script_grammar.Spells.{View}
 use Rattle.script_meets.specs.script_grammar.Cases.{cases_of}
 use Rattle.script_meets.specs.script_grammar.Ranges.{HasFewCases}
@@ -19,7 +20,6 @@ use Rattle.script_meets.specs.script_grammar.Names.{ClaimIsOf, NamesNodes}
 use Rattle.script_meets.specs.Meets.{Meets}
 use Rattle.cert_checker.specs.Met.{SlotIsAmong}
 use Rattle.cert_checker.specs.Steps.{case_facts}
-use Rattle.script_checker.specs.Subjects.{facts_of}
 use Rattle.script_checker.proofs.Named.{facts_named}
 
 -- The claims of the case with this number are true of the assignment.

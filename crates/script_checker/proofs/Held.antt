@@ -1,5 +1,5 @@
 -- What meets a script meets its subject.
-use Rattle.std.proofs.Common.{◌≡◌, ◌<◌, ℕ, zero, suc, List, [], ◌∷◌, Option, Some, None, Result, Ok}
+use Rattle.std.proofs.Common.{◌≡◌, ◌<◌, ℕ, zero, suc, List, [], ◌∷◌, Some, Result, Ok}
 use Rattle.std.proofs.Common.{Err, length, map, refl, sym, subst, arith}
 use Rattle.std.specs.Prelude.{slice_get, IfOk}
 use Rattle.std.specs.List.{AllByRecursion}
@@ -14,8 +14,8 @@ use Rattle.cert_checker.specs.goals.declared.line.Line.{Line}
 use Rattle.cert_checker.specs.goals.Holds.{LineHolds}
 use Rattle.cert_checker.specs.theorem_list.Promises.{RowsAreTrue}
 use Rattle.script_meets.specs.script_claims.declared.claim.Claim.{Claim}
-use Rattle.script_meets.specs.script_claims.Facts.{hypothesis_fact, want_of}
-use Rattle.script_meets.specs.script_claims.Facts.{slot_of as slot_of_claim}
+use Rattle.script_meets.specs.script_claims.Facts.{hypothesis_fact, want_of, facts_all}
+use Rattle.script_meets.specs.script_claims.Facts.{goal_of, facts_of, slot_of as slot_of_claim}
 use Rattle.script_meets.specs.script_claims.Meets.{IsTrueAt}
 use Rattle.rewrite_hints.specs.script_hints.Meets.{MeetsHint}
 use Rattle.script_meets.specs.script_grammar.Spells.{View}
@@ -37,7 +37,7 @@ use Rattle.cert_checker.specs.Met.{SlotIsAmong, RowIsAmong, AcceptedHolds, GoalH
 use Rattle.cert_checker.specs.Met.{NamesNodes as SubjectNamesNodes, Meets as MeetsSubject}
 use Rattle.cert_checker.specs.Outcomes.{accepted, ComesOf, CheckedHolds}
 use Rattle.cert_checker.specs.Checking.{AreAccepted}
-use Rattle.script_checker.specs.Subjects.{goal_of, with_fact, facts_of, IsSubjectOf}
+use Rattle.script_checker.specs.Subjects.{IsSubjectOf}
 use Rattle.script_checker.specs.Checking.{AreAcceptedFor}
 use Rattle.script_meets.specs.Held.{AreHeld}
 use Rattle.script_checker.proofs.Settled.{ClaimLaws, settled}
@@ -51,18 +51,6 @@ use Rattle.std.proofs.lemmas.List.{length-map}
 abbrev FactsHold : Type 0
 FactsHold = (nodes : List Node) (a : Assignment) (c : Claim) (f : Fact) → hypothesis_fact c ≡ Some f
     → IsTrueAt nodes a c → Holds nodes a f
-
-module _ (holds : FactsHold) (nodes : List Node) (a : Assignment) where
-  with_held : (c : Claim) → IsTrueAt nodes a c → (fs : List Fact)
-      → AllByRecursion (Holds nodes a) fs → (o : Option Fact) → hypothesis_fact c ≡ o
-      → AllByRecursion (Holds nodes a) (with_fact o fs)
-  with_held c t fs h None e = h
-  with_held c t fs h (Some f) e = (holds nodes a c f e t, h)
-
-  facts_held : (cs : List Claim) → AllByRecursion (IsTrueAt nodes a) cs
-      → AllByRecursion (Holds nodes a) (facts_of cs)
-  facts_held [] t = tt
-  facts_held (c ∷ cs) t = with_held c t.0 (facts_of cs) (facts_held cs t.1) (hypothesis_fact c) refl
 
 rows_held : HintsAreMet → HintRowsAreTrue → (s : View) (a : Assignment) (rows : List HintRow)
     → IsOrdered s.nodes → NamesNodes s → Meets a s → AreRows s.nodes s.hints.rewrites rows
@@ -111,7 +99,8 @@ meets_subject holds met true s t a ordered names is meets = record {
       let Q : List Node → Type 0 =
       λ ns. AllByRecursion (Holds ns a) (case_facts t.cases met.number) in
       subst Q (sym is.nodes) (subst P (sym is.cases)
-      (case_facts_held s.nodes a (facts_held holds s.nodes a) (cases_of s) met.number met.claims));
+      (case_facts_held s.nodes a (facts_all (Holds s.nodes a) (IsTrueAt s.nodes a)
+      (λ c f e t. holds s.nodes a c f e t)) (cases_of s) met.number met.claims));
 }
 
 -- each goal's line holds, and the goal is true

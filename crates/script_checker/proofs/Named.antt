@@ -26,7 +26,8 @@ use Rattle.script_meets.specs.script_claims.declared.claim.Claim.TheVariants.{Re
 use Rattle.script_meets.specs.script_claims.declared.claim.Claim.TheVariants.{RelativeAsked}
 use Rattle.script_meets.specs.script_claims.declared.claim.Claim.TheVariants.{Multiple, Above}
 use Rattle.script_meets.specs.script_claims.declared.claim.Claim.TheVariants.{Below}
-use Rattle.script_meets.specs.script_claims.Facts.{hypothesis_fact, rel_of}
+use Rattle.script_meets.specs.script_claims.Facts.{hypothesis_fact, rel_of, facts_all}
+use Rattle.script_meets.specs.script_claims.Facts.{goal_of, facts_of}
 use Rattle.rewrite_hints.specs.script_hints.declared.hint.Constraint.{Constraint}
 use Rattle.rewrite_hints.specs.script_hints.declared.hint.Constraint.TheVariants as constraint
 use Rattle.rewrite_hints.specs.script_hints.declared.hint.Hint.{Hint}
@@ -35,7 +36,6 @@ use Rattle.script_meets.specs.script_grammar.Names.{ClaimIsOf, ConstraintIsOf, H
 use Rattle.rewrite_hints.specs.Rows.{IsRowOf}
 use Rattle.rewrite_hints.specs.Marks.{AreRows, AreKnownSides}
 use Rattle.cert_checker.specs.Met.{SlotIsAmong, NeedIsAmong, RowIsAmong}
-use Rattle.script_checker.specs.Subjects.{goal_of, with_fact, facts_of}
 use Rattle.rewrite_hints.specs.facts.CommonParts.{stands, all_from, all_at}
 
 -- ---- facts and goals
@@ -69,16 +69,10 @@ fact_named n (Multiple x k) h = fix_named n x (place_from k) h
 fact_named n (Above x w) h = bnd_named n x (outward_of (written_range (Some w) None)) h
 fact_named n (Below x w) h = bnd_named n x (outward_of (written_range None (Some w))) h
 
-with_named : (n : ℕ) (o : Option Fact) (fs : List Fact) → IfNamed n o
-    → AllByRecursion (IsNamed n) fs → AllByRecursion (IsNamed n) (with_fact o fs)
-with_named n None fs h t = t
-with_named n (Some f) fs h t = (h, t)
-
 pub facts_named : (n : ℕ) (cs : List Claim) → AllByRecursion (ClaimIsOf n) cs
     → AllByRecursion (λ (f : Fact). SlotIsAmong n (slot_of f)) (facts_of cs)
-facts_named n [] h = tt
-facts_named n (c ∷ cs) h =
-    with_named n (hypothesis_fact c) (facts_of cs) (fact_named n c h.0) (facts_named n cs h.1)
+facts_named n = facts_all (IsNamed n) (ClaimIsOf n)
+    (λ c f e h. subst (IfNamed n) e (fact_named n c h))
 
 goal_named : (n : ℕ) (c : Claim) → ClaimIsOf n c → SlotIsAmong n (goal_of c).of
 goal_named n (Bounded x lower upper) h = h

@@ -3,6 +3,7 @@ use Rattle.std.proofs.Common.{◌≡◌, ◌≤◌, ◌<◌, Result, Ok, Err, le
 use Rattle.std.proofs.Common.{sym, ap, subst, ◌∙◌, arith}
 use Rattle.std.specs.Prelude.{IfOk}
 use Rattle.std.proofs.lemmas.List.{length-map}
+use Rattle.script_meets.specs.script_claims.Facts.{goal_of}
 use Rattle.script_meets.specs.script_grammar.Spells.{View}
 use Rattle.script_meets.specs.node_counts.Few.{HasFewHints}
 use Rattle.rewrite_hints.specs.Marks.{AreMarks, marks_are_one, rows_are_one}
@@ -14,7 +15,7 @@ use Rattle.cert_checker.specs.declared.lines.Lines.{Lines}
 use Rattle.cert_checker.specs.declared.subject.Subject.{Subject}
 use Rattle.cert_checker.specs.Outcomes.{Outcome, ComesOf, ComesOnce}
 use Rattle.cert_checker.specs.Checking.{AreLinesOf, Checks, IsAnswer}
-use Rattle.script_checker.specs.Subjects.{goal_of, IsSubjectOf}
+use Rattle.script_checker.specs.Subjects.{IsSubjectOf}
 use Rattle.script_checker.specs.Checking.{ComesFor, ChecksFor, ChecksAreOne}
 
 subjects_are_one : (s : View) (t u : Subject) → IsSubjectOf s t → IsSubjectOf s u → t ≡ u

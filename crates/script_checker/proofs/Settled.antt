@@ -14,7 +14,7 @@ use Rattle.rewrite_hints.specs.facts.Order.{slot_of as slot_of_fact}
 use Rattle.cert_checker.specs.goals.declared.goal.Want.{Want}
 use Rattle.cert_checker.specs.goals.declared.goal.Want.TheVariants.{Ask, Inside}
 use Rattle.cert_checker.specs.goals.Lies.{LiesAt, AreZeroAt}
-use Rattle.cert_checker.specs.goals.Settles.{Answers}
+use Rattle.cert_checker.specs.goals.Settles.{HasWanted}
 use Rattle.script_meets.specs.script_claims.declared.claim.Claim.{Claim}
 use Rattle.script_meets.specs.script_claims.declared.claim.Claim.TheVariants.{Bounded, Asked}
 use Rattle.script_meets.specs.script_claims.declared.claim.Claim.TheVariants.{Relative}
@@ -43,7 +43,7 @@ module _ (laws : ClaimLaws) (nodes : List Node) (a : Assignment) where
   asked (Below x w) e = cc
 
   pub settled : (c : Claim) (w : Want) (f : Fact) → want_of c ≡ w → slot_of_fact f ≡ slot_of c
-      → Answers w f → Holds nodes a f → IsTrueAt nodes a c
+      → HasWanted w f → Holds nodes a f → IsTrueAt nodes a c
   settled c Ask f e s n h = asked c e
   settled c (Inside o) (fact.Rel x y None) e s n h =
       laws.zeros nodes a c (subst (AreZeroAt nodes a) s h)

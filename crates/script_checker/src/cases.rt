@@ -1,12 +1,11 @@
 //! The cases of a script.
 ghost use Rattle.std.specs.Prelude.{◌≡◌, ◌<◌, Some, length, map, slice_get, IfOk};
+ghost use Rattle.script_meets.specs.script_claims.Facts as spec;
 ghost use Rattle.script_meets.specs.script_grammar.Cases.{cases_of};
-ghost use Rattle.script_checker.specs.Subjects as spec;
 
-use crate::claims::facts_of;
 use fx_edge::Items;
 use rewrite_hints::Fact;
-use script_meets::Script;
+use script_meets::{Script, facts_of};
 use std::alloc::{AllocError, Global};
 
 // What the hypotheses of the case with this number, from 0, say.

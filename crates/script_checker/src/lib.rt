@@ -11,7 +11,6 @@ pub use script_meets::{
 
 mod cases;
 mod check;
-mod claims;
 mod items;
 mod laws;
 mod subject;

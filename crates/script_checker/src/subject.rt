@@ -3,11 +3,10 @@ ghost use Rattle.std.specs.Prelude.{IfOk};
 ghost use Rattle.script_checker.specs.Subjects.{IsSubjectOf};
 
 use crate::cases::facts_of_cases;
-use crate::claims::goals_of;
 use cert_checker::Subject;
 use fx_edge::Items;
 use rewrite_hints::{marks_of, rows_of};
-use script_meets::Script;
+use script_meets::{Script, goals_of};
 use std::alloc::{AllocError, Global};
 
 /// The subject of a script: its nodes, what its hypotheses say case by case, what its goals want,

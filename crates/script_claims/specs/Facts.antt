@@ -1,6 +1,7 @@
 -- The fact that a claim gives as a hypothesis, with bounds rounded outward, and what it wants as a
 -- goal, rounded inward.
-use Rattle.std.specs.Prelude.{⊤, Option, Some, None}
+use Rattle.std.specs.Prelude.{◌≡◌, ⊤, List, [], ◌∷◌, Option, Some, None, refl}
+use Rattle.std.specs.List.{AllByRecursion}
 use Rattle.goals.specs.fx_model.Fraction.{neg_ℚ, one_ℚ}
 use Rattle.goals.specs.fx_model.Enclosure.{IsOrdered}
 use Rattle.goals.specs.fx_model.declared.ExprId.{ExprId}
@@ -22,6 +23,7 @@ use Rattle.script_claims.specs.declared.claim.Claim.{Claim}
 use Rattle.script_claims.specs.declared.claim.Claim.TheVariants.{Bounded, Asked, Relative}
 use Rattle.script_claims.specs.declared.claim.Claim.TheVariants.{RelativeAsked, Above, Below}
 use Rattle.script_claims.specs.declared.claim.Claim.TheVariants.{Multiple}
+use Rattle.goals.specs.declared.goal.Goal.{Goal}
 use Rattle.goals.specs.declared.goal.Want.{Want}
 use Rattle.goals.specs.declared.goal.Want.TheVariants.{Ask, Inside}
 
@@ -86,3 +88,31 @@ slot_of (RelativeAsked x y) = slot.Rel x y
 slot_of (Above x n) = slot.Bnd x
 slot_of (Below x n) = slot.Bnd x
 slot_of (Multiple x k) = slot.Fix x
+
+-- ---- what the claims of a list give
+-- what a goal is about, and what settles it: its bounds rounded inward
+abbrev pub goal_of : Claim → Goal
+goal_of c = record { of = slot_of c; want = want_of c }
+
+-- The facts with that of a claim in front, where the claim gives one.
+abbrev pub with_fact : Option Fact → List Fact → List Fact
+with_fact (Some f) facts = f ∷ facts
+with_fact None facts = facts
+
+-- what the hypotheses give, their bounds rounded outward
+abbrev pub facts_of : List Claim → List Fact
+facts_of [] = []
+facts_of (c ∷ cs) = with_fact (hypothesis_fact c) (facts_of cs)
+
+-- Where each claim is Q, and the facts of those that are Q are P, all facts that they give are P.
+module _ (P : Fact → Type 0) (Q : Claim → Type 0)
+    (gives : (c : Claim) (f : Fact) → hypothesis_fact c ≡ Some f → Q c → P f) where
+  with_one : (c : Claim) → Q c → (fs : List Fact) → AllByRecursion P fs → (o : Option Fact)
+      → hypothesis_fact c ≡ o → AllByRecursion P (with_fact o fs)
+  with_one c q fs all None e = all
+  with_one c q fs all (Some f) e = (gives c f e q, all)
+
+  pub facts_all : (cs : List Claim) → AllByRecursion Q cs → AllByRecursion P (facts_of cs)
+  facts_all [] all = tt
+  facts_all (c ∷ cs) all =
+      with_one c all.0 (facts_of cs) (facts_all cs all.1) (hypothesis_fact c) refl

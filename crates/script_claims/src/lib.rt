@@ -5,6 +5,7 @@
 pub use goals::{Line, lines_hold};
 
 mod claim;
+mod claims;
 mod laws;
 mod numbers;
 mod part;
@@ -13,11 +14,10 @@ mod reader;
 mod sides;
 
 pub use claim::Claim;
+pub use claims::{facts_of, goals_of};
 pub use goals::Want;
 pub use laws::{
     claims_only_grow, formulas_are_read, goals_are_enough, hypotheses_hold, parts_have_hypotheses,
 };
-pub use part::Part;
-pub use proposition::{NOTHING_READ, Proposition};
 pub use reader::ClaimReader;
 pub use sides::Sides;

@@ -58,7 +58,7 @@ impl Sides {
     }
 
     /// Ends a conjunction.
-    pub fn disjoin(&mut self) -> Result<(), AllocError>
+    pub(crate) fn disjoin(&mut self) -> Result<(), AllocError>
         ensures { OnOk result (self.new ≡ spec.behind_or_sign self.old) }
     {
         self.parts.end_conjunction()?;

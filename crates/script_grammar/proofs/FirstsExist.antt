@@ -11,7 +11,7 @@ use Rattle.node_counts.specs.fx_model.Grid.{signed}
 use Rattle.node_counts.specs.fx_model.Expression.{literal_value}
 use Rattle.node_counts.specs.literal.Spelling.{IsLiteral, IsWithin, written}
 use Rattle.node_counts.specs.literal.Normal.{IsReading, IsPastLimits}
-use Rattle.node_counts.specs.bound_order.Texts.{IsNumber}
+use Rattle.node_counts.specs.script_bounds.Texts.{IsNumber}
 use Rattle.goal_spans.specs.script_words.declared.class.Symbol.TheVariants as s
 use Rattle.goal_spans.specs.script_words.Lex.{LexesAll}
 use Rattle.goal_spans.specs.script_words.Words.{Word, name, rounding, literal, sign}

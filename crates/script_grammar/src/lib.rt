@@ -4,8 +4,8 @@
 // What callers name of the crates below.
 pub use goal_spans::Span;
 pub use node_counts::{
-    Claim, LimitKind, Refusal, RefusalKind, firsts_are_unique, goals_are_enough, hypotheses_hold,
-    rounded_needs_are_enough,
+    Claim, LimitKind, Refusal, RefusalKind, facts_of, firsts_are_unique, goals_are_enough,
+    goals_of, hypotheses_hold, rounded_needs_are_enough,
 };
 
 mod laws;

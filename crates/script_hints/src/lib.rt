@@ -15,4 +15,4 @@ pub mod hint;
 pub mod laws;
 mod lists;
 pub mod reader;
-pub mod stage;
+mod stage;

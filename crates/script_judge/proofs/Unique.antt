@@ -4,7 +4,7 @@ use Rattle.std.proofs.Common.{None, IsTrue, ◌↔◌, refl, sym, ap, ◌∙◌,
 use Rattle.std.specs.Str.{IsUtf8, IsValidUpTo}
 use Rattle.std.proofs.lemmas.Str.{utf8_valid_len-IsValidUpTo}
 use Rattle.std.proofs.Math.Seq.{take-length}
-use Rattle.bound_order.specs.fx_model.Fraction.{Fraction}
+use Rattle.script_bounds.specs.fx_model.Fraction.{Fraction}
 use Rattle.script_shape.specs.script_words.Lex.{LexesOnce}
 use Rattle.script_shape.specs.script_words.Words.{Word}
 use Rattle.script_shape.specs.declared.due.Due.{Due}

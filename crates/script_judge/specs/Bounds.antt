@@ -1,14 +1,14 @@
 -- The bounds of ranges: what they stand for, and which are refused.
 use Rattle.std.specs.Prelude.{◌&&◌, ◌||◌, List, [], ◌∷◌, Option, Some, None, Bool, true, false}
 use Rattle.std.specs.Prelude.{if◌then◌else◌}
-use Rattle.bound_order.specs.fx_model.Fraction.{Fraction}
+use Rattle.script_bounds.specs.fx_model.Fraction.{Fraction}
 use Rattle.script_shape.specs.script_words.declared.class.Symbol.TheVariants as s
 use Rattle.script_shape.specs.script_words.Words.{Word, literal, sign}
 use Rattle.script_shape.specs.declared.due.Due.{Due}
 use Rattle.script_shape.specs.declared.due.Due.TheVariants as d
 use Rattle.script_shape.specs.Roles.{Leaf}
-use Rattle.bound_order.specs.Texts.{IsNumber}
-use Rattle.bound_order.specs.Tests.{is_less, is_too_low}
+use Rattle.script_bounds.specs.Texts.{IsNumber}
+use Rattle.script_bounds.specs.Tests.{is_less, is_too_low}
 
 -- ---- a bound as a whole, at its first word
 

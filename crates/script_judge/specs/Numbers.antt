@@ -2,8 +2,8 @@
 use Rattle.std.specs.Prelude.{◌≡◌, ℕ, ◌==◌, nat_lt, List, Option, Some, Bool, true, false, IsTrue}
 use Rattle.std.specs.Prelude.{◌↔◌}
 use Rattle.std.specs.Str.Parse.{digits_value}
-use Rattle.bound_order.specs.fx_model.Fraction.{Fraction}
-use Rattle.bound_order.specs.literal.Normal.{IsPastLimits}
+use Rattle.script_bounds.specs.fx_model.Fraction.{Fraction}
+use Rattle.script_bounds.specs.literal.Normal.{IsPastLimits}
 use Rattle.script_shape.specs.script_words.Words.{Word, literal}
 use Rattle.script_shape.specs.declared.due.Due.{Due}
 use Rattle.script_shape.specs.declared.due.Due.TheVariants as d

@@ -1,7 +1,7 @@
 -- The code's split ranges as those that definitions speak of.
 use Rattle.std.specs.Prelude.{map}
 use Rattle.std.specs.Option.{option_map}
-use Rattle.bound_order.specs.dyadic.Values.{value_of}
+use Rattle.script_bounds.specs.dyadic.Values.{value_of}
 use Rattle.script_judge.specs.declared.subject.Subject.{Subject as CodeSubject}
 use Rattle.script_judge.specs.declared.subject.Subject.TheVariants as code
 use Rattle.script_judge.specs.declared.subject.Alias.{Alias as CodeAlias}

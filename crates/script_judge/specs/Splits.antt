@@ -3,14 +3,14 @@ use Rattle.std.specs.Prelude.{◌&&◌, not, List, [], ◌∷◌, map, Option, S
 use Rattle.std.specs.Prelude.{if◌then◌else◌}
 use Rattle.std.specs.List.{list_any}
 use Rattle.std.specs.Str.{bytes_eq}
-use Rattle.bound_order.specs.fx_model.Fraction.{Fraction}
+use Rattle.script_bounds.specs.fx_model.Fraction.{Fraction}
 use Rattle.script_shape.specs.script_words.declared.class.Symbol.TheVariants as s
 use Rattle.script_shape.specs.script_words.Words.{Word, sign}
 use Rattle.script_shape.specs.declared.due.Due.{Due}
 use Rattle.script_shape.specs.declared.due.Due.TheVariants as d
 use Rattle.script_cases.specs.Cases.{cases}
 use Rattle.script_cases.specs.Parts.{Parts, nothing as no_parts, with_item, behind_or, behind_arrow}
-use Rattle.bound_order.specs.Tests.{is_less, down_number, up_number}
+use Rattle.script_bounds.specs.Tests.{is_less, down_number, up_number}
 use Rattle.script_judge.specs.Names.{Name, split_name}
 use Rattle.script_judge.specs.Subject.{Subject, nothing, node_of, Alias, subject_after}
 use Rattle.script_judge.specs.Subject.{aliases_after}

@@ -10,7 +10,7 @@ use Rattle.script_shape.specs.Roles.{leaves_of}
 use Rattle.script_judge.specs.Reading.{Reading}
 use Rattle.script_judge.specs.Names.{NamesSeen}
 use Rattle.script_judge.specs.Judge.{Seen}
-use Rattle.bound_order.specs.literal_order.Values.{IsWritten}
+use Rattle.script_bounds.specs.literal_order.Values.{IsWritten}
 use Rattle.script_judge.specs.BoundViews.{bounds_of}
 use Rattle.script_judge.specs.SplitViews.{splits_seen}
 

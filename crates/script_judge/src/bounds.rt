@@ -2,15 +2,15 @@
 
 ghost use Rattle.std.specs.Prelude.{◌≡◌, ◌↔◌, Some};
 ghost use Rattle.std.specs.Option.{option_map};
-ghost use Rattle.bound_order.specs.fx_model.Fraction.{Fraction};
+ghost use Rattle.script_bounds.specs.fx_model.Fraction.{Fraction};
 ghost use Rattle.script_shape.specs.script_words.Named.{word_of};
 ghost use Rattle.script_shape.specs.script_words.Kept.{words_in};
 ghost use Rattle.script_judge.specs.Bounds as spec;
 ghost use Rattle.script_shape.specs.Roles.{leaves_of};
-ghost use Rattle.bound_order.specs.literal_order.Values.{written_value, IsWritten};
+ghost use Rattle.script_bounds.specs.literal_order.Values.{written_value, IsWritten};
 ghost use Rattle.script_judge.specs.BoundViews.{bounds_of};
 
-use bound_order::{Written, is_too_low, read_number};
+use script_bounds::{Written, is_too_low, read_number};
 use script_shape::due::Due;
 use script_shape::{Symbol, Word, WordList};
 

@@ -12,7 +12,7 @@ ghost use Rattle.script_shape.specs.script_words.Kept.{words_in};
 ghost use Rattle.script_shape.specs.Roles.{leaves_of};
 ghost use Rattle.script_judge.specs.Judge as spec;
 ghost use Rattle.script_judge.specs.Judge.{Judged};
-ghost use Rattle.bound_order.specs.literal_order.Values.{IsWritten};
+ghost use Rattle.script_bounds.specs.literal_order.Values.{IsWritten};
 ghost use Rattle.script_judge.specs.Limits.{IsWithinLimits};
 ghost use Rattle.script_judge.specs.BoundViews.{notes_of};
 ghost use Rattle.script_judge.specs.Views.{IsSeen};

@@ -4,18 +4,22 @@
 // What callers name of the crates below.
 pub use script_shape::shape::{leaves_are_of_trees, roles_are_unique};
 
-pub mod bounds;
-pub mod counts;
-pub mod fault;
-pub mod first;
-pub mod judge;
-pub mod kinds;
-pub mod names;
-pub mod nesting;
-pub mod numbers;
-pub mod reading;
-pub mod refusal;
-pub mod sets;
-pub mod sides;
-pub mod splits;
-pub mod subject;
+mod bounds;
+mod counts;
+mod fault;
+mod first;
+mod judge;
+mod kinds;
+mod names;
+mod nesting;
+mod numbers;
+mod reading;
+mod refusal;
+mod sets;
+mod sides;
+mod splits;
+mod subject;
+
+pub use first::{Judgement, faults_are_unique, first_refusal, firsts_are_unique, judge_text};
+pub use reading::{ReadText, reading_fault, reads_scripts};
+pub use refusal::{LimitKind, Refusal, RefusalKind};

@@ -2,17 +2,17 @@
 
 ghost use Rattle.std.specs.Prelude.{◌≡◌, ◌<◌, ◌==◌, nat_lt, IsTrue, ◌↔◌};
 ghost use Rattle.std.specs.Str.Parse.{digits_value};
-ghost use Rattle.bound_order.specs.literal.Normal.{IsPastLimits};
+ghost use Rattle.script_bounds.specs.literal.Normal.{IsPastLimits};
 ghost use Rattle.script_shape.specs.script_words.Named.{word_of};
 ghost use Rattle.script_shape.specs.script_words.Kept.{words_in};
 ghost use Rattle.script_judge.specs.BoundViews.{notes_of};
 ghost use Rattle.script_shape.specs.Roles.{leaves_of};
-ghost use Rattle.bound_order.specs.literal_order.Values.{IsWritten};
+ghost use Rattle.script_bounds.specs.literal_order.Values.{IsWritten};
 ghost use Rattle.script_judge.specs.Numbers as spec;
 ghost use Rattle.script_judge.specs.Sides.{has_arrow};
 
 use crate::bounds::bound_number;
-use bound_order::{LiteralFault, Written, read_bytes};
+use script_bounds::{LiteralFault, Written, read_bytes};
 use script_shape::due::Due;
 use script_shape::{Word, WordList, number_below};
 

@@ -6,9 +6,9 @@ ghost use Rattle.script_meets.specs.Meets.{HintsAreMet, NeedsGiveEqualSides, Mee
 pub use poly_normal::equal_forms_have_equal_values;
 use script_grammar::rounded_needs_are_enough;
 pub use script_grammar::{
-    Claim, ParseStop, Script, firsts_are_unique, goals_are_enough, hypotheses_hold, parse,
-    script_or_refusal, spelled_are_short, spelled_have_few_cases, spelled_have_few_constraints,
-    spelled_have_few_hints,
+    Claim, ParseStop, Script, facts_of, firsts_are_unique, goals_are_enough, goals_of,
+    hypotheses_hold, parse, script_or_refusal, spelled_are_short, spelled_have_few_cases,
+    spelled_have_few_constraints, spelled_have_few_hints,
 };
 
 /// Nothing is done. The clauses tell a caller that an assignment that meets a script meets each

@@ -11,7 +11,7 @@ pub mod definitions;
 pub mod digits;
 mod expressions;
 pub mod laws;
-pub mod names;
+mod names;
 pub mod reader;
 mod signs;
 pub mod waits;

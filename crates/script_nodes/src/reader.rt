@@ -15,7 +15,7 @@ use std::alloc::Global;
 use std::marker::Model;
 
 /// Rounding to whole numbers toward 0.
-pub const NO_ROUNDING: Rounding = Rounding {
+pub(crate) const NO_ROUNDING: Rounding = Rounding {
     lsb: 0,
     dir: Direction::Zr,
 };
@@ -80,7 +80,8 @@ impl<'a> NodeReader<'a> {
         let _nodes = &self.dag;
     }
 
-    /// The number of a node that is no variable. It goes last where it isn't there.
+    /// The number of a node that is no variable. It goes last where it isn't there. `Full` where it
+    /// isn't, and 1,024 others are.
     pub fn add(&mut self, node: Node) -> Result<ExprId, DagFault>
         requires lawful { IsLawful (length self.old.known.nodes) node }
         requires made { IsMade node }
@@ -96,7 +97,8 @@ impl<'a> NodeReader<'a> {
         self.dag.add(node)
     }
 
-    /// The number of a variable's node.
+    /// The number of a variable's node. It goes last where it isn't there. `Full` where it isn't,
+    /// and 1,024 others are.
     pub fn variable(&mut self, name: &'a [u8]) -> Result<ExprId, DagFault>
         ensures put { IfOk result
             (λ x. (self.new.known, x) ≡ spec.variable_put self.old.known name.now) }
@@ -200,7 +202,7 @@ impl<'a> NodeReader<'a> {
         Ok(())
     }
 
-    /// What waits, the last first.
+    /// What waits last. None where nothing waits.
     pub fn top(&self) -> Option<Waits>
         ensures top { MatchOption result (self.now.waits ≡ [])
             (λ wait. self.now.waits ≡ wait ∷ rest self.now.waits) }
@@ -210,7 +212,7 @@ impl<'a> NodeReader<'a> {
     }
 
     /// Lets go of what waits, the last first.
-    pub fn drop_top(&mut self)
+    pub(crate) fn drop_top(&mut self)
         ensures { self.new ≡ with_waits self.old (rest self.old.waits) }
     {
         self.waits.pop();

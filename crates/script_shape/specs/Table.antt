@@ -1,6 +1,8 @@
 -- The table of the grammar: what each thing that is due takes, and what is due after it, the next
 -- first.
 use Rattle.std.specs.Prelude.{List, [], ◌∷◌, ◌++◌, Option, Some, None, Bool, true, false}
+use Rattle.std.specs.Prelude.{◌≡◌, reverse, MatchOption}
+use Rattle.std.specs.Borrow.{Bor}
 use Rattle.script_words.specs.declared.class.Class.{Class}
 use Rattle.script_words.specs.declared.class.Class.TheVariants.{Name, Rounding, Literal, Sign}
 use Rattle.script_words.specs.declared.class.Spelled.TheVariants as spelled
@@ -143,3 +145,8 @@ role_of d.Prop c = d.Operand
 role_of d.Hints (Sign s.Dollar) = d.Hints
 role_of d.Hints c = d.Operand
 role_of r c = r
+
+-- What a call of the table answers: nothing where nothing is taken, else what is due, the last
+-- first.
+abbrev pub Answers : Option (List Due) → Option (Bor (List Due)) → Type 0
+Answers wanted answer = MatchOption answer (wanted ≡ None) (λ new. wanted ≡ Some (reverse new.now))

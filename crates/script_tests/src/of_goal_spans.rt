@@ -24,7 +24,7 @@ fn words(first: usize, end: usize) -> Span {
 }
 
 #[test]
-fn goals(rt: HostRuntime) -> Result<(), Fail> {
+fn each_goal_has_its_span(rt: HostRuntime) -> Result<(), Fail> {
     spans_are_read();
     let rows: [(&[u8], &[Span]); 9] = [
         (b"{ x in ? }", &[words(1, 2)]),
@@ -61,7 +61,7 @@ fn goals(rt: HostRuntime) -> Result<(), Fail> {
 
 // Where words are only the front of a script, a proposition that hasn't ended has no span.
 #[test]
-fn parts(rt: HostRuntime) -> Result<(), Fail> {
+fn a_goal_without_its_end_has_no_span(rt: HostRuntime) -> Result<(), Fail> {
     let read = read_words(rt.alloc(), b"{ x in ? /\\ y in ?")?;
     let words = read.list();
     let shape = shape_of(rt.alloc(), words)?;

@@ -57,7 +57,7 @@ fn is_used_as(claim: Claim, fact: Option<Fact>, want: Want, slot: Slot) -> bool
 }
 
 #[test]
-fn bounds(rt: HostRuntime) {
+fn bounds_are_rounded_outward_for_hypotheses(rt: HostRuntime) {
     hypotheses_hold();
     goals_are_enough();
     formulas_are_read();
@@ -130,7 +130,7 @@ fn claimed<'a>(alloc: Global, text: &'a [u8]) -> Result<ClaimReader<'a>, Fail>
 }
 
 #[test]
-fn formulas(rt: HostRuntime) -> Result<(), Fail> {
+fn formulas_have_their_claims(rt: HostRuntime) -> Result<(), Fail> {
     let one = Some(written(&rt, "1"));
     let two = Some(written(&rt, "2"));
     let three = Some(written(&rt, "3"));
@@ -186,7 +186,7 @@ fn formulas(rt: HostRuntime) -> Result<(), Fail> {
 }
 
 #[test]
-fn denials(rt: HostRuntime) -> Result<(), Fail> {
+fn a_denied_bound_is_a_strict_one(rt: HostRuntime) -> Result<(), Fail> {
     let one = written(&rt, "1");
     let two = written(&rt, "2");
     let reader = claimed(

@@ -7,7 +7,7 @@ use literal::read;
 use literal_order::Written;
 use script_claims::Claim;
 use script_grammar::{ParseStop, Script, parse};
-use script_judge::refusal::{Refusal, RefusalKind};
+use script_judge::{Refusal, RefusalKind};
 use std::alloc::Global;
 use std::process::Abort;
 use std::test::Fail;

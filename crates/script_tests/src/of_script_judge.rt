@@ -2,13 +2,12 @@
 
 ghost use Rattle.std.specs.Prelude.{◌<◌};
 
-use script_judge::first::first_refusal;
-use script_judge::refusal::{LimitKind, Refusal, RefusalKind};
+use script_judge::{LimitKind, Refusal, RefusalKind, first_refusal};
 use std::alloc::{AllocError, Global};
 use std::test::Fail;
 
 #[test]
-fn refusals(rt: HostRuntime) -> Result<(), Fail> {
+fn each_text_has_its_first_refusal(rt: HostRuntime) -> Result<(), Fail> {
     let rows: [(&[u8], RefusalKind, u32); 69] = [
         (b"", RefusalKind::Unexpected, 0),
         (b"{ x in [1,2", RefusalKind::Unexpected, 11),
@@ -209,7 +208,7 @@ fn refusals(rt: HostRuntime) -> Result<(), Fail> {
 }
 
 #[test]
-fn scripts(rt: HostRuntime) -> Result<(), Fail> {
+fn scripts_have_no_refusal(rt: HostRuntime) -> Result<(), Fail> {
     let rows: [&[u8]; 13] = [
         b"{ x in ? }",
         b"@q = fixed<-15,dn>; x = q(xx); y q= x * x; My = x * x; { xx in [0,1] -> y - My in ? }",
@@ -247,7 +246,7 @@ fn nested(alloc: Global, depth: usize) -> Result<Vec<u8>, AllocError> {
 }
 
 #[test]
-fn limits(rt: HostRuntime) -> Result<(), Fail> {
+fn nesting_and_bytes_past_their_limits_are_refused(rt: HostRuntime) -> Result<(), Fail> {
     let within = nested(rt.alloc(), 64)?;
     assert_eq!(rt; first_refusal(rt.alloc(), within.as_slice())?, None);
     let beyond = nested(rt.alloc(), 65)?;
@@ -290,7 +289,7 @@ fn disjoined(alloc: Global, more: usize) -> Result<Vec<u8>, AllocError> {
 }
 
 #[test]
-fn cases(rt: HostRuntime) -> Result<(), Fail> {
+fn more_than_64_cases_are_refused(rt: HostRuntime) -> Result<(), Fail> {
     let within = disjoined(rt.alloc(), 31)?;
     assert_eq!(rt; first_refusal(rt.alloc(), within.as_slice())?, None);
     let beyond = disjoined(rt.alloc(), 32)?;

@@ -55,7 +55,7 @@ fn div(x: u16, y: u16) -> Node {
 }
 
 #[test]
-fn orders(rt: HostRuntime) -> Result<(), Fail> {
+fn nodes_stand_in_the_order_of_reading(rt: HostRuntime) -> Result<(), Fail> {
     let x = Node::Var(0);
     let y = Node::Var(1);
     let rows: [(&[u8], &[Node]); 7] = [
@@ -100,7 +100,7 @@ fn orders(rt: HostRuntime) -> Result<(), Fail> {
 }
 
 #[test]
-fn roundings(rt: HostRuntime) -> Result<(), Fail> {
+fn roundings_have_their_nodes(rt: HostRuntime) -> Result<(), Fail> {
     let x = Node::Var(0);
     let y = Node::Var(1);
     let rows: [(&[u8], &[Node]); 4] = [
@@ -156,7 +156,7 @@ fn roundings(rt: HostRuntime) -> Result<(), Fail> {
 }
 
 #[test]
-fn names(rt: HostRuntime) -> Result<(), Fail> {
+fn names_have_their_nodes_and_operators(rt: HostRuntime) -> Result<(), Fail> {
     let definitions = read(rt.alloc(), b"@q = int<up>; y = x; z q= y * y;")?;
     let reader = definitions.reader();
     assert_eq!(rt; reader.value(b"y".as_slice()), Some(ExprId(0)));

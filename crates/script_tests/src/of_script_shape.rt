@@ -25,7 +25,7 @@ fn fault(alloc: Global, text: &[u8]) -> Result<Option<usize>, AllocError>
 }
 
 #[test]
-fn scripts(rt: HostRuntime) -> Result<(), Fail> {
+fn scripts_have_no_fault(rt: HostRuntime) -> Result<(), Fail> {
     let rows: [&[u8]; 2] = [
         b"{ x in [0,1] \\/ not x <= 3 -> x in ? }",
         b"@q = fixed<0,dn>; a q= x * 1; { q(x) in ? } x -> y { x <> 0 }; $ x in (1,2);",
@@ -38,7 +38,7 @@ fn scripts(rt: HostRuntime) -> Result<(), Fail> {
 }
 
 #[test]
-fn faults(rt: HostRuntime) -> Result<(), Fail> {
+fn each_text_has_its_first_fault(rt: HostRuntime) -> Result<(), Fail> {
     let rows: [(&[u8], usize); 26] = [
         (b"", 0),
         (b"{ x in [1,2", 11),

@@ -1,5 +1,5 @@
 -- What an assignment that meets a script has over the universe.
-use Rattle.std.specs.Prelude.{◌≡◌, ℕ, zero, suc, List, [], ◌∷◌, Option, Some, None, length}
+use Rattle.std.specs.Prelude.{◌≡◌, ℕ, zero, suc, List, [], ◌∷◌, Some, length}
 use Rattle.std.specs.Prelude.{slice_get, refl}
 use Rattle.std.specs.List.{AllByRecursion}
 use Rattle.std.proofs.Common.{sym, subst, ⊎_elim}
@@ -9,7 +9,7 @@ use Rattle.theorem_list.specs.facts.declared.fact.Fact.{Fact}
 use Rattle.theorem_list.specs.facts.Holds.{Holds}
 use Rattle.script_cases.specs.Met.{SomeOf, met_in_some_case}
 use Rattle.box_tree.specs.script_claims.declared.claim.Claim.{Claim}
-use Rattle.box_tree.specs.script_claims.Facts.{hypothesis_fact}
+use Rattle.box_tree.specs.script_claims.Facts.{hypothesis_fact, facts_all}
 use Rattle.box_tree.specs.script_claims.Meets.{IsTrueAt}
 use Rattle.script_meets.specs.script_grammar.Spells.{View}
 use Rattle.script_meets.specs.script_grammar.Names.{ClaimIsOf, HintIsOf}
@@ -18,25 +18,10 @@ use Rattle.universe.specs.rule_universe.Worlds.{World}
 use Rattle.universe.specs.rule_universe.Wholes.{all_contained}
 use Rattle.script_meets.specs.script_grammar.Cases.{cases_of}
 use Rattle.universe.specs.Cases.{each_has}
-use Rattle.universe.specs.Universes.{with_fact, facts_of}
 use Rattle.script_truths.specs.Kept.{OfExtended, ClaimsAreKept, RowsAreKept}
 use Rattle.script_truths.specs.Truths.{AreTrue, SomeCaseIsMet, MetRowsAreTrue, HasUniverse}
 use Rattle.script_truths.specs.Truths.{UniversesExtend, WhereMet, HypothesesHold, HintsAreTrue}
 use Rattle.script_truths.proofs.Rows.{hint_at, row_known}
-
-module _ (nodes : List Node) (a : Assignment) (holds : (c : Claim) (f : Fact)
-    → hypothesis_fact c ≡ Some f → IsTrueAt nodes a c → Holds nodes a f) where
-  with_held : (c : Claim) → IsTrueAt nodes a c → (fs : List Fact)
-      → AllByRecursion (Holds nodes a) fs → (o : Option Fact) → hypothesis_fact c ≡ o
-      → AllByRecursion (Holds nodes a) (with_fact o fs)
-  with_held c t fs h None e = h
-  with_held c t fs h (Some f) e = (holds c f e t, h)
-
-  -- the facts of true claims hold
-  pub facts_held : (cs : List Claim) → AllByRecursion (IsTrueAt nodes a) cs
-      → AllByRecursion (Holds nodes a) (facts_of cs)
-  facts_held [] t = tt
-  facts_held (c ∷ cs) t = with_held c t.0 (facts_of cs) (facts_held cs t.1) (hypothesis_fact c) refl
 
 all_kept : (P Q K : Claim → Type 0) → ((c : Claim) → K c → P c → Q c) → (cs : List Claim)
     → AllByRecursion K cs → AllByRecursion P cs → AllByRecursion Q cs
@@ -68,7 +53,8 @@ module _ (extend : UniversesExtend) (kept : OfExtended ClaimsAreKept) where
   pub hypotheses_held : ((nodes : List Node) (a : Assignment) (c : Claim) (f : Fact)
       → hypothesis_fact c ≡ Some f → IsTrueAt nodes a c → Holds nodes a f) → WhereMet HypothesesHold
   hypotheses_held holds s claims u a is meets truth f m =
-      let all = facts_held u.nodes a (holds u.nodes a) claims (claims_true s claims u a is truth) in
+      let all = facts_all (Holds u.nodes a) (IsTrueAt u.nodes a) (holds u.nodes a) claims
+      (claims_true s claims u a is truth) in
       all_contained (Holds u.nodes a) u.hypotheses
       (subst (AllByRecursion (Holds u.nodes a)) (sym is.universe.hypotheses) all) f m
 

@@ -1,5 +1,5 @@
 -- What a script gives is about its nodes.
-use Rattle.std.specs.Prelude.{◌≡◌, ℕ, List, [], ◌∷◌, Option, Some, None, map, length, refl}
+use Rattle.std.specs.Prelude.{◌≡◌, ℕ, List, [], ◌∷◌, Option, Some, None, map, length}
 use Rattle.std.specs.List.{AllByRecursion}
 use Rattle.std.proofs.Common.{subst}
 use Rattle.fx_model.specs.declared.ExprId.{ExprId}
@@ -18,11 +18,10 @@ use Rattle.box_tree.specs.script_claims.declared.claim.Claim.{Claim}
 use Rattle.box_tree.specs.script_claims.declared.claim.Claim.TheVariants.{Bounded, Asked, Relative}
 use Rattle.box_tree.specs.script_claims.declared.claim.Claim.TheVariants.{RelativeAsked, Multiple}
 use Rattle.box_tree.specs.script_claims.declared.claim.Claim.TheVariants.{Above, Below}
-use Rattle.box_tree.specs.script_claims.Facts.{hypothesis_fact, rel_of}
+use Rattle.box_tree.specs.script_claims.Facts.{hypothesis_fact, rel_of, facts_all, goal_of}
 use Rattle.script_meets.specs.script_grammar.Names.{IsNode, AreNodes, ClaimIsOf, HintIsOf}
 use Rattle.universe.specs.pair_closure.Members.{some-inj, has_all}
 use Rattle.universe.specs.rule_universe.Licensed.{RowIsKnown}
-use Rattle.universe.specs.Universes.{goal_of, with_fact, facts_of}
 use Rattle.script_truths.specs.Kept.{SlotIsOf}
 use Rattle.script_truths.specs.Named.{FactsAreNamed, GoalsAreNamed, RowsAreNamed}
 use Rattle.script_truths.proofs.Rows.{all_from, hint_at, row_known}
@@ -58,24 +57,14 @@ module _ (n : ℕ) where
   fact_named (Above x w) l f e = from_bnd x l (outward_of (written_range (Some w) None)) f e
   fact_named (Below x w) l f e = from_bnd x l (outward_of (written_range None (Some w))) f e
 
-  with_named : (c : Claim) → ClaimIsOf n c → (fs : List Fact) → AllByRecursion IsNamed fs
-      → (o : Option Fact) → hypothesis_fact c ≡ o → AllByRecursion IsNamed (with_fact o fs)
-  with_named c l fs h None e = h
-  with_named c l fs h (Some f) e = (fact_named c l f e, h)
-
-  facts_named_in : (cs : List Claim) → AllByRecursion (ClaimIsOf n) cs
-      → AllByRecursion IsNamed (facts_of cs)
-  facts_named_in [] l = tt
-  facts_named_in (c ∷ cs) l =
-      with_named c l.0 (facts_of cs) (facts_named_in cs l.1) (hypothesis_fact c) refl
-
   goals_named_in : (cs : List Claim) → AllByRecursion (ClaimIsOf n) cs
       → AllByRecursion (λ (g : Goal). SlotIsOf n g.of) (map goal_of cs)
   goals_named_in [] l = tt
   goals_named_in (c ∷ cs) l = (slot_of_nodes n c l.0, goals_named_in cs l.1)
 
 pub facts_named : FactsAreNamed
-facts_named s names = facts_named_in (length s.nodes) s.hypotheses names.hypotheses
+facts_named s names = facts_all (IsNamed (length s.nodes)) (ClaimIsOf (length s.nodes))
+    (λ c f e l. fact_named (length s.nodes) c l f e) s.hypotheses names.hypotheses
 
 pub goals_named : GoalsAreNamed
 goals_named s names = goals_named_in (length s.nodes) s.goals names.goals

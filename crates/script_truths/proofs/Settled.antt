@@ -17,7 +17,7 @@ use Rattle.theorem_list.specs.facts.Order as order
 use Rattle.box_tree.specs.goals.declared.goal.Want.{Want}
 use Rattle.box_tree.specs.goals.declared.goal.Want.TheVariants.{Ask, Inside}
 use Rattle.box_tree.specs.goals.Lies.{LiesAt, AreZeroAt}
-use Rattle.box_tree.specs.goals.Settles.{Answers}
+use Rattle.box_tree.specs.goals.Settles.{HasWanted}
 use Rattle.box_tree.specs.script_claims.declared.claim.Claim.{Claim}
 use Rattle.box_tree.specs.script_claims.declared.claim.Claim.TheVariants.{Bounded, Asked, Relative}
 use Rattle.box_tree.specs.script_claims.declared.claim.Claim.TheVariants.{RelativeAsked, Multiple}
@@ -54,7 +54,7 @@ module _ (nodes : List Node) (a : Assignment) where
       → LiesAt nodes a i (slot_of c) → IsTrueAt nodes a c) (zeros : (c : Claim)
       → AreZeroAt nodes a (slot_of c) → IsTrueAt nodes a c) where
     pub answered : (c : Claim) (w : Want) (f : Fact) → want_of c ≡ w → order.slot_of f ≡ slot_of c
-        → Answers w f → Holds nodes a f → IsTrueAt nodes a c
+        → HasWanted w f → Holds nodes a f → IsTrueAt nodes a c
     answered c Ask f e s n h = asked nodes a c e
     answered c (Inside o) (fact.Rel x y None) e s n h = zeros c (subst (AreZeroAt nodes a) s h)
     answered c (Inside (Some i)) (fact.Bnd x j) e s n h =

@@ -12,7 +12,7 @@ use Rattle.box_tree.specs.goals.Settles.{Settles}
 use Rattle.box_tree.specs.goals.Holds.{LineHolds}
 use Rattle.box_tree.specs.goals.declared.line.Line.{Line}
 use Rattle.box_tree.specs.script_claims.declared.claim.Claim.{Claim}
-use Rattle.box_tree.specs.script_claims.Facts.{slot_of}
+use Rattle.box_tree.specs.script_claims.Facts.{slot_of, goal_of, facts_of}
 use Rattle.box_tree.specs.script_claims.Meets.{IsTrueAt}
 use Rattle.box_tree.specs.script_hints.declared.hint.Hint.{Hint}
 use Rattle.script_meets.specs.script_grammar.Spells.{View}
@@ -24,7 +24,7 @@ use Rattle.universe.specs.rewrite_hints.Marks.{IsMarkOf, AreRows}
 use Rattle.theorem_list.specs.Promises.{RowsAreTrue}
 use Rattle.universe.specs.rule_universe.Worlds.{World}
 use Rattle.script_meets.specs.script_grammar.Cases.{cases_of}
-use Rattle.universe.specs.Universes.{IsUniverse, goal_of, facts_of}
+use Rattle.universe.specs.Universes.{IsUniverse}
 use Rattle.box_tree.specs.Root.{plan_by}
 use Rattle.box_tree.specs.Covers.{LieInBox}
 use Rattle.script_truths.specs.Kept.{IsExtended}

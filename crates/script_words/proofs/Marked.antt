@@ -1,13 +1,12 @@
 -- The words of tokens, a word at a time.
-use Rattle.std.proofs.Common.{◌≡◌, ℕ, Bool, true, false, ◌||◌, cond, List, [], ◌∷◌, ◌++◌, Option}
+use Rattle.std.proofs.Common.{◌≡◌, ℕ, Bool, true, false, cond, List, [], ◌∷◌, ◌++◌, Option}
 use Rattle.std.proofs.Common.{Some, option_to_list, refl, sym, ap, ◌∙◌, append_assoc, append-nil}
 use Rattle.std.specs.List.{list_any}
 use Rattle.std.specs.Str.{bytes_eq}
-use Rattle.std.specs.BTreeSet.{BTreeSet, contains, Updates}
+use Rattle.std.specs.BTreeSet.{BTreeSet, Updates}
 use Rattle.std.specs.Borrow.{Bor}
 use Rattle.std.specs.Option.{option_copied}
 use Rattle.std.proofs.lemmas.List.{map-append}
-use Rattle.std.proofs.lemmas.Map.Text.{is_eq-slice_cmp}
 use Rattle.script_words.specs.declared.class.Spelled.{Spelled}
 use Rattle.script_words.specs.declared.lex.Token.{Token}
 use Rattle.script_words.specs.declared.lex.TokenKind.{TokenKind}
@@ -22,6 +21,7 @@ use Rattle.script_words.specs.Named.{defined_by, words_from, words_of, text_cmp,
 use Rattle.script_words.specs.Named.{spelled_of}
 use Rattle.script_words.specs.Placed.{word_with, kind_of, word_text, word_at, words_at, token_of}
 use Rattle.script_words.specs.Placed.{tokens_of}
+use Rattle.script_words.specs.Grown.{one_more}
 
 module _ (names : List (List ℕ)) (k : TokenKind) (text : List ℕ) (spelled : Spelled)
     (is_name : k ≡ kind.Name) (same : spelled ≡ spelled_of text) where
@@ -39,20 +39,13 @@ module _ (names : List (List ℕ)) (k : TokenKind) (text : List ℕ) (spelled : 
       ∙ ap (λ b. cond b (rounding (spelled_of text) text) (name (spelled_of text) text)) (sym h)
       ∙ ap (λ x. kind_word names x text) (sym is_name)
 
--- a name that is there, or was before
-here_or_before : (b old : Bool) → cond b true old ≡ (b || old)
-here_or_before true old = refl
-here_or_before false old = refl
-
 -- one more name
 pub added : (set new : BTreeSet (Bor (List ℕ))) (k : Bor (List ℕ)) (o : Option (Bor (List ℕ)))
     → o ≡ Some k → Updates text_cmp set new k true
     → (names : List (List ℕ)) → HasNames set names
     → HasNames new (option_to_list (option_copied o) ++ names)
 added set new k o e updates names has q =
-    updates.0 q ∙ ap (λ b. cond b true (contains text_cmp set q)) (is_eq-slice_cmp k.now q.now)
-    ∙ here_or_before (bytes_eq k.now q.now) (contains text_cmp set q)
-    ∙ ap (λ b. bytes_eq k.now q.now || b) (has q)
+    one_more set new k updates names has q
     ∙ ap (λ x. list_any (λ n. bytes_eq n q.now) (option_to_list (option_copied x) ++ names)) (sym e)
 
 -- ---- a word's class and text are the word, and its class is its token's kind

@@ -6,13 +6,14 @@ use Rattle.fx_model.specs.declared.Node.{Node}
 use Rattle.saturate.specs.facts.declared.hint.HintRow.{HintRow}
 use Rattle.saturate.specs.goals.Stronger.{StrongerSettles}
 use Rattle.case_trees.specs.script_claims.declared.claim.Claim.{Claim}
+use Rattle.case_trees.specs.script_claims.Facts.{facts_of}
 use Rattle.script_truths.specs.script_grammar.Spells.{View}
 use Rattle.script_truths.specs.script_grammar.Names.{NamesNodes}
 use Rattle.script_truths.specs.Truths.{HasUniverse}
 use Rattle.saturate.specs.rule_universe.Worlds.{World}
 use Rattle.saturate.specs.rule_universe.Assumed.{assuming}
 use Rattle.script_truths.specs.script_grammar.Cases.{cases_of}
-use Rattle.script_truths.specs.universe.Universes.{IsUniverse, IsTooLarge, facts_of, assumed}
+use Rattle.script_truths.specs.universe.Universes.{IsUniverse, IsTooLarge, assumed}
 use Rattle.saturate.specs.derivation.Derivations.{IsClosed}
 use Rattle.saturate.specs.derivation.Lists.{IsLawful}
 use Rattle.saturate.specs.derivation.Laws.{TablesExist, BoxesComeToOneState}

@@ -7,11 +7,10 @@ use Rattle.fx_model.specs.declared.ExprId.{ExprId}
 use Rattle.saturate.specs.facts.declared.fact.Fact.{Fact}
 use Rattle.saturate.specs.facts.declared.fact.Fact.TheVariants as fact
 use Rattle.case_trees.specs.script_claims.declared.claim.Claim.{Claim}
-use Rattle.case_trees.specs.script_claims.Facts.{hypothesis_fact}
+use Rattle.case_trees.specs.script_claims.Facts.{hypothesis_fact, with_fact, facts_of}
 use Rattle.case_trees.specs.box_tree.Root.{IsBounded}
 use Rattle.saturate.specs.derivation.Known.{Piece}
 use Rattle.saturate.specs.rule_universe.Worlds.{World, IsWhole}
-use Rattle.script_truths.specs.universe.Universes.{facts_of, with_fact}
 
 -- what a claim gives is among what all give
 among : (claims : List Claim) (k : ℕ) (c : Claim) (f : Fact) → slice_get claims k ≡ Some c

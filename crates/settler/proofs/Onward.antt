@@ -4,10 +4,10 @@ use Rattle.std.specs.Prelude.{slice_get, refl}
 use Rattle.std.specs.List.{AllByRecursion}
 use Rattle.std.proofs.Common.{arith, sym, ◌∙◌, ap, subst}
 use Rattle.case_trees.specs.script_claims.declared.claim.Claim.{Claim}
+use Rattle.case_trees.specs.script_claims.Facts.{facts_of}
 use Rattle.script_truths.specs.script_grammar.Spells.{View}
 use Rattle.saturate.specs.rule_universe.Worlds.{World}
 use Rattle.saturate.specs.rule_universe.Assumed.{assuming}
-use Rattle.script_truths.specs.universe.Universes.{facts_of}
 use Rattle.case_trees.specs.box_tree.declared.cut.Cut.{Cut}
 use Rattle.case_trees.specs.box_tree.Pieces.{piece_count}
 use Rattle.case_trees.specs.box_tree.Plans.{cut_at}

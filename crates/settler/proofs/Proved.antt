@@ -6,11 +6,10 @@ use Rattle.saturate.specs.goals.declared.line.Line.{Line}
 use Rattle.saturate.specs.goals.Holds.{LineHolds}
 use Rattle.saturate.specs.goals.Stronger.{AreOfGoals}
 use Rattle.case_trees.specs.script_claims.declared.claim.Claim.{Claim}
-use Rattle.case_trees.specs.script_claims.Facts.{slot_of}
+use Rattle.case_trees.specs.script_claims.Facts.{slot_of, goal_of}
 use Rattle.script_truths.specs.script_grammar.Spells.{View}
 use Rattle.saturate.specs.rule_universe.Worlds.{World}
 use Rattle.script_truths.specs.script_grammar.Cases.{cases_of}
-use Rattle.script_truths.specs.universe.Universes.{goal_of}
 use Rattle.case_trees.specs.bisect.Trees.{Tree}
 use Rattle.case_trees.specs.bisect.Gathered.{line_of}
 use Rattle.case_trees.specs.Listed.{Listed, all_leaves}

@@ -13,7 +13,7 @@ use Rattle.saturate.specs.goals.Stronger.{StrongerSettles}
 use Rattle.saturate.specs.derivation.Derivations.{Setting, At, IsClosed}
 use Rattle.saturate.specs.derivation.Lists.{IsLawful}
 use Rattle.saturate.specs.derivation.Known.{Piece, Known, IsTableAt}
-use Rattle.saturate.specs.derivation.Settled.{IsMet, IsState}
+use Rattle.saturate.specs.derivation.Settled.{IsSettled, IsState}
 use Rattle.saturate.specs.derivation.Settled as box
 use Rattle.saturate.specs.derivation.Decided.{state_in}
 use Rattle.saturate.specs.derivation.Parts.{some_same}
@@ -43,16 +43,16 @@ settled_once u height pieces (g ∷ goals) [] gs a b = absurd a
 settled_once u height pieces (g ∷ goals) (f ∷ fs) [] a b = absurd b
 
 -- each goal of a settled box is met
-each_met : (u : Setting) (height : ℕ) (pieces : List Piece) (goals : List Goal) (fs : List Fact)
+each_settled : (u : Setting) (height : ℕ) (pieces : List Piece) (goals : List Goal) (fs : List Fact)
     → AreSettledBy u height pieces goals fs → (k : ℕ) (goal : Goal) → slice_get goals k ≡ Some goal
-    → IsMet u height pieces goal
-each_met u height pieces [] [] a k goal e = cc
-each_met u height pieces [] (f ∷ fs) a k goal e = absurd a
-each_met u height pieces (g ∷ goals) [] a k goal e = absurd a
-each_met u height pieces (g ∷ goals) (f ∷ fs) a zero goal e =
-    subst (IsMet u height pieces) (let h : g ≡ goal = cc in h) (f, (a.0).known, a.1)
-each_met u height pieces (g ∷ goals) (f ∷ fs) a (suc k) goal e =
-    each_met u height pieces goals fs a.2 k goal e
+    → IsSettled u height pieces goal
+each_settled u height pieces [] [] a k goal e = cc
+each_settled u height pieces [] (f ∷ fs) a k goal e = absurd a
+each_settled u height pieces (g ∷ goals) [] a k goal e = absurd a
+each_settled u height pieces (g ∷ goals) (f ∷ fs) a zero goal e =
+    subst (IsSettled u height pieces) (let h : g ≡ goal = cc in h) (f, (a.0).known, a.1)
+each_settled u height pieces (g ∷ goals) (f ∷ fs) a (suc k) goal e =
+    each_settled u height pieces goals fs a.2 k goal e
 
 same_goal : (j k : ℕ) → box.unsettled j ≡ box.unsettled k → j ≡ k
 same_goal j k e = cc
@@ -70,9 +70,9 @@ stands_once one u goals height pieces state.Void (state.Open k) p q = absurd (q.
 stands_once one u goals height pieces (state.Settled fs) state.Void p q = absurd (p.0 q)
 stands_once one u goals height pieces (state.Open j) state.Void p q = absurd (p.0 q)
 stands_once one u goals height pieces (state.Settled fs) (state.Open k) p q =
-    absurd (q.1.unmet (each_met u height pieces goals fs p.1 k q.1.goal q.1.there))
+    absurd (q.1.still_open (each_settled u height pieces goals fs p.1 k q.1.goal q.1.there))
 stands_once one u goals height pieces (state.Open j) (state.Settled gs) p q =
-    absurd (p.1.unmet (each_met u height pieces goals gs q.1 j p.1.goal p.1.there))
+    absurd (p.1.still_open (each_settled u height pieces goals gs q.1 j p.1.goal p.1.there))
 
 -- ---- as its best table decides
 module _ (stronger : StrongerSettles) (u : Setting) (height : ℕ) (pieces : List Piece) (at : At)
@@ -85,7 +85,7 @@ module _ (stronger : StrongerSettles) (u : Setting) (height : ℕ) (pieces : Lis
       absurd (n (subst (Known u height pieces) (void_is f r.0) r.1))
 
   -- the table's fact on the slot of a goal that is met
-  best_of : ¬ Known u height pieces fact.Void → (goal : Goal) → IsMet u height pieces goal
+  best_of : ¬ Known u height pieces fact.Void → (goal : Goal) → IsSettled u height pieces goal
       → (f : Fact) × (at goal.of ≡ Some f) × IsBestKnown u height pieces goal.of f × Settles goal f
   best_of n goal m =
       let none = no_void n (at slot.Void) refl in
@@ -106,7 +106,7 @@ module _ (stronger : StrongerSettles) (u : Setting) (height : ℕ) (pieces : Lis
       )
 
   settled_by : ¬ Known u height pieces fact.Void → (goals : List Goal)
-      → ((k : ℕ) (goal : Goal) → slice_get goals k ≡ Some goal → IsMet u height pieces goal)
+      → ((k : ℕ) (goal : Goal) → slice_get goals k ≡ Some goal → IsSettled u height pieces goal)
       → AreSettledBy u height pieces goals (goal_facts at goals)
   settled_by n [] m = tt
   settled_by n (g ∷ gs) m =

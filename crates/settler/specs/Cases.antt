@@ -5,13 +5,12 @@ use Rattle.std.specs.List.{AllByRecursion}
 use Rattle.std.proofs.Common.{ap, sym, subst, ◌∙◌, get_or}
 use Rattle.std.proofs.lemmas.Option.{slice_get_read}
 use Rattle.case_trees.specs.script_claims.declared.claim.Claim.{Claim}
-use Rattle.case_trees.specs.script_claims.Facts.{HasNormalBounds}
+use Rattle.case_trees.specs.script_claims.Facts.{HasNormalBounds, facts_of}
 use Rattle.script_truths.specs.script_grammar.Spells.{View}
 use Rattle.script_truths.specs.script_grammar.Cases.{cases_of}
 use Rattle.saturate.specs.rule_universe.Worlds.{World}
 use Rattle.saturate.specs.rule_universe.Assumed.{assuming}
 use Rattle.script_truths.specs.universe.Cases.{AreHypotheses}
-use Rattle.script_truths.specs.universe.Universes.{facts_of}
 use Rattle.case_trees.specs.box_tree.Pieces.{piece_count}
 use Rattle.case_trees.specs.box_tree.Plans.{cut_at}
 use Rattle.case_trees.specs.box_tree.Regions.{PlanParts}

@@ -8,7 +8,7 @@ use Rattle.saturate.specs.goals.Settles.{Settles}
 use Rattle.saturate.specs.goals.declared.goal.Goal.{Goal}
 use Rattle.saturate.specs.derivation.Derivations.{Setting}
 use Rattle.saturate.specs.derivation.Known.{Piece, Known}
-use Rattle.saturate.specs.derivation.Settled.{IsFirstUnmet}
+use Rattle.saturate.specs.derivation.Settled.{IsFirstOpen}
 use Rattle.saturate.specs.rule_universe.Worlds.{World}
 use Rattle.saturate.specs.Universes.{setting_of}
 use Rattle.case_trees.specs.box_tree.Plans.{pieces_at}
@@ -39,7 +39,7 @@ StandsAs u goals height pieces state.Void = Known u height pieces fact.Void
 StandsAs u goals height pieces (state.Settled facts) = (¬ Known u height pieces fact.Void)
     × AreSettledBy u height pieces goals facts
 StandsAs u goals height pieces (state.Open k) = (¬ Known u height pieces fact.Void)
-    × IsFirstUnmet u goals height pieces k
+    × IsFirstOpen u goals height pieces k
 
 -- Each box of the plan stands so, by derivations over the universe of at most this height.
 abbrev pub AreStates : World → PlanParts → ℕ → (List ℕ → State) → Type 0

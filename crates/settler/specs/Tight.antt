@@ -8,13 +8,14 @@ use Rattle.saturate.specs.goals.declared.line.Line.{Line}
 use Rattle.saturate.specs.goals.declared.line.Line.TheVariants as line
 use Rattle.saturate.specs.goals.Settles.{Settles}
 use Rattle.case_trees.specs.script_claims.declared.claim.Claim.{Claim}
+use Rattle.case_trees.specs.script_claims.Facts.{goal_of}
 use Rattle.script_truths.specs.script_grammar.Spells.{View}
 use Rattle.saturate.specs.pair_closure.Reached.{Has}
 use Rattle.saturate.specs.derivation.Derivations.{Setting}
 use Rattle.saturate.specs.derivation.Known.{Piece, Known}
 use Rattle.saturate.specs.rule_universe.Worlds.{World}
 use Rattle.script_truths.specs.script_grammar.Cases.{cases_of}
-use Rattle.script_truths.specs.universe.Universes.{goal_of, IsUniverse}
+use Rattle.script_truths.specs.universe.Universes.{IsUniverse}
 use Rattle.saturate.specs.Universes.{setting_of}
 use Rattle.case_trees.specs.box_tree.Plans.{pieces_at}
 use Rattle.case_trees.specs.box_tree.Regions.{PlanParts}

@@ -31,6 +31,7 @@ use Rattle.facts.specs.declared.fact.Slot.TheVariants as slot
 use Rattle.facts.specs.Parts.{size_within}
 use Rattle.facts.specs.Within.{on_half_line}
 use Rattle.facts.specs.Holds.{Holds}
+use Rattle.facts.specs.CommonParts.{if-some}
 use Rattle.facts.specs.Promises.{IsSound}
 use Rattle.facts.specs.Conclusions.{abs_of, given}
 use Rattle.expr_dag.specs.Lifted.{at_node, lifted_quotient, lifted_twice, lifted₁, lifted₂}

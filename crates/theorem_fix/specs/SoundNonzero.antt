@@ -22,7 +22,7 @@ use Rattle.theorem_arith.specs.facts.declared.fact.Fact.{Fact}
 use Rattle.theorem_arith.specs.facts.declared.fact.Fact.TheVariants as fact
 use Rattle.theorem_arith.specs.facts.declared.fact.Slot.TheVariants as slot
 use Rattle.theorem_arith.specs.facts.Holds.{AreZero, IsRelated, Holds}
-use Rattle.theorem_arith.specs.facts.CommonParts.{expr_same}
+use Rattle.theorem_arith.specs.facts.CommonParts.{if-some, expr_same}
 use Rattle.theorem_arith.specs.facts.Held.{some-and}
 use Rattle.theorem_arith.specs.facts.Order.{is_same}
 use Rattle.theorem_arith.specs.facts.Ranges.{IsBelow, is_below, is_below_in}

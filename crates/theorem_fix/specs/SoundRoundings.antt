@@ -27,7 +27,7 @@ use Rattle.rounding.specs.ErrorLaws.{error_lies}
 use Rattle.theorem_arith.specs.facts.declared.fact.Fact.TheVariants as fact
 use Rattle.theorem_arith.specs.facts.declared.fact.Slot.TheVariants as slot
 use Rattle.theorem_arith.specs.facts.Held.{some-and}
-use Rattle.theorem_arith.specs.facts.CommonParts.{expr_same}
+use Rattle.theorem_arith.specs.facts.CommonParts.{if-some, expr_same}
 use Rattle.theorem_arith.specs.facts.Order.{is_same}
 use Rattle.theorem_arith.specs.facts.Promises.{IsSound}
 use Rattle.theorem_arith.specs.facts.Conclusions.{given}

@@ -27,7 +27,7 @@ use Rattle.facts.specs.declared.fact.Slot.TheVariants as slot
 use Rattle.facts.specs.Holds.{Holds, AreZero, IsRelated, IsRelatedBy}
 use Rattle.facts.specs.Order.{is_same}
 use Rattle.facts.specs.Parts.{error_from, error_of_part}
-use Rattle.facts.specs.CommonParts.{at_option, expr_same}
+use Rattle.facts.specs.CommonParts.{at_option, if-some, expr_same}
 use Rattle.facts.specs.Promises.{IsSound}
 use Rattle.facts.specs.Conclusions.{given}
 use Rattle.facts.specs.RelativeConclusions.{void_only}

@@ -1,5 +1,5 @@
 -- For every box there are accepted steps that conclude its best facts.
-use Rattle.std.specs.Prelude.{◌≡◌, ◌<◌, ◌≤◌, ◌+◌, ◌*◌, ◌^◌, ◌==◌, ℕ, zero, suc, false, List, []}
+use Rattle.std.specs.Prelude.{◌≡◌, ◌<◌, ◌≤◌, ◌+◌, ◌*◌, ◌^◌, ℕ, zero, suc, List, []}
 use Rattle.std.specs.Prelude.{◌∷◌, ◌++◌, length, Option, Some, None, slice_get, map, refl}
 use Rattle.std.proofs.Common.{sym, ◌∙◌, ap, subst, inl, inr, arith}
 use Rattle.std.proofs.lemmas.List.{length-append}
@@ -27,8 +27,10 @@ use Rattle.derivation.specs.Steps.{improved_proper}
 use Rattle.cert_checker.specs.cert_bytes.declared.item.StepRow.{StepRow}
 use Rattle.cert_checker.specs.cert_bytes.Certificates.{IsCounted, IsShort}
 use Rattle.cert_checker.specs.Open.{Numbered, with_step}
-use Rattle.cert_checker.specs.Steps.{step_facts, gives, met_with, IsEnough, target_of, whole_line}
-use Rattle.cert_checker.specs.Steps.{variable_fact}
+use Rattle.cert_checker.specs.declared.given.Given.TheVariants as given
+use Rattle.cert_checker.specs.Given.{given_number, given_short, given_low}
+use Rattle.cert_checker.specs.Steps.{step_facts, gives, gives_by, met_with, IsEnough, target_of}
+use Rattle.cert_checker.specs.Steps.{whole_line, variable_fact}
 use Rattle.tree_certificates.specs.Sections.{behind, ArePlaces, AreBelow}
 use Rattle.tree_certificates.specs.Writing.{IsSlotKnown, IsWritable, givens_of}
 use Rattle.tree_certificates.specs.Traces.{Trace, IsCutTo, most_steps}
@@ -92,9 +94,6 @@ module _ (u : Setting) (hints : List HintRow) (w : IsWritable u hints) (piece : 
       }
 
   -- ---- instances
-  other : (m n : ℕ) → m < n → (m == n) ≡ false
-  other m n h = grind (arith, h)
-
   -- the rule of an instance gives its conclusion where the step aims
   instance_gives : (i : Instance) (at : At) (c : Fact) (ps : List Fact) (premises : List ℕ) (n : ℕ)
       → u.rules i.rule i.arg ps i.target ≡ Some c
@@ -102,10 +101,9 @@ module _ (u : Setting) (hints : List HintRow) (w : IsWritable u hints) (piece : 
       gives (givens_of u hints piece)
       (coming i.rule i.arg premises (at (slot_of c)) n c) ps (met_by (at (slot_of c)) c) ≡ Some c
   instance_gives i at c ps premises n e p =
-      let l : i.rule < 100 = w.low i.rule i.arg ps i.target c e in
-      let a : (i.rule == 100) ≡ false = other i.rule 100 l in
-      let b : (i.rule == 101) ≡ false = other i.rule 101 (omega (arith, l)) in
-      let d : (i.rule == 102) ≡ false = other i.rule 102 (omega (arith, l)) in
+      let g = givens_of u hints piece in
+      let row = coming i.rule i.arg premises (at (slot_of c)) n c in
+      let none = given_low i.rule (w.low i.rule i.arg ps i.target c e) in
       let o : u.rules i.rule i.arg ps (slot_of c) ≡ Some c =
       elim (w.on_target i.rule i.arg ps i.target c e) [
         | inl q ↦ ap (u.rules i.rule i.arg ps) q ∙ e
@@ -116,7 +114,7 @@ module _ (u : Setting) (hints : List HintRow) (w : IsWritable u hints) (piece : 
       (met_by (at (slot_of c)) c)) ≡ Some c =
       ap (concludes u.nodes hints i.rule i.arg ps) (aims (at (slot_of c)) c p)
       ∙ (sym (w.listed i.rule i.arg ps (slot_of c)) ∙ o) in
-      rw (a, b, d) z
+      ap (gives_by g row ps (met_by (at (slot_of c)) c)) none ∙ z
 
   target_known : (k : ℕ) (i : Instance) (ps : List Fact) (c : Fact)
       → slice_get u.instances k ≡ Some i → u.rules i.rule i.arg ps i.target ≡ Some c
@@ -149,7 +147,7 @@ module _ (u : Setting) (hints : List HintRow) (w : IsWritable u hints) (piece : 
         let P : Option Fact → Type 0 =
         λ x. IsEnough (met_with x (met_by (new (slot_of c)) c)) (joined (new (slot_of c)) c) in
         let row = row_for new m t i.rule i.arg premises c in
-        let low : i.rule < 100 = w.low i.rule i.arg q.0 i.target c q.2 in
+        let low = w.low i.rule i.arg q.0 i.target c q.2 in
         let here : Here (with_fact new c) (m + 1) = come new m t i.rule i.arg premises q.0 c
         (let k = mapped place i.premises in let r = reads_length at i.premises q.0 q.1 in let l =
         w.counted i.rule i.arg q.0 i.target c q.2 in omega (arith, k, r, l)) (omega (arith, low))
@@ -226,8 +224,8 @@ module _ (u : Setting) (hints : List HintRow) (w : IsWritable u hints) (s : Numb
       let few = w.few_hypotheses in
       let short : n < 2 ^ 16 = omega (arith, h, few) in
       slack u hints w None s below (with_fact at c) (n + 1) (suc n) (omega arith)
-      (come u hints w None s below at n t 100 n [] [] c (omega arith)
-      (omega arith) short (w.hypotheses n c e) refl
+      (come u hints w None s below at n t (given_number given.Hypothesis) n [] [] c (omega arith)
+      (given_short given.Hypothesis) short (w.hypotheses n c e) refl
       (subst P (sym e) (enough (at (slot_of c)) c (λ h q. t.proper (slot_of c) h q)))))
 
   variable_comes : (n v : ℕ) (at : At) (m : ℕ) → slice_get u.nodes n ≡ Some (node.Var v)
@@ -240,8 +238,8 @@ module _ (u : Setting) (hints : List HintRow) (w : IsWritable u hints) (s : Numb
       ap (whole_line u.nodes) j.1 ∙ ap (variable_fact x) e in
       let P : Option Fact → Type 0 =
       λ o. IsEnough (met_with o (met_by (at (slot_of c)) c)) (joined (at (slot_of c)) c) in
-      come u hints w None s below at m t 101 0 [] [] c (omega arith) (omega arith)
-      (omega arith) (slice_get_within u.nodes n (node.Var v) e) refl
+      come u hints w None s below at m t (given_number given.Variable) 0 [] [] c (omega arith)
+      (given_short given.Variable) (omega arith) (slice_get_within u.nodes n (node.Var v) e) refl
       (subst P (sym line) (enough (at (slot_of c)) c (λ h q. t.proper (slot_of c) h q)))
 
   line_comes : (n : ℕ) (at : At) (m : ℕ) (o : Option Node) → slice_get u.nodes n ≡ o → AtRoot at m
@@ -303,8 +301,9 @@ child_trace u hints w s below height piece above p place k proper placed cut =
     λ o. IsEnough (met_with (Some p) o) (joined (at (slot.Bnd piece.0)) c) in
     let started : Trace (givens_of u hints (Some p)) s (with_fact at c) 1 =
     slack u hints w (Some p) s below (with_fact at c) (0 + 1) 1 (omega arith)
-    (come u hints w (Some p) s below at 0 t 102 0 [] [] c (omega arith) (omega arith) (omega arith)
-    k refl (subst P (sym (met_by_interval (at (slot.Bnd piece.0)) piece.0 piece.1)) cut)) in
+    (come u hints w (Some p) s below at 0 t (given_number given.Piece) 0 [] [] c (omega arith)
+    (given_short given.Piece) (omega arith) k refl
+    (subst P (sym (met_by_interval (at (slot.Bnd piece.0)) piece.0 piece.1)) cut)) in
     slack u hints w (Some p) s below (table_at u height (piece ∷ above))
     (1 + height * length u.instances) (most_steps u height) (omega arith)
     (rounds_come u hints w (Some p) s below (with_fact at c) 1 started height)

@@ -17,6 +17,8 @@ use Rattle.cert_checker.specs.theorem_rel.EachRule as relatives
 use Rattle.cert_checker.specs.rewrite_rules.EachRule as rewritings
 use Rattle.cert_checker.specs.theorem_list.Concludes.{listed, by_number, by_row, concludes}
 use Rattle.cert_checker.specs.theorem_list.Rows.{numbered, by_rows, each_row}
+use Rattle.cert_checker.specs.declared.given.Given.TheVariants.{Hypothesis}
+use Rattle.cert_checker.specs.Given.{given_number}
 use Rattle.tree_certificates.specs.Writing.{IsVoidFitting, IsFromFew, IsNumberedLow}
 use Rattle.tree_certificates.proofs.Fitting.{FitsSteps}
 use Rattle.tree_certificates.proofs.FitArith.{literal_rule-fits, negation_rule-fits, sum_rule-fits}
@@ -174,21 +176,25 @@ list_from_few nodes hints o number arg premises target f e =
     (list_fits nodes hints o number arg premises target f e).0
 
 -- ---- numbers
-number_low : (rules : List (ℕ × Rule)) (n : ℕ) → AllByRecursion (λ e. e.0 < 100) rules
+-- a number below those of what steps are given
+abbrev IsLow : ℕ → Type 0
+IsLow n = n < given_number Hypothesis
+
+number_low : (rules : List (ℕ × Rule)) (n : ℕ) → AllByRecursion (λ e. IsLow e.0) rules
     → (nodes : List Node) (premises : List Fact) (target : Slot) (f : Fact)
-    → by_number rules n nodes premises target ≡ Some f → n < 100
+    → by_number rules n nodes premises target ≡ Some f → IsLow n
 number_low [] n h nodes premises target f e = cc
 number_low (r ∷ rules) n h nodes premises target f e =
     by_test (n == r.0) refl e (λ w. number_low rules n h.1 nodes premises target f w)
   where
     by_test : (b : Bool) → (n == r.0) ≡ b
         → (if b then r.1 nodes premises target else by_number rules n nodes premises target)
-        ≡ Some f → (by_number rules n nodes premises target ≡ Some f → n < 100) → n < 100
-    by_test true q e later = let l : r.0 < 100 = h.0 in
+        ≡ Some f → (by_number rules n nodes premises target ≡ Some f → IsLow n) → IsLow n
+    by_test true q e later = let l : IsLow r.0 = h.0 in
         let d : n ≡ r.0 = grind (arith, q) in omega (arith, l, d)
     by_test false q e later = later e
 
-listed_low : AllByRecursion (λ e. e.0 < 100) listed
+listed_low : AllByRecursion (λ e. IsLow e.0) listed
 listed_low = (omega arith, (omega arith, (omega arith, (omega arith, (omega arith, (omega arith, (omega arith, (omega arith, (omega arith, (omega arith, (omega arith, (omega arith, (omega arith, (omega arith, (omega arith, (omega arith, (omega arith, (omega arith, (omega arith, (omega arith, (omega arith, (omega arith, (omega arith, (omega arith, (omega arith, (omega arith, (omega arith, (omega arith, (omega arith, (omega arith, (omega arith, (omega arith, (omega arith, (omega arith, (omega arith, (omega arith, (omega arith, (omega arith, (omega arith, (omega arith, (omega arith, (omega arith, (omega arith, (omega arith, (omega arith, (omega arith, (omega arith, (omega arith, (omega arith, (omega arith, (omega arith, (omega arith, (omega arith, (omega arith, (omega arith, (omega arith, (omega arith, (omega arith, (omega arith, tt)))))))))))))))))))))))))))))))))))))))))))))))))))))))))))
 
 pub list_numbered_low : (nodes : List Node) (hints : List HintRow)
@@ -198,7 +204,7 @@ list_numbered_low nodes hints number arg premises target f e =
   where
     by_test : (b : Bool) → (number == 80) ≡ b
         → (c : Bool) → (if b then by_row nodes (slice_get hints arg) premises target else (if c
-        then by_number listed number nodes premises target else None)) ≡ Some f → number < 100
+        then by_number listed number nodes premises target else None)) ≡ Some f → IsLow number
     by_test true q c e = let d : number ≡ 80 = grind (arith, q) in omega (arith, d)
     by_test false q true e = number_low listed number listed_low nodes premises target f e
     by_test false q false e = cc

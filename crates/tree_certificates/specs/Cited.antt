@@ -15,6 +15,7 @@ use Rattle.tree_certificates.specs.Sections.{behind, AreAccepted, ArePlaces, All
 use Rattle.tree_certificates.specs.Traces.{HasFields, HaveFields}
 use Rattle.cert_checker.specs.cert_bytes.Certificates.{IsLong}
 
+-- The fact that steps may cite by this number.
 abbrev citable : ℕ → Fact → Citable
 citable n f = record { number = n; fact = f }
 

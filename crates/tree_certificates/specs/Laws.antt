@@ -47,7 +47,7 @@ CertificatesExist = (hints : List HintRow)
     (lines_of_roots height goals (r ∷ later) (map (λ g. line.Empty) subject.goals))
 
 -- What the list of rules gives can be written as steps: VOID is given also where VOID is aimed at,
--- from premises that have room in a step, by rules with numbers below 100.
+-- from premises that have room in a step, by rules with numbers below those of what is given.
 pub record RulesFitSteps : Type 0 where
   pub void_fits : (nodes : List Node) (hints : List HintRow) → IsOrdered nodes
       → IsVoidFitting (concludes nodes hints)

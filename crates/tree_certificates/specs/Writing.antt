@@ -11,6 +11,8 @@ use Rattle.derivation.specs.facts.Order.{slot_of}
 use Rattle.cert_checker.specs.theorem_list.Concludes.{concludes}
 use Rattle.derivation.specs.Lists.{RuleList, IsOnTargetList}
 use Rattle.derivation.specs.Derivations.{Setting}
+use Rattle.cert_checker.specs.declared.given.Given.TheVariants.{Hypothesis}
+use Rattle.cert_checker.specs.Given.{given_number}
 use Rattle.cert_checker.specs.Steps.{Givens}
 
 -- each node of the slot is in the list
@@ -28,10 +30,10 @@ IsVoidFitting rules = (number arg : ℕ) (premises : List Fact) (target : Slot)
     → rules number arg premises target ≡ Some fact.Void
     → rules number arg premises slot.Void ≡ Some fact.Void
 
--- Rules have numbers below 100.
+-- Rules have numbers below those of what steps are given.
 abbrev pub IsNumberedLow : RuleList → Type 0
 IsNumberedLow rules = (number arg : ℕ) (premises : List Fact) (target : Slot) (f : Fact)
-    → rules number arg premises target ≡ Some f → number < 100
+    → rules number arg premises target ≡ Some f → number < given_number Hypothesis
 
 -- What rules give comes from premises that a step has room for.
 abbrev pub IsFromFew : RuleList → Type 0

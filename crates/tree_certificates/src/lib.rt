@@ -2,7 +2,7 @@
 #![tactic(auto)]
 
 // What callers name of the crates below.
-pub use cert_checker::{StepRow, Subject};
+pub use cert_checker::{Given, StepRow, Subject};
 pub use derivation::best_tables_exist;
 
 mod laws;

@@ -7,6 +7,7 @@ use Rattle.rule_universe.specs.facts.declared.fact.Fact.{Fact}
 use Rattle.rule_universe.specs.facts.declared.hint.HintRow.{HintRow}
 use Rattle.rule_universe.specs.facts.Order.{slot_of}
 use Rattle.script_grammar.specs.script_claims.declared.claim.Claim.{Claim}
+use Rattle.script_grammar.specs.script_claims.Facts.{goal_of, facts_of}
 use Rattle.rewrite_hints.specs.script_hints.declared.hint.Hint.{Hint}
 use Rattle.rewrite_hints.specs.Marks.{AreRows}
 use Rattle.rule_universe.specs.rule_instances.Instances.{IsInstance}
@@ -20,7 +21,7 @@ use Rattle.rule_universe.specs.Wholes.{IsLicensed, licensed_whole}
 use Rattle.script_grammar.specs.Names.{ClaimIsOf, NamesNodes}
 use Rattle.universe.specs.Starts.{claims_pairs, hints_pairs, starting_pairs}
 use Rattle.universe.specs.Cases.{AreHypotheses, each_has}
-use Rattle.universe.specs.Universes.{IsUniverse, goal_of, facts_of}
+use Rattle.universe.specs.Universes.{IsUniverse}
 use Rattle.rule_universe.specs.pair_closure.Members.{has_left, has_right}
 use Rattle.universe.proofs.Named.{facts_slots, pairs_of_some, longer_by, rows_known}
 

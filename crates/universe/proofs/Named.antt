@@ -26,7 +26,7 @@ use Rattle.script_grammar.specs.script_claims.declared.claim.Claim.TheVariants.{
 use Rattle.script_grammar.specs.script_claims.declared.claim.Claim.TheVariants.{RelativeAsked}
 use Rattle.script_grammar.specs.script_claims.declared.claim.Claim.TheVariants.{Multiple, Above}
 use Rattle.script_grammar.specs.script_claims.declared.claim.Claim.TheVariants.{Below}
-use Rattle.script_grammar.specs.script_claims.Facts.{hypothesis_fact, rel_of}
+use Rattle.script_grammar.specs.script_claims.Facts.{hypothesis_fact, rel_of, with_fact, facts_of}
 use Rattle.rewrite_hints.specs.script_hints.declared.hint.Hint.{Hint}
 use Rattle.rule_universe.specs.pair_closure.Reached.{Has}
 use Rattle.fx_model.specs.Expression.{ChildrenBelow}
@@ -46,7 +46,6 @@ use Rattle.script_grammar.specs.Names.{AreNodes, ClaimIsOf, ConstraintIsOf, Hint
 use Rattle.script_grammar.specs.Names.{NamesNodes}
 use Rattle.universe.specs.Starts.{sides_of, whole_difference, claim_pairs, claims_pairs, hint_pairs}
 use Rattle.universe.specs.Starts.{hints_pairs, starting_pairs}
-use Rattle.universe.specs.Universes.{with_fact, facts_of}
 use Rattle.rule_universe.specs.facts.CommonParts.{stands, all_from}
 
 -- ---- facts of hypotheses

@@ -1,8 +1,7 @@
 -- The universe of a script.
-use Rattle.std.specs.Prelude.{◌≡◌, List, [], ◌∷◌, Option, Some, None, map, refl}
-use Rattle.rule_universe.specs.facts.declared.fact.Fact.{Fact}
+use Rattle.std.specs.Prelude.{◌≡◌, List, map, refl}
 use Rattle.script_grammar.specs.script_claims.declared.claim.Claim.{Claim}
-use Rattle.script_grammar.specs.script_claims.Facts.{hypothesis_fact, want_of, slot_of}
+use Rattle.script_grammar.specs.script_claims.Facts.{goal_of, facts_of}
 use Rattle.script_grammar.specs.Spells.{View}
 use Rattle.script_grammar.specs.Names.{NamesNodes}
 use Rattle.rule_universe.specs.pair_closure.Reached.{Has, IsListOf}
@@ -10,25 +9,10 @@ use Rattle.rule_universe.specs.pair_closure.Closure.{IsClosure, IsExpression, Ar
 use Rattle.rewrite_hints.specs.Marks.{AreRows}
 use Rattle.rule_universe.specs.rule_instances.Instances.{IsInstance}
 use Rattle.rule_universe.specs.rule_instances.InOrder.{instance_list}
-use Rattle.rule_universe.specs.goals.declared.goal.Goal.{Goal}
 use Rattle.rule_universe.specs.Worlds.{World}
 use Rattle.rule_universe.specs.Assumed.{assuming, HaveSlots}
 use Rattle.universe.specs.Starts.{starting_pairs}
 use Rattle.universe.specs.Cases.{AreHypotheses}
-
--- what a goal is about, and what settles it: its bounds rounded inward
-abbrev pub goal_of : Claim → Goal
-goal_of c = record { of = slot_of c; want = want_of c }
-
--- The facts with that of a claim in front, where the claim gives one.
-abbrev pub with_fact : Option Fact → List Fact → List Fact
-with_fact (Some f) facts = f ∷ facts
-with_fact None facts = facts
-
--- what the hypotheses give, their bounds rounded outward
-abbrev pub facts_of : List Claim → List Fact
-facts_of [] = []
-facts_of (c ∷ cs) = with_fact (hypothesis_fact c) (facts_of cs)
 
 -- The script's universe, in which these claims are assumed, which are hypotheses: those of one
 -- case. Its expressions begin with the script's nodes; expressions, pairs and instances are exactly

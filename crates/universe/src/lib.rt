@@ -4,7 +4,6 @@
 // What callers name of the crates below.
 pub use rewrite_hints::rows_are_true;
 
-mod claims;
 mod laws;
 mod marks;
 mod starts;

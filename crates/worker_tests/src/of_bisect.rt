@@ -76,7 +76,7 @@ fn told(found: &Outcome) -> (u32, usize, Option<Path>) {
 }
 
 #[test]
-fn answers(rt: HostRuntime) -> Result<(), Fail> {
+fn each_limit_of_boxes_has_its_answer(rt: HostRuntime) -> Result<(), Fail> {
     let root = Path::root();
     let rows: [(u8, u8, u32, (u32, usize, Option<Path>)); 8] = [
         (0, 16, 15, (15, 8, None)),

@@ -147,7 +147,7 @@ fn box_line(rt: &impl Abort, alloc: Global, kind: u8, path: &[u8]) -> Result<Str
 }
 
 #[test]
-fn boxes(rt: HostRuntime) -> Result<(), Fail> {
+fn each_path_has_its_piece_and_its_cut(rt: HostRuntime) -> Result<(), Fail> {
     let rows: [(u8, &[u8], &str); 17] = [
         (0, &[], "bottom"),
         (1, &[], "half ExprId(1) 1b-1"),

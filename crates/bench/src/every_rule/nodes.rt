@@ -8,70 +8,103 @@ use expr_dag::Node::{Abs, Add, Div, Lit, Mul, Neg, Round, Sub, Var};
 use expr_dag::{Dag, DagFault, Direction, ExprId, Node, Rounding, read_bytes};
 use std::alloc::Global;
 
+/// The variable x.
 pub const X: ExprId = ExprId(0);
 
+/// The variable y.
 pub const Y: ExprId = ExprId(1);
 
+/// The variable z.
 pub const Z: ExprId = ExprId(2);
 
+/// The variable w.
 pub const W: ExprId = ExprId(3);
 
+/// The literal 0.1.
 pub const LITERAL: ExprId = ExprId(4);
 
+/// The literal 0.5.
 pub const HALF: ExprId = ExprId(5);
 
+/// -x.
 pub const MINUS_X: ExprId = ExprId(6);
 
+/// -z.
 pub const MINUS_Z: ExprId = ExprId(7);
 
+/// |x|.
 pub const SIZE_OF_X: ExprId = ExprId(8);
 
+/// x rounded down to a multiple of 2^-40.
 pub const ROUNDED: ExprId = ExprId(9);
 
+/// x rounded toward zero to a multiple of 2^-40.
 pub const CUT: ExprId = ExprId(10);
 
+/// x + y.
 pub const SUM: ExprId = ExprId(11);
 
+/// x - y.
 pub const DIFFERENCE: ExprId = ExprId(12);
 
+/// x * y.
 pub const PRODUCT: ExprId = ExprId(13);
 
+/// x / y.
 pub const QUOTIENT: ExprId = ExprId(14);
 
+/// x - x.
 pub const ITSELF: ExprId = ExprId(16);
 
+/// x * x.
 pub const SQUARE: ExprId = ExprId(17);
 
+/// x / x.
 pub const ONE: ExprId = ExprId(18);
 
+/// z + w.
 pub const SECOND_SUM: ExprId = ExprId(19);
 
+/// z - w.
 pub const SECOND_DIFFERENCE: ExprId = ExprId(20);
 
+/// z * w.
 pub const SECOND_PRODUCT: ExprId = ExprId(21);
 
+/// z / w.
 pub const SECOND_QUOTIENT: ExprId = ExprId(22);
 
+/// The error of x rounded down.
 pub const ERROR: ExprId = ExprId(23);
 
+/// The error of x rounded toward zero.
 pub const CUT_ERROR: ExprId = ExprId(24);
 
+/// x - z.
 pub const X_Z: ExprId = ExprId(25);
 
+/// y - w.
 pub const Y_W: ExprId = ExprId(26);
 
+/// y - z.
 pub const Y_Z: ExprId = ExprId(27);
 
+/// z - y.
 pub const Z_Y: ExprId = ExprId(28);
 
+/// The difference of the two sums.
 pub const OF_SUMS: ExprId = ExprId(29);
 
+/// The difference of the two differences.
 pub const OF_DIFFERENCES: ExprId = ExprId(30);
 
+/// The difference of the two products.
 pub const OF_PRODUCTS: ExprId = ExprId(31);
 
+/// The difference of the two negations.
 pub const OF_NEGATIONS: ExprId = ExprId(32);
 
+/// The share of z in z + w.
 pub const SHARE: ExprId = ExprId(33);
 
 const DOWN: Rounding = Rounding {

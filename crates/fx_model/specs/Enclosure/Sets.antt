@@ -11,6 +11,10 @@ pub record Range : Type 0 where
   pub low : Bound
   pub high : Bound
 
+-- The range between these bounds.
+abbrev pub from_ends : Bound → Bound → Range
+from_ends low high = record { low = low; high = high }
+
 -- x isn't below the lower bound
 abbrev pub IsFrom : Bound → Fraction → Type 0
 IsFrom Below x = ⊤

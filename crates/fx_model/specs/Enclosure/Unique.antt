@@ -5,7 +5,7 @@ use Rattle.std.proofs.Common.{refl, sym, ap, ◌∙◌, subst, inl, inr, ⊎_eli
 use Rattle.fx_model.specs.Fraction.{Fraction, ◌*ℚ◌, le_antisymm}
 use Rattle.fx_model.specs.Grid.{Bound, Below, At, Above}
 use Rattle.fx_model.specs.Enclosure.Sets.{Range, Lies, IsInfimum, IsSupremum, IsEnclosure, Products}
-use Rattle.fx_model.specs.Enclosure.Sets.{IsFinite, IsProduct}
+use Rattle.fx_model.specs.Enclosure.Sets.{IsFinite, IsProduct, from_ends}
 use Rattle.fx_model.specs.Enclosure.Attained.{in_enclosure}
 
 infimum_unique : (S : Fraction → Type 0) (b c : Bound) → IsInfimum S b → IsInfimum S c → b ≡ c
@@ -25,9 +25,6 @@ supremum_unique S (At g) Above i j = absurd (j g i.0 i.1)
 supremum_unique S (At g) (At h) i j = ap At (le_antisymm g h (i.2 h j.0 j.1) (j.2 g i.0 i.1))
 supremum_unique S (At g) Below i j = absurd j
 supremum_unique S Below c i j = absurd i
-
-abbrev from_ends : Bound → Bound → Range
-from_ends low high = record { low = low; high = high }
 
 pub enclosure_unique : (S : Fraction → Type 0) (r s : Range) → IsEnclosure S r
     → IsEnclosure S s → r ≡ s

@@ -1,15 +1,15 @@
-use Rattle.std.proofs.Common.{ap, subst, ◌∙◌, [], ℕ, arith}
+use Rattle.std.proofs.Common.{ap, subst, ◌∙◌, ℕ}
 use Rattle.facts.specs.declared.fact.Fact.{Fact}
 use Rattle.facts.specs.declared.fact.Fact.TheVariants as fact
 use Rattle.saturate.specs.derivation.Derivations.{At}
 use Rattle.saturate.specs.derivation.Rounds.{Improves}
+use Rattle.tree_certificates.specs.cert_checker.declared.given.Given.TheVariants as given
 use Rattle.box_trace.specs.Tables.{known_at}
-use Rattle.box_trace.specs.Logs.{Comes}
 use Rattle.box_trace.specs.declared.known.Known.{Known}
 use Rattle.box_trace.specs.declared.log.Log.{Log}
-use Rattle.box_trace.proofs.Logged.{comes_improves}
+use Rattle.box_trace.proofs.Logged.{ComesGiven, comes_given, comes_improves}
 use Rattle.box_trace.proofs.Rows.{same_known, same_rows}
-use Rattle.box_trace.proofs.Started.{comes_as, begins_below}
+use Rattle.box_trace.proofs.Started.{begins_below}
 use Rattle.box_trace.specs.Rounds.{IsStepIn}
 use Rattle.box_trace.proofs.Added.{gives_none, gives_more, same_steps}
 use Rattle.box_trace.proofs.starts.child_start.Goals as goal
@@ -28,7 +28,8 @@ returns-clause-improves c =
     let new = c.come.new.self in
     let i = comes_improves u old new c.given-source.result.rule c.given-source.result.arg
     c.given-source.result.premises f
-    (same_rows u c.args.parent.now old.known same c.requires.rows).proper c.in_ok-_piece.ensures in (
+    (same_rows u c.args.parent.now old.known same c.requires.rows).proper
+    c.in_ok-_piece.ensures in (
       i.0,
       subst (λ (at : At). Improves at (known_at u new.known) f i.0)
           (same_known u c.args.parent.now old.known same) i.1,
@@ -41,9 +42,10 @@ returns-clause-begins c =
     let old : Log = c.begin-log.result in
     let same = ap (λ (k : Known). k.rows.items) c.begin-log.ensures.known ∙ c.in_ok-known.ensures in
     let new = c.come.new.self in
-    let come : Comes u old 102 0 [] f new = comes_as u old c.given-source.result.rule
-    c.given-source.result.arg c.given-source.result.premises f new 102 0 c.given-source.ensures.rule
-    c.given-source.ensures.arg c.given-source.ensures.premises c.in_ok-_piece.ensures in
+    let s = c.given-source in
+    let come : ComesGiven u old given.Piece 0 f new =
+    comes_given u old s.result.rule s.result.arg s.result.premises f new given.Piece 0
+    s.ensures.rule s.ensures.arg s.ensures.premises c.in_ok-_piece.ensures in
     begins_below u (c.args.piece.0, c.args.piece.1) c.args.parent.now c.args.first old new same
     c.begin-log.ensures.steps c.begin-log.ensures.first c.requires.rows c.requires.variable come
 
@@ -56,9 +58,9 @@ returns-clause-gives c =
     let same = ap (λ (k : Known). k.rows.items) c.begin-log.ensures.known ∙ c.in_ok-known.ensures in
     let new = c.come.new.self in
     let s = c.given-source in
-    let come : Comes u old 102 0 [] f new =
-    comes_as u old s.result.rule s.result.arg s.result.premises f new 102 0 s.ensures.rule
-    s.ensures.arg s.ensures.premises c.in_ok-_piece.ensures in
-    gives_more u Old 0 c.args.first 102 0 old new f (omega arith) c.begin-log.ensures.first
+    let come : ComesGiven u old given.Piece 0 f new =
+    comes_given u old s.result.rule s.result.arg s.result.premises f new given.Piece 0
+    s.ensures.rule s.ensures.arg s.ensures.premises c.in_ok-_piece.ensures in
+    gives_more u Old 0 c.args.first given.Piece 0 old new f c.begin-log.ensures.first
     (gives_none u Old c.args.first old c.begin-log.ensures.steps
     (same_steps u c.args.parent.now old.known same)) come

@@ -11,15 +11,16 @@ use Rattle.saturate.specs.derivation.Begun.{FirstHypotheses, FirstLines, gather_
 use Rattle.saturate.specs.derivation.Begun.{gather_hypothesis, gather_line, lines_none, lines_skip}
 use Rattle.saturate.specs.Universes.{setting_of}
 use Rattle.box_trace.specs.declared.known.Known.{Known}
+use Rattle.tree_certificates.specs.cert_checker.declared.given.Given.TheVariants as given
+use Rattle.tree_certificates.specs.cert_checker.Given.{given_number}
 use Rattle.box_trace.specs.Tables.{known_at, step_at}
-use Rattle.box_trace.specs.Logs.{Comes}
 use Rattle.box_trace.specs.Rounds.{IsOfParent, variable_count, most_given, given_before}
 use Rattle.saturate.specs.derivation.Parts.{none_some}
 use Rattle.box_trace.proofs.Counted.{count_variable, count_other, count_all}
 use Rattle.box_trace.proofs.Added.{gives_none, gives_more, gives_slack, no_step}
-use Rattle.box_trace.proofs.Logged.{comes_improves}
-use Rattle.box_trace.proofs.Started.{comes_as, blank_rows, begins_blank, begins_hypothesis}
-use Rattle.box_trace.proofs.Started.{begins_line, begins_slack}
+use Rattle.box_trace.proofs.Logged.{ComesGiven, comes_given, comes_improves}
+use Rattle.box_trace.proofs.Started.{blank_rows, begins_blank, begins_hypothesis, begins_line}
+use Rattle.box_trace.proofs.Started.{begins_slack}
 use Rattle.box_trace.proofs.starts.root_start.Goals as goal
 use Rattle.box_trace.proofs.starts.root_start.Goals.{in-Var+in_ok-_variable, in_default}
 
@@ -48,19 +49,19 @@ loop-k-preserved c =
     let old = c.loop-k.log in
     let new = c.come.new.self in
     let f = c.hypothesis-fact.result in
-    let come : Comes u old 100 c.loop-k.k [] f new =
-    comes_as u old c.given-source.result.rule c.given-source.result.arg
-    c.given-source.result.premises f new 100 c.loop-k.k c.given-source.ensures.rule
-    c.given-source.ensures.arg c.given-source.ensures.premises c.in_ok-_hypothesis.ensures in
-    let i = comes_improves u old new 100 c.loop-k.k [] f
+    let s = c.given-source in
+    let come : ComesGiven u old given.Hypothesis c.loop-k.k f new =
+    comes_given u old s.result.rule s.result.arg s.result.premises f new given.Hypothesis c.loop-k.k
+    s.ensures.rule s.ensures.arg s.ensures.premises c.in_ok-_hypothesis.ensures in
+    let i = comes_improves u old new (given_number given.Hypothesis) c.loop-k.k [] f
     c.loop-k.invariant.begins.rows.proper come in
     record {
       gathered = gather_hypothesis (setting_of u) c.loop-k.k (known_at u old.known)
           (known_at u new.known) f i.0 c.hypothesis-fact.ensures c.loop-k.invariant.gathered i.1;
       begins = begins_hypothesis u c.args.first c.loop-k.k old new f c.hypothesis-fact.ensures
           c.loop-k.invariant.begins come;
-      gives = gives_more u (IsOfParent u None) c.loop-k.k c.args.first 100 c.loop-k.k old new f
-          (omega arith) c.loop-k.invariant.begins.first_is c.loop-k.invariant.gives come;
+      gives = gives_more u (IsOfParent u None) c.loop-k.k c.args.first given.Hypothesis c.loop-k.k
+          old new f c.loop-k.invariant.begins.first_is c.loop-k.invariant.gives come;
     }
 
 pub loop-n-init : goal.loop-n-init
@@ -91,12 +92,14 @@ loop-n-preserved c =
           let there = e ∙ ap Some w.in-Var.is in
           let s = w.given-origin in
           let f : Fact = fact.Bnd (record { 0 = c.loop-n.n }) whole_interval in
-          let came = comes_as u old s.result.rule s.result.arg s.result.premises
-          (fact.Bnd (record { 0 = c.loop-n.n }) w.whole.result) new 101 0 s.ensures.rule
+          let came = comes_given u old s.result.rule s.result.arg s.result.premises
+          (fact.Bnd (record { 0 = c.loop-n.n }) w.whole.result) new given.Variable 0 s.ensures.rule
           s.ensures.arg s.ensures.premises w.in_ok-_variable.ensures in
-          let come : Comes u old 101 0 [] f new = subst (λ (i : Interval). Comes u old 101 0 []
+          let come : ComesGiven u old given.Variable 0 f new =
+          subst (λ (i : Interval). ComesGiven u old given.Variable 0
           (fact.Bnd (record { 0 = c.loop-n.n }) i) new) w.whole.ensures.is came in
-          let i = comes_improves u old new 101 0 [] f c.loop-n.invariant.begins.rows.proper come in
+          let i = comes_improves u old new (given_number given.Variable) 0 [] f
+          c.loop-n.invariant.begins.rows.proper come in
           rw w.log-is (record {
             gathered = gather_line (setting_of u) c.loop-n.n w.in-Var.field-0 (known_at u old.known)
                 (known_at u new.known) i.0 there c.loop-n.invariant.gathered i.1;
@@ -109,9 +112,9 @@ loop-n-preserved c =
                 let m = variable_count (take (c.loop-n.n + 1) u.nodes) in
                 gives_slack u (IsOfParent u None) (length u.hypotheses + n + 1)
                 (length u.hypotheses + m) c.args.first new (omega (arith, q))
-                (gives_more u (IsOfParent u None) (length u.hypotheses + n) c.args.first 101 0 old
-                new f (omega arith) c.loop-n.invariant.begins.first_is c.loop-n.invariant.gives
-                come));
+                (gives_more u (IsOfParent u None) (length u.hypotheses + n) c.args.first
+                given.Variable 0 old new f c.loop-n.invariant.begins.first_is
+                c.loop-n.invariant.gives come));
           }))
       | in_default w ↦
           rw w.log-is (record {

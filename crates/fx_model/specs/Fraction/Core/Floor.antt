@@ -23,7 +23,8 @@ abbrev pub FloorRatio : Ratio → ℤ → Type 0
 FloorRatio x z = (up z * x.den + x.minus ≤ x.plus + down z * x.den)
     × (x.plus + down z * x.den < x.minus + up z * x.den + x.den)
 
-div_bounds : (n d : ℕ) → 0 < d → (n / d * d ≤ n) × (n < n / d * d + d)
+-- a quotient times its divisor is at most the number, and less than a divisor below it
+pub div_bounds : (n d : ℕ) → 0 < d → (n / d * d ≤ n) × (n < n / d * d + d)
 div_bounds n d h = let e = div-add-mod' n d in let l = mod_below n d h in (omega arith, omega arith)
 
 floor_at : (x : Ratio) (b : Bool) → leb x.minus x.plus ≡ b → FloorRatio x (cond b

@@ -1,7 +1,7 @@
 use Rattle.std.proofs.Common.{◌≡◌, ◌+◌, ℕ, zero, suc, List, [], ◌∷◌, ◌++◌, Some, slice_get, map}
 use Rattle.std.proofs.Common.{take, sym, ap, ◌∙◌, arith}
 use Rattle.script_meets.specs.script_grammar.Cases.{cases_of}
-use Rattle.script_checker.specs.Subjects as spec
+use Rattle.script_meets.specs.script_claims.Facts as spec
 use Rattle.script_checker.proofs.cases.facts_of_cases.Goals as goal
 
 take_get : {X : Type 0} (xs : List X) (k : ℕ) (x : X) → slice_get xs k ≡ Some x

@@ -2,10 +2,10 @@ use Rattle.std.specs.Prelude.{◌≡◌, ◌≤◌, ◌+◌, [], ◌∷◌, Some
 use Rattle.std.specs.List.{AllByRecursion}
 use Rattle.std.proofs.Common.{arith, sym, ◌∙◌, ap, subst, refl}
 use Rattle.std.proofs.lemmas.Option.{slice_get-get_or}
-use Rattle.case_trees.specs.script_claims.Facts.{HasNormalBounds}
+use Rattle.case_trees.specs.script_claims.Facts.{HasNormalBounds, facts_of}
 use Rattle.saturate.specs.rule_universe.Assumed.{assuming}
 use Rattle.script_truths.specs.universe.Cases.{AreHypotheses}
-use Rattle.script_truths.specs.universe.Universes.{IsUniverse, facts_of}
+use Rattle.script_truths.specs.universe.Universes.{IsUniverse}
 use Rattle.case_trees.specs.box_tree.Plans.{cut_at}
 use Rattle.case_trees.specs.bisect.Trees.{tree_of}
 use Rattle.case_trees.specs.declared.outcome.CaseOutcome.TheVariants as cases

@@ -8,7 +8,8 @@ use Rattle.box_deques.specs.Seen as seen
 use Rattle.box_deques.specs.Seen.{AllPasses, GaveBack, takes_on}
 use Rattle.box_deques.proofs.Steps.{tells}
 use Rattle.box_deques.proofs.Emptied.{takes_on_length}
-use Rattle.box_deques.proofs.Ended.{own_below, all_below, counted, history_is, gave_back, back_whole}
+use Rattle.box_deques.proofs.Ended.{own_below, all_below, counted, history_is, gave_back}
+use Rattle.box_deques.proofs.Ended.{back_whole}
 use Rattle.box_deques.proofs.Ended.{is_ledger}
 use Rattle.std.proofs.lemmas.List.{length-map}
 use Rattle.box_deques.specs.declared.rule.PlacedTask.{PlacedTask}
@@ -93,13 +94,15 @@ returns-clause-ledger g c =
     let into : List Gone = c.write_all.new.into in
     let xs : List Gone = c.as_mut_slice.result.now in
     let wrote : into ≡ writes_all 0 v.back (writes lane.number v.takes xs) = c.write_all.ensures
-    ∙ ap (λ n. writes_all 0 (takes_on n c.collect.new.hands) (writes n c.as_slice.result.now xs)) num
+    ∙ ap (λ n. writes_all 0 (takes_on n c.collect.new.hands)
+    (writes n c.as_slice.result.now xs)) num
     ∙ ap (λ l. writes_all 0 l (writes lane.number c.as_slice.result.now xs)) gave
     ∙ ap (λ l. writes_all 0 v.back (writes lane.number l xs)) takes in
     let held : c.fill.new.takes.len ≡ length into = (let a = c.write_all.auto.into in let b :
     length xs ≡ c.fill.new.takes.len = search rules in omega arith) in
-    let final : take c.fill.new.takes.len (into ++ drop (length into) c.fill.new.takes.items) ≡ into =
-    back_whole into (drop (length into) c.fill.new.takes.items) c.fill.new.takes.len held in
+    let ys : List Gone = drop (length into) c.fill.new.takes.items in
+    let final : take c.fill.new.takes.len (into ++ ys) ≡ into =
+    back_whole into ys c.fill.new.takes.len held in
     let left : c.drain.new.paths.items ≡ drop (length v.takes + sum_by length v.back) v.pushed =
     c.drain.ensures.paths ∙ ap (λ (x : View).
     drop (length x.takes + sum_by length x.back) x.pushed) c.len_as-n.ensures.same.2 in

@@ -1,11 +1,9 @@
-use Rattle.std.proofs.Common.{◌≡◌, sym, ◌∙◌, subst, arith, vec_len, Vec, ◌<◌, length, [], ◌∷◌}
+use Rattle.std.proofs.Common.{sym, ◌∙◌, subst, arith, ◌<◌, length, [], ◌∷◌}
 use Rattle.std.proofs.lemmas.List.{length-append}
 use Rattle.script_cases.specs.Parts as spec
 use Rattle.script_cases.proofs.Pushed.{part_marks, part_parts}
+use Rattle.script_cases.proofs.Lengths.{long}
 use Rattle.script_cases.proofs.parts.Parts.end_part.Goals as goal
-
-long : {X Z : Type 0} (v : Vec X Z) → vec_len v ≡ length v.items
-long v = omega (arith, v.ok.0)
 
 -- behind a conjunction that has ended, the part in hand has one
 has_one : {X : Type 0} (p : spec.Parts X) → 0 < length (spec.behind_or p).ended

@@ -1,11 +1,8 @@
-use Rattle.std.proofs.Common.{◌≡◌, sym, ap, ◌∙◌, arith, vec_len, Vec, length, ◌-◌}
+use Rattle.std.proofs.Common.{sym, ap, ◌∙◌, arith, length, ◌-◌}
 use Rattle.script_cases.specs.Marks.{start_at}
-use Rattle.script_cases.proofs.Lengths.{start_within, length_left}
+use Rattle.script_cases.proofs.Lengths.{start_within, length_left, long}
 use Rattle.script_cases.proofs.Pieces.{length_pieces}
 use Rattle.script_cases.proofs.parts.Parts.ended_count.Goals as goal
-
-long : {X Z : Type 0} (v : Vec X Z) → vec_len v ≡ length v.items
-long v = omega (arith, v.ok.0)
 
 pub overflow_sub-result : goal.overflow_sub-result
 overflow_sub-result g c =

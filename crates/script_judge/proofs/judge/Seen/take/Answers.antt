@@ -1,6 +1,6 @@
 use Rattle.std.proofs.Common.{◌≡◌, ◌≤◌, ◌∙◌, sym, ap, subst}
 use Rattle.std.specs.Option.{option_map, option_copied}
-use Rattle.bound_order.specs.literal_order.Values.{written_value}
+use Rattle.script_bounds.specs.literal_order.Values.{written_value}
 use Rattle.script_shape.specs.script_words.Named.{word_of}
 use Rattle.script_judge.specs.Bounds.{BoundsSeen, bounds_after}
 use Rattle.script_judge.specs.Counts.{counts_after}

@@ -1,8 +1,8 @@
 use Rattle.std.proofs.Common.{◌≡◌, ◌++◌, map, length}
 use Rattle.std.specs.List.{AllByRecursion}
-use Rattle.script_meets.specs.script_claims.Facts.{HasNormalBounds}
-use Rattle.script_checker.specs.Subjects as spec
-use Rattle.script_checker.proofs.claims.goals_of.Given as goal
+use Rattle.script_claims.specs.Facts as spec
+use Rattle.script_claims.specs.Facts.{HasNormalBounds}
+use Rattle.script_claims.proofs.claims.goals_of.Given as goal
 
 abbrev pub invariant-loop-claims : goal.invariant-loop-claims
 invariant-loop-claims l = record {

@@ -6,8 +6,8 @@ ghost use Rattle.literal_order.specs.fx_model.Fraction.{Fraction};
 ghost use Rattle.literal_order.specs.dyadic.Ends.{bound_of};
 ghost use Rattle.literal_order.specs.dyadic.Values.{value_of as grid_value};
 ghost use Rattle.literal_order.specs.Values.{written_value, IsWritten};
-ghost use Rattle.bound_order.specs.Texts.{IsNumber};
-ghost use Rattle.bound_order.specs.Tests as spec;
+ghost use Rattle.script_bounds.specs.Texts.{IsNumber};
+ghost use Rattle.script_bounds.specs.Tests as spec;
 
 use facts::RelativeError;
 use literal_order::{Dyadic, End, Written, read_bytes};

@@ -1,12 +1,11 @@
-//! What a script's claims give.
-
+//! What the claims of a list give.
 ghost use Rattle.std.specs.Prelude.{◌≡◌, map, IfOk};
 ghost use Rattle.std.specs.List.{AllByRecursion};
-ghost use Rattle.script_grammar.specs.script_claims.Facts.{HasNormalBounds};
-ghost use Rattle.universe.specs.Universes as spec;
+ghost use Rattle.script_claims.specs.Facts as spec;
+ghost use Rattle.script_claims.specs.Facts.{HasNormalBounds};
 
-use rule_universe::{Fact, Goal};
-use script_grammar::Claim;
+use crate::claim::Claim;
+use goals::{Fact, Goal};
 use std::alloc::{AllocError, Global};
 
 /// One goal for each claim, in their order; an error only where memory runs out.

@@ -9,7 +9,7 @@ use Rattle.literal_order.specs.literal.declared.reading.LiteralFault.{LiteralFau
 use Rattle.literal_order.specs.literal.declared.reading.LiteralFault.TheVariants as fault
 use Rattle.literal_order.specs.literal.Spelling.{Spelling, Spells, IsLiteral, IsWithin, written}
 use Rattle.literal_order.specs.literal.Normal.{IsReading, IsPastLimits}
-use Rattle.bound_order.specs.Texts.{IsNumber}
+use Rattle.script_bounds.specs.Texts.{IsNumber}
 
 abbrev failed : LiteralFault → Result Literal LiteralFault
 failed f = Err f

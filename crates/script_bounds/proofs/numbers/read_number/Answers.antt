@@ -1,5 +1,5 @@
-use Rattle.bound_order.proofs.Readings.{within_limits, past_limits}
-use Rattle.bound_order.proofs.bound.read_number.Goals as goal
+use Rattle.script_bounds.proofs.Readings.{within_limits, past_limits}
+use Rattle.script_bounds.proofs.numbers.read_number.Goals as goal
 
 pub returns-in-Ok-clause-value : goal.returns-in-Ok-clause-value
 returns-in-Ok-clause-value c = within_limits c.args.negative c.args.text.now c.in-Ok.ensures.one
