@@ -74,6 +74,7 @@ pub fn visit<'a, S: Settler>(
     plan: &Plan,
     path: Path,
     parent: Option<&'a S::Entry>,
+    area: &mut S::Area,
     walk: &mut Walk,
 ) -> Result<bool, AllocError>
     requires plan { (p : List ℕ) → cut_at plan.now p ≡ S.Entry.cut_at p }
@@ -93,11 +94,19 @@ pub fn visit<'a, S: Settler>(
     if walk.boxes == walk.limit {
         return Ok(false);
     }
-    let Verdict { entry, state } = settler.settle(alloc, &path, parent)?;
+    let Verdict { entry, state } = settler.settle(alloc, &path, parent, area)?;
     let count = children(plan.cut(&path), &state);
     walk.see(path, state, count)?;
     for i in 0..count {
-        if !visit(alloc, settler, plan, path.child(i), Some(&entry), walk)? {
+        if !visit(
+            alloc,
+            settler,
+            plan,
+            path.child(i),
+            Some(&entry),
+            area,
+            walk,
+        )? {
             return Ok(false);
         }
     }
@@ -122,7 +131,16 @@ pub fn run_alone<S: Settler>(
         leaves: Vec::new(alloc),
     };
     let parent: Option<&S::Entry> = None;
-    if !visit(alloc, settler, plan, Path::root(), parent, &mut walk)? {
+    let mut area = settler.area(alloc);
+    if !visit(
+        alloc,
+        settler,
+        plan,
+        Path::root(),
+        parent,
+        &mut area,
+        &mut walk,
+    )? {
         return Ok(Outcome::BoxLimit);
     }
     match walk.first {

@@ -46,6 +46,12 @@ pub trait Settler: Sync {
     /// What is posted of a box that is settled.
     type Entry: Posted;
 
+    /// Memory that a thread keeps from box to box; what it holds doesn't matter.
+    type Area: Drop;
+
+    /// An area that has asked for no memory yet.
+    fn area(&self, alloc: Global) -> Self::Area;
+
     /// Settles the box at the path, which is one of the plan. The parent is the entry of the path
     /// without its last number; there is none at the root. Lack of memory is the only error.
     fn settle(
@@ -53,6 +59,7 @@ pub trait Settler: Sync {
         alloc: Global,
         path: &Path,
         parent: Option<&Self::Entry>,
+        area: &mut Self::Area,
     ) -> Result<Verdict<Self::Entry>, AllocError>
         requires path { IsPathOf (λ p. piece_count (Self.Entry.cut_at p)) path.now }
         requires parent { MatchOption parent (path.now ≡ [])

@@ -78,6 +78,7 @@ pub(crate) fn finish_box<S: Settler, G: Gate, Q: Naming<Board<S::Entry>>, R: Wai
     site: &Site<'_, S, G>,
     lane: &mut Lane<BoxTask<S::Entry>, Q>,
     task: BoxTask<S::Entry>,
+    area: &mut S::Area,
 ) -> Fate<S::Entry>
     requires world { Q.world ≡ Some site.now }
     requires task { MatchOption task.parent (Unit {0}) (λ s. s.board ≡ site.now) }
@@ -85,7 +86,7 @@ pub(crate) fn finish_box<S: Settler, G: Gate, Q: Naming<Board<S::Entry>>, R: Wai
         lane.old lane.new task result }
 {
     let path = task.path;
-    let Ok(Verdict { entry, state }) = site.settle(&task) else {
+    let Ok(Verdict { entry, state }) = site.settle(&task, area) else {
         return Fate::Held(Held {
             task,
             own: None,

@@ -50,6 +50,7 @@ fn enter<S: Settler, G: Gate, Q: Naming<Board<S::Entry>>, R: Wait>(
     site: &Site<'_, S, G>,
     lane: &mut Lane<BoxTask<S::Entry>, Q>,
     task: BoxTask<S::Entry>,
+    area: &mut S::Area,
     done: &mut Record<S::Entry>,
 )
     requires world { Q.world ≡ Some site.now }
@@ -62,7 +63,7 @@ fn enter<S: Settler, G: Gate, Q: Naming<Board<S::Entry>>, R: Wait>(
         done.new.split.items done.new.held }
 {
     let fate = match done.make_room() {
-        Ok(()) => finish_box(rt, site, lane, task),
+        Ok(()) => finish_box(rt, site, lane, task, area),
         Err(_) => Fate::Held(Held {
             task,
             own: None,
@@ -95,6 +96,7 @@ pub fn work_at<S: Settler, G: Gate, Q: Naming<Board<S::Entry>>, R: Wait>(
         × All (RoseAt hand.old hand.new) thieves.now) }
 {
     let mut done = site.no_record();
+    let mut area = site.area();
     let mut idle: u64 = 0;
     for _ in rt.forever() {
         let Some(task) = next_box(rt, lane, thieves, hand) else {
@@ -106,7 +108,7 @@ pub fn work_at<S: Settler, G: Gate, Q: Naming<Board<S::Entry>>, R: Wait>(
             continue;
         };
         idle = 0;
-        enter(rt, site, lane, task, &mut done);
+        enter(rt, site, lane, task, &mut area, &mut done);
         if done.held.is_some() {
             return done;
         }

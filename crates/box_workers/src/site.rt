@@ -69,7 +69,11 @@ impl<'a, S: Settler, G: Gate> Site<'a, S, G> {
     }
 
     // Settles the box of the task, from its parent's entry on the board.
-    pub(crate) fn settle(&self, task: &BoxTask<S::Entry>) -> Result<Verdict<S::Entry>, AllocError>
+    pub(crate) fn settle(
+        &self,
+        task: &BoxTask<S::Entry>,
+        area: &mut S::Area,
+    ) -> Result<Verdict<S::Entry>, AllocError>
         requires { MatchOption task.now.parent (Unit {0}) (λ s. s.board ≡ self.now) }
         ensures entry { IfOk result (λ v. S.Entry.path_of v.entry ≡ task.now.path) }
         ensures state { IfOk result (λ v. v.state ≡ S.Entry.state_at task.now.path) }
@@ -79,9 +83,14 @@ impl<'a, S: Settler, G: Gate> Site<'a, S, G> {
             Some(token) => Some(self.board.read(token)),
             None => None,
         };
-        let verdict = self.settler.settle(self.alloc, &task.path, parent);
+        let verdict = self.settler.settle(self.alloc, &task.path, parent, area);
         self.gate.leave(&task.path);
         verdict
+    }
+
+    // An area for one worker.
+    pub(crate) fn area(&self) -> S::Area {
+        self.settler.area(self.alloc)
     }
 
     // A second token of an entry of the board.
@@ -173,7 +182,16 @@ impl<'a, S: Settler, G: Gate> Site<'a, S, G> {
             Some(token) => Some(self.board.read(token)),
             None => None,
         };
-        visit(self.alloc, self.settler, self.plan, path, parent, walk)
+        let mut area = self.area();
+        visit(
+            self.alloc,
+            self.settler,
+            self.plan,
+            path,
+            parent,
+            &mut area,
+            walk,
+        )
     }
 
     // Into how many pieces the box is cut.

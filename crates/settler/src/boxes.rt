@@ -19,8 +19,8 @@ use case_trees::{Plan, Settler, State, Verdict};
 use fx_edge::{Items, Path};
 use fx_model::ExprId;
 use saturate::{
-    Fact, Goal, Interval, Settled, Table, Universe, best_tables_exist, boxes_come_to_one_state,
-    rules_are_lawful, settle, settling_facts,
+    Area, Fact, Goal, Interval, Settled, Table, Universe, best_tables_exist,
+    boxes_come_to_one_state, rules_are_lawful, settle_in, settling_facts,
 };
 use std::alloc::{AllocError, Global};
 use std::marker::{Model, PhantomData};
@@ -148,6 +148,7 @@ impl<'a, F: Frame> Boxes<'a, F> {
         alloc: Global,
         path: &Path,
         parent: Option<&Entry<F>>,
+        area: &mut Area,
     ) -> Result<Settled, AllocError>
         requires path { IsPathOf (λ p. piece_count (cut_at F.plan p)) path.now }
         requires parent { MatchOption parent (path.now ≡ []) (λ e. IsChild e.now path.now) }
@@ -159,7 +160,7 @@ impl<'a, F: Frame> Boxes<'a, F> {
         ensures marked { IfOk result (λ r. IsMarked (setting_of F.universe) (table_of r)) }
     {
         let (piece, table) = self.given(path, parent);
-        settle(alloc, self.universe, piece, table, self.rounds)
+        settle_in(alloc, self.universe, piece, table, self.rounds, area)
     }
 
     // The verdict on the box at the path, which comes to this.
@@ -194,13 +195,20 @@ impl<'a, F: Frame> Boxes<'a, F> {
 impl<'a, F: Frame + Send + Sync> Settler for Boxes<'a, F> {
     type Entry = Entry<F>;
 
+    type Area = Area;
+
+    fn area(&self, alloc: Global) -> Area {
+        Area::new(alloc)
+    }
+
     fn settle(
         &self,
         alloc: Global,
         path: &Path,
         parent: Option<&Entry<F>>,
+        area: &mut Area,
     ) -> Result<Verdict<Entry<F>>, AllocError> {
-        let settled = self.settled(alloc, path, parent)?;
+        let settled = self.settled(alloc, path, parent, area)?;
         self.verdict(alloc, *path, settled)
     }
 }

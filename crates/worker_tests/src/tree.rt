@@ -82,11 +82,16 @@ pub fn is_front(path: &[u8], numbers: &[u8]) -> bool
 impl<W: World> Settler for TwoWays<W> {
     type Entry = Spot<W>;
 
+    type Area = ();
+
+    fn area(&self, _alloc: Global) {}
+
     fn settle(
         &self,
         alloc: Global,
         path: &Path,
         _parent: Option<&Spot<W>>,
+        _area: &mut (),
     ) -> Result<Verdict<Spot<W>>, AllocError> {
         let before = self.calls.fetch_add(1, Ordering::SeqCst);
         if before == self.refused {
