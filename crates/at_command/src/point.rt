@@ -1,6 +1,6 @@
 // The status and the lines for a script and a point.
-ghost use Rattle.std.specs.Prelude.{◌≡◌, ◌≤◌, ℕ, List, IfOk, IsErrOf};
-ghost use Rattle.fx_edge.specs.Outside.{Rose};
+ghost use Rattle.std.specs.Prelude.{IfOk, IsErrOf};
+ghost use Rattle.fx_edge.specs.OnlyReads.{OnlyReads};
 ghost use Rattle.point_text.specs.script_grammar.Spells.{View, Spells};
 ghost use Rattle.point_text.specs.point_eval.Points.{AreRowsOf};
 ghost use Rattle.at_command.specs.Told.{AtPrints, PointTells, RowsTell};
@@ -58,10 +58,7 @@ fn script_at<F: Folder>(
 ) -> Result<(Status, Vec<u8>), ReadStop>
     ensures prints { IfOk result (λ r.
         AtPrints script.now.text (F.told folder.old name.now) r.0 r.1.items) }
-    ensures told { (other : List ℕ) → F.told folder.new other ≡ F.told folder.old other }
-    ensures later { F.read_faults folder.old ≤ F.read_faults folder.new }
-    ensures cause { IsErrOf result ReadStop.Fault
-        → Rose (F.read_faults folder.old) (F.read_faults folder.new) }
+    ensures only_reads { OnlyReads F.Folder folder.old folder.new (IsErrOf result ReadStop.Fault) }
 {
     script.laws();
     let text = match read_text(alloc, folder, name, MOST) {
@@ -86,10 +83,7 @@ pub fn at_answer<F: Folder>(
     ensures prints { IfOk result (λ r.
         AtPrints text.now (F.told folder.old name.now) r.0 r.1.items) }
     ensures script { IsErrOf result ReadStop.Fault → (s : View) × Spells text.now s }
-    ensures told { (other : List ℕ) → F.told folder.new other ≡ F.told folder.old other }
-    ensures later { F.read_faults folder.old ≤ F.read_faults folder.new }
-    ensures cause { IsErrOf result ReadStop.Fault
-        → Rose (F.read_faults folder.old) (F.read_faults folder.new) }
+    ensures only_reads { OnlyReads F.Folder folder.old folder.new (IsErrOf result ReadStop.Fault) }
 {
     match parse(alloc, text) {
         Ok(script) => script_at(alloc, &script, name, folder),

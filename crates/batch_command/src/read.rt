@@ -1,5 +1,6 @@
 // The texts of a list's names.
-ghost use Rattle.std.specs.Prelude.{◌≡◌, ◌≤◌, ℕ, List, IfOk, map, string_bytes};
+ghost use Rattle.std.specs.Prelude.{IfOk, map, string_bytes};
+ghost use Rattle.fx_edge.specs.OnlyReads.{OnlyReads};
 ghost use Rattle.fx_edge.specs.Outside.{Rose};
 ghost use Rattle.batch_command.specs.Told.{AreTexts};
 
@@ -28,8 +29,7 @@ pub fn read_scripts<F: Folder>(
 ) -> Result<Texts, AllocError>
     ensures texts { IfOk result (AreTexts (F.told folder.old)
         (Rose (F.read_faults folder.old) (F.read_faults folder.new)) (map string_bytes names.now)) }
-    ensures told { (other : List ℕ) → F.told folder.new other ≡ F.told folder.old other }
-    ensures later { F.read_faults folder.old ≤ F.read_faults folder.new }
+    ensures only_reads { OnlyReads F.Folder folder.old folder.new ⊥ }
 {
     let mut texts = Vec::new(alloc);
     for name in names {

@@ -1,5 +1,6 @@
 // The command.
-ghost use Rattle.std.specs.Prelude.{◌≡◌, ◌≤◌, ◌<◌, ℕ, List, IfOk, length, map, string_bytes};
+ghost use Rattle.std.specs.Prelude.{◌≡◌, ◌≤◌, IfOk, length, map, string_bytes};
+ghost use Rattle.fx_edge.specs.OnlyReads.{OnlyReads};
 ghost use Rattle.fx_edge.specs.Outside.{Rose};
 ghost use Rattle.command_line.specs.Batch.{AreInBatchRange, batch_of};
 ghost use Rattle.command_runs.specs.Runs.{run, seen};
@@ -54,8 +55,7 @@ fn prove_scripts<F: Folder, G: Gate, R: Threads + Wait + Sync>(
     ensures prints { IfOk result (λ r. ScriptsPrint
         (Rose (F.read_faults folder.old) (F.read_faults folder.new))
         (options_from options) (F.told folder.old) (map string_bytes names.now) r.0 r.1.items) }
-    ensures told { (other : List ℕ) → F.told folder.new other ≡ F.told folder.old other }
-    ensures later { F.read_faults folder.old ≤ F.read_faults folder.new }
+    ensures only_reads { OnlyReads F.Folder folder.old folder.new ⊥ }
 {
     match read_scripts(alloc, folder, names)? {
         Texts::Unread(line) => Ok((Status::ReadFault, line)),
@@ -78,7 +78,7 @@ fn batch<F: Folder, G: Gate, R: Threads + Wait + Sync>(
     ensures prints { IfOk result (λ r.
         Prints (Rose (F.read_faults folder.old) (F.read_faults folder.new))
         (batch_of request.entry) (F.told folder.old) r.0 r.1.items) }
-    ensures told { (other : List ℕ) → F.told folder.new other ≡ F.told folder.old other }
+    ensures only_reads { OnlyReads F.Folder folder.old folder.new ⊥ }
 {
     fronts_decide();
     let text = match read_text(alloc, folder, request.list, MOST) {

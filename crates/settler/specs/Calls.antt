@@ -21,3 +21,9 @@ abbrev pub AnswersTrees : {E : Type 0} → ℕ
 AnswersTrees {E} rounds Post = (u : Bor World) (plan : Bor PlanParts) (boxes : ℕ)
     (r : Result Outcome E) → Post u plan boxes r
     → IfOk r (IsAnswer (tree_of (cut_at plan.now) (state_at u.now plan.now rounds)) boxes)
+
+-- The call answers trees: it may be called, and gives their answers.
+pub record IsAnswerer {E : Type 0} (rounds : ℕ) (Pre : Bor World → Bor PlanParts → ℕ → Type 0)
+    (Post : Bor World → Bor PlanParts → ℕ → Result Outcome E → Type 0) : Type 0 where
+  pub can : CanAnswer Pre
+  pub answers : AnswersTrees rounds Post

@@ -9,7 +9,7 @@ ghost use Rattle.case_trees.specs.bisect.Trees.{tree_of};
 ghost use Rattle.case_trees.specs.bisect.Answers.{IsAnswer};
 ghost use Rattle.case_trees.specs.Answers.{IsAnswerOfAll};
 ghost use Rattle.settler.specs.Answers.{ComesTo, options};
-ghost use Rattle.settler.specs.Calls.{AnswersTrees, CanAnswer};
+ghost use Rattle.settler.specs.Calls.{IsAnswerer};
 ghost use Rattle.settler.specs.Cases.{AreCases, trees_in};
 ghost use Rattle.settler.specs.Decided.{state_at};
 ghost use Rattle.settler.specs.Frames.{Fits};
@@ -118,8 +118,7 @@ fn answered<A: Fn(&Universe, &Plan, u32) -> Result<Outcome, AllocError>>(
     rounds: u8,
     boxes: u32,
 ) -> Result<Outcome, AllocError>
-    requires can { CanAnswer (A.pre answer_tree.now) }
-    requires answers { AnswersTrees rounds (A.post answer_tree.now) }
+    requires answers { IsAnswerer rounds (A.pre answer_tree.now) (A.post answer_tree.now) }
     requires fits { Fits universe.now plan.now }
     requires boxes { (1 ≤ boxes) × (boxes ≤ 8192) }
     ensures { IfOk result (IsAnswer
@@ -141,8 +140,7 @@ fn answer_cases<A: Fn(&Universe, &Plan, u32) -> Result<Outcome, AllocError>>(
     rounds: u8,
     boxes: u32,
 ) -> Result<CaseOutcome, AllocError>
-    requires can { CanAnswer (A.pre answer_tree.now) }
-    requires answers { AnswersTrees rounds (A.post answer_tree.now) }
+    requires answers { IsAnswerer rounds (A.pre answer_tree.now) (A.post answer_tree.now) }
     requires universe { (before : List Claim) × IsUniverse script.now before universe.old }
     requires cases { (depth : ℕ)
         × ((claims : List (List Claim)) × AreCases script.now depth claims cases.now) }
@@ -180,8 +178,7 @@ fn answer_by<A: Fn(&Universe, &Plan, u32) -> Result<Outcome, AllocError>>(
     depth: u8,
     boxes: u32,
 ) -> Result<CaseOutcome, AllocError>
-    requires can { CanAnswer (A.pre answer_tree.now) }
-    requires answers { AnswersTrees rounds (A.post answer_tree.now) }
+    requires answers { IsAnswerer rounds (A.pre answer_tree.now) (A.post answer_tree.now) }
     requires universe { (before : List Claim) × IsUniverse script.now before universe.old }
     requires small { ¬ IsTooLarge script.now }
     requires cases { AreCases script.now depth (cases_of script.now) cases.now }

@@ -3,6 +3,8 @@ use Rattle.std.specs.Prelude.{◌≡◌, ◌<◌, ◌≤◌, ◌==◌, ℕ, leng
 use Rattle.std.specs.Prelude.{Option, Some, None, if◌then◌else◌, slice_get, refl}
 use Rattle.std.specs.List.{AllByRecursion}
 use Rattle.std.proofs.Common.{arith}
+use Rattle.std.proofs.Math.Dec.{ltb}
+use Rattle.std.proofs.lemmas.Bool.{ltb-true}
 use Rattle.fx_model.specs.Expression.{IsOrdered}
 use Rattle.fx_model.specs.declared.Node.{Node}
 use Rattle.derivation.specs.facts.declared.fact.Fact.{Fact}
@@ -194,8 +196,24 @@ number_low (r ∷ rules) n h nodes premises target f e =
         let d : n ≡ r.0 = grind (arith, q) in omega (arith, l, d)
     by_test false q e later = later e
 
+-- whether all their numbers are low
+abbrev are_low : List (ℕ × Rule) → Bool
+are_low [] = true
+are_low (r ∷ rules) = if ltb r.0 (given_number Hypothesis) then are_low rules else false
+
+all_low : (rules : List (ℕ × Rule)) → are_low rules ≡ true → AllByRecursion (λ e. IsLow e.0) rules
+all_low [] h = tt
+all_low (r ∷ rules) h = by_test (ltb r.0 (given_number Hypothesis)) refl h (λ w. all_low rules w)
+  where
+    by_test : (b : Bool) → ltb r.0 (given_number Hypothesis) ≡ b
+        → (if b then are_low rules else false) ≡ true
+        → (are_low rules ≡ true → AllByRecursion (λ e. IsLow e.0) rules)
+        → AllByRecursion (λ e. IsLow e.0) (r ∷ rules)
+    by_test true e h later = (ltb-true r.0 (given_number Hypothesis) e, later h)
+    by_test false e h later = cc
+
 listed_low : AllByRecursion (λ e. IsLow e.0) listed
-listed_low = (omega arith, (omega arith, (omega arith, (omega arith, (omega arith, (omega arith, (omega arith, (omega arith, (omega arith, (omega arith, (omega arith, (omega arith, (omega arith, (omega arith, (omega arith, (omega arith, (omega arith, (omega arith, (omega arith, (omega arith, (omega arith, (omega arith, (omega arith, (omega arith, (omega arith, (omega arith, (omega arith, (omega arith, (omega arith, (omega arith, (omega arith, (omega arith, (omega arith, (omega arith, (omega arith, (omega arith, (omega arith, (omega arith, (omega arith, (omega arith, (omega arith, (omega arith, (omega arith, (omega arith, (omega arith, (omega arith, (omega arith, (omega arith, (omega arith, (omega arith, (omega arith, (omega arith, (omega arith, (omega arith, (omega arith, (omega arith, (omega arith, (omega arith, (omega arith, tt)))))))))))))))))))))))))))))))))))))))))))))))))))))))))))
+listed_low = all_low listed refl
 
 pub list_numbered_low : (nodes : List Node) (hints : List HintRow)
     → IsNumberedLow (concludes nodes hints)

@@ -1,6 +1,6 @@
 // Whole texts read from a folder.
-ghost use Rattle.std.specs.Prelude.{◌≡◌, ◌≤◌, ℕ, List, IfOk, IsErrOf};
-ghost use Rattle.fx_edge.specs.Outside.{Rose};
+ghost use Rattle.std.specs.Prelude.{◌≡◌, IfOk, IsErrOf};
+ghost use Rattle.fx_edge.specs.OnlyReads.{OnlyReads};
 ghost use Rattle.whole_texts.specs.Texts.{IsText};
 ghost use Rattle.whole_texts.specs.declared.read.ReadStop.TheVariants.{Fault, OutOfMemory};
 
@@ -43,11 +43,7 @@ pub fn read_text<F: Folder>(
     most: usize,
 ) -> Result<Vec<u8>, ReadStop>
     ensures text { IfOk result (λ text. IsText most (F.told folder.old name.now) text.items) }
-    ensures told { (other : List ℕ) → F.told folder.new other ≡ F.told folder.old other }
-    ensures later { F.read_faults folder.old ≤ F.read_faults folder.new }
-    ensures cause { IsErrOf result ReadStop.Fault
-        → Rose (F.read_faults folder.old) (F.read_faults folder.new) }
-    ensures quiet { F.write_faults folder.new ≡ F.write_faults folder.old }
+    ensures only_reads { OnlyReads F.Folder folder.old folder.new (IsErrOf result ReadStop.Fault) }
 {
     let mut text = Vec::new(alloc);
     let mut buffer = [0u8; PIECE];

@@ -12,6 +12,7 @@ pub returns-in-Ok-at_answer : goal.returns-in-Ok-at_answer
 returns-in-Ok-at_answer g c = record {
   run =
       let f = g.F.Folder in
+      let reads = c.in-Ok.ensures.only_reads in
       let o = g.O.Sink in
       let a = at_of c.args.request in
       let here = c.args.folder.now in
@@ -26,9 +27,9 @@ returns-in-Ok-at_answer g c = record {
       (f.write_faults there) (o.faults c.print.new.out) in
       let r : Run = run before after c.print.result in
       put_is c.at_answers_are_one.ensures a r
-      (λ name. found.told name ∙ c.in-Ok.ensures.told name) read
+      (λ name. found.only_reads.told name ∙ reads.told name) read
       (subst (IsText 1048577 (f.told here a.script)) (search rules) c.in-Ok.ensures.text) s lines
-      (subst (λ known. AtPrints read known s lines) (c.in-Ok.ensures.told a.point) found.prints)
+      (subst (λ known. AtPrints read known s lines) (reads.told a.point) found.prints)
       (subst (λ text. IsPutBy s text r) (search rules) c.print.ensures);
 }
 
@@ -36,6 +37,7 @@ pub returns-in-Ok : goal.returns-in-Ok
 returns-in-Ok g c = record {
   run =
       let f = g.F.Folder in
+      let reads = c.in-Ok.ensures.only_reads in
       let o = g.O.Sink in
       let a = at_of c.args.request in
       let here = c.args.folder.now in
@@ -47,13 +49,13 @@ returns-in-Ok g c = record {
       (f.write_faults there) (o.faults c.print_stop.new.out) in
       let r : Run = run before after c.print_stop.result in
       pointless_is c.at_answers_are_one.ensures a r
-      (λ name. stopped.told name ∙ c.in-Ok.ensures.told name) c.deref.result.now
+      (λ name. stopped.only_reads.told name ∙ reads.told name) c.deref.result.now
       (subst (IsText 1048577 (f.told here a.script)) (search rules) c.in-Ok.ensures.text)
       c.in-Err-at_answer.stop
       (λ e. (
         stopped.script (ap Err e),
         rose_later (f.read_faults here) (f.read_faults c.read_text.new.folder)
-            (f.read_faults there) c.in-Ok.ensures.later (stopped.cause (ap Err e)),
+            (f.read_faults there) reads.later (stopped.only_reads.cause (ap Err e)),
       ))
       c.print_stop.ensures;
 }
@@ -71,6 +73,6 @@ returns g c = record {
       let after = seen (f.told there) (o.taken out) (f.read_faults there) (f.write_faults there)
       (o.faults out) in
       unread_is c.at_answers_are_one.ensures (at_of c.args.request)
-      (run before after c.print_stop-in-Err.result) c.in-Err.ensures.told c.in-Err.stop
-      (λ e. c.in-Err.ensures.cause (ap Err e)) c.print_stop-in-Err.ensures;
+      (run before after c.print_stop-in-Err.result) c.in-Err.ensures.only_reads.told c.in-Err.stop
+      (λ e. c.in-Err.ensures.only_reads.cause (ap Err e)) c.print_stop-in-Err.ensures;
 }

@@ -1,5 +1,6 @@
 use Rattle.std.proofs.Common.{◌≡◌, ◌<◌, ◌++◌, ◌∙◌, [], ◌∷◌, ap, arith, length, map, rules}
 use Rattle.std.proofs.Common.{string_bytes, subst, sym, take}
+use Rattle.fx_edge.specs.OnlyReads.{only_reads_on}
 use Rattle.fx_edge.specs.Outside.{Rose, rose_later}
 use Rattle.whole_texts.specs.Texts.{IsText}
 use Rattle.command_runs.specs.Statuses.{read_fault_line}
@@ -15,11 +16,12 @@ returns-in-Err-Fault-clause-texts g c =
     let faults = g.F.Folder.read_faults in
     let same : c.deref-in-Err-Fault.result.now ≡ string_bytes name = search rules in
     let h : i < length all = omega arith in
-    let rose : Rose (faults c.loop-name.folder) (faults c.read_text.new.folder) = search rules in (
+    let rose : Rose (faults c.loop-name.folder) (faults c.read_text.new.folder) =
+    c.read_text.ensures.only_reads.cause c.in-Err-Fault.is in (
       string_bytes name,
       is_in all i name h c.name-item.is,
       rose_later (faults c.args.folder.now) (faults c.loop-name.folder)
-          (faults c.read_text.new.folder) c.loop-name.invariant.later rose,
+          (faults c.read_text.new.folder) c.loop-name.invariant.only_reads.later rose,
       c.in_ok-read_fault_line-in-Err-Fault.ensures ∙ ap read_fault_line same,
     )
 
@@ -34,11 +36,9 @@ loop-name-preserved g c =
     let h : i < length all = omega arith in
     let is : IsText 1048577 (told (string_bytes name)) c.in-Ok.text.items =
     subst (λ k. IsText 1048577 k c.in-Ok.text.items)
-    (inv.told c.deref.result.now ∙ ap told same) c.in-Ok.ensures.text in
+    (inv.only_reads.told c.deref.result.now ∙ ap told same) c.in-Ok.ensures.text in
     record {
-      told = λ other. c.read_text.ensures.told other ∙ inv.told other;
-      later = let later = c.read_text.ensures.later in let before = inv.later in
-          omega (arith, later, before);
+      only_reads = only_reads_on inv.only_reads c.read_text.ensures.only_reads;
       read =
           subst (λ names. AreRead told names c.push.new.self.items)
           (sym (take_more all i name h c.name-item.is))

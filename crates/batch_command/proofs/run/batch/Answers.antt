@@ -9,7 +9,8 @@ use Rattle.batch_command.proofs.run.batch.Goals as goal
 pub returns-in-Err-Fault-clause-prints : goal.returns-in-Err-Fault-clause-prints
 returns-in-Err-Fault-clause-prints g c =
     let faults = g.F.Folder.read_faults in
-    let rose : Rose (faults c.args.folder.now) (faults c.read_text.new.folder) = search rules in
+    let rose : Rose (faults c.args.folder.now) (faults c.read_text.new.folder) =
+    c.read_text.ensures.only_reads.cause c.in-Err-Fault.is in
     (c.args.request.list.now, inl refl, rose, c.in_ok-read_fault_line-in-Err-Fault.ensures)
 
 pub read_list-requires : goal.read_list-requires
@@ -30,8 +31,9 @@ returns-in-Ok-read_list-clause-prints g c =
     search rules in
     scripts_printed (batch_of c.args.request) told c.deref.result.now is
     c.fronts_decide.ensures.whole none (map string_bytes c.deref-in-Ok-read_list.result.now) names
-    (g.F.Folder.told c.read_text.new.folder) c.read_text.ensures.told
-    (faults c.args.folder.now) (faults c.read_text.new.folder) _ c.read_text.ensures.later
+    (g.F.Folder.told c.read_text.new.folder) c.read_text.ensures.only_reads.told
+    (faults c.args.folder.now) (faults c.read_text.new.folder) _
+    c.read_text.ensures.only_reads.later
     _ c.options_of.ensures.is c.prove_scripts.result c.prove_scripts.ensures.prints
 
 pub returns-in-Err-Fault-read_list-clause-prints :

@@ -21,6 +21,6 @@ returns-in-Ok g c =
     record {
       run =
           put_is (batch_of c.args.request) _ c.list_faults_are_one.ensures
-          c.text_answers_are_one.ensures c.batch.ensures.told c.in-Ok.status c.in-Ok.lines.items
-          prints put;
+          c.text_answers_are_one.ensures c.batch.ensures.only_reads.told c.in-Ok.status
+          c.in-Ok.lines.items prints put;
     }

@@ -12,6 +12,7 @@ pub returns-in-Ok-check_answer : goal.returns-in-Ok-check_answer
 returns-in-Ok-check_answer g c = record {
   run =
       let f = g.F.Folder in
+      let reads = c.in-Ok.ensures.only_reads in
       let o = g.O.Sink in
       let a = check_of c.args.request in
       let here = c.args.folder.now in
@@ -25,9 +26,9 @@ returns-in-Ok-check_answer g c = record {
       let after = seen (f.told there) (o.taken c.print.new.out) (f.read_faults there)
       (f.write_faults there) (o.faults c.print.new.out) in
       let r : Run = run before after c.print.result in
-      let same = c.in-Ok.ensures.told a.cert in
+      let same = reads.told a.cert in
       put_is c.check_answers_are_one.ensures a r
-      (λ name. found.only_reads.told name ∙ c.in-Ok.ensures.told name) read
+      (λ name. found.only_reads.told name ∙ reads.told name) read
       (subst (IsText 1048577 (f.told here a.script)) (search rules) c.in-Ok.ensures.text) s lines
       (subst (λ known. CheckPrints read known s lines) same found.prints)
       (λ all known p. found.accepted all (same ∙ known) p)
@@ -38,6 +39,7 @@ pub returns-in-Ok : goal.returns-in-Ok
 returns-in-Ok g c = record {
   run =
       let f = g.F.Folder in
+      let reads = c.in-Ok.ensures.only_reads in
       let o = g.O.Sink in
       let a = check_of c.args.request in
       let here = c.args.folder.now in
@@ -49,13 +51,13 @@ returns-in-Ok g c = record {
       (f.write_faults there) (o.faults c.print_stop.new.out) in
       let r : Run = run before after c.print_stop.result in
       cert_stop_is c.check_answers_are_one.ensures a r
-      (λ name. stopped.only_reads.told name ∙ c.in-Ok.ensures.told name) c.deref.result.now
+      (λ name. stopped.only_reads.told name ∙ reads.told name) c.deref.result.now
       (subst (IsText 1048577 (f.told here a.script)) (search rules) c.in-Ok.ensures.text)
       c.in-Err-check_answer.stop
       (λ e. (
         stopped.script (ap Err e),
         rose_later (f.read_faults here) (f.read_faults c.read_text.new.folder)
-            (f.read_faults there) c.in-Ok.ensures.later (stopped.only_reads.cause (ap Err e)),
+            (f.read_faults there) reads.later (stopped.only_reads.cause (ap Err e)),
       ))
       c.print_stop.ensures;
 }
@@ -73,6 +75,6 @@ returns g c = record {
       let after = seen (f.told there) (o.taken out) (f.read_faults there) (f.write_faults there)
       (o.faults out) in
       script_stop_is c.check_answers_are_one.ensures (check_of c.args.request)
-      (run before after c.print_stop-in-Err.result) c.in-Err.ensures.told c.in-Err.stop
-      (λ e. c.in-Err.ensures.cause (ap Err e)) c.print_stop-in-Err.ensures;
+      (run before after c.print_stop-in-Err.result) c.in-Err.ensures.only_reads.told c.in-Err.stop
+      (λ e. c.in-Err.ensures.only_reads.cause (ap Err e)) c.print_stop-in-Err.ensures;
 }

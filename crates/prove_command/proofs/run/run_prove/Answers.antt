@@ -13,12 +13,14 @@ returns-in-Ok-certify_text g c = record {
       c.options_of-options.ensures.is
       (subst (IsText 1048577 (g.F.Folder.told c.args.folder.now c.args.request.script.now))
       (search rules) c.in-Ok.ensures.text)
-      c.in-Ok.ensures.told c.in-Ok.ensures.quiet c.in-Ok-certify_text.ensures.others
+      c.in-Ok.ensures.only_reads.told c.in-Ok.ensures.only_reads.quiet
+      c.in-Ok-certify_text.ensures.others
       c.in-Ok-certify_text.ensures.made c.in-Ok-certify_text.ensures.cause c.put_certified.ensures;
 }
 
 pub returns : goal.returns
 returns g c = record {
   run = stopped c.text_answers_are_one.ensures (asked_of c.args.request) _ c.in-Err.stop
-      c.in-Err.ensures.told (λ e. c.in-Err.ensures.cause (ap Err e)) c.print_stop.ensures;
+      c.in-Err.ensures.only_reads.told (λ e. c.in-Err.ensures.only_reads.cause (ap Err e))
+      c.print_stop.ensures;
 }

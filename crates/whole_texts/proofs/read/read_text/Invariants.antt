@@ -1,4 +1,5 @@
-use Rattle.std.proofs.Common.{◌≡◌, ◌≤◌, ◌-◌, ℕ, List, length, vec_len}
+use Rattle.std.proofs.Common.{◌≤◌, ◌-◌, length, vec_len}
+use Rattle.fx_edge.specs.OnlyReads.{OnlyReads}
 use Rattle.whole_texts.proofs.Reading.{IsBegun}
 use Rattle.whole_texts.proofs.read.read_text.Given as goal
 
@@ -6,9 +7,7 @@ abbrev pub invariant-loop-buffer : goal.invariant-loop-buffer
 invariant-loop-buffer g l = record {
   front : IsBegun (g.F.Folder.told l.initial.folder l.name) l.text.items;
   short : length l.text.items ≤ l.most;
-  told : (other : List ℕ) → g.F.Folder.told l.folder other ≡ g.F.Folder.told l.initial.folder other;
-  later : g.F.Folder.read_faults l.initial.folder ≤ g.F.Folder.read_faults l.folder;
-  quiet : g.F.Folder.write_faults l.folder ≡ g.F.Folder.write_faults l.initial.folder;
+  only_reads : OnlyReads g.F.Folder l.initial.folder l.folder ⊥;
 }
 
 abbrev pub decreases-loop-buffer : goal.decreases-loop-buffer
