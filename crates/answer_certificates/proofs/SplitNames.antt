@@ -43,17 +43,9 @@ use Rattle.answer_certificates.proofs.Numbered.{Stays, stays_itself, put_stays, 
 use Rattle.answer_certificates.proofs.Numbered.{named_at}
 use Rattle.answer_certificates.proofs.Passed.{one_passed, split_plain}
 use Rattle.facts.specs.CommonParts.{all_as, all_last}
+use Rattle.script_cases.specs.Lists.{all_front, all_behind}
 
 -- ---- lists
-all_left : {A : Type 0} (P : A → Type 0) (xs ys : List A)
-    → AllByRecursion P (xs ++ ys) → AllByRecursion P xs
-all_left P [] ys h = tt
-all_left P (x ∷ xs) ys h = (h.0, all_left P xs ys h.1)
-
-all_right : {A : Type 0} (P : A → Type 0) (xs ys : List A)
-    → AllByRecursion P (xs ++ ys) → AllByRecursion P ys
-all_right P [] ys h = h
-all_right P (x ∷ xs) ys h = all_right P xs ys h.1
 
 -- ---- names that the judge has seen defined
 abbrev Among : List Name → Name → Type 0
@@ -296,7 +288,7 @@ module _ (names : List Name) (values : List (Name × ExprId)) (among : AreAmong 
   names_split (more_names n l) s h a =
       let one = name_split n s (name_apart n _ h) a in
       names_split l (with_halved n s)
-      (all_right (IsApart names) (name_leaves d.SplitName n) _ h).1 one
+      (all_behind (IsApart names) (name_leaves d.SplitName n) _ h).1 one
 
   expr_split : (e : Expr) (s : HintsSoFar) → AreSplit s → AreSplit ((expr_value None e s.0).0, s.1)
   expr_split e s a = split_later (expr_value None e s.0).0 s (expr_stays s.0 e) a
@@ -305,10 +297,10 @@ module _ (names : List Name) (values : List (Name × ExprId)) (among : AreAmong 
       → AllByRecursion (IsApart names) (halving_leaves r x) → AreSplit s
       → AreSplit (with_halving x s)
   halving_split r (halved_by e n) s h a = names_split n ((expr_value None e s.0).0, s.1)
-      (all_right (IsApart names) (expr_leaves e) _ h).1 (expr_split e s a)
+      (all_behind (IsApart names) (expr_leaves e) _ h).1 (expr_split e s a)
   halving_split r (with_goal e x) s h a =
       halving_split d.GoalSplit x ((expr_value None e s.0).0, s.1)
-      (all_right (IsApart names) (expr_leaves e) _ h).1 (expr_split e s a)
+      (all_behind (IsApart names) (expr_leaves e) _ h).1 (expr_split e s a)
 
   hint_split : (x : Hint) (s : HintsSoFar) → AllByRecursion (IsApart names) (hint_leaves x)
       → AreSplit s → AreSplit (with_hint x s)
@@ -331,8 +323,8 @@ module _ (names : List Name) (values : List (Name × ExprId)) (among : AreAmong 
       → AreSplit s → AreSplit (with_hints l s)
   hints_split no_hint s h a = a
   hints_split (hint x l) s h a =
-      hints_split l (with_hint x s) (all_right (IsApart names) (hint_leaves x) _ h).1
-      (hint_split x s (all_left (IsApart names) (hint_leaves x) _ h) a)
+      hints_split l (with_hint x s) (all_behind (IsApart names) (hint_leaves x) _ h).1
+      (hint_split x s (all_front (IsApart names) (hint_leaves x) _ h) a)
 
 -- ---- scripts
 
@@ -349,7 +341,7 @@ tree_split (formula f h) k i seen j among =
     let names = seen.names.defined in
     let stays = formula_so (Stays k) (put_stays k) (named_stays k) f k (stays_itself k) in
     let apart = splits_apart names (script_leaves (formula f h)) i seen j (λ t a. a) in
-    let behind_formula = all_right (IsApart names) (formula_leaves f) _ apart.1 in
+    let behind_formula = all_behind (IsApart names) (formula_leaves f) _ apart.1 in
     (hints_split names k.values among h ((formula_claims f k).known, no_hints) behind_formula.1
     (record { same = stays.values; order = tt })).order
 tree_split (define (names_operator n o) rest) k i seen j among =

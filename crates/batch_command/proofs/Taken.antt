@@ -10,6 +10,7 @@ use Rattle.whole_texts.specs.Texts.{IsText}
 use Rattle.command_runs.specs.Runs.{Bytes, Told}
 use Rattle.batch_command.specs.Command.{IsIn}
 use Rattle.batch_command.specs.Told.{AreRead}
+use Rattle.std.proofs.Math.Nat.{suc-add}
 
 pub one_more : (told : Told) (names : List Bytes) (texts : List (Vec ℕ Global)) (name : Bytes)
     (text : Vec ℕ Global) → AreRead told names texts → IsText 1048577 (told name) text.items
@@ -20,9 +21,6 @@ one_more told (n ∷ names) [] name text r is = absurd r
 one_more told (n ∷ names) (t ∷ texts) name text r is =
     (r.0, one_more told names texts name text r.1 is)
 
-next : (i : ℕ) → suc i + 1 ≡ suc (i + 1)
-next i = omega arith
-
 -- one name more
 pub take_more : (names : List (String Global)) (i : ℕ) (name : String Global) → i < length names
     → name ≡ get_or names i name
@@ -31,7 +29,7 @@ pub take_more : (names : List (String Global)) (i : ℕ) (name : String Global) 
 take_more [] i name h e = absurd (omega (arith, h))
 take_more (n ∷ names) zero name h e = ap (λ x. string_bytes x ∷ []) (sym e)
 take_more (n ∷ names) (suc i) name h e =
-    ap (λ k. take k (map string_bytes (n ∷ names))) (next i)
+    ap (λ k. take k (map string_bytes (n ∷ names))) (suc-add i 1)
     ∙ ap (λ zs. string_bytes n ∷ zs) (take_more names i name (omega (arith, h)) e)
 
 -- it is one of them

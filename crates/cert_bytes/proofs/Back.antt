@@ -19,7 +19,7 @@ use Rattle.cert_bytes.specs.declared.style.Seen.{Seen}
 use Rattle.cert_bytes.specs.declared.style.Style.{Style}
 use Rattle.cert_bytes.specs.declared.style.Style.TheVariants.{First, Second}
 use Rattle.cert_bytes.specs.Reading.{Cursor, Read, numbered, byte_at, bytes_at, number_at}
-use Rattle.cert_bytes.specs.Reading.{ended_with, digits_at, at_most, limited_at, based_at, sized_at}
+use Rattle.cert_bytes.specs.Reading.{ended_with, digits_at, limited_at, based_at, sized_at}
 use Rattle.cert_bytes.specs.Reading.{tiny_at, short_at, long_at, reference_at, wide_at, unzigzag}
 use Rattle.cert_bytes.specs.Reading.{signed_short_at, signed_long_at, expr_at, both_at, pair_at}
 use Rattle.cert_bytes.specs.Reading.{◌>>=◌}
@@ -30,6 +30,7 @@ use Rattle.cert_bytes.proofs.Styled.{Bytes, one, ◌⧺◌}
 use Rattle.cert_bytes.proofs.Digits.{last_digit, first_digit}
 use Rattle.cert_bytes.proofs.Zigzag.{zigzag_back, zigzag_short, zigzag_long, distance_small}
 use Rattle.cert_bytes.proofs.Zigzag.{distance_again}
+use Rattle.cert_bytes.proofs.Limits.{limited}
 
 -- ---- one read behind another
 
@@ -227,9 +228,6 @@ digits_back (suc k) (suc left) weight value n style p q i j w h at rest l = ⊎_
 
 pub below : (n most bytes : ℕ) → n ≤ most → most < 128 ^ bytes → n < 128 ^ bytes
 below n most bytes l h = omega (arith, l, h)
-
-limited : ℕ → Option ℕ × Cursor → Read (Option ℕ)
-limited most n = Ok (at_most most n.0, n.1)
 
 abbrev limit_by : ℕ → ℕ → Result (Option ℕ × Cursor) CertFault → Read ℕ
 limit_by most at q = (q >>= limited most) >>= λ n. numbered at n.0 n.1

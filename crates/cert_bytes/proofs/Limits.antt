@@ -1,14 +1,16 @@
 -- Numbers in base 128, read byte by byte.
 use Rattle.std.proofs.Common.{◌≡◌, ◌≤◌, ◌<◌, ◌+◌, ◌-◌, ◌*◌, ◌^◌, if◌then◌else◌, ℕ, suc, true, false}
-use Rattle.std.proofs.Common.{Option, None, Result, Ok, Err, refl, sym, ap, ◌∙◌, arith, lit<}
+use Rattle.std.proofs.Common.{Option, None, Result, Ok, Err, refl, sym, ap, subst, ◌∙◌, arith}
+use Rattle.std.proofs.Common.{lit<}
 use Rattle.std.proofs.Common.{add-one}
 use Rattle.std.specs.Prelude.{nat_lt}
 use Rattle.std.proofs.Math.Nat.{pow-succ', pow-le-pow_right, mul-le-mul_left}
 use Rattle.cert_bytes.specs.declared.fault.CertFault.{CertFault}
 use Rattle.cert_bytes.specs.Reading.{Cursor, Read, byte_at, ended_with, digits_at, at_most}
 use Rattle.cert_bytes.specs.Reading.{limited_at, ◌>>=◌}
+use Rattle.cert_bytes.specs.Widths.{HasBegun}
 
-limited : ℕ → Option ℕ × Cursor → Read (Option ℕ)
+unfoldable pub limited : ℕ → Option ℕ × Cursor → Read (Option ℕ)
 limited most n = Ok (at_most most n.0, n.1)
 
 abbrev found : Option ℕ → Cursor → Read (Option ℕ)
@@ -92,3 +94,32 @@ near_moves have = let e = pow-succ' 128 have in rw (add-one have) (omega (arith,
 pub far_fits : (bytes : ℕ) → 10 ≤ bytes → bytes ≤ 19 → 128 ^ 9 * 128 ^ (bytes - 9) ≤ 128 ^ 19
 far_fits bytes l h = let p : 128 ^ (bytes - 9) ≤ 128 ^ 10 = pow-le-pow_right {n = 128} (lit< tt)
     {i = bytes - 9} {j = 10} (omega (arith, l, h)) in omega (arith, p)
+
+-- behind a byte of the first nine so many more may be read
+pub one_more : (bytes have most weight value : ℕ) (c : Cursor) (total : Read (Option ℕ))
+    → have < 9 → 10 ≤ bytes → limited_at (bytes - have) most weight value c ≡ total
+    → limited_at (suc (bytes - (have + 1))) most weight value c ≡ total
+one_more bytes have most weight value c total l many =
+    let left : bytes - have ≡ suc (bytes - (have + 1)) = omega (arith, l, many) in
+    subst (λ (k : ℕ). limited_at k most weight value c ≡ total) left
+
+-- and one more digit has room in 64 bits
+pub near_sum : (have weight value b digit : ℕ) → have < 9 → weight ≡ 128 ^ have → value < weight
+    → b < 256 → digit ≡ b - 128 → value + weight * digit < 2 ^ 63
+near_sum have weight value b digit l w v h e =
+    let m = near_fits have l in
+    let s = subst (λ (n : ℕ). value + weight * n < weight * 128) (sym e)
+    (digit_fits value weight b v h) in omega (arith, m, w, s)
+
+-- behind the nine bytes the others have room
+pub far_begun : (bytes have weight value wide sum : ℕ) → 10 ≤ bytes → bytes ≤ 19 → have ≡ 9
+    → weight ≡ 128 ^ have → value < weight → wide ≡ weight → sum ≡ value
+    → HasBegun (bytes - 9) wide sum
+far_begun bytes have weight value wide sum many few nine w v e f =
+    let all : wide ≡ 128 ^ 9 = e ∙ w ∙ ap (λ (k : ℕ). 128 ^ k) nine in
+    record {
+      some = omega (arith, many);
+      before = omega (arith, v, e, f);
+      room = subst (λ (n : ℕ). n * 128 ^ (bytes - 9) ≤ 128 ^ 19) (sym all)
+          (far_fits bytes many few);
+    }

@@ -1,7 +1,9 @@
 -- What each item spells, in either version. In version 1 numbers have their high byte first, and
 -- signed ones are two's complement.
 use Rattle.std.specs.Prelude.{◌+◌, ◌-◌, ◌*◌, ◌/◌, ◌%◌, ◌^◌, if◌then◌else◌, nat_lt, zero, suc, ℕ, ℤ}
-use Rattle.std.specs.Prelude.{pos, negsuc, List, [], ◌∷◌, ◌++◌, length, Option, Some, None}
+use Rattle.std.specs.Prelude.{pos, negsuc, List, [], ◌∷◌, ◌++◌, length, Option, Some, None, ◌≡◌}
+use Rattle.std.proofs.Common.{refl, sym, ap, ◌∙◌}
+use Rattle.std.proofs.lemmas.List.{append_assoc}
 use Rattle.std.specs.List.{flat_map}
 use Rattle.std.specs.Int.{w16, w64, w128, to_be_bytes, cast_unsigned}
 use Rattle.fx_model.specs.declared.Node.{Node}
@@ -24,7 +26,7 @@ use Rattle.cert_bytes.specs.declared.item.Item.TheVariants as item
 use Rattle.cert_bytes.specs.declared.style.Seen.{Seen}
 use Rattle.cert_bytes.specs.declared.style.Style.{Style}
 use Rattle.cert_bytes.specs.declared.style.Style.TheVariants.{First, Second}
-use Rattle.cert_bytes.specs.Styles.{none_seen, style_after}
+use Rattle.cert_bytes.specs.Styles.{none_seen, seen_after, seen_behind, style_after}
 
 -- ---- version 2
 
@@ -220,3 +222,12 @@ spelled_behind seen items = spelled_from (Second seen) items
 -- what a certificate's first items spell
 abbrev pub certificate_of : List Item → List ℕ
 certificate_of items = spelled_behind none_seen items
+
+-- Two lists are spelled one after the other.
+pub spelled_both : (s : Seen) (items more : List Item) → spelled_behind s (items ++ more)
+    ≡ spelled_behind s items ++ spelled_behind (seen_behind s items) more
+spelled_both s [] more = refl
+spelled_both s (i ∷ items) more =
+    ap (λ bs. spelling_of s i ++ bs) (spelled_both (seen_after s i) items more)
+    ∙ sym (append_assoc (spelling_of s i) (spelled_behind (seen_after s i) items)
+    (spelled_behind (seen_behind (seen_after s i) items) more))

@@ -1,9 +1,9 @@
 //! A certificate, read item by item.
-ghost use Rattle.std.specs.Prelude.{◌≡◌, [], ℕ, List, Option, Some, None, IfOk, IsErrOf, true};
+ghost use Rattle.std.specs.Prelude.{◌≡◌, ℕ, List, Option, Some, None, IfOk, IsErrOf, true};
 ghost use Rattle.cert_bytes.specs.Reading.{item_at};
 ghost use Rattle.cert_bytes.specs.Pieces.{Gives, AgreesTold};
 ghost use Rattle.cert_bytes.specs.Due.{is_due};
-ghost use Rattle.cert_bytes.specs.Readers.{Progress, Answers, StandsBehind};
+ghost use Rattle.cert_bytes.specs.Readers.{Progress, Answers, StandsBehind, fresh};
 ghost use Rattle.cert_bytes.specs.Certificates.{HasSpelling};
 ghost use Rattle.fx_edge.specs.OnlyReads.{OnlyReads};
 
@@ -38,11 +38,7 @@ impl Reader {
     /// A reader that has read nothing.
     #[tactic(auto, using(crate::proofs::Paced::fresh_agrees))]
     pub fn new(alloc: Global, name: &str) -> Result<Reader, AllocError>
-        ensures begins { IfOk result (λ reader. reader ≡ record {
-          ahead = record { name = name.now; style = Style.First; at = 0; ahead = [] };
-          due = DueItem.Head;
-          fault = None;
-        }) }
+        ensures begins { IfOk result (λ reader. reader ≡ fresh name.now) }
         ensures agrees { IfOk result (λ reader. (told : Option (List ℕ))
             → AgreesTold told reader.ahead) }
     {

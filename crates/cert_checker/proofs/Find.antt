@@ -9,29 +9,24 @@ use Rattle.goals.specs.facts.declared.fact.Fact.{Fact}
 use Rattle.cert_checker.specs.declared.open.Citable.{Citable}
 use Rattle.cert_checker.specs.Open.{nowhere, number_at, AreNumbered}
 use Rattle.cert_checker.specs.Steps.{step_fact}
-
-differs : (m n : ℕ) → ¬ (m ≡ n) → (m == n) ≡ false
-differs m n h = grind (arith, h)
-
-equals : (m n : ℕ) → m ≡ n → (m == n) ≡ true
-equals m n h = grind (arith, h)
+use Rattle.std.proofs.lemmas.Bool.{ne_eqb, eq-eqb}
 
 -- row i has the number, and none before it has
 pub found : (rows : List Citable) (n i : ℕ)
     → i < length rows → number_at rows i ≡ n → ((j : ℕ) → j < i → number_at rows j < n)
     → step_fact rows n ≡ Some (slice_index_or rows i nowhere).fact
 found [] n i l e h = absurd (omega arith)
-found (r ∷ rows) n zero l e h = let q : (r.number == n) ≡ true = equals r.number n e in rw q refl
+found (r ∷ rows) n zero l e h = let q : (r.number == n) ≡ true = eq-eqb r.number n e in rw q refl
 found (r ∷ rows) n (suc i) l e h =
     let q : (r.number == n) ≡ false =
-    differs r.number n (λ d. let z = h zero (omega arith) in absurd (omega (arith, d, z))) in
+    ne_eqb r.number n (λ d. let z = h zero (omega arith) in absurd (omega (arith, d, z))) in
     rw q (found rows n i (omega arith) e (λ j k. h (suc j) (omega arith)))
 
 pub absent : (rows : List Citable) (n : ℕ) → ((j : ℕ) → j < length rows → ¬ (number_at rows j ≡ n))
     → step_fact rows n ≡ None
 absent [] n h = refl
 absent (r ∷ rows) n h =
-    let q : (r.number == n) ≡ false = differs r.number n (h zero (omega arith)) in
+    let q : (r.number == n) ≡ false = ne_eqb r.number n (h zero (omega arith)) in
     rw q (absent rows n (λ j l. h (suc j) (omega arith)))
 
 -- ---- the search

@@ -26,7 +26,8 @@ use Rattle.cert_checker.specs.Accepted.{LeadsTo, Accepts, HaveEachRoot}
 use Rattle.cert_checker.specs.Checking.{IsFresh, TakesNext}
 use Rattle.cert_checker.specs.declared.keep.Accepted.{Accepted}
 use Rattle.cert_checker.specs.Keeping.{TookItem, AreAcceptedItems}
-use Rattle.cert_checker.proofs.Order.{due_has_next, in_order}
+use Rattle.cert_bytes.specs.Next.{due_has_next}
+use Rattle.cert_checker.proofs.Order.{in_order}
 
 pub taken : (told : Option (List ℕ)) (c d : Standing) (r q : Progress) (i : Item)
     → TookItem told c d r q i → TakesNext told c d r q

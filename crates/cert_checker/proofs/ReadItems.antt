@@ -1,6 +1,6 @@
 -- An item that is read is one that is due.
-use Rattle.std.proofs.Common.{◌≡◌, ◌-◌, ◌+◌, ◌==◌, ℕ, zero, suc, Bool, true, false, [], length}
-use Rattle.std.proofs.Common.{Some, Ok, Err, refl, ap, subst, arith}
+use Rattle.std.proofs.Common.{◌≡◌, ◌-◌, ◌==◌, ℕ, zero, suc, Bool, true, false, []}
+use Rattle.std.proofs.Common.{Ok, Err, refl, ap, subst, arith}
 use Rattle.std.specs.Prelude.{if◌then◌else◌}
 use Rattle.cert_bytes.specs.declared.fault.CertFault.{CertFault}
 use Rattle.cert_bytes.specs.declared.fault.CertKind.TheVariants.{TrailingBytes}
@@ -8,8 +8,7 @@ use Rattle.cert_bytes.specs.declared.item.Item.{Item}
 use Rattle.cert_bytes.specs.declared.item.Item.TheVariants as item
 use Rattle.cert_bytes.specs.declared.order.DueItem.{DueItem}
 use Rattle.cert_bytes.specs.declared.order.DueItem.TheVariants.{Head, Nodes, Marks, Sections, Done}
-use Rattle.cert_bytes.specs.Due.{due_after, due_behind, IsOfSection, IsOfRoot, split_into}
-use Rattle.cert_bytes.specs.Due.{behind_node, behind_mark}
+use Rattle.cert_bytes.specs.Due.{IsOfSection, IsOfRoot}
 use Rattle.cert_bytes.specs.Reading.{Cursor, Read, ◌>>=◌, byte_at, short_at, node_at, counted_at}
 use Rattle.cert_bytes.specs.Reading.{reference_at, step_at, points_at, cut_head_at, preamble_at}
 use Rattle.cert_bytes.specs.Reading.{cut_at, step_item_at, leaf_at, dead_at, section_by}
@@ -21,6 +20,7 @@ use Rattle.cert_bytes.specs.Reading.{trailer_at, styled}
 use Rattle.cert_bytes.specs.declared.style.Style.{Style}
 use Rattle.cert_bytes.specs.declared.style.Style.TheVariants.{First, Second}
 use Rattle.cert_bytes.specs.Styles.{style_after}
+use Rattle.cert_bytes.specs.Next.{IsNext, first_of_root, of_section, a_node, a_mark}
 
 -- what is read, if anything, is such an item
 abbrev Gives : (Item → Type 0) → Read Item → Type 0
@@ -86,46 +86,6 @@ module _ (P : Item → Type 0) where
   by_root h p = then_gives (byte_at p) _ (λ tag.
       either (tag.0 == 5) _ _ (then_gives (case_count_at tag.1) _ (λ n. gives (item.Cases n.0) n.1
       (h (item.Cases n.0) tt))) (by_tag (of_section_too h) p.at tag.0 tag.1))
-
--- the item is due, and this is due behind it
-abbrev pub IsNext : DueItem → Item → Type 0
-IsNext d i = due_after d i ≡ Some (due_behind d i)
-
-pub first_of_root : (i : Item) → IsOfRoot i → IsNext (Marks zero) i
-first_of_root (item.Cases n) h = refl
-first_of_root (item.Step s) h = refl
-first_of_root (item.Cut x ps) h = refl
-first_of_root (item.Leaf refs) h = refl
-first_of_root (item.Dead r) h = refl
-first_of_root (item.Nodes n) h = absurd h
-first_of_root (item.Node n) h = absurd h
-first_of_root (item.Marks n) h = absurd h
-first_of_root (item.Mark m) h = absurd h
-first_of_root item.End h = absurd h
-
-later : (w n m : ℕ) → m ≡ w + n → Some (Sections m) ≡ Some (split_into n (Sections (suc w)))
-later w n m e = let z : (suc w == 0) ≡ false = grind arith in
-    let f : m ≡ (suc w - 1) + n = omega (arith, e) in rw z (ap (λ k. Some (Sections k)) f)
-
-pub of_section : (w : ℕ) (i : Item) → IsOfSection i → IsNext (Sections (suc w)) i
-of_section w (item.Step s) h = later w 1 (suc w) (omega arith)
-of_section w (item.Cut x ps) h = later w (length ps + 1) (w + (length ps + 1)) refl
-of_section w (item.Leaf refs) h = later w 0 w (omega arith)
-of_section w (item.Dead r) h = later w 0 w (omega arith)
-of_section w (item.Nodes n) h = absurd h
-of_section w (item.Node n) h = absurd h
-of_section w (item.Marks n) h = absurd h
-of_section w (item.Mark m) h = absurd h
-of_section w (item.Cases n) h = absurd h
-of_section w item.End h = absurd h
-
-pub a_node : (k : ℕ) → Some (Nodes k) ≡ Some (behind_node (Nodes (suc k)))
-a_node k = let z : (suc k == 0) ≡ false = grind arith in let f : k ≡ suc k - 1 = omega arith in
-    rw z (ap (λ n. Some (Nodes n)) f)
-
-pub a_mark : (k : ℕ) → Some (Marks k) ≡ Some (behind_mark (Marks (suc k)))
-a_mark k = let z : (suc k == 0) ≡ false = grind arith in let f : k ≡ suc k - 1 = omega arith in
-    rw z (ap (λ n. Some (Marks n)) f)
 
 at_zero : (P : Item → Type 0) (n : ℕ) (r t : Read Item) → n ≡ 0 → Gives P r
     → Gives P (if n == 0 then r else t)

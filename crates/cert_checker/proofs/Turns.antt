@@ -28,7 +28,7 @@ use Rattle.cert_checker.specs.Accepted.{LeadsTo, AreInOrder}
 use Rattle.cert_checker.specs.Met.{NamesNodes, Meets, LinesHold, InOrderHolds}
 use Rattle.cert_checker.specs.Outcomes.{Outcome, accepted, unread, refused, Comes, ComesOf}
 use Rattle.cert_checker.specs.Checking.{IsFresh, ShowsLines, Checks, TakesNext, Refuses, IsUnread}
-use Rattle.cert_checker.proofs.Order.{due_has_next, not_done, done_by_end, end_is_last}
+use Rattle.cert_bytes.specs.Next.{due_has_next, done_by_end, end_is_last}
 
 -- ---- what an item makes of a context
 next_of : (c : Context) (i : Item) → (after c i).next ≤ c.next + 1
@@ -131,7 +131,7 @@ steady_first s r f = record {
   reads = f.fault;
   few = λ e. record { steps = omega arith; sections = omega arith };
   ended = λ e. cc;
-  going = λ e d. not_done Head tt (sym f.due ∙ d);
+  going = λ e d. let q : Head ≡ Done = sym f.due ∙ d in cc;
   leads = λ items end o l. record {
     items = items;
     order = subst (λ (d : DueItem). AreInOrder (Some d) items) f.due o;
@@ -174,9 +174,11 @@ module _ (s : Subject) (told : Option (List ℕ)) (c d : Standing) (r q : Progre
     ended = λ e.
         let last : t.item ≡ item.End = the_end t.item (sym ended_is ∙ e) in
         t.due ∙ ap (due_behind r.due) last
-        ∙ end_is_last r.due (subst (λ (i : Item). is_due r.due i ≡ true) last t.order);
+        ∙ end_is_last r.due (due_behind r.due item.End) (due_has_next r.due item.End
+        (w.going open_on) (subst (λ (i : Item). is_due r.due i ≡ true) last t.order));
     going = λ e f. not_end t.item (sym ended_is ∙ e)
-        (done_by_end r.due t.item (w.going open_on) (sym t.due ∙ f));
+        (done_by_end r.due t.item
+        (due_has_next r.due t.item (w.going open_on) t.order ∙ ap Some (sym t.due ∙ f)));
     leads = λ items end o l.
         let P : Option DueItem → Type 0 = λ x. AreInOrder x items in
         let Q : DueItem → Type 0 = λ x. AreInOrder (Some x) items in

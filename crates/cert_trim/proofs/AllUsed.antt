@@ -13,7 +13,8 @@ use Rattle.cert_trim.specs.Trimmed.{new_number, number_behind_all, step_count, m
 use Rattle.cert_trim.specs.Trimmed.{trimmed_by}
 use Rattle.cert_trim.specs.Used.{CiteEarlier, AreAllUsed, and_more, cited, is_among, used_from}
 use Rattle.cert_trim.specs.Used.{trimmed}
-use Rattle.cert_trim.proofs.Numbers.{equals, on_both, next_of_used, next_of_unused}
+use Rattle.std.proofs.lemmas.Bool.{eq-eqb}
+use Rattle.cert_trim.proofs.Numbers.{on_both, next_of_used, next_of_unused}
 use Rattle.cert_trim.proofs.Enough.{Tells, Stays, tells_later, stays_later, tells_behind}
 use Rattle.cert_trim.proofs.Enough.{stays_behind, among_right, or_right}
 
@@ -29,7 +30,7 @@ same_number n m e = grind (arith, e)
 image_at : (f : ℕ → ℕ) (n m : ℕ) (b c d : Bool)
     → (n == m) ≡ b → (c ≡ true → d ≡ true) → (b || c) ≡ true → ((f n == f m) || d) ≡ true
 image_at f n m true c d e rest h =
-    or_left (f n == f m) d (equals (f n) (f m) (ap f (same_number n m e)))
+    or_left (f n == f m) d (eq-eqb (f n) (f m) (ap f (same_number n m e)))
 image_at f n m false c d e rest h = or_right (f n == f m) d (rest h)
 
 pub among_map : (f : ℕ → ℕ) (ns : List ℕ) (m : ℕ)

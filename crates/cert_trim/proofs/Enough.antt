@@ -19,7 +19,7 @@ use Rattle.cert_checker.specs.Faults.{AreSettled}
 use Rattle.cert_checker.specs.Accepted.{LeadsTo}
 use Rattle.cert_trim.specs.Used.{AllBelow, CiteEarlier, and_more, cited, is_among, used_from}
 use Rattle.cert_trim.specs.Used.{AreUsed, AreEnough}
-use Rattle.cert_trim.proofs.Numbers.{equals, differs}
+use Rattle.std.proofs.lemmas.Bool.{eq-eqb, ne_eqb}
 
 -- ---- members
 
@@ -35,14 +35,14 @@ later_among : (n : ℕ) (xs ys : List ℕ) (m : ℕ)
     → AllBelow n xs → n ≤ m → is_among (xs ++ ys) m ≡ true → is_among ys m ≡ true
 later_among n [] ys m b l h = h
 later_among n (x ∷ xs) ys m b l h =
-    let q : (x == m) ≡ false = differs x m (λ e. let k = b.0 in absurd (omega (arith, k, l, e))) in
+    let q : (x == m) ≡ false = ne_eqb x m (λ e. let k = b.0 in absurd (omega (arith, k, l, e))) in
     later_among n xs ys m b.1 l (subst (λ t. (t || is_among (xs ++ ys) m) ≡ true) q h)
 
 used_front : (used : ℕ → Bool) (xs ys : List ℕ)
     → ((m : ℕ) → is_among (xs ++ ys) m ≡ true → used m ≡ true) → AreUsed used xs
 used_front used [] ys h = tt
 used_front used (x ∷ xs) ys h =
-    let q : (x == x) ≡ true = equals x x refl in (
+    let q : (x == x) ≡ true = eq-eqb x x refl in (
       h x (ap (λ t. t || is_among (xs ++ ys) x) q),
       used_front used xs ys (λ m k. h m (or_right (x == m) _ k)),
     )

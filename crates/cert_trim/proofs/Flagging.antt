@@ -8,7 +8,7 @@ use Rattle.std.proofs.lemmas.Bool.Decides.{eqb_tells}
 use Rattle.std.proofs.lemmas.Grind.{common_steps}
 use Rattle.cert_trim.specs.Used.{is_among}
 use Rattle.cert_trim.specs.Flags.{flag_at, AreFlags}
-use Rattle.cert_trim.proofs.Numbers.{equals, differs}
+use Rattle.std.proofs.lemmas.Bool.{eq-eqb, ne_eqb}
 
 or_true : (b c : Bool) → b ≡ true → true ≡ (b || c)
 or_true true c e = refl
@@ -30,11 +30,11 @@ flag_set start flags ns n from below are k =
           (slice_set flags place true)) same.1 ∙ get_or-set_same flags place true false below in
           let q = same.1 in
           e ∙ or_true (n == start + k) (is_among ns (start + k))
-          (equals n (start + k) (omega (arith, q, from)))
+          (eq-eqb n (start + k) (omega (arith, q, from)))
       | inr other ↦
           get_or-set_other flags place k true false other.1
           ∙ are k ∙ or_false (n == start + k) (is_among ns (start + k))
-          (differs n (start + k) (λ e. other.1 (omega (arith, e, from))))
+          (ne_eqb n (start + k) (λ e. other.1 (omega (arith, e, from))))
     ]
 
 -- a step below start has no flag
@@ -42,7 +42,7 @@ pub flag_below : (start : ℕ) (flags : List Bool) (ns : List ℕ) (n : ℕ) →
     → AreFlags start flags ns → AreFlags start flags (n ∷ ns)
 flag_below start flags ns n below are k =
     are k ∙ or_false (n == start + k) (is_among ns (start + k))
-    (differs n (start + k) (λ e. absurd (omega (arith, e, below))))
+    (ne_eqb n (start + k) (λ e. absurd (omega (arith, e, below))))
 
 or_swap : (a b c : Bool) → (a || (b || c)) ≡ (b || (a || c))
 or_swap true true c = refl

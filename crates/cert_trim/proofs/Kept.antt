@@ -15,7 +15,8 @@ use Rattle.cert_checker.specs.Faults.{AreSettled}
 use Rattle.cert_checker.specs.After.{with_cited, lines_with}
 use Rattle.cert_trim.specs.Trimmed.{new_number, moved_row}
 use Rattle.cert_trim.specs.Used.{and_more, cited, AreUsed}
-use Rattle.cert_trim.proofs.Numbers.{differs, equals, lower, on_both}
+use Rattle.std.proofs.lemmas.Bool.{ne_eqb, eq-eqb}
+use Rattle.cert_trim.proofs.Numbers.{lower, on_both}
 
 abbrev pub renumbered : (ℕ → Bool) → Citable → Citable
 renumbered used s = record { number = new_number used s.number; fact = s.fact }
@@ -44,13 +45,13 @@ kept_append used (s ∷ xs) ys =
 same_test : (used : ℕ → Bool) (m p : ℕ)
     → used m ≡ true → used p ≡ true → (new_number used m == new_number used p) ≡ (m == p)
 same_test used m p u v = ⊎_elim
-    (λ l. let k = lower used m p u l in differs _ _ (λ e. absurd (omega (arith, k, e)))
-    ∙ sym (differs m p (λ e. absurd (omega (arith, l, e)))))
+    (λ l. let k = lower used m p u l in ne_eqb _ _ (λ e. absurd (omega (arith, k, e)))
+    ∙ sym (ne_eqb m p (λ e. absurd (omega (arith, l, e)))))
     (λ g. ⊎_elim
-    (λ l. let k = lower used p m v l in differs _ _ (λ e. absurd (omega (arith, k, e)))
-    ∙ sym (differs m p (λ e. absurd (omega (arith, l, e)))))
+    (λ l. let k = lower used p m v l in ne_eqb _ _ (λ e. absurd (omega (arith, k, e)))
+    ∙ sym (ne_eqb m p (λ e. absurd (omega (arith, l, e)))))
     (λ h. let e : m ≡ p = omega (arith, g, h) in
-    equals _ _ (ap (new_number used) e) ∙ sym (equals m p e))
+    eq-eqb _ _ (ap (new_number used) e) ∙ sym (eq-eqb m p e))
     (cases_lt p m))
     (cases_lt m p)
 
@@ -62,7 +63,7 @@ module _ (used : ℕ → Bool) where
   one_found s steps p true e u h =
       on_both (λ t o. if t then Some s.fact else o) (same_test used s.number p e u) h
   one_found s steps p false e u h = let q : (s.number == p) ≡ false =
-      differs s.number p (λ d. absurd (cc (sym e ∙ ap used d ∙ u))) in
+      ne_eqb s.number p (λ d. absurd (cc (sym e ∙ ap used d ∙ u))) in
       h ∙ sym (ap (λ t. if t then Some s.fact else step_fact steps p) q)
 
   -- a used step is found by its new number

@@ -1,16 +1,10 @@
 -- New numbers keep the order of used steps, so that a step is found by its new number where it was
 -- by the old one.
-use Rattle.std.proofs.Common.{◌≡◌, ◌≤◌, ◌<◌, ◌+◌, ◌==◌, ℕ, zero, suc, Bool, true, false, refl, ap}
+use Rattle.std.proofs.Common.{◌≡◌, ◌≤◌, ◌<◌, ◌+◌, ℕ, zero, suc, Bool, true, false, refl, ap}
 use Rattle.std.proofs.Common.{subst, ◌∙◌, arith, ⊎_elim}
 use Rattle.std.specs.Prelude.{if◌then◌else◌}
 use Rattle.std.proofs.lemmas.Bool.{cases_lt}
 use Rattle.cert_trim.specs.Trimmed.{new_number}
-
-pub differs : (m n : ℕ) → ¬ (m ≡ n) → (m == n) ≡ false
-differs m n h = grind (arith, h)
-
-pub equals : (m n : ℕ) → m ≡ n → (m == n) ≡ true
-equals m n h = grind (arith, h)
 
 at_most_next : (b : Bool) (n m : ℕ) → n ≤ m → n ≤ (if b then suc m else m)
 at_most_next true n m h = omega (arith, h)

@@ -1,4 +1,3 @@
-mod Next
 mod Begun
 mod Leads
 mod Spelled

@@ -10,7 +10,7 @@ use Rattle.cert_bytes.specs.declared.style.Style.TheVariants.{First, Second}
 use Rattle.cert_bytes.specs.Styles.{IsFew, seen_in}
 use Rattle.cert_bytes.specs.Pieces.{cursor_of}
 use Rattle.cert_bytes.specs.ReadOut.{AreRead, HasFault, ReadsAreSpelled}
-use Rattle.cert_bytes.specs.Readers.{Progress}
+use Rattle.cert_bytes.specs.Readers.{Progress, fresh}
 use Rattle.cert_bytes.specs.Reading.{cursor, item_at}
 use Rattle.cert_upgrade.specs.Items.{AreBegun, AreItemsFor, AreItemsOf, ItemsAreOne, LeadsFromStart}
 use Rattle.cert_upgrade.specs.Items.{Respells}
@@ -36,19 +36,14 @@ abbrev pub turns_left : Bool → ℕ → ℕ
 turns_left true at = 0
 turns_left false at = (17592186044416 - at) + 1
 
-pub fewer_turns : (ended : Bool) (at next : ℕ) → (ended ≡ false → at < next) → next ≤ 17592186044416
-    → turns_left ended next < turns_left false at
-fewer_turns true at next g w = omega arith
-fewer_turns false at next g w = let l = g refl in omega (arith, l, w)
+pub fewer_turns : (was ended : Bool) (at next : ℕ) → was ≡ false → (ended ≡ false → at < next)
+    → next ≤ 17592186044416 → turns_left ended next < turns_left was at
+fewer_turns was true at next o g w = rw o (omega arith)
+fewer_turns was false at next o g w = let l = g refl in rw o (omega (arith, l, w))
 
 -- Nothing, at first.
 pub read_none : (told : Option (List ℕ)) (name : List ℕ) (r : Progress) (seen : Seen)
-    → r ≡ record {
-      ahead = record { name = name; style = First; at = 0; ahead = [] };
-      due = Head;
-      fault = None;
-    }
-    → seen ≡ seen_in [] → HasRead told [] r seen false
+    → r ≡ fresh name → seen ≡ seen_in [] → HasRead told [] r seen false
 read_none told name r seen e s = record {
   leads = λ all t. (
     sym (ap (λ (p : Progress). p.due) e),

@@ -1,25 +1,12 @@
 -- What items spell, one behind the other.
-use Rattle.std.specs.Prelude.{◌≡◌, ◌+◌, ℕ, List, [], ◌∷◌, ◌++◌, length, min, refl}
+use Rattle.std.specs.Prelude.{◌≡◌, ◌+◌, ℕ, List, [], ◌∷◌, ◌++◌, length, min}
 use Rattle.std.proofs.Common.{sym, ◌∙◌, ap, append-nil, arith}
-use Rattle.std.proofs.lemmas.List.{append_assoc, length-append}
+use Rattle.std.proofs.lemmas.List.{length-append}
 use Rattle.cert_bytes.specs.declared.item.Item.{Item}
 use Rattle.cert_bytes.specs.declared.style.Seen.{Seen}
-use Rattle.cert_bytes.specs.Styles.{none_seen, seen_after, seen_behind, seen_in}
+use Rattle.cert_bytes.specs.Styles.{none_seen, seen_after, seen_in, seen_both}
 use Rattle.cert_upgrade.specs.Spelled.{most, told_length}
-use Rattle.cert_bytes.specs.Spelling.{spelling_of, spelled_behind, certificate_of}
-
-seen_both : (s : Seen) (items more : List Item)
-    → seen_behind s (items ++ more) ≡ seen_behind (seen_behind s items) more
-seen_both s [] more = refl
-seen_both s (i ∷ items) more = seen_both (seen_after s i) items more
-
-pub spelled_both : (s : Seen) (items more : List Item) → spelled_behind s (items ++ more)
-    ≡ spelled_behind s items ++ spelled_behind (seen_behind s items) more
-spelled_both s [] more = refl
-spelled_both s (i ∷ items) more =
-    ap (λ bs. spelling_of s i ++ bs) (spelled_both (seen_after s i) items more)
-    ∙ sym (append_assoc (spelling_of s i) (spelled_behind (seen_after s i) items)
-    (spelled_behind (seen_behind (seen_after s i) items) more))
+use Rattle.cert_bytes.specs.Spelling.{spelling_of, spelled_both, certificate_of}
 
 -- one item more
 pub seen_one : (items : List Item) (i : Item) (s : Seen) → s ≡ seen_in items

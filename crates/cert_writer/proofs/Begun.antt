@@ -2,7 +2,7 @@
 use Rattle.std.specs.Prelude.{◌≡◌, ◌≤◌, ◌+◌, ◌*◌, ℕ, zero, suc, false, List, [], ◌∷◌, ◌++◌, length}
 use Rattle.std.specs.Prelude.{map, Some, None, slice_get, refl}
 use Rattle.std.proofs.Common.{sym, ◌∙◌, ap, subst, append-nil, arith}
-use Rattle.std.proofs.lemmas.List.{append_assoc}
+use Rattle.std.proofs.lemmas.List.{append_assoc, length-append}
 use Rattle.goals.specs.fx_model.declared.Node.{Node}
 use Rattle.goals.specs.facts.declared.hint.HintMark.{HintMark}
 use Rattle.goals.specs.declared.goal.Goal.{Goal}
@@ -105,10 +105,6 @@ mark_there : (before : List HintMark) (m : HintMark) (rest : List HintMark)
 mark_there [] m rest = refl
 mark_there (x ∷ before) m rest = mark_there before m rest
 
-one_longer : (before : List HintMark) (m : HintMark) → length (before ++ m ∷ []) ≡ length before + 1
-one_longer [] m = omega arith
-one_longer (x ∷ before) m = let h = one_longer before m in omega (arith, h)
-
 marks_lead : (s : Subject) (c : Context) (before rest : List HintMark) → s.marks ≡ before ++ rest
     → c.marked ≡ length before → LeadsTo s c (map item.Mark rest) (with_marks c rest)
 marks_lead s c before [] all k = refl
@@ -118,7 +114,7 @@ marks_lead s c before (m ∷ rest) all k =
       ((λ b r. cc), here),
       marks_lead s (after c (item.Mark m))
           (before ++ m ∷ []) rest (all ∙ sym (append_assoc before (m ∷ []) rest))
-          (ap (λ n. n + 1) k ∙ sym (one_longer before m)),
+          (ap (λ n. n + 1) k ∙ sym (length-append before (m ∷ []))),
     )
 
 -- ---- they are due

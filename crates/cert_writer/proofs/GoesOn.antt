@@ -49,7 +49,8 @@ use Rattle.cert_trim.specs.cert_bytes.Styles.{none_seen, seen_in}
 use Rattle.cert_trim.specs.cert_bytes.Sizes.{most_bytes_in, SpellingsAreShort}
 use Rattle.cert_trim.specs.Behind.{section_of}
 use Rattle.cert_writer.proofs.Sized.{sized_both}
-use Rattle.cert_writer.proofs.Seen.{spelled_both, EndsSection, sections_with}
+use Rattle.cert_trim.specs.cert_bytes.Spelling.{spelled_both}
+use Rattle.cert_writer.proofs.Seen.{EndsSection, sections_with}
 use Rattle.box_trace.specs.tree_certificates.Cited.{found_long}
 
 -- ---- items one behind the other

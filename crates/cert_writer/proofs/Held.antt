@@ -25,7 +25,7 @@ use Rattle.whole_texts.specs.Pieces.{AppendsFront}
 use Rattle.cert_writer.specs.Laws.{WritingGoesOn}
 use Rattle.cert_writer.specs.Written.{AreWrittenFor, IsAcceptedFront, HoldsCertificate, HoldsFront}
 use Rattle.cert_writer.proofs.NextCase.{stands_begun}
-use Rattle.cert_writer.proofs.Seen.{spelled_both}
+use Rattle.cert_trim.specs.cert_bytes.Spelling.{spelled_both}
 use Rattle.cert_writer.proofs.Start.{head_of}
 use Rattle.cert_writer.proofs.Turn.{begun_front, begun_later, begun_still, grew_both}
 

@@ -32,7 +32,7 @@ use Rattle.cert_writer.specs.Courses.{Course, IsCourse, course, IsBefore, IsPast
 use Rattle.cert_writer.specs.Cases.{Task, task, plan_in, target_of, aim_of, whole_aim, IsBeforeCase}
 use Rattle.cert_writer.specs.Cases.{StandsAt, OfStanding, GrewFront}
 use Rattle.cert_writer.specs.Laws.{WritingGoesOn}
-use Rattle.cert_writer.proofs.Seen.{spelled_both}
+use Rattle.cert_trim.specs.cert_bytes.Spelling.{spelled_both}
 use Rattle.cert_writer.proofs.Turn.{appends_none, begun_still}
 
 -- ---- lists

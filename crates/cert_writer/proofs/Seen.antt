@@ -1,7 +1,6 @@
 -- What was seen behind items.
 use Rattle.std.specs.Prelude.{◌≡◌, ◌≤◌, ◌+◌, ℕ, zero, suc, List, [], ◌∷◌, ◌++◌, length, map, refl}
-use Rattle.std.proofs.Common.{sym, ◌∙◌, ap, arith}
-use Rattle.std.proofs.lemmas.List.{append_assoc}
+use Rattle.std.proofs.Common.{◌∙◌, ap, arith}
 use Rattle.goals.specs.fx_model.declared.Node.{Node}
 use Rattle.goals.specs.facts.declared.hint.HintMark.{HintMark}
 use Rattle.cert_trim.specs.cert_bytes.declared.item.Item.{Item}
@@ -9,24 +8,10 @@ use Rattle.cert_trim.specs.cert_bytes.declared.item.Item.TheVariants as item
 use Rattle.cert_trim.specs.cert_bytes.declared.item.StepRow.{StepRow}
 use Rattle.cert_trim.specs.cert_bytes.declared.style.Seen.{Seen}
 use Rattle.cert_trim.specs.cert_bytes.Styles.{none_seen, seen_after, seen_behind, seen_in}
+use Rattle.cert_trim.specs.cert_bytes.Styles.{seen_both}
 use Rattle.box_trace.specs.tree_certificates.Roots.{cases_items}
-use Rattle.cert_trim.specs.cert_bytes.Spelling.{spelling_of, spelled_behind}
 use Rattle.cert_trim.specs.Behind.{section_of}
 use Rattle.cert_writer.specs.Heads.{head_items}
-
--- ---- items of two lists
-pub seen_both : (s : Seen) (items more : List Item)
-    → seen_behind s (items ++ more) ≡ seen_behind (seen_behind s items) more
-seen_both s [] more = refl
-seen_both s (i ∷ items) more = seen_both (seen_after s i) items more
-
-pub spelled_both : (s : Seen) (items more : List Item) → spelled_behind s (items ++ more)
-    ≡ spelled_behind s items ++ spelled_behind (seen_behind s items) more
-spelled_both s [] more = refl
-spelled_both s (i ∷ items) more =
-    ap (λ bs. spelling_of s i ++ bs) (spelled_both (seen_after s i) items more)
-    ∙ sym (append_assoc (spelling_of s i) (spelled_behind (seen_after s i) items)
-    (spelled_behind (seen_behind (seen_after s i) items) more))
 
 -- ---- what stands before the root sections is none of it
 pub nodes_seen : (s : Seen) (nodes : List Node) → seen_behind s (map item.Node nodes) ≡ s

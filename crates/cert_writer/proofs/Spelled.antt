@@ -1,5 +1,5 @@
 -- What is spelled one behind the other.
-use Rattle.std.specs.Prelude.{◌≡◌, ◌+◌, ℕ, zero, suc, List, [], ◌∷◌, ◌++◌, length, map, take, Some}
+use Rattle.std.specs.Prelude.{◌≡◌, ◌+◌, ℕ, suc, List, [], ◌∷◌, ◌++◌, length, map, take, Some}
 use Rattle.std.specs.Prelude.{slice_get}
 use Rattle.std.proofs.Common.{sym, ◌∙◌, ap, append-nil, arith}
 use Rattle.std.proofs.lemmas.List.{append_assoc, map-append}
@@ -12,7 +12,10 @@ use Rattle.cert_trim.specs.cert_bytes.Styles.{none_seen, seen_behind}
 use Rattle.cert_trim.specs.cert_bytes.Spelling.{spelling_of, spelled_behind, certificate_of}
 use Rattle.box_trace.specs.tree_certificates.Roots.{cases_items}
 use Rattle.cert_writer.specs.Heads.{head_items}
-use Rattle.cert_writer.proofs.Seen.{spelled_both, nodes_seen, marks_seen}
+use Rattle.std.proofs.Math.Seq.{take-suc}
+use Rattle.std.proofs.lemmas.Option.{slice_get_within, get_or_from_slice_get}
+use Rattle.cert_trim.specs.cert_bytes.Spelling.{spelled_both}
+use Rattle.cert_writer.proofs.Seen.{nodes_seen, marks_seen}
 
 -- items behind some that are none of what is seen
 head_both : (items more : List Item) → seen_behind none_seen items ≡ none_seen
@@ -75,12 +78,6 @@ spelled_map f s xs x old now new e h =
     spelled_more s old now new (map f xs) (f x) e h
     ∙ ap (λ items. old ++ spelled_behind s items) (sym (map-append f xs (x ∷ [])))
 
-take_get : {X : Type 0} (xs : List X) (k : ℕ) (x : X) → slice_get xs k ≡ Some x
-    → take (suc k) xs ≡ take k xs ++ x ∷ []
-take_get [] k x e = cc
-take_get (y ∷ ys) zero x e = let q : y ≡ x = cc in ap (λ z. z ∷ []) q
-take_get (y ∷ ys) (suc k) x e = ap (λ l. y ∷ l) (take_get ys k x e)
-
 -- the next of a list, of a kind that is none of what is seen
 pub spelled_next : {X : Type 0} (f : X → Item)
     → ((ys : List X) → seen_behind none_seen (map f ys) ≡ none_seen)
@@ -90,7 +87,8 @@ pub spelled_next : {X : Type 0} (f : X → Item)
 spelled_next f none xs k x old now new there e h =
     let n : k + 1 ≡ suc k = omega arith in
     let front : take (k + 1) xs ≡ take k xs ++ x ∷ [] =
-    ap (λ i. take i xs) n ∙ take_get xs k x there in
+    ap (λ i. take i xs) n ∙ take-suc xs k x (slice_get_within xs k x there)
+    ∙ ap (λ z. take k xs ++ z ∷ []) (get_or_from_slice_get xs k x x there) in
     let here : new ≡ now ++ spelling_of (seen_behind none_seen (map f (take k xs))) (f x) =
     h ∙ ap (λ s. now ++ spelling_of s (f x)) (sym (none (take k xs))) in
     spelled_map f none_seen (take k xs) x old now new e here

@@ -24,7 +24,7 @@ use Rattle.cert_trim.specs.Behind.{stays_behind, trimmed_behind, with_next, IsLe
 use Rattle.cert_trim.specs.Behind.{LeavesAreTrimmed, CertificatesStaySo, AreFewer, section_of}
 use Rattle.cert_writer.specs.Laws.{OfAims}
 use Rattle.cert_writer.specs.Standing.{SectionStart, IsAt, HasEnded, closed, trimmed}
-use Rattle.cert_writer.proofs.Seen.{seen_both}
+use Rattle.cert_trim.specs.cert_bytes.Styles.{seen_both}
 use Rattle.cert_writer.proofs.Sized.{sized_both}
 
 -- Where items lead on from is told by those before.

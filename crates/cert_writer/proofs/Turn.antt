@@ -47,7 +47,9 @@ use Rattle.cert_writer.specs.Standing.{AreBoxSteps, AreShort, inside, beside, ar
 use Rattle.cert_writer.specs.Courses.{Course, IsCourse, HasBest, setting, best_at, below, Grew}
 use Rattle.cert_writer.specs.Courses.{GrewToFront, IsBefore, IsPast, IsKnownAt, IsWithin, HasDone}
 use Rattle.cert_writer.specs.Laws.{WritingGoesOn}
-use Rattle.cert_writer.proofs.Seen.{seen_both, spelled_both, own_steps_seen, seen_with}
+use Rattle.cert_trim.specs.cert_bytes.Styles.{seen_both}
+use Rattle.cert_trim.specs.cert_bytes.Spelling.{spelled_both}
+use Rattle.cert_writer.proofs.Seen.{own_steps_seen, seen_with}
 
 -- ---- what the file takes
 -- A front of items that stand behind those before.

@@ -1,23 +1,21 @@
 -- What is answered to a script and a certificate, from what its check answers.
-use Rattle.std.specs.Prelude.{◌≡◌, [], length, Some, None, Err}
+use Rattle.std.specs.Prelude.{◌≡◌, length, Some, Err}
 use Rattle.std.proofs.Common.{◌∙◌, ap, subst, inl, inr}
 use Rattle.script_checker.specs.cert_checker.goals.fx_model.Expression.{Assignment}
 use Rattle.script_checker.specs.script_grammar.Spells.{View, Spells, GoalsHaveSpans}
 use Rattle.script_checker.specs.script_meets.Meets.{Meets}
 use Rattle.script_checker.specs.rewrite_hints.Marks.{AreMarks}
 use Rattle.cert_bytes.specs.declared.fault.CertFault.{CertFault}
-use Rattle.cert_bytes.specs.declared.order.DueItem.TheVariants.{Head}
 use Rattle.cert_bytes.specs.declared.style.Style.TheVariants.{First}
 use Rattle.cert_bytes.specs.Reading.{cursor}
 use Rattle.cert_bytes.specs.Pieces.{cursor_of}
-use Rattle.cert_bytes.specs.Readers.{Progress}
+use Rattle.cert_bytes.specs.Readers.{Progress, fresh}
 use Rattle.cert_bytes.specs.ReadOut.{AreBytes}
 use Rattle.script_checker.specs.cert_checker.declared.fault.CheckFault.{CheckFault}
 use Rattle.script_checker.specs.cert_checker.declared.fault.CheckStop.{CheckStop}
 use Rattle.script_checker.specs.cert_checker.declared.fault.CheckStop.TheVariants.{Cert, Check}
 use Rattle.script_checker.specs.cert_checker.declared.lines.Lines.{Lines}
 use Rattle.script_checker.specs.cert_checker.Outcomes.{Outcome, accepted, unread, refused}
-use Rattle.script_checker.specs.cert_checker.Checking.{IsFresh}
 use Rattle.script_checker.specs.Checking.{ComesFor, ShowsFor, ChecksFor, AreAcceptedFor}
 use Rattle.script_checker.specs.script_meets.Held.{AreHeld}
 use Rattle.script_texts.specs.report.Proved.{answer_text}
@@ -26,23 +24,7 @@ use Rattle.command_runs.specs.Runs.{Bytes, Told}
 use Rattle.command_runs.specs.declared.status.Status.TheVariants.{Answered, Certificate}
 use Rattle.check_command.specs.Checked.{ComesWhereTold, CheckPrints}
 
--- a reader that has read nothing
-abbrev pub begun : Bytes → Progress
-begun name = record {
-  ahead = record { name = name; style = First; at = 0; ahead = [] };
-  due = Head;
-  fault = None;
-}
-
-pub is_fresh : (name : Bytes) (r : Progress) → r ≡ begun name → IsFresh r
-is_fresh name r e = record {
-  at = ap (λ (q : Progress). q.ahead.at) e;
-  style = ap (λ (q : Progress). q.ahead.style) e;
-  due = ap (λ (q : Progress). q.due) e;
-  fault = ap (λ (q : Progress). q.fault) e;
-}
-
-module _ (told : Told) (name : Bytes) (r : Progress) (begins : r ≡ begun name) (s : View) where
+module _ (told : Told) (name : Bytes) (r : Progress) (begins : r ≡ fresh name) (s : View) where
   -- the same bytes, by the reader's name
   told_by : (all : Bytes) → told name ≡ Some all → told r.ahead.name ≡ Some all
   told_by all e = ap (λ (q : Progress). told q.ahead.name) begins ∙ e

@@ -5,7 +5,7 @@ use Rattle.script_checker.specs.script_grammar.Spells.{View, Spells, SpellsOnce}
 use Rattle.cert_bytes.specs.declared.style.Style.TheVariants.{First}
 use Rattle.cert_bytes.specs.Reading.{cursor}
 use Rattle.cert_bytes.specs.Pieces.{cursor_of}
-use Rattle.cert_bytes.specs.Readers.{Progress}
+use Rattle.cert_bytes.specs.Readers.{Progress, fresh}
 use Rattle.cert_bytes.specs.declared.fault.CertFault.{CertFault}
 use Rattle.script_checker.specs.cert_checker.declared.fault.CheckFault.{CheckFault}
 use Rattle.script_checker.specs.cert_checker.declared.fault.CheckStop.{CheckStop}
@@ -19,7 +19,6 @@ use Rattle.whole_texts.specs.Texts.{IsText}
 use Rattle.command_runs.specs.Runs.{Bytes, Told}
 use Rattle.script_texts.specs.Texts.{read_whole}
 use Rattle.check_command.specs.Checked.{IsAcceptable}
-use Rattle.check_command.proofs.Checked.{begun}
 
 comes_of : SpelledAreAccepted → SpellsOnce → (s : View) → Spells s.text s → (all : Bytes)
     → IsAcceptable s.text all → (end : Context) × ComesFor s (cursor First all 0) (accepted end)
@@ -34,7 +33,7 @@ comes_of law once s spelled all p =
 
 -- that is what is answered
 pub answers_accepted : SpelledAreAccepted → SpellsOnce → (told : Told) (name : Bytes) (r : Progress)
-    → r ≡ begun name → (s : View) → Spells s.text s → (result : Result Lines CheckStop)
+    → r ≡ fresh name → (s : View) → Spells s.text s → (result : Result Lines CheckStop)
     → ((all : Bytes) → told r.ahead.name ≡ Some all → (o : Outcome)
     → ComesFor s (cursor_of all r.ahead) o → IsAnswer o result)
     → (all : Bytes) → told name ≡ Some all → IsAcceptable s.text all

@@ -256,6 +256,28 @@ kept_all (Some x) r file others n = kept_by (bytes_eq x n) refl where
   kept_by false e = others n (λ same.
       let h : true ≡ false = sym ((bytes_eq-Decides x n).1 (cc same)) ∙ e in cc h)
 
+-- the file of this name is left so
+pub left_so : (name : Bytes) (r : Run) (left : Left)
+    → Leaves left (r.before.told name) (r.after.told name) → Written (Some name) left r
+left_so name r left h n named = let same : name ≡ n = cc named in
+    subst (λ m. Leaves left (r.before.told m) (r.after.told m)) same h
+
+module _ (name : Bytes) (r : Run)
+    (others : (other : Bytes) → other ≢ name → IsKept r other) where
+  -- all but this file are kept
+  pub others_kept : (other : Bytes) → Some name ≢ Some other → IsKept r other
+  others_kept other differs = others other (λ same. differs (ap Some (sym same)))
+
+  -- and so are all where it is
+  pub all_kept : r.after.told name ≡ r.before.told name → (n : Bytes) → IsKept r n
+  all_kept same = kept_all (Some name) r
+      (λ n named. let is : name ≡ n = cc named in subst (IsKept r) is same) others_kept
+
+-- a sink that nothing was put into
+pub kept_same : (o : Option Bytes) → Keeps o o
+kept_same None = tt
+kept_same (Some x) = refl
+
 -- ---- the whole
 -- A run by a fate whose statuses are one, read faults aside, and which keeps the file but where it
 -- may change.

@@ -33,9 +33,10 @@ use Rattle.fixprog.proofs.Ascii.{Plain}
 use Rattle.fixprog.proofs.AsciiWords.{IsPlainWord, all_words_plain, statements_plain}
 use Rattle.fixprog.proofs.AsciiWords.{IsPlainOperand, IsPlainOperation, IsPlainWay, IsPlainInput}
 use Rattle.fixprog.proofs.AsciiWords.{IsPlainStep, IsPlainStatement}
-use Rattle.fixprog.proofs.Faultless.{fine, all_fine, all_front, all_behind}
+use Rattle.fixprog.proofs.Faultless.{fine, all_fine}
 use Rattle.fixprog.proofs.Common.{all_of}
 use Rattle.fixprog.specs.Narrow.{IsNarrow, narrow}
+use Rattle.script_judge.specs.script_cases.Lists.{all_front, all_behind}
 
 plain : (bs : List ℕ) → Plain bs → IsAscii bs
 plain bs h = IsAscii-from_all bs (all_of (λ b. b < 128) bs h)

@@ -26,11 +26,7 @@ use Rattle.fixprog.specs.Finding.{Course}
 use Rattle.fixprog.proofs.Course.{in_place, may_join, join_whole, one_word_more, whole, stand_words}
 use Rattle.fixprog.proofs.Course.{IsCourse}
 use Rattle.fixprog.proofs.Common.{all_of}
-
-all_append : {X : Type 0} (P : X → Type 0) (xs ys : List X) → AllByRecursion P xs
-    → AllByRecursion P ys → AllByRecursion P (xs ++ ys)
-all_append P [] ys h k = k
-all_append P (x ∷ xs) ys h k = (h.0, all_append P xs ys h.1 k)
+use Rattle.script_judge.specs.script_cases.Lists.{all_joined}
 
 -- ---- words that stand for any other
 
@@ -470,7 +466,7 @@ begins_inside c ws e h n =
         more = f.missing ++ x.missing;
         words = x.words ∙ ap (λ l. l ++ x.missing) all ∙ append_assoc ws f.missing x.missing;
         spelled = all_of IsToken (f.missing ++ x.missing)
-            (all_append IsToken f.missing x.missing f.tokens x.tokens);
+            (all_joined IsToken f.missing x.missing f.tokens x.tokens);
       };
     }
 

@@ -17,6 +17,7 @@ use Rattle.fixprog.specs.Faults.{statement_faults, faults_from, program_faults, 
 use Rattle.fixprog.specs.Printed.{IsShort, IsPrintable, IsInputPrintable}
 use Rattle.fixprog.specs.Views.{input_of, step_of, program_with, program_of}
 use Rattle.fixprog.specs.NoFaults.{none_front, none_behind, not_if, no_if, short_by, light}
+use Rattle.script_judge.specs.script_cases.Lists.{all_front, all_behind}
 
 operation_fine : (o : Operation) (b : Before) (i : ℕ) → operation_faults b i o ≡ [] → IsShort o
 operation_fine (copy a) b i h = tt
@@ -65,16 +66,6 @@ all_fine (x ∷ xs) b i h = (
   all_fine xs (after b x) (i + length (statement_words x))
       (none_behind (statement_faults b i x) _ h),
 )
-
-pub all_front : {A : Type 0} (P : A → Type 0) (xs ys : List A) → AllByRecursion P (xs ++ ys)
-    → AllByRecursion P xs
-all_front P [] ys h = tt
-all_front P (x ∷ xs) ys h = (h.0, all_front P xs ys h.1)
-
-pub all_behind : {A : Type 0} (P : A → Type 0) (xs ys : List A) → AllByRecursion P (xs ++ ys)
-    → AllByRecursion P ys
-all_behind P [] ys h = h
-all_behind P (x ∷ xs) ys h = all_behind P xs ys h.1
 
 -- each of the values that are mapped
 all_unmapped : {A B : Type 0} (P : B → Type 0) (f : A → B) (xs : List A)

@@ -34,9 +34,10 @@ use Rattle.fixprog.specs.Turned.{output_goal, joined, hypotheses_text, goals_tex
 use Rattle.fixprog.specs.Printed.{IsShort}
 use Rattle.fixprog.specs.Answer.{ScriptsAreShort}
 use Rattle.fixprog.proofs.ProgramCourse.{words-append}
-use Rattle.fixprog.proofs.Faultless.{fine, all_fine, all_front, all_behind, few}
+use Rattle.fixprog.proofs.Faultless.{fine, all_fine, few}
 use Rattle.fixprog.proofs.Sound.{spelled_faultless}
 use Rattle.fixprog.specs.Narrow.{IsNarrow, narrow, power_below}
+use Rattle.script_judge.specs.script_cases.Lists.{all_front, all_behind}
 
 -- ---- texts of words
 

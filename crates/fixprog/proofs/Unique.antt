@@ -2,10 +2,9 @@
 use Rattle.std.proofs.Common.{◌≡◌, ⊎_elim, ℕ, ◌+◌, ◌<◌, ◌≤◌, nat_lt, ◌==◌, ◌&&◌, ◌||◌, false, List}
 use Rattle.std.proofs.Common.{[], ◌∷◌, ◌++◌, ◌-◌, length, take, drop, Option, Some, None, refl, sym}
 use Rattle.std.proofs.Common.{ap, ◌∙◌, subst, arith, if◌then◌else◌}
-use Rattle.std.specs.Str.{IsUtf8, IsValidUpTo}
 use Rattle.std.proofs.lemmas.Str.{utf8_valid_len-IsValidUpTo}
 use Rattle.std.proofs.lemmas.Bool.{cases_lt}
-use Rattle.std.proofs.Math.Seq.{take-length, take-add}
+use Rattle.std.proofs.Math.Seq.{take-add}
 use Rattle.fixprog.specs.declared.fault.ProgKind.{ProgKind}
 use Rattle.fixprog.specs.declared.fault.ProgKind.TheVariants as kind
 use Rattle.fixprog.specs.declared.fault.ProgFault.{ProgFault}
@@ -22,6 +21,7 @@ use Rattle.fixprog.proofs.Completed.{begins_some}
 use Rattle.fixprog.proofs.ProgramCourse.{program_course}
 use Rattle.fixprog.proofs.Decided.{none_begins}
 use Rattle.fixprog.proofs.Common.{one_value}
+use Rattle.script_words.specs.Utf8.{no_both}
 
 -- ---- readings
 
@@ -105,9 +105,6 @@ both_first f g h k =
     let n = neither f.at (number f.kind) g.at (number g.kind) h k in
     let kinds : f.kind ≡ g.kind = sym (kind_is f.kind) ∙ ap kind_at n.1 ∙ kind_is g.kind in
     ap (λ x. record { kind = x; at = f.at }) kinds ∙ ap (λ x. record { kind = g.kind; at = x }) n.0
-
-no_both : (text : List ℕ) (at : ℕ) → IsValidUpTo text at → IsUtf8 text → ⊥
-no_both text at h k = h.longest (length text) h.short (subst IsUtf8 (sym (take-length text)) k)
 
 pub firsts_are_unique : FirstsAreUnique
 firsts_are_unique text a b (too_long h) (too_long k) = refl

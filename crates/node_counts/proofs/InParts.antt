@@ -9,28 +9,19 @@ use Rattle.script_judge.specs.script_cases.Cases.{cases, case_count, all_items}
 use Rattle.script_judge.specs.script_cases.Counted.{cases_are_counted}
 use Rattle.script_judge.specs.script_cases.Parts.{Parts, with_item, part_of, behind_or}
 use Rattle.script_judge.specs.script_cases.Parts.{behind_arrow}
+use Rattle.script_judge.specs.script_cases.Lists.{all_joined, all_front, all_behind, all_as}
 
 pub record AllInParts {X : Type 0} (P : X → Type 0) (p : Parts X) : Type 0 where
   pub before : AllByRecursion P (all_items p.before)
   pub ended : AllByRecursion P (flat_map (λ c. c) p.ended)
   pub last : AllByRecursion P p.last
 
-pub all_both : {X : Type 0} (P : X → Type 0) (a b : List X) → AllByRecursion P a
-    → AllByRecursion P b → AllByRecursion P (a ++ b)
-all_both P [] b p q = q
-all_both P (x ∷ a) b p q = (p.0, all_both P a b p.1 q)
-
-all_later : {X : Type 0} (P Q : X → Type 0) → ((x : X) → P x → Q x) → (xs : List X)
-    → AllByRecursion P xs → AllByRecursion Q xs
-all_later P Q f [] p = tt
-all_later P Q f (x ∷ xs) p = (f x p.0, all_later P Q f xs p.1)
-
 pub all_parts_as : {X : Type 0} (P Q : X → Type 0) → ((x : X) → P x → Q x) → (p : Parts X)
     → AllInParts P p → AllInParts Q p
 all_parts_as P Q f p h = record {
-  before = all_later P Q f (all_items p.before) h.before;
-  ended = all_later P Q f (flat_map (λ c. c) p.ended) h.ended;
-  last = all_later P Q f p.last h.last;
+  before = all_as P Q f (all_items p.before) h.before;
+  ended = all_as P Q f (flat_map (λ c. c) p.ended) h.ended;
+  last = all_as P Q f p.last h.last;
 }
 
 one_last : {X : Type 0} (a : List (List X)) (c : List X)
@@ -43,12 +34,12 @@ module _ {X : Type 0} (P : X → Type 0) (p : Parts X) where
   item_in_parts x h q = record {
     before = h.before;
     ended = h.ended;
-    last = all_both P p.last (x ∷ []) h.last (q, tt);
+    last = all_joined P p.last (x ∷ []) h.last (q, tt);
   }
 
   whole : AllInParts P p → AllByRecursion P (flat_map (λ c. c) (part_of p))
   whole h = subst (AllByRecursion P) (sym (one_last p.ended p.last))
-      (all_both P (flat_map (λ c. c) p.ended) p.last h.ended h.last)
+      (all_joined P (flat_map (λ c. c) p.ended) p.last h.ended h.last)
 
   pub or_in_parts : AllInParts P p → AllInParts P (behind_or p)
   or_in_parts h = record { before = h.before; ended = whole h; last = tt }
@@ -57,25 +48,15 @@ items_joined : {X : Type 0} (P : X → Type 0) (a b : List (List (List X)))
     → AllByRecursion P (all_items a) → AllByRecursion P (all_items b)
     → AllByRecursion P (all_items (a ++ b))
 items_joined P [] b h k = k
-items_joined P (p ∷ a) b h k = all_both P (flat_map (λ c. c) p)
-    (all_items (a ++ b)) (front P (flat_map (λ c. c) p) (all_items a) h)
-    (items_joined P a b (back P (flat_map (λ c. c) p) (all_items a) h) k)
-  where
-    front : {X : Type 0} (P : X → Type 0) (a b : List X)
-        → AllByRecursion P (a ++ b) → AllByRecursion P a
-    front P [] b h = tt
-    front P (x ∷ a) b h = (h.0, front P a b h.1)
-
-    back : {X : Type 0} (P : X → Type 0) (a b : List X)
-        → AllByRecursion P (a ++ b) → AllByRecursion P b
-    back P [] b h = h
-    back P (x ∷ a) b h = back P a b h.1
+items_joined P (p ∷ a) b h k = all_joined P (flat_map (λ c. c) p)
+    (all_items (a ++ b)) (all_front P (flat_map (λ c. c) p) (all_items a) h)
+    (items_joined P a b (all_behind P (flat_map (λ c. c) p) (all_items a) h) k)
 
 pub arrow_in_parts : {X : Type 0} (P : X → Type 0) (p : Parts X) → AllInParts P p
     → AllInParts P (behind_arrow p)
 arrow_in_parts P p h = record {
   before = items_joined P p.before (part_of p ∷ []) h.before
-      (all_both P (flat_map (λ c. c) (part_of p)) [] (whole P p h) tt);
+      (all_joined P (flat_map (λ c. c) (part_of p)) [] (whole P p h) tt);
   ended = tt;
   last = tt;
 }
@@ -87,7 +68,7 @@ AreFilled parts = AllByRecursion (λ p. 0 < length p) parts
 
 pub filled_more : {X : Type 0} (p : Parts X) → AreFilled p.before
     → AreFilled (behind_arrow p).before
-filled_more p h = all_both (λ q. 0 < length q) p.before (part_of p ∷ []) h
+filled_more p h = all_joined (λ q. 0 < length q) p.before (part_of p ∷ []) h
     (omega (arith, length-append p.ended (p.last ∷ [])), tt)
 
 -- so there is a case

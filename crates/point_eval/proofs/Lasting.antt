@@ -24,6 +24,7 @@ use Rattle.point_values.specs.Rows.{Row}
 use Rattle.point_values.specs.Evaluation.{Subject, subject_of, evaluation_of, meets}
 use Rattle.point_values.specs.Within.{ClaimIsWithin, ConstraintIsWithin, HintIsWithin, AreWithin}
 use Rattle.point_eval.specs.Judged.{judged_of, EndsIn}
+use Rattle.facts.specs.CommonParts.{all_as}
 
 -- ---- the last line
 line_of_true : (b : Bool) → IsTrue b → point_line b ≡ codes "point: meets\n"
@@ -61,10 +62,6 @@ missed_ends s marks a text t e n = let r = ends_so (judged_of s marks) a (codes 
     (line_of_false (meets (judged_of s marks) a) (λ h. n (t.0 h))) in (r.0, e ∙ r.1)
 
 -- ---- what is named is a node
-each : {A : Type 0} (P Q : A → Type 0) → ((x : A) → P x → Q x) → (xs : List A) → AllByRecursion P xs
-    → AllByRecursion Q xs
-each P Q f [] h = tt
-each P Q f (x ∷ xs) h = (f x h.0, each P Q f xs h.1)
 
 claim_within : (n : ℕ) (c : Claim) → ClaimIsOf n c → ClaimIsWithin n c
 claim_within n (claim.Bounded x l u) h = h
@@ -85,18 +82,18 @@ hint_within n h i = record {
   left = i.sides.0;
   right = i.sides.1;
   constraints =
-      each (ConstraintIsOf n) (ConstraintIsWithin n) (constraint_within n) h.constraints
+      all_as (ConstraintIsOf n) (ConstraintIsWithin n) (constraint_within n) h.constraints
       i.constraints;
 }
 
 pub within : (s : View) → NamesNodes s
     → AreWithin (length s.nodes) s.hypotheses s.goals s.hints.rewrites
 within s h = record {
-  hypotheses = each (ClaimIsOf (length s.nodes)) (ClaimIsWithin (length s.nodes))
+  hypotheses = all_as (ClaimIsOf (length s.nodes)) (ClaimIsWithin (length s.nodes))
       (claim_within (length s.nodes)) s.hypotheses h.hypotheses;
-  goals = each (ClaimIsOf (length s.nodes)) (ClaimIsWithin (length s.nodes))
+  goals = all_as (ClaimIsOf (length s.nodes)) (ClaimIsWithin (length s.nodes))
       (claim_within (length s.nodes)) s.goals h.goals;
-  hints = each (HintIsOf (length s.nodes)) (HintIsWithin (length s.nodes))
+  hints = all_as (HintIsOf (length s.nodes)) (HintIsWithin (length s.nodes))
       (hint_within (length s.nodes)) s.hints.rewrites h.hints.rewrites;
 }
 

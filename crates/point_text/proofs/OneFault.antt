@@ -1,9 +1,7 @@
 -- A text has one fault at most.
 use Rattle.std.specs.Prelude.{◌≡◌, ℕ, ◌+◌, ◌<◌, ◌≤◌, ◌++◌, List, [], ◌∷◌, length, take, slice_get}
 use Rattle.std.specs.Prelude.{slice_index_or, map, Some, refl}
-use Rattle.std.specs.Str.{IsUtf8, IsValidUpTo}
 use Rattle.std.proofs.Common.{sym, ap, ◌∙◌, subst, inl, inr, ⊎_elim, arith, append_assoc}
-use Rattle.std.proofs.Math.Seq.{take-length}
 use Rattle.std.proofs.lemmas.Bool.{cases_lt}
 use Rattle.std.proofs.lemmas.List.{take-take}
 use Rattle.std.proofs.lemmas.Str.{utf8_valid_len-IsValidUpTo}
@@ -18,6 +16,7 @@ use Rattle.point_text.specs.PointFaults.{cut_short, unknown, twice, zero_divisor
 use Rattle.point_text.specs.PointFaults.{missing, number, IsNotAfter, IsPointFault, too_long}
 use Rattle.point_text.specs.PointFaults.{not_text, first}
 use Rattle.point_text.proofs.Spelled.{front_split}
+use Rattle.script_words.specs.Utf8.{no_both}
 
 -- ---- a text is read to one token
 
@@ -135,10 +134,6 @@ same_fault k j at there (inr (e, m)) (inr (f, n)) =
     ap (λ i. fault_of i at) (sym (kind_of_number k) ∙ ap kind_at same ∙ kind_of_number j)
     ∙ ap (fault_of j) e
 
-text_or_not : (text : List ℕ) (at : ℕ) → IsValidUpTo text at → IsUtf8 text → ⊥
-text_or_not text at v u =
-    v.longest (length text) v.short (subst IsUtf8 (sym (take-length text)) u)
-
 pub faults_once : LexesOnce → (variables : List Name) (text : List ℕ) (f g : PointFault)
     → IsPointFault variables text f → IsPointFault variables text g → f ≡ g
 unfolding fault_of
@@ -151,11 +146,11 @@ faults_once once variables text f g (not_text {at = a} l v) (not_text {at = b} m
     let same = sym (utf8_valid_len-IsValidUpTo text a v) ∙ utf8_valid_len-IsValidUpTo text b w in
     ap (fault_of kind.NotText) same
 faults_once once variables text f g (not_text {at = a} l v) (first short r h b) =
-    absurd (text_or_not text a v short.1)
+    absurd (no_both text a v short.1)
 faults_once once variables text f g (first short r h b) (too_long m) =
     let l = short.0 in absurd (omega arith)
 faults_once once variables text f g (first short r h b) (not_text {at = a} m v) =
-    absurd (text_or_not text a v short.1)
+    absurd (no_both text a v short.1)
 faults_once once variables text f g (first {k = k} {at = a} short r h least)
     (first {k = j} {at = b} again q i lowest) =
     let s = same_reading once r q in

@@ -1,9 +1,7 @@
 -- A text that spells a point has no fault, and spells one point.
 use Rattle.std.specs.Prelude.{◌≡◌, ℕ, zero, suc, ◌+◌, ◌<◌, List, [], ◌∷◌, ◌++◌, length, take, drop}
 use Rattle.std.specs.Prelude.{slice_get, Option, Some, None, Bool, refl}
-use Rattle.std.specs.Str.{IsUtf8}
 use Rattle.std.proofs.Common.{sym, ap, ◌∙◌, subst, ⊎_elim, arith}
-use Rattle.std.proofs.Math.Seq.{take-length}
 use Rattle.std.proofs.lemmas.Option.{none-some, same_Some, slice_get_within}
 use Rattle.std.proofs.lemmas.Bool.{cases_lt}
 use Rattle.fx_model.specs.declared.Literal.{Literal}
@@ -23,6 +21,7 @@ use Rattle.point_text.proofs.Parts.{has_name}
 use Rattle.point_text.proofs.Clean.{IsClean, AreSound, entries_clean}
 use Rattle.point_text.proofs.Starts.{starts}
 use Rattle.point_text.proofs.Standing.{length_parts, start_of, no_start_past}
+use Rattle.script_words.specs.Utf8.{no_both}
 
 -- ---- entries of a point
 
@@ -113,7 +112,7 @@ pub spelled_faultless : ReadsLiterals → LexesOnce
     → SpellsPoint variables text rows → IsPointFault variables text f → ⊥
 spelled_faultless law once variables text rows f s (too_long l) = let m = s.short.0 in omega arith
 spelled_faultless law once variables text rows f s (not_text {at = a} l v) =
-    v.longest (length text) v.short (subst IsUtf8 (sym (take-length text)) s.short.1)
+    no_both text a v s.short.1
 spelled_faultless law once variables text rows f s (first {k = k} {at = a} short r has least) =
     let same = once text r.tokens s.tokens r.bad None r.lexed s.lexed in
     let e : parts_of text r.tokens ≡ entries_parts s.entries = ap (parts_of text) same.tokens

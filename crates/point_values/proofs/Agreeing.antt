@@ -29,6 +29,7 @@ use Rattle.point_values.proofs.CaseClaims.{has_cases}
 use Rattle.point_values.specs.Within.{ClaimIsWithin, ConstraintIsWithin, HintIsWithin, AreWithin}
 use Rattle.point_values.specs.declared.place.Place.{Place}
 use Rattle.point_values.specs.declared.place.Place.TheVariants as place
+use Rattle.facts.specs.CommonParts.{all_as}
 
 -- ---- lists
 same_wide : {A : Type 0} (p : ℕ → Place) (f g : A → List ℤ) (k : ℕ) (xs : List A)
@@ -55,11 +56,6 @@ same_numbers : {A : Type 0} (f g : A → List ℤ) (xs : List A) → AllByRecurs
 same_numbers f g [] h = refl
 same_numbers f g (x ∷ xs) h = ap (λ zs. zs ++ flat_map f xs) h.0
     ∙ ap (λ zs. g x ++ zs) (same_numbers f g xs h.1)
-
-each : {A : Type 0} (P Q : A → Type 0) → ((x : A) → P x → Q x) → (xs : List A) → AllByRecursion P xs
-    → AllByRecursion Q xs
-each P Q f [] h = tt
-each P Q f (x ∷ xs) h = (f x h.0, each P Q f xs h.1)
 
 each_pair : (P : Hint → Type 0) (Q : Hint × HintMark → Type 0)
     → ((h : Hint) (m : HintMark) → P h → Q (h, m)) → (hs : List Hint) (ms : List HintMark)
@@ -143,14 +139,14 @@ module _ (v w : ExprId → Option Fraction) (n : ℕ) (e : (x : ExprId) → x.0 
 
   hint_same : (h : Hint) → HintIsWithin n h → hint_numbers v h ≡ hint_numbers w h
   hint_same h i = same_numbers (constraint_numbers v) (constraint_numbers w) h.constraints
-      (each (ConstraintIsWithin n) (λ c. constraint_numbers v c ≡ constraint_numbers w c)
+      (all_as (ConstraintIsWithin n) (λ c. constraint_numbers v c ≡ constraint_numbers w c)
       constraint_same h.constraints i.constraints)
 
   hint_holds_same : (h : Hint) → HintIsWithin n h → hint_holds v h ≡ hint_holds w h
   hint_holds_same h i =
       ap (λ b. not b || agree (v h.left) (v h.right))
       (same_all (constraint_holds v) (constraint_holds w) h.constraints
-      (each (ConstraintIsWithin n) (λ c. constraint_holds v c ≡ constraint_holds w c)
+      (all_as (ConstraintIsWithin n) (λ c. constraint_holds v c ≡ constraint_holds w c)
       constraint_holds_same h.constraints i.constraints))
       ∙ ap (λ o. not (list_all (constraint_holds w) h.constraints) || agree o (v h.right))
       (e h.left i.left) ∙ ap (λ o. not (list_all (constraint_holds w) h.constraints)
@@ -181,7 +177,7 @@ module _ (v w : ExprId → Option Fraction) (n : ℕ) (e : (x : ExprId) → x.0 
       ≡ list_all (claim_holds w) cs
   all_same cs i =
       same_all (claim_holds v) (claim_holds w) cs
-      (each (ClaimIsWithin n) (λ c. claim_holds v c ≡ claim_holds w c) holds_same cs i)
+      (all_as (ClaimIsWithin n) (λ c. claim_holds v c ≡ claim_holds w c) holds_same cs i)
 
   cases_same : (cases : List (List Claim)) → AllByRecursion (AllByRecursion (ClaimIsWithin n)) cases
       → list_any (list_all (claim_holds v)) cases ≡ list_any (list_all (claim_holds w)) cases
@@ -208,12 +204,12 @@ module _ (v w : ExprId → Option Fraction) (n : ℕ) (e : (x : ExprId) → x.0 
       ++ (lines_from (hint_line v) 0 (pairs hs ms)
       ++ point_line (meets_with v cases (pairs hs ms)))))
       (same_lines (hypothesis_line v) (hypothesis_line w) 0 cs
-      (each (ClaimIsWithin n) (λ c. (k : ℕ) → hypothesis_line v k c ≡ hypothesis_line w k c)
+      (all_as (ClaimIsWithin n) (λ c. (k : ℕ) → hypothesis_line v k c ≡ hypothesis_line w k c)
       hypothesis_same cs i.hypotheses))
       ∙ ap (λ b. lines_from (hypothesis_line w) 0 cs
       ++ (b ++ (lines_from (hint_line v) 0 (pairs hs ms)
       ++ point_line (meets_with v cases (pairs hs ms)))))
-      (same_lines (goal_line v) (goal_line w) 0 gs (each (ClaimIsWithin n) (λ c. (k : ℕ)
+      (same_lines (goal_line v) (goal_line w) 0 gs (all_as (ClaimIsWithin n) (λ c. (k : ℕ)
       → goal_line v k c ≡ goal_line w k c) goal_same gs i.goals))
       ∙ ap (λ b. lines_from (hypothesis_line w) 0 cs
       ++ (lines_from (goal_line w) 0 gs
@@ -232,12 +228,12 @@ module _ (v w : ExprId → Option Fraction) (n : ℕ) (e : (x : ExprId) → x.0 
       ap (λ o. or_else o (or_else (wide_from place.Goal (claim_numbers v) 0 gs)
       (wide_from place.Hint (marked_numbers v) 0 (pairs hs ms))))
       (same_wide place.Hypothesis (claim_numbers v) (claim_numbers w) 0 cs
-      (each (ClaimIsWithin n) (λ c. claim_numbers v c ≡ claim_numbers w c) claim_same cs
+      (all_as (ClaimIsWithin n) (λ c. claim_numbers v c ≡ claim_numbers w c) claim_same cs
       i.hypotheses))
       ∙ ap (λ o. or_else (wide_from place.Hypothesis (claim_numbers w) 0 cs)
       (or_else o (wide_from place.Hint (marked_numbers v) 0 (pairs hs ms))))
       (same_wide place.Goal (claim_numbers v) (claim_numbers w) 0 gs
-      (each (ClaimIsWithin n) (λ c. claim_numbers v c ≡ claim_numbers w c) claim_same gs
+      (all_as (ClaimIsWithin n) (λ c. claim_numbers v c ≡ claim_numbers w c) claim_same gs
       i.goals))
       ∙ ap (λ o. or_else (wide_from place.Hypothesis (claim_numbers w) 0 cs)
       (or_else (wide_from place.Goal (claim_numbers w) 0 gs) o))

@@ -11,9 +11,7 @@ use Rattle.std.proofs.Math.Nat.{dvd-mul_right, pow-suc, pow-zero, pow-le-pow_rig
 use Rattle.std.proofs.Math.Nat.{one-le-pow, div-le_self}
 use Rattle.poly_normal.specs.Form.{common_divisor_to}
 use Rattle.poly_normal.proofs.Quotients.{IsDivisor, divides_both, whole_quotient}
-
-false_not_true : false ≡ true → ⊥
-false_not_true e = cc
+use Rattle.std.proofs.lemmas.Bool.{false≢true}
 
 -- no common divisor up to n is greater than what is found up to n
 at_least : (n a b d : ℕ) → 0 < d → d ≤ n → a % d ≡ 0 → b % d ≡ 0 → d ≤ common_divisor_to n a b
@@ -30,9 +28,9 @@ at_least (suc n) a b d p l e f =
         → d ≤ (if x && y then suc n else common_divisor_to n a b)
     by true true g h rest = l
     by true false g h rest = rest
-        (less (λ q. false_not_true (sym h ∙ eq-eqb (b % suc n) 0 (subst (λ k. b % k ≡ 0) q f))) l)
+        (less (λ q. false≢true (sym h ∙ eq-eqb (b % suc n) 0 (subst (λ k. b % k ≡ 0) q f))) l)
     by false y g h rest = rest
-        (less (λ q. false_not_true (sym g ∙ eq-eqb (a % suc n) 0 (subst (λ k. a % k ≡ 0) q e))) l)
+        (less (λ q. false≢true (sym g ∙ eq-eqb (a % suc n) 0 (subst (λ k. a % k ≡ 0) q e))) l)
 
 pub divisor_positive : (b g : ℕ) → 0 < b → g ∣ b → 0 < g
 divisor_positive b zero p h = let e : zero ≡ b = dvd_antisymm h (dvd-zero b) in absurd (omega arith)

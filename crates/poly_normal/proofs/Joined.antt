@@ -20,10 +20,10 @@ use Rattle.poly_normal.specs.Rows.{rows, IsBefore, IsRising}
 use Rattle.poly_normal.proofs.FlatRows.{rows_same}
 use Rattle.poly_normal.proofs.Values.{same_monomial-self, same_monomial-true}
 use Rattle.poly_normal.proofs.Merge.{order, same_from_order, before-weaker, turned}
+use Rattle.std.proofs.Math.IntN.{+ℤ_idl, +ℤ_idr}
+use Rattle.std.proofs.lemmas.Bool.{false≢true}
 
 -- ---- the test of monomials
-false_not_true : false ≡ true → ⊥
-false_not_true e = cc
 
 same_of : (l m : Monomial) → l ≡ m → same_monomial l m ≡ true
 same_of l m e = subst (λ x. same_monomial l x ≡ true) e (same_monomial-self l)
@@ -54,20 +54,15 @@ same_monomial_laws = record {
       where
         by : (b : Bool) → same_monomial x y ≡ b → b ≡ same_monomial y x
         by true e = sym (same_of y x (sym (same_monomial-true x y e)))
-        by false e = sym (apart_of y x (λ k. false_not_true (sym e ∙ same_of x y (sym k))))
+        by false e = sym (apart_of y x (λ k. false≢true (sym e ∙ same_of x y (sym k))))
 
 -- ---- coefficients of a rising polynomial
-zero-plus : (z : ℤ) → pos 0 +ℤ z ≡ z
-zero-plus z = omega (arith, ints)
-
-plus-zero : (z : ℤ) → z +ℤ pos 0 ≡ z
-plus-zero z = omega (arith, ints)
 
 coefficient-other : (t : Term) (p : Polynomial) (m : Monomial) → ¬ (t.monomial ≡ m)
     → coefficient_of (t ∷ p) m ≡ coefficient_of p m
 coefficient-other t p m h =
     ap (λ b. (if b then t.coefficient else pos 0) +ℤ coefficient_of p m) (apart_of t.monomial m h)
-    ∙ zero-plus (coefficient_of p m)
+    ∙ +ℤ_idl (coefficient_of p m)
 
 coefficient-before : (m : Monomial) (p : Polynomial) → IsBefore m p → coefficient_of p m ≡ pos 0
 coefficient-before m [] b = refl
@@ -78,7 +73,7 @@ coefficient-first : (t : Term) (p : Polynomial) → IsBefore t.monomial p
     → coefficient_of (t ∷ p) t.monomial ≡ t.coefficient
 coefficient-first t p b = ap (λ x. (if x then t.coefficient else pos 0)
     +ℤ coefficient_of p t.monomial) (same_monomial-self t.monomial)
-    ∙ ap (λ z. t.coefficient +ℤ z) (coefficient-before t.monomial p b) ∙ plus-zero t.coefficient
+    ∙ ap (λ z. t.coefficient +ℤ z) (coefficient-before t.monomial p b) ∙ +ℤ_idr t.coefficient
 
 -- ---- two rising polynomials are equal only where their terms are
 pub same_term : (s t : Term) → s.coefficient ≡ t.coefficient → s.monomial ≡ t.monomial → s ≡ t
@@ -97,7 +92,7 @@ rest_equal s t p q b c f e m = by (same_monomial s.monomial m) refl
         coefficient-before m p (subst (λ l. IsBefore l p) g b)
         ∙ sym (coefficient-before m q (subst (λ l. IsBefore l q) (sym f ∙ g) c))
     by false h =
-        let n : ¬ (s.monomial ≡ m) = (λ g. false_not_true (sym h ∙ same_of s.monomial m g)) in
+        let n : ¬ (s.monomial ≡ m) = (λ g. false≢true (sym h ∙ same_of s.monomial m g)) in
         sym (coefficient-other s p m n) ∙ e m ∙ coefficient-other t q m (λ g. n (f ∙ g))
 
 pub same_from_equal : (p q : Polynomial) → IsRising p → IsRising q → IsEqual p q → p ≡ q
@@ -160,22 +155,22 @@ member_is_occurs (t ∷ p) r m = by (same_monomial m t.monomial) refl (member_is
         sym (occurs_of (t ∷ p) m t.coefficient (ap (coefficient_of (t ∷ p)) g
         ∙ coefficient-first t p r.1) ∙ not_zero_occurs t.coefficient r.0)
     by false e rest = rest ∙ sym (occurs_of (t ∷ p) m (coefficient_of p m)
-        (coefficient-other t p m (λ g. false_not_true (sym e ∙ same_of m t.monomial (sym g)))))
+        (coefficient-other t p m (λ g. false≢true (sym e ∙ same_of m t.monomial (sym g)))))
 
 -- what occurs is a monomial of some term
 occurs-absent : (p : Polynomial) (m : Monomial)
     → is_member same_monomial (map (λ t. t.monomial) p) m ≡ false → coefficient_of p m ≡ pos 0
 occurs-absent [] m h = refl
 occurs-absent (t ∷ p) m h = coefficient-other t p m (λ g.
-    false_not_true (sym (or_left (same_monomial m t.monomial) _ h) ∙ same_of m t.monomial (sym g)))
+    false≢true (sym (or_left (same_monomial m t.monomial) _ h) ∙ same_of m t.monomial (sym g)))
     ∙ occurs-absent p m (or_right (same_monomial m t.monomial) _ h)
   where
     or_left : (b c : Bool) → (b || c) ≡ false → b ≡ false
-    or_left true c h = absurd (false_not_true (sym h))
+    or_left true c h = absurd (false≢true (sym h))
     or_left false c h = refl
 
     or_right : (b c : Bool) → (b || c) ≡ false → c ≡ false
-    or_right true c h = absurd (false_not_true (sym h))
+    or_right true c h = absurd (false≢true (sym h))
     or_right false c h = h
 
 filtered : (p : Polynomial) (m : Monomial)
@@ -219,4 +214,4 @@ module _ (v w : ℕ) (cs ds : List ℤ) (ps qs : List ℕ)
   pub other_coefficients : (b : Bool) → b ≡ false → Decides b (cs ≡ ds)
       → b ≡ true ↔ IsEqual (rows v cs ps) (rows w ds qs)
   other_coefficients b f d =
-      ((λ t. absurd (false_not_true (sym f ∙ t))), (λ e. d.1 (flat_same e).0))
+      ((λ t. absurd (false≢true (sym f ∙ t))), (λ e. d.1 (flat_same e).0))

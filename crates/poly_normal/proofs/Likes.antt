@@ -11,14 +11,12 @@ use Rattle.poly_normal.specs.Polynomial.{IsEqual, negation}
 use Rattle.poly_normal.proofs.Fractions.{add-mul, add_swap, same_from_difference}
 use Rattle.poly_normal.proofs.Values.{same_monomial-self, same_monomial-true, monomial_value}
 use Rattle.poly_normal.proofs.Values.{term_value, polynomial_value, value-append, value-negation}
+use Rattle.std.proofs.Math.IntN.{+ℤ_idl, +ℤ_assoc}
 
 -- the terms that aren't like m
 abbrev pub without : Monomial → Polynomial → Polynomial
 without m [] = []
 without m (t ∷ p) = if same_monomial t.monomial m then without m p else (t ∷ without m p)
-
-zero-plus : (z : ℤ) → pos 0 +ℤ z ≡ z
-zero-plus z = omega (arith, ints)
 
 pub length-without : (m : Monomial) (p : Polynomial) → length (without m p) ≤ length p
 length-without m [] = omega arith
@@ -41,7 +39,7 @@ coefficient_of-without_same m (t ∷ p) =
     by true e rest = rest
     by false e rest =
         ap (λ c. (if c then t.coefficient else pos 0) +ℤ coefficient_of (without m p) m) e
-        ∙ zero-plus (coefficient_of (without m p) m) ∙ rest
+        ∙ +ℤ_idl (coefficient_of (without m p) m) ∙ rest
 
 coefficient_of-without_other : (m k : Monomial) (p : Polynomial) → same_monomial m k ≡ false
     → coefficient_of (without m p) k ≡ coefficient_of p k
@@ -55,7 +53,7 @@ coefficient_of-without_other m k (t ∷ p) h =
     by true e rest = rest ∙ sym (ap (λ l. (if same_monomial l k then t.coefficient else pos 0)
         +ℤ coefficient_of p k) (same_monomial-true t.monomial m e)
         ∙ ap (λ c. (if c then t.coefficient else pos 0) +ℤ coefficient_of p k) h
-        ∙ zero-plus (coefficient_of p k))
+        ∙ +ℤ_idl (coefficient_of p k))
     by false e rest =
         ap (λ z. (if same_monomial t.monomial k then t.coefficient else pos 0) +ℤ z) rest
 
@@ -92,7 +90,7 @@ module _ (v : ℕ → Fraction) where
       by false e rest = ap (λ u. term_value v t +ℚ u) rest ∙ add_swap (term_value v t)
           (whole (coefficient_of p m) *ℚ monomial_value v 0 m) (polynomial_value v (without m p))
           ∙ ap (λ z. (whole z *ℚ monomial_value v 0 m) +ℚ (term_value v t
-          +ℚ polynomial_value v (without m p))) (sym (zero-plus (coefficient_of p m)))
+          +ℚ polynomial_value v (without m p))) (sym (+ℤ_idl (coefficient_of p m)))
 
   -- Where all joined coefficients are zero, so is the value.
   value-zero : (n : ℕ) (p : Polynomial) → length p ≤ n
@@ -114,13 +112,10 @@ module _ (v : ℕ → Fraction) where
 
 pub coefficient_of-append : (p q : Polynomial) (m : Monomial)
     → coefficient_of (p ++ q) m ≡ coefficient_of p m +ℤ coefficient_of q m
-coefficient_of-append [] q m = sym (zero-plus (coefficient_of q m))
+coefficient_of-append [] q m = sym (+ℤ_idl (coefficient_of q m))
 coefficient_of-append (t ∷ p) q m = ap (λ z. (if same_monomial t.monomial m then t.coefficient
-    else pos 0) +ℤ z) (coefficient_of-append p q m) ∙ plus_assoc (if same_monomial t.monomial m
-    then t.coefficient else pos 0) (coefficient_of p m) (coefficient_of q m)
-  where
-    plus_assoc : (x y z : ℤ) → x +ℤ (y +ℤ z) ≡ (x +ℤ y) +ℤ z
-    plus_assoc x y z = omega (arith, ints)
+    else pos 0) +ℤ z) (coefficient_of-append p q m) ∙ sym (+ℤ_assoc (if same_monomial t.monomial m
+    then t.coefficient else pos 0) (coefficient_of p m) (coefficient_of q m))
 
 pub coefficient_of-negation : (p : Polynomial) (m : Monomial)
     → coefficient_of (negation p) m ≡ neg_ℤ (coefficient_of p m)
@@ -136,17 +131,20 @@ coefficient_of-negation (t ∷ p) m = ap (λ z. (if same_monomial t.monomial m t
     by true = opposite t.coefficient (coefficient_of p m)
     by false = opposite (pos 0) (coefficient_of p m)
 
+-- Where two are equal, their difference has no coefficients.
+pub none_of_difference : (p q : Polynomial) → IsEqual p q → (k : Monomial)
+    → coefficient_of (p ++ negation q) k ≡ pos 0
+none_of_difference p q e k = coefficient_of-append p (negation q) k
+    ∙ ap (λ z. coefficient_of p k +ℤ z) (coefficient_of-negation q k)
+    ∙ minus_self (coefficient_of p k) (coefficient_of q k) (e k)
+  where
+    minus_self : (x y : ℤ) → x ≡ y → x +ℤ neg_ℤ y ≡ pos 0
+    minus_self x y h = omega (arith, ints)
+
 -- One polynomial has one value.
 pub value-equal : (v : ℕ → Fraction) (p q : Polynomial) → IsEqual p q
     → polynomial_value v p ≡ polynomial_value v q
 value-equal v p q e = same_from_difference (polynomial_value v p) (polynomial_value v q)
     (ap (λ u. polynomial_value v p +ℚ u) (sym (value-negation v q))
-    ∙ sym (value-append v p (negation q))
-    ∙ value-zero v (length (p ++ negation q)) (p ++ negation q) (omega arith) gone)
-  where
-    minus_self : (x y : ℤ) → x ≡ y → x +ℤ neg_ℤ y ≡ pos 0
-    minus_self x y h = omega (arith, ints)
-
-    gone : (k : Monomial) → coefficient_of (p ++ negation q) k ≡ pos 0
-    gone k = coefficient_of-append p (negation q) k ∙ ap (λ z. coefficient_of p k +ℤ z)
-        (coefficient_of-negation q k) ∙ minus_self (coefficient_of p k) (coefficient_of q k) (e k)
+    ∙ sym (value-append v p (negation q)) ∙ value-zero v (length (p ++ negation q))
+    (p ++ negation q) (omega arith) (none_of_difference p q e))

@@ -1,8 +1,8 @@
 -- Marks on the subexpressions of two expressions: from the last node down, the operands of marked
 -- nodes get marked.
 use Rattle.std.specs.Prelude.{◌≡◌, ◌⊎◌, ℕ, ◌-◌, ◌≤◌, ◌<◌, Bool, true, false, List}
-use Rattle.std.specs.Prelude.{slice_index_or, length, replicate, refl}
-use Rattle.std.proofs.Common.{arith, sym, ap, ◌∙◌, zero, suc, subst, inl, inr}
+use Rattle.std.specs.Prelude.{slice_index_or, length, refl}
+use Rattle.std.proofs.Common.{arith, sym, ap, ◌∙◌, suc, subst, inl, inr}
 use Rattle.std.proofs.lemmas.List.{get_or_default}
 use Rattle.std.proofs.Math.Nat.{eq-or-lt_of_le}
 use Rattle.expr_dag.specs.fx_model.Expression.{IsOrdered, ChildrenBelow}
@@ -13,6 +13,7 @@ use Rattle.expr_dag.specs.fx_model.declared.Node.TheVariants.{Abs, Round}
 use Rattle.poly_normal.specs.Mark.{IsOperand, IsPart}
 use Rattle.poly_normal.specs.Mark.IsPart.{itself, operand}
 use Rattle.poly_normal.specs.Parts.{marked, AreParts, IsMarking}
+use Rattle.std.proofs.lemmas.Bool.{false≢true}
 
 abbrev at_node : List Node → ℕ → Node
 at_node nodes i = slice_index_or nodes i (Var 0)
@@ -27,14 +28,6 @@ pub record IsMarkedFrom (nodes : List Node) (a b : ExprId) (i : ℕ)
   pub right : marked marks b ≡ true
   pub closed : (y z : ExprId) → i ≤ y.0 → y.0 < length nodes → marked marks y ≡ true
       → IsOperand (slice_index_or nodes y.0 (Var 0)) z → marked marks z ≡ true
-
-false_not_true : false ≡ true → ⊥
-false_not_true e = cc
-
-pub unmarked : (n : ℕ) (x : ℕ) → slice_index_or (replicate n false) x false ≡ false
-unmarked zero x = refl
-unmarked (suc n) zero = refl
-unmarked (suc n) (suc x) = unmarked n x
 
 pub start : (nodes : List Node) (a b : ExprId) (before first second : List Bool)
     → length before ≡ length nodes → ((x : ExprId) → marked before x ≡ false)
@@ -53,7 +46,7 @@ start nodes a b before first second e none f s = record {
   where
     from_first : (x : ExprId) → marked first x ≡ true → IsPart nodes a x ⊎ IsPart nodes b x
     from_first x g = elim ((f.marks x).0 g) [
-      | inl h ↦ absurd (false_not_true (sym (none x) ∙ h))
+      | inl h ↦ absurd (false≢true (sym (none x) ∙ h))
       | inr q ↦ inl (subst (IsPart nodes a) (sym q) itself)
     ]
 
@@ -140,7 +133,7 @@ step_unmarked nodes a b i j marks e m here = record {
     by : (y z : ExprId) → j ≤ y.0 → y.0 < length nodes → marked marks y ≡ true
         → IsOperand (at_node nodes y.0) z → (y.0 ≡ j) ⊎ (suc j ≤ y.0) → marked marks z ≡ true
     by y z low high t q (inl s) =
-        absurd (false_not_true (sym here ∙ ap (λ w. slice_index_or marks w false) (sym s) ∙ t))
+        absurd (false≢true (sym here ∙ ap (λ w. slice_index_or marks w false) (sym s) ∙ t))
     by y z low high t q (inr l) = m.closed y z (subst (λ w. w ≤ y.0) (sym e) l) high t q
 
 -- all parts are marked

@@ -18,6 +18,7 @@ use Rattle.std.specs.Ordering.{is_eq}
 use Rattle.poly_normal.specs.Polynomial.{Monomial, same_monomial, Term, Polynomial, coefficient_of}
 use Rattle.poly_normal.specs.Rows.{with_term, IsBefore, IsRising, size_of, no_term, IsRow}
 use Rattle.poly_normal.specs.Rows.{IsSumOf}
+use Rattle.std.proofs.Math.IntN.{+ℤ_idl, +ℤ_idr}
 
 abbrev pub order : Monomial → Monomial → Ordering
 order l m = slice_cmp nat_cmp l m
@@ -45,8 +46,6 @@ merge-empty [] = refl
 merge-empty (t ∷ p) = ap (λ q. t ∷ q) (merge-empty p)
 
 -- ---- coefficients add up
-zero-plus : (z : ℤ) → z ≡ pos 0 +ℤ z
-zero-plus z = omega (arith, ints)
 
 pub with_term-coefficient : (c : ℤ) (m : Monomial) (p : Polynomial) (k : Monomial)
     → coefficient_of (with_term c m p) k
@@ -54,8 +53,8 @@ pub with_term-coefficient : (c : ℤ) (m : Monomial) (p : Polynomial) (k : Monom
 with_term-coefficient (pos zero) m p k = none (same_monomial m k)
   where
     none : (b : Bool) → coefficient_of p k ≡ (if b then pos zero else pos 0) +ℤ coefficient_of p k
-    none true = zero-plus (coefficient_of p k)
-    none false = zero-plus (coefficient_of p k)
+    none true = sym (+ℤ_idl (coefficient_of p k))
+    none false = sym (+ℤ_idl (coefficient_of p k))
 with_term-coefficient (pos (suc c)) m p k = refl
 with_term-coefficient (negsuc c) m p k = refl
 
@@ -73,15 +72,12 @@ plus_left a x y = omega (arith, ints)
 plus_right : (b x y : ℤ) → b +ℤ (x +ℤ y) ≡ x +ℤ (b +ℤ y)
 plus_right b x y = omega (arith, ints)
 
-plus-zero : (x : ℤ) → x ≡ x +ℤ pos 0
-plus-zero x = omega (arith, ints)
-
 coefficient_of-merge_term : (m : Monomial) (t : Term) (p : Polynomial) → ((q : Polynomial)
     → AddsUp (merge p q) p q m) → (q : Polynomial) → AddsUp (merge_term t (merge p) q) (t ∷ p) q m
 unfolding AddsUp
 coefficient_of-merge_term m t p h [] =
     ap (λ x. (if same_monomial t.monomial m then t.coefficient else pos 0) +ℤ x)
-    (ap (λ r. coefficient_of r m) (merge-empty p)) ∙ plus-zero (coefficient_of (t ∷ p) m)
+    (ap (λ r. coefficient_of r m) (merge-empty p)) ∙ sym (+ℤ_idr (coefficient_of (t ∷ p) m))
 coefficient_of-merge_term m t p h (s ∷ q) =
     by (order t.monomial s.monomial) refl (coefficient_of-merge_term m t p h q)
   where
@@ -110,7 +106,7 @@ coefficient_of-merge_term m t p h (s ∷ q) =
 
 coefficient_of-merge_by : (p q : Polynomial) (m : Monomial) → AddsUp (merge p q) p q m
 unfolding AddsUp
-coefficient_of-merge_by [] q m = zero-plus (coefficient_of q m)
+coefficient_of-merge_by [] q m = sym (+ℤ_idl (coefficient_of q m))
 coefficient_of-merge_by (t ∷ p) q m =
     coefficient_of-merge_term m t p (λ r. coefficient_of-merge_by p r m) q
 

@@ -3,6 +3,7 @@ use Rattle.std.specs.Prelude.{◌≡◌, ℕ, ◌+◌, ◌<◌, List, [], ◌∷
 use Rattle.std.proofs.Common.{arith, sym, ap, ◌∙◌, zero, suc, subst, length-append}
 use Rattle.std.proofs.lemmas.List.{get_or_append_left}
 use Rattle.std.proofs.Math.Seq.{get_or-append_seam}
+use Rattle.std.proofs.Math.Nat.{zero-add}
 use Rattle.expr_dag.specs.fx_model.Expression.{ChildrenBelow, IsOrdered}
 use Rattle.expr_dag.specs.fx_model.declared.ExprId.{ExprId}
 use Rattle.expr_dag.specs.fx_model.declared.Node.{Node}
@@ -73,10 +74,8 @@ step done (n ∷ ns) (suc i) x d e h o =
     step (done ++ (f ∷ [])) ns i x d (omega (arith, longer done f)) (omega arith)
     (λ k l g m. o (suc k) l (omega (arith, longer done f)) (omega arith))
 
-zero_plus : (k l : ℕ) → l ≡ 0 + k → k ≡ l
-zero_plus k l e = omega arith
-
 pub form_step : (nodes : List Node) (x : ExprId) (d : Node) → IsOrdered nodes → x.0 < length nodes
     → form nodes x ≡ node_form x.0 (form nodes) (slice_index_or nodes x.0 d)
 form_step nodes x d o h = step [] nodes x.0 x d (omega arith) h
-    (λ k l e m. subst (λ l. ChildrenBelow l (slice_index_or nodes k d)) (zero_plus k l e) (o k d m))
+    (λ k l e m. subst (λ l. ChildrenBelow l (slice_index_or nodes k d))
+    (sym (e ∙ zero-add k)) (o k d m))

@@ -38,6 +38,7 @@ use Rattle.poly_normal.proofs.NodeForms.{placed_small, limited_width, limited_sm
 use Rattle.poly_normal.proofs.Trues.{place_at, place_more, place_below}
 use Rattle.poly_normal.proofs.Weights.{renamed-equal}
 use Rattle.poly_normal.proofs.Spread.{spread_back}
+use Rattle.std.proofs.lemmas.Bool.{false≢true}
 
 -- ---- arms of one node
 pub binary_form : (w : ℕ) (o p r : Option Quotient) (f g : Quotient) (F : Form → Form → Form)
@@ -212,9 +213,6 @@ length-more : (forms : List (Option Quotient))
 length-more forms new more i e h = ap length h ∙ length-append forms (new ∷ [])
     ∙ (let s : length forms + 1 ≡ i + 1 = omega arith in s)
 
-pub false_not_true : false ≡ true → ⊥
-false_not_true e = cc
-
 pub table_unmarked : (nodes : List Node) (marks : List Bool) (i place : ℕ)
     (forms more : List (Option Quotient)) → i < length nodes → length marks ≡ length nodes
     → IsTable nodes marks i place forms → slice_index_or marks i false ≡ false
@@ -225,7 +223,7 @@ table_unmarked nodes marks i place forms more h l t m e = record {
       + 0 = omega arith in s) ∙ sym (place_more nodes marks i false h l m);
   each = length-more forms None more i t.each e;
   known = subst (AreKnown nodes marks (i + 1)) (sym e) (known_more nodes marks i forms None t.each
-      t.known (λ k. absurd (false_not_true (sym m ∙ k))));
+      t.known (λ k. absurd (false≢true (sym m ∙ k))));
 }
 
 module _ (nodes : List Node) (marks : List Bool)

@@ -4,7 +4,7 @@ use Rattle.std.specs.Prelude.{◌≡◌, ℕ, ℤ, pos, neg_ℤ, ◌+ℤ◌, ◌
 use Rattle.std.specs.Prelude.{if◌then◌else◌, [], ◌∷◌, ◌++◌, map, length, refl}
 use Rattle.std.proofs.Common.{arith, sym, ap, ◌∙◌, zero, suc, subst}
 use Rattle.std.proofs.lemmas.Int.{ints}
-use Rattle.std.proofs.Math.IntN.{*ℤ_comm}
+use Rattle.std.proofs.Math.IntN.{*ℤ_comm, +ℤ_assoc, +ℤ_idl, +ℤ_idr}
 use borrow.Author.Differences.{up, down, sum_is_lem, product_is, neg_is}
 use Rattle.poly_normal.specs.Polynomial.{Monomial, monomial_product, same_monomial, Term}
 use Rattle.poly_normal.specs.Polynomial.{Polynomial, coefficient_of, IsEqual, negation}
@@ -12,16 +12,10 @@ use Rattle.poly_normal.specs.Polynomial.{term_product, product, term_count}
 use Rattle.poly_normal.specs.Rows.{with_term, IsRising}
 use Rattle.poly_normal.proofs.Values.{same_monomial-self, same_monomial-true}
 use Rattle.poly_normal.proofs.Likes.{without, length-without, still_zero, coefficient_of-append}
-use Rattle.poly_normal.proofs.Likes.{coefficient_of-negation}
+use Rattle.poly_normal.proofs.Likes.{coefficient_of-negation, none_of_difference}
 use Rattle.poly_normal.proofs.Merge.{merge, coefficient_of-merge, rising-merge}
 use Rattle.poly_normal.proofs.Merge.{with_term-coefficient, with_term-rising}
 use Rattle.poly_normal.proofs.Joined.{term_count-rising}
-
-pub zero-plus : (z : ℤ) → pos 0 +ℤ z ≡ z
-zero-plus z = omega (arith, ints)
-
-plus-zero : (z : ℤ) → z +ℤ pos 0 ≡ z
-plus-zero z = omega (arith, ints)
 
 zero-times : (z : ℤ) → pos 0 *ℤ z ≡ pos 0
 zero-times z = omega (arith, ints)
@@ -62,9 +56,6 @@ abbrev pub weigh : (Monomial → ℤ) → Polynomial → ℤ
 weigh g [] = pos 0
 weigh g (t ∷ p) = (t.coefficient *ℤ g t.monomial) +ℤ weigh g p
 
-plus_assoc : (x y z : ℤ) → (x +ℤ y) +ℤ z ≡ x +ℤ (y +ℤ z)
-plus_assoc x y z = omega (arith, ints)
-
 plus_swap : (x y z : ℤ) → x +ℤ (y +ℤ z) ≡ y +ℤ (x +ℤ z)
 plus_swap x y z = omega (arith, ints)
 
@@ -72,14 +63,14 @@ module _ (g : Monomial → ℤ) where
   -- The terms that are like m come to their joined coefficient.
   weigh-split : (m : Monomial) (p : Polynomial)
       → weigh g p ≡ (coefficient_of p m *ℤ g m) +ℤ weigh g (without m p)
-  weigh-split m [] = sym (ap (λ z. z +ℤ pos 0) (zero-times (g m)) ∙ plus-zero (pos 0))
+  weigh-split m [] = sym (ap (λ z. z +ℤ pos 0) (zero-times (g m)) ∙ +ℤ_idr (pos 0))
   weigh-split m (t ∷ p) = by (same_monomial t.monomial m) refl (weigh-split m p)
     where
       by : (b : Bool) → same_monomial t.monomial m ≡ b
           → weigh g p ≡ (coefficient_of p m *ℤ g m) +ℤ weigh g (without m p)
           → weigh g (t ∷ p) ≡ (((if b then t.coefficient else pos 0) +ℤ coefficient_of p m)
           *ℤ g m) +ℤ weigh g (if b then without m p else (t ∷ without m p))
-      by true e rest = ap (λ u. (t.coefficient *ℤ g t.monomial) +ℤ u) rest ∙ sym (plus_assoc
+      by true e rest = ap (λ u. (t.coefficient *ℤ g t.monomial) +ℤ u) rest ∙ sym (+ℤ_assoc
           (t.coefficient *ℤ g t.monomial) (coefficient_of p m *ℤ g m) (weigh g (without m p)))
           ∙ ap (λ l. ((t.coefficient *ℤ g l) +ℤ (coefficient_of p m *ℤ g m))
           +ℤ weigh g (without m p)) (same_monomial-true t.monomial m e)
@@ -88,7 +79,7 @@ module _ (g : Monomial → ℤ) where
       by false e rest = ap (λ u. (t.coefficient *ℤ g t.monomial) +ℤ u) rest ∙ plus_swap
           (t.coefficient *ℤ g t.monomial) (coefficient_of p m *ℤ g m) (weigh g (without m p))
           ∙ ap (λ z. (z *ℤ g m) +ℤ ((t.coefficient *ℤ g t.monomial) +ℤ weigh g (without m p)))
-          (sym (zero-plus (coefficient_of p m)))
+          (sym (+ℤ_idl (coefficient_of p m)))
 
   weigh-zero : (n : ℕ) (p : Polynomial) → length p ≤ n
       → ((k : Monomial) → coefficient_of p k ≡ pos 0) → weigh g p ≡ pos 0
@@ -102,13 +93,13 @@ module _ (g : Monomial → ℤ) where
       weigh-split t.monomial (t ∷ p)
       ∙ ap (λ c. (c *ℤ g t.monomial) +ℤ weigh g (without t.monomial (t ∷ p))) (z t.monomial)
       ∙ ap (λ u. u +ℤ weigh g (without t.monomial (t ∷ p))) (zero-times (g t.monomial))
-      ∙ zero-plus (weigh g (without t.monomial (t ∷ p)))
+      ∙ +ℤ_idl (weigh g (without t.monomial (t ∷ p)))
       ∙ weigh-zero n (without t.monomial (t ∷ p)) fewer (still_zero t.monomial (t ∷ p) z)
 
   weigh-append : (p q : Polynomial) → weigh g (p ++ q) ≡ weigh g p +ℤ weigh g q
-  weigh-append [] q = sym (zero-plus (weigh g q))
+  weigh-append [] q = sym (+ℤ_idl (weigh g q))
   weigh-append (t ∷ p) q = ap (λ u. (t.coefficient *ℤ g t.monomial) +ℤ u) (weigh-append p q)
-      ∙ sym (plus_assoc (t.coefficient *ℤ g t.monomial) (weigh g p) (weigh g q))
+      ∙ sym (+ℤ_assoc (t.coefficient *ℤ g t.monomial) (weigh g p) (weigh g q))
 
   weigh-negation : (p : Polynomial) → weigh g (negation p) ≡ neg_ℤ (weigh g p)
   weigh-negation [] = refl
@@ -124,17 +115,11 @@ module _ (g : Monomial → ℤ) where
 pub weigh-equal : (g : Monomial → ℤ) (p q : Polynomial) → IsEqual p q → weigh g p ≡ weigh g q
 weigh-equal g p q e = same_from_difference (weigh g p) (weigh g q)
     (ap (λ u. weigh g p +ℤ u) (sym (weigh-negation g q)) ∙ sym (weigh-append g p (negation q))
-    ∙ weigh-zero g (length (p ++ negation q)) (p ++ negation q) (omega arith) gone)
+    ∙ weigh-zero g (length (p ++ negation q)) (p ++ negation q) (omega arith)
+    (none_of_difference p q e))
   where
     same_from_difference : (x y : ℤ) → x +ℤ neg_ℤ y ≡ pos 0 → x ≡ y
     same_from_difference x y h = omega (arith, ints)
-
-    minus_self : (x y : ℤ) → x ≡ y → x +ℤ neg_ℤ y ≡ pos 0
-    minus_self x y h = omega (arith, ints)
-
-    gone : (k : Monomial) → coefficient_of (p ++ negation q) k ≡ pos 0
-    gone k = coefficient_of-append p (negation q) k ∙ ap (λ z. coefficient_of p k +ℤ z)
-        (coefficient_of-negation q k) ∙ minus_self (coefficient_of p k) (coefficient_of q k) (e k)
 
 weigh-same : (g h : Monomial → ℤ) → ((m : Monomial) → g m ≡ h m)
     → (p : Polynomial) → weigh g p ≡ weigh h p
@@ -247,7 +232,7 @@ pub joined-equal : (p : Polynomial) → IsEqual (joined p) p
 joined-equal [] m = refl
 joined-equal (t ∷ p) m = coefficient_of-merge (with_term t.coefficient t.monomial []) (joined p) m
     ∙ ap (λ z. z +ℤ coefficient_of (joined p) m) (with_term-coefficient t.coefficient t.monomial []
-    m ∙ plus-zero (if same_monomial t.monomial m then t.coefficient else pos 0))
+    m ∙ +ℤ_idr (if same_monomial t.monomial m then t.coefficient else pos 0))
     ∙ ap (λ z. (if same_monomial t.monomial m then t.coefficient else pos 0)
     +ℤ z) (joined-equal p m)
 

@@ -1,6 +1,7 @@
 -- Which nodes are subexpressions, as marks: one for each node.
 use Rattle.std.specs.Prelude.{◌≡◌, ◌⊎◌, ◌↔◌, Bool, true, false, List, slice_index_or}
-use Rattle.std.specs.Prelude.{length}
+use Rattle.std.specs.Prelude.{length, replicate, refl, ℕ}
+use Rattle.std.proofs.Common.{zero, suc}
 use Rattle.expr_dag.specs.fx_model.declared.ExprId.{ExprId}
 use Rattle.expr_dag.specs.fx_model.declared.Node.{Node}
 use Rattle.expr_dag.specs.fx_model.declared.Node.TheVariants.{Var, Lit, Neg, Add, Sub, Mul, Div}
@@ -32,3 +33,9 @@ is_atom_node (Mul x y) = false
 is_atom_node (Div x y) = false
 is_atom_node (Abs x) = true
 is_atom_node (Round r x) = true
+
+-- Where nothing has been marked, nothing is.
+pub unmarked : (n : ℕ) (x : ℕ) → slice_index_or (replicate n false) x false ≡ false
+unmarked zero x = refl
+unmarked (suc n) zero = refl
+unmarked (suc n) (suc x) = unmarked n x

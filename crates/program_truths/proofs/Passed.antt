@@ -36,7 +36,7 @@ use Rattle.program_truths.proofs.Rows.{range_arrow, asked_row, asked_passes, pla
 use Rattle.program_truths.proofs.Rows.{place_passes, place_arrow, and_passes, arrow_passes}
 use Rattle.program_truths.proofs.Rows.{end_passes, allowed, brace_passes}
 use Rattle.program_truths.proofs.StepRows.{operand_known, operation_known, step_row, step_is}
-use Rattle.program_truths.proofs.StepRows.{names_behind, step_passes}
+use Rattle.program_truths.proofs.StepRows.{names_behind, step_passes, one_if-le}
 use Rattle.program_truths.proofs.GoalRows.{IsGoalFine, goal_fine, IsInputFine, input_fine, Within}
 use Rattle.program_truths.proofs.GoalRows.{within_cons, not_within, step_fine}
 
@@ -215,10 +215,6 @@ known_cons ns u (x ∷ xs) h =
 
 abbrev AllFine : List Step → Type 0
 AllFine xs = AllByRecursion (λ x. IsGoalFine (format_of x.format)) xs
-
-one_if-le : (b : Bool) → one_if b ≤ 1
-one_if-le true = omega arith
-one_if-le false = omega arith
 
 outputs_pass : (n : NamesSeen) (ts : List Name)
     → Passes n place.Formula [] (length ts) 0 (length ts) (outputs_tail ts)

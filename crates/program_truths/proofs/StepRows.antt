@@ -54,7 +54,7 @@ OperandFine (given t) = is_literal t ≡ true
 abbrev known_as : NamesSeen → List Name → NamesSeen
 known_as n ns = record n { known = ns }
 
-one_if-le : (b : Bool) → one_if b ≤ 1
+pub one_if-le : (b : Bool) → one_if b ≤ 1
 one_if-le true = omega arith
 one_if-le false = omega arith
 

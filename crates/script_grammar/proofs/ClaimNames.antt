@@ -19,7 +19,7 @@ use Rattle.node_counts.specs.script_claims.Claims.{prop_claim, denial, stated_cl
 use Rattle.node_counts.specs.script_claims.Claims.{then_or, then_arrow, no_claims, formula_claims}
 use Rattle.node_counts.specs.script_nodes.Written.{bound_written}
 use Rattle.script_grammar.specs.Names.{IsNode, ClaimIsOf}
-use Rattle.script_grammar.proofs.Lists.{all_both}
+use Rattle.node_counts.specs.script_cases.Lists.{all_joined}
 use Rattle.script_grammar.proofs.ExpressionNames.{Fits, Grows, grows_both, Sits, expr_sits}
 use Rattle.node_counts.specs.facts.CommonParts.{all_as}
 
@@ -113,14 +113,14 @@ then_all_claimed p k cs a =
     record {
       grows = grows_both a.grows c.grows;
       hypotheses = claims_more n m c.grows.more cs.sides.hypotheses a.hypotheses;
-      goals = all_both (ClaimIsOf m) cs.sides.goals _
+      goals = all_joined (ClaimIsOf m) cs.sides.goals _
           (claims_more n m c.grows.more cs.sides.goals a.goals) (c.claim, tt);
     }
 
 then_all_assumed : (k : Known) (cs : Claims) → AreClaimed k cs → AreClaimed k (then_arrow cs)
 then_all_assumed k cs a = record {
   grows = a.grows;
-  hypotheses = all_both (ClaimIsOf (node_count cs.known)) cs.sides.hypotheses
+  hypotheses = all_joined (ClaimIsOf (node_count cs.known)) cs.sides.hypotheses
       cs.sides.goals a.hypotheses a.goals;
   goals = tt;
 }

@@ -23,7 +23,7 @@ use Rattle.node_counts.specs.script_hints.Hints.{with_hints, no_hints}
 use Rattle.node_counts.specs.script_nodes.Definitions.{name_text}
 use Rattle.node_counts.specs.script_nodes.Written.{bound_written}
 use Rattle.script_grammar.specs.Names.{IsNode, AreNodes, ConstraintIsOf, HintIsOf, HintsAreOf}
-use Rattle.script_grammar.proofs.Lists.{all_both}
+use Rattle.node_counts.specs.script_cases.Lists.{all_joined}
 use Rattle.script_grammar.proofs.ExpressionNames.{Fits, Grows, grows_both, named_sits, expr_sits}
 use Rattle.node_counts.specs.facts.CommonParts.{all_as}
 
@@ -74,7 +74,7 @@ one_needed f k e s h a =
     let t = expr_sits None e s.0 a.grows.fits in
     record {
       grows = grows_both a.grows t.grows;
-      constraints = all_both (ConstraintIsOf (node_count p.0)) s.1 (f p.1 ∷ [])
+      constraints = all_joined (ConstraintIsOf (node_count p.0)) s.1 (f p.1 ∷ [])
           (constraints_more (node_count s.0) (node_count p.0) t.grows.more s.1 a.constraints)
           (h (node_count p.0) p.1 t.below, tt);
     }
@@ -121,7 +121,7 @@ variable_joined n xs x h i = by_test (list_any (same_number x) xs)
   where
     by_test : (b : Bool) → AllByRecursion (IsNode n) (if b then xs else xs ++ (x ∷ []))
     by_test true = h
-    by_test false = all_both (IsNode n) xs (x ∷ []) h (i, tt)
+    by_test false = all_joined (IsNode n) xs (x ∷ []) h (i, tt)
 
 ordered_hints : (n : ℕ) (l : HintList) (x : ExprId) → HintsAreOf n l → IsNode n x
     → HintsAreOf n (ordered l x)
@@ -180,7 +180,7 @@ cut_read n c k s a =
       hints = record {
         rewrites = o.rewrites;
         likes = o.likes;
-        cuts = all_both (λ c. IsNode (node_count p.0) c.var) s.1.cuts _ o.cuts (t.below, tt);
+        cuts = all_joined (λ c. IsNode (node_count p.0) c.var) s.1.cuts _ o.cuts (t.below, tt);
         halves = o.halves;
         order = o.order;
       };
@@ -219,7 +219,7 @@ hint_read (rewrite a b n) k s h =
     record {
       grows = l.grows;
       hints = record {
-        rewrites = all_both (HintIsOf (node_count j)) s.1.rewrites _ l.hints.rewrites (one, tt);
+        rewrites = all_joined (HintIsOf (node_count j)) s.1.rewrites _ l.hints.rewrites (one, tt);
         likes = l.hints.likes;
         cuts = l.hints.cuts;
         halves = l.hints.halves;
@@ -235,7 +235,7 @@ hint_read (like a b) k s h =
       grows = l.grows;
       hints = record {
         rewrites = l.hints.rewrites;
-        likes = all_both (AreNodes (node_count y.0)) s.1.likes _ l.hints.likes (t.sides, tt);
+        likes = all_joined (AreNodes (node_count y.0)) s.1.likes _ l.hints.likes (t.sides, tt);
         cuts = l.hints.cuts;
         halves = l.hints.halves;
         order = l.hints.order;

@@ -8,7 +8,6 @@ mod Constraints
 mod FirstsExist
 mod LiteralWords
 mod WordsAreRead
-mod Lists
 mod CaseClaims
 mod ExpressionNames
 mod ClaimNames

@@ -31,6 +31,7 @@ use Rattle.goal_spans.specs.script_words.Lex.{bad, token}
 use Rattle.goal_spans.specs.script_words.Words.{Word, name, rounding, literal}
 use Rattle.goal_spans.specs.script_words.Named.{Naming, naming_after, defined_by, spelled_of}
 use Rattle.goal_spans.specs.script_words.Named.{kind_word, token_word, words_from}
+use Rattle.goal_spans.specs.script_words.Fronts.{len_in}
 
 -- ---- digits
 
@@ -363,10 +364,6 @@ IsSpelled w = ⊤
 abbrev kind_in : Option (TokenKind × ℕ) → TokenKind
 kind_in None = kind.Name
 kind_in (Some p) = p.0
-
-abbrev len_in : Option (TokenKind × ℕ) → ℕ
-len_in None = 0
-len_in (Some p) = p.1
 
 no_sign : (o : Option (Symbol × ℕ)) (len : ℕ) → sign_token o ≡ Some (kind.Literal, len) → ⊥
 no_sign None len e = cc e

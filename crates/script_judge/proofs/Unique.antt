@@ -1,9 +1,7 @@
 -- A text has one reading, and one first refusal.
 use Rattle.std.proofs.Common.{◌≡◌, ℕ, ◌+◌, Bool, true, false, List, length, take, Option, Some}
 use Rattle.std.proofs.Common.{None, IsTrue, ◌↔◌, refl, sym, ap, ◌∙◌, subst, arith}
-use Rattle.std.specs.Str.{IsUtf8, IsValidUpTo}
 use Rattle.std.proofs.lemmas.Str.{utf8_valid_len-IsValidUpTo}
-use Rattle.std.proofs.Math.Seq.{take-length}
 use Rattle.script_bounds.specs.fx_model.Fraction.{Fraction}
 use Rattle.script_shape.specs.script_words.Lex.{LexesOnce}
 use Rattle.script_shape.specs.script_words.Words.{Word}
@@ -24,6 +22,7 @@ use Rattle.script_judge.specs.Numbers.{Notes, Tells}
 use Rattle.script_judge.specs.Judge.{Seen, nothing_seen, seen_after, refusal_at, Judged}
 use Rattle.script_judge.specs.Judge.{none_refused, refused, passed}
 use Rattle.script_judge.specs.declared.refusal.RefusalKind.TheVariants as kind
+use Rattle.script_shape.specs.script_words.Utf8.{no_both}
 
 -- ---- readings
 
@@ -93,9 +92,6 @@ reading_once lexes shapes roles text r s h k =
     same_fields r s same.tokens same.bad words shape.0 shape.1 leaves
 
 -- ---- texts that aren't read
-
-no_both : (text : List ℕ) (at : ℕ) → IsValidUpTo text at → IsUtf8 text → ⊥
-no_both text at h k = h.longest (length text) h.short (subst IsUtf8 (sym (take-length text)) k)
 
 read_and_not : (text : List ℕ) (o : Option Refusal) (r : Refusal) → o ≡ Some r
     → IsTextRefusal text o → IsReadable text → ⊥

@@ -3,6 +3,7 @@
 use Rattle.std.specs.Prelude.{◌≡◌, ◌≤◌, ◌+◌, ◌^◌, ⊤, ℕ, zero, suc, false, List, [], ◌∷◌, ◌++◌}
 use Rattle.std.specs.Prelude.{length, map, Some, slice_get, refl}
 use Rattle.std.proofs.Common.{sym, ◌∙◌, ap, subst, arith}
+use Rattle.std.proofs.lemmas.List.{append_assoc, length-append}
 use Rattle.fx_model.specs.declared.Node.{Node}
 use Rattle.derivation.specs.facts.declared.hint.HintMark.{HintMark}
 use Rattle.derivation.specs.facts.declared.hint.HintRow.{HintRow}
@@ -135,8 +136,8 @@ from_all : (before rest : List HintMark) → AreFrom (before ++ rest) (length be
 from_all before [] = tt
 from_all before (m ∷ rest) = (
   there before m rest,
-  subst (λ all. AreFrom all (length before + 1) rest) (sym (shifted before m rest))
-      (subst (λ k. AreFrom ((before ++ m ∷ []) ++ rest) k rest) (one_longer before m)
+  subst (λ all. AreFrom all (length before + 1) rest) (append_assoc before (m ∷ []) rest)
+      (subst (λ k. AreFrom ((before ++ m ∷ []) ++ rest) k rest) (length-append before (m ∷ []))
       (from_all (before ++ m ∷ []) rest)),
 )
   where
@@ -144,16 +145,6 @@ from_all before (m ∷ rest) = (
         → slice_get (before ++ m ∷ rest) (length before) ≡ Some m
     there [] m rest = refl
     there (x ∷ before) m rest = there before m rest
-
-    shifted : (before : List HintMark) (m : HintMark) (rest : List HintMark)
-        → before ++ m ∷ rest ≡ (before ++ m ∷ []) ++ rest
-    shifted [] m rest = refl
-    shifted (x ∷ before) m rest = ap (λ l. x ∷ l) (shifted before m rest)
-
-    one_longer : (before : List HintMark) (m : HintMark)
-        → length (before ++ m ∷ []) ≡ length before + 1
-    one_longer [] m = omega arith
-    one_longer (x ∷ before) m = let h = one_longer before m in omega (arith, h)
 
 -- ---- the sections
 abbrev AreSections : Subject → Context → List Line → Type 0

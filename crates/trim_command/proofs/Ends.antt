@@ -1,17 +1,17 @@
 -- How a run of `trim` ends.
 use Rattle.std.specs.Prelude.{◌⊎◌, ⊤}
-use Rattle.std.specs.Io.KnownBytes.{Keeps}
-use Rattle.std.proofs.Common.{◌≡◌, ◌≢◌, ◌∙◌, Option, Some, None, refl, sym, ap, subst, inl, inr}
+use Rattle.std.proofs.Common.{◌≡◌, ◌≢◌, ◌∙◌, Option, Some, refl, sym, subst, inl, inr}
 use Rattle.check_command.specs.script_grammar.Spells.{View, Spells}
 use Rattle.whole_texts.specs.Texts.{IsText}
 use Rattle.whole_texts.specs.declared.read.ReadStop.{ReadStop}
 use Rattle.whole_texts.specs.declared.read.ReadStop.TheVariants as stop
 use Rattle.command_line.specs.Trim.{AskedTrim}
-use Rattle.command_runs.specs.Ends.{IsOnce, IsPutBy, IsStopPutBy, exhausted_runs, kept_all}
+use Rattle.command_runs.specs.Ends.{IsOnce, IsPutBy, IsStopPutBy, exhausted_runs, all_kept}
+use Rattle.command_runs.specs.Ends.{left_so, others_kept}
 use Rattle.command_runs.specs.Ends.{or_unread, put_runs, run_by, starved_runs, stop_runs}
 use Rattle.command_runs.specs.Ends.{unread_kept, unread_once, unwritten_runs}
-use Rattle.command_runs.specs.Fates.{AreTold, Fate, IsKeptFile, IsTold, Left, Leaves, MayWrite}
-use Rattle.command_runs.specs.Fates.{Runs, Written, begun, ending}
+use Rattle.command_runs.specs.Fates.{AreTold, Fate, IsKeptFile, IsTold, Left, MayWrite}
+use Rattle.command_runs.specs.Fates.{Runs, begun, ending}
 use Rattle.command_runs.specs.Fates.Ending.{Done}
 use Rattle.command_runs.specs.Fates.Left.{Kept, Whole}
 use Rattle.command_runs.specs.Runs.{Bytes, Told, Run, IsKept, IsSilent, ReadFailed, WriteFailed}
@@ -58,11 +58,6 @@ long_prints cert status.Certificate lines left t text a b (inr p, k) =
     absurd (no_script text p.script b p.spelled)
 long_prints cert status.Script lines left t text a b (p, k) = (long_refused t text lines a b p, k)
 long_prints cert _ lines left t text a b p = absurd p
-
--- a sink that nothing was put into
-pub kept_same : (o : Option Bytes) → Keeps o o
-kept_same None = tt
-kept_same (Some x) = refl
 
 -- ---- a run
 module _ (law : TrimAnswersAreOne) (trims : AcceptableAreTrimmed) (a : AskedTrim) (r : Run)
@@ -124,24 +119,12 @@ module _ (law : TrimAnswersAreOne) (trims : AcceptableAreTrimmed) (a : AskedTrim
       told_both text all script cert name (inr (e, s)) =
           (all, subst (λ n. r.before.told n ≡ Some all) (sym e) cert)
 
-  -- the names beside the new file
-  others_kept : (other : Bytes) → Some a.new ≢ Some other → IsKept r other
-  others_kept other differs = others other (λ same. differs (ap Some (sym same)))
-
-  left_so : (left : Left) → Leaves left old new → Written (Some a.new) left r
-  left_so left h n named = let same : a.new ≡ n = cc named in
-      subst (λ m. Leaves left (r.before.told m) (r.after.told m)) same h
-
-  all_kept : new ≡ old → (n : Bytes) → IsKept r n
-  all_kept same = kept_all (Some a.new) r
-      (λ n named. let is : a.new ≡ n = cc named in subst (IsKept r) is same) others_kept
-
   -- a file of this name wasn't read
   pub stop_is : (why : ReadStop) (name : Bytes) → new ≡ old
       → (why ≡ stop.Fault → reads name × ReadFailed r) → IsStopPutBy why name r → IsTrimRun a r
   stop_is why name same met put =
       run_is
-      (stop_runs (Some a.new) (TrimFate a r) r why name (all_kept same)
+      (stop_runs (Some a.new) (TrimFate a r) r why name (all_kept a.new r others same)
       (λ e. let m = met e in (name, m.0, m.1, refl, refl)) put)
 
   module _ (read : Bytes) (is : IsText 1048577 (r.before.told a.script) read)
@@ -180,7 +163,8 @@ module _ (law : TrimAnswersAreOne) (trims : AcceptableAreTrimmed) (a : AskedTrim
           by (left, p, leaves) =
               run_is
               (put_runs (Some a.new) (TrimFate a r) r s lines left (told_so s lines left p)
-              others_kept (prints_done read known s lines left p) (left_so left leaves) put)
+              (others_kept a.new r others) (prints_done read known s lines left p)
+              (left_so a.new r left leaves) put)
 
     broken_so : BreaksOff read (mid a.cert) (mid a.new) new → BreaksOff read known old new
     broken_so h =
@@ -195,8 +179,8 @@ module _ (law : TrimAnswersAreOne) (trims : AcceptableAreTrimmed) (a : AskedTrim
       by (lines, left, p, leaves) =
           run_is
           (unwritten_runs (Some a.new) (TrimFate a r) r status.Answered lines left
-          (told_so status.Answered lines left p) others_kept silent
-          (left_so (begun left) leaves) same (λ e. cc e) failed)
+          (told_so status.Answered lines left p) (others_kept a.new r others) silent
+          (left_so a.new r (begun left) leaves) same (λ e. cc e) failed)
 
     -- memory ran out
     pub starved_is : (new ≡ mid a.new) ⊎ BreaksOff read (mid a.cert) (mid a.new) new
@@ -204,11 +188,11 @@ module _ (law : TrimAnswersAreOne) (trims : AcceptableAreTrimmed) (a : AskedTrim
     starved_is (inl kept) same silent =
         run_is
         (starved_runs (Some a.new) (TrimFate a r) r same
-        (record { silent = silent; files = all_kept (kept ∙ unchanged a.new) }))
+        (record { silent = silent; files = all_kept a.new r others (kept ∙ unchanged a.new) }))
     starved_is (inr h) same silent = by (broken_so h) where
       by : BreaksOff read known old new → IsTrimRun a r
       by (lines, left, p, leaves) =
           run_is
           (exhausted_runs (Some a.new) (TrimFate a r) r status.Answered lines left
-          (told_so status.Answered lines left p) others_kept silent
-          (left_so (begun left) leaves) same)
+          (told_so status.Answered lines left p) (others_kept a.new r others) silent
+          (left_so a.new r (begun left) leaves) same)

@@ -1,5 +1,5 @@
 -- What a certificate's items come to, from what its check answers.
-use Rattle.std.specs.Prelude.{◌≡◌, List, [], Option, Some, None, Result, Ok, Err, IfOk}
+use Rattle.std.specs.Prelude.{◌≡◌, List, Option, Some, Result, Ok, Err, IfOk}
 use Rattle.std.proofs.Common.{◌∙◌, ap, subst, refl}
 use Rattle.cert_trim.specs.cert_checker.goals.declared.line.Line.{Line}
 use Rattle.check_command.specs.script_grammar.Spells.{View}
@@ -9,14 +9,13 @@ use Rattle.cert_trim.specs.cert_bytes.declared.style.Style.TheVariants.{First, S
 use Rattle.cert_trim.specs.cert_bytes.Certificates.{SpellsCertificate}
 use Rattle.cert_trim.specs.cert_bytes.Pieces.{cursor_of}
 use Rattle.cert_trim.specs.cert_bytes.ReadOut.{AreBytes, AreRead}
-use Rattle.cert_trim.specs.cert_bytes.Readers.{Progress}
+use Rattle.cert_trim.specs.cert_bytes.Readers.{Progress, fresh}
 use Rattle.cert_trim.specs.cert_bytes.Reading.{Cursor, cursor}
 use Rattle.cert_trim.specs.cert_bytes.Styles.{none_seen}
 use Rattle.cert_trim.specs.cert_checker.declared.fault.CheckStop.{CheckStop}
 use Rattle.cert_trim.specs.cert_checker.declared.keep.Accepted.{Accepted}
 use Rattle.cert_trim.specs.cert_checker.declared.subject.Subject.{Subject}
 use Rattle.cert_trim.specs.cert_checker.Accepted.{Accepts}
-use Rattle.cert_trim.specs.cert_checker.Checking.{IsFresh}
 use Rattle.cert_trim.specs.cert_checker.Keeping.{lines_of}
 use Rattle.check_command.specs.script_checker.Subjects.{IsSubjectOf}
 use Rattle.check_command.specs.script_checker.Checking.{AreAcceptedFor, AreAcceptedItemsFor}
@@ -26,24 +25,8 @@ use Rattle.cert_trim.specs.cert_bytes.Spelling.{certificate_of}
 use Rattle.command_runs.specs.Runs.{Bytes, Told}
 use Rattle.trim_command.specs.Trimmed.{AreTrimmable}
 
--- a reader that has read nothing
-abbrev pub begun : Bytes → Progress
-begun name = record {
-  ahead = record { name = name; style = First; at = 0; ahead = [] };
-  due = Head;
-  fault = None;
-}
-
-pub is_fresh : (name : Bytes) (r : Progress) → r ≡ begun name → IsFresh r
-is_fresh name r e = record {
-  at = ap (λ (q : Progress). q.ahead.at) e;
-  style = ap (λ (q : Progress). q.ahead.style) e;
-  due = ap (λ (q : Progress). q.due) e;
-  fault = ap (λ (q : Progress). q.fault) e;
-}
-
 -- what is so of the bytes from where it is, by its name, is so of them from the first byte on
-pub from_first : (told : Told) (name : Bytes) (r : Progress) → r ≡ begun name
+pub from_first : (told : Told) (name : Bytes) (r : Progress) → r ≡ fresh name
     → (P : Bytes → Cursor → Type 0)
     → ((all : Bytes) → told r.ahead.name ≡ Some all → P all (cursor_of all r.ahead))
     → (all : Bytes) → told name ≡ Some all → P all (cursor First all 0)

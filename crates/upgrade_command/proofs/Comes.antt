@@ -1,7 +1,6 @@
 -- How a run of `upgrade` ends, by what came of the certificate.
 use Rattle.std.specs.Prelude.{◌≡◌, ◌≢◌, ◌<◌, ◌⊎◌, List, Option, Some, None, Result, Ok}
 use Rattle.std.specs.Prelude.{Err, IsErrOf, length}
-use Rattle.std.specs.Io.KnownBytes.{Keeps}
 use Rattle.std.proofs.Common.{inl, inr, refl, sym, ap, subst, ◌∙◌, arith}
 use Rattle.cert_bytes.specs.declared.fault.CertFault.{CertFault}
 use Rattle.cert_bytes.specs.declared.item.Item.{Item}
@@ -22,8 +21,8 @@ use Rattle.report.specs.Certificates.{cert_fault_line, new_too_long_line, upgrad
 use Rattle.command_runs.specs.whole_texts.declared.read.ReadStop.TheVariants as reading
 use Rattle.command_runs.specs.Ends.{IsPutBy, IsLinePutBy, IsStopPutBy, IsOnce, put_runs, line_runs}
 use Rattle.command_runs.specs.Ends.{stop_runs, starved_runs, unwritten_runs, exhausted_runs}
-use Rattle.command_runs.specs.Ends.{kept_all, run_by}
-use Rattle.command_runs.specs.Fates.{Left, Leaves, Fate, Written, AreTold, Runs}
+use Rattle.command_runs.specs.Ends.{all_kept, left_so, others_kept, run_by}
+use Rattle.command_runs.specs.Fates.{Left, Fate, AreTold, Runs}
 use Rattle.command_runs.specs.Fates.Left.{Kept, Whole, Begun}
 use Rattle.command_runs.specs.Runs.{Bytes, Run, IsKept, IsSilent, ReadFailed, WriteFailed}
 use Rattle.command_runs.specs.Statuses.{read_fault_line}
@@ -51,10 +50,6 @@ untold f (inr b) = inr (f b, b)
 pub caused : {T : Type 0} (X : Type 0) (result : Result T UpgradeStop) (e : UpgradeStop)
     → result ≡ Err e → (IsErrOf result e → X) → X
 caused X result e is f = f (subst (λ r. IsErrOf r e) (sym is) refl)
-
-pub kept_same : (o : Option Bytes) → Keeps o o
-kept_same None = tt
-kept_same (Some x) = refl
 
 -- ---- what came of it, whether its bytes are told or not
 module _ (known old new : Option Bytes) where
@@ -140,9 +135,6 @@ module _ (a : AskedUpgrade) (r : Run)
   abbrev IsSo : Type 0
   IsSo = Runs (Some a.new) fate r
 
-  others_kept : (other : Bytes) → Some a.new ≢ Some other → IsKept r other
-  others_kept other differs = others other (λ same. differs (ap Some (sym same)))
-
   -- what came of the certificate, by the answer
   abbrev Comes_as : Result Seen UpgradeStop → Type 0
   Comes_as result = ((all : Bytes) → known ≡ Some all → ComesOf all old new result)
@@ -151,15 +143,6 @@ module _ (a : AskedUpgrade) (r : Run)
   comes_as : (result given : Result Seen UpgradeStop) → result ≡ given
       → Comes_as result → Comes_as given
   comes_as result given is h = subst Comes_as is h
-
-  -- the new file is left so
-  left_so : (left : Left) → Leaves left old new → Written (Some a.new) left r
-  left_so left h n named = let same : a.new ≡ n = cc named in
-      subst (λ m. Leaves left (r.before.told m) (r.after.told m)) same h
-
-  all_kept : new ≡ old → (n : Bytes) → IsKept r n
-  all_kept same = kept_all (Some a.new) r
-      (λ n named. let is : a.new ≡ n = cc named in subst (IsKept r) is same) others_kept
 
   module _ (result : Result Seen UpgradeStop) (came : Comes_as result) where
     pub done_runs : (counts : Seen) → result ≡ Ok counts
@@ -171,8 +154,8 @@ module _ (a : AskedUpgrade) (r : Run)
               × (counts ≡ seen_in items) × Holds (certificate_of items) old new → IsSo
           by (items, may, is, holds) = line_runs (Some a.new) fate r status.Answered
               (upgraded_line counts) (Whole (Some (certificate_of items)))
-              (items, may, ap upgraded_line is, refl) others_kept refl
-              (left_so (Whole (Some (certificate_of items)))
+              (items, may, ap upgraded_line is, refl) (others_kept a.new r others) refl
+              (left_so a.new r (Whole (Some (certificate_of items)))
               (whole_of (certificate_of items) old new holds)) put
 
     pub faulty_runs : (f : CertFault) → result ≡ Err (stop.Fault f)
@@ -184,11 +167,13 @@ module _ (a : AskedUpgrade) (r : Run)
               × ((new ≡ old) ⊎ ((known ≡ None) × ((items : List Item) × AreCertificate items
               × HoldsFront (certificate_of items) old new))) → IsSo
           by (has, inl same) = line_runs (Some a.new) fate r status.Certificate (cert_fault_line f)
-              Kept (inl (f, has, refl, inl refl)) others_kept refl (left_so Kept same) put
+              Kept (inl (f, has, refl, inl refl)) (others_kept a.new r others) refl
+              (left_so a.new r Kept same) put
           by (has, inr (untold, (items, are, part))) = line_runs (Some a.new) fate r
               status.Certificate (cert_fault_line f) (Begun (Some (certificate_of items)))
-              (inl (f, has, refl, inr (untold, inr (items, are, refl)))) others_kept refl
-              (left_so (Begun (Some (certificate_of items)))
+              (inl (f, has, refl, inr (untold, inr (items, are, refl))))
+              (others_kept a.new r others) refl
+              (left_so a.new r (Begun (Some (certificate_of items)))
               (part_of (certificate_of items) old new (inr part))) put
 
     pub long_runs : result ≡ Err stop.NewTooLong
@@ -196,7 +181,8 @@ module _ (a : AskedUpgrade) (r : Run)
     long_runs given put =
         let c = comes_as result (Err stop.NewTooLong) given came in
         put_runs (Some a.new) fate r status.Certificate new_too_long_line Kept
-        (inr ((λ all e. (c.0 all e).0), refl, refl)) others_kept refl (left_so Kept c.1) put
+        (inr ((λ all e. (c.0 all e).0), refl, refl)) (others_kept a.new r others) refl
+        (left_so a.new r Kept c.1) put
 
     pub unread_runs : result ≡ Err stop.ReadFailed → ReadFailed r
         → IsStopPutBy reading.Fault a.cert r → IsSo
@@ -204,18 +190,20 @@ module _ (a : AskedUpgrade) (r : Run)
         let c = comes_as result (Err stop.ReadFailed) given came in
         by (unread known old new c.0 c.1) put where
           by : IsBroken known old new → IsStopPutBy reading.Fault a.cert r → IsSo
-          by (inl same) put = stop_runs (Some a.new) fate r reading.Fault a.cert (all_kept same)
+          by (inl same) put = stop_runs (Some a.new) fate r reading.Fault a.cert
+              (all_kept a.new r others same)
               (λ _. (a.cert, refl, failed, inl refl, refl)) put
           by (inr (items, may, part)) (inr (is, put)) =
               put_runs (Some a.new) fate r status.ReadFault
               (read_fault_line a.cert) (Begun (Some (certificate_of items)))
-              (a.cert, refl, failed, inr (items, may, refl), refl) others_kept refl
-              (left_so (Begun (Some (certificate_of items)))
+              (a.cert, refl, failed, inr (items, may, refl), refl) (others_kept a.new r others) refl
+              (left_so a.new r (Begun (Some (certificate_of items)))
               (part_of (certificate_of items) old new (inr part))) put
           by (inr (items, may, part)) (inl (same, silent)) = exhausted_runs (Some a.new) fate r
               status.ReadFault (read_fault_line a.cert) (Begun (Some (certificate_of items)))
-              (a.cert, refl, failed, inr (items, may, refl), refl) others_kept silent
-              (left_so (Begun (Some (certificate_of items)))
+              (a.cert, refl, failed, inr (items, may, refl), refl)
+              (others_kept a.new r others) silent
+              (left_so a.new r (Begun (Some (certificate_of items)))
               (part_of (certificate_of items) old new (inr part))) same
 
     pub unwritten_so : result ≡ Err stop.WriteFailed → r.status ≡ status.WriteFault
@@ -227,8 +215,8 @@ module _ (a : AskedUpgrade) (r : Run)
               × ((new ≡ old) ⊎ HoldsFront (certificate_of items) old new) → IsSo
           by (items, may, part) = unwritten_runs (Some a.new) fate r status.Answered
               (upgraded_line (seen_in items)) (Whole (Some (certificate_of items)))
-              (items, may, refl, refl) others_kept silent
-              (left_so (Begun (Some (certificate_of items)))
+              (items, may, refl, refl) (others_kept a.new r others) silent
+              (left_so a.new r (Begun (Some (certificate_of items)))
               (part_of (certificate_of items) old new part)) same (λ e. cc e) failed
 
     pub starved_so : result ≡ Err stop.OutOfMemory → r.status ≡ status.OutOfMemory
@@ -238,11 +226,11 @@ module _ (a : AskedUpgrade) (r : Run)
         by (starved known old new c.0 c.1) where
           by : IsBroken known old new → IsSo
           by (inl kept) = starved_runs (Some a.new) fate r same
-              (record { silent = silent; files = all_kept kept })
+              (record { silent = silent; files = all_kept a.new r others kept })
           by (inr (items, may, part)) = exhausted_runs (Some a.new) fate r status.Answered
               (upgraded_line (seen_in items)) (Whole (Some (certificate_of items)))
-              (items, may, refl, refl) others_kept silent
-              (left_so (Begun (Some (certificate_of items)))
+              (items, may, refl, refl) (others_kept a.new r others) silent
+              (left_so a.new r (Begun (Some (certificate_of items)))
               (part_of (certificate_of items) old new (inr part))) same
 
 -- ---- one status comes

@@ -203,11 +203,8 @@ loop-ended-preserved g c =
     }
 
 pub loop-ended-smaller : goal.loop-ended-smaller
-loop-ended-smaller g c =
-    let open_on : c.loop-ended.ended ≡ false = search rules in
-    let r = c.in_ok-next.ensures in
-    rw open_on (fewer_turns c.in_ok-next.last c.loop-ended.reader.ahead.at
-    c.respell.new.reader.ahead.at r.grows r.within)
+loop-ended-smaller g c = fewer_turns c.loop-ended.ended c.in_ok-next.last
+    _ _ (search rules) c.in_ok-next.ensures.grows c.in_ok-next.ensures.within
 
 pub returns-clause-ok : goal.returns-clause-ok
 returns-clause-ok g c =
