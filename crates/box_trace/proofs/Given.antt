@@ -7,7 +7,7 @@ use Rattle.box_trace.specs.declared.known.Known.{Known}
 use Rattle.box_trace.specs.Tables.{known_at}
 use Rattle.saturate.specs.rule_universe.Worlds.{World}
 use Rattle.saturate.specs.Universes.{setting_of}
-use Rattle.box_trace.specs.Boxes.{IsBox, IsSomeBox}
+use Rattle.box_trace.specs.Boxes.{IsBox}
 
 module _ (u : World) (h : ℕ) (piece : Option Piece) (parent : Option (Bor Known))
     (P : List Piece → Type 0) where
@@ -30,12 +30,3 @@ module _ (u : World) (h : ℕ) (piece : Option Piece) (parent : Option (Bor Know
       no_pieces (Some p) None n b = absurd b
       no_pieces None (Some t) n b = absurd b
       no_pieces (Some p) (Some t) n b = elim n [ inl e ↦ cc | inr e ↦ cc ]
-
--- the parent's table is best at some box
-pub parent_best : (u : World) (h : ℕ) (piece : Option Piece) (parent : Option (Bor Known))
-    (p : Piece) (t : Bor Known) → piece ≡ Some p → parent ≡ Some t → IsSomeBox u h piece parent
-    → (above : List Piece) × IsTableAt (setting_of u) h above (known_at u t.now)
-parent_best u h piece parent p t e f b =
-    let w : (above : List Piece) × (b.0 ≡ p ∷ above)
-    × IsTableAt (setting_of u) h above (known_at u t.now) = subst (λ o. IsBox u h (Some p) o b.0) f
-    (subst (λ o. IsBox u h o parent b.0) e b.1) in (w.0, w.2)

@@ -8,6 +8,7 @@ pub mod Beyond
 pub mod Stepped
 pub mod Scanned
 pub mod Came
+pub mod Gathered
 pub mod Taken
 pub mod Answered
 pub mod Started

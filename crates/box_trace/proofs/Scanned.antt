@@ -200,6 +200,22 @@ module _ (u : World) (at : At) where
         high = f.1;
       })))
 
+  -- The next instance concludes nothing that the table doesn't beat.
+  pub scanned_idle : (rows : List (Option Ends)) (n : ℕ) → IsScanned u at rows n
+      → ((i : Instance) (c : Fact) → slice_get u.instances n ≡ Some i
+      → conclusion (concludes u.nodes u.hints) at i ≡ Some c → Beats at c)
+      → IsScanned u at rows (n + 1)
+  scanned_idle rows n s idle = record {
+    ends = s.ends;
+    seen = λ k j c l g e.
+        elim (cases_lt k n) [
+          | inl h ↦ s.seen k j c h g e
+          | inr h ↦
+              (let d : k ≡ n = omega arith in
+              inl (idle j c (subst (λ m. slice_get u.instances m ≡ Some j) d g) e))
+        ];
+  }
+
   -- Nothing was seen.
   pub scanned_none : (rows : List (Option Ends))
       → ((p : ℕ) → ends_in rows p ≡ None) → IsScanned u at rows 0

@@ -21,7 +21,8 @@ use Rattle.box_trace.specs.declared.known.Known.{Known}
 use Rattle.box_trace.specs.declared.ends.Found.{Found}
 use Rattle.box_trace.specs.declared.ends.Ends.{Ends}
 use Rattle.box_trace.specs.Tables.{row_in, fact_of, known_at}
-use Rattle.box_trace.specs.Scans.{IsBeaten, IsConcludedBy, IsNoted, IsScanned}
+use Rattle.box_trace.specs.Scans.{IsBeaten, IsNoted, IsScanned}
+use Rattle.saturate.specs.Keeping.{IsConcludedBy}
 use Rattle.box_trace.proofs.Rows.{read_at}
 use Rattle.box_trace.proofs.Scanned.{scanned_beaten, scanned_noted}
 
@@ -46,7 +47,7 @@ place_inside n u fact.Void p e d h = absurd (d refl)
 
 module _ (u : World) (once : IsEachOnce u.pairs)
     (on_target : IsOnTargetList (concludes u.nodes u.hints)) (now : Known) (k place : ℕ) (c : Fact)
-    (w : IsConcludedBy u (known_at u now) k place c) (d : ¬ (c ≡ fact.Void)) where
+    (w : IsConcludedBy concludes u (known_at u now) k place c) (d : ¬ (c ≡ fact.Void)) where
   -- the place is that of its slot
   of_slot : IsPlace (length u.nodes) u.pairs (slot_of c) place
   of_slot =

@@ -37,7 +37,13 @@ abbrev pub IsItsTable : World → ℕ → Option Piece → Option (Bor Known) �
 IsItsTable u height piece parent k = (pieces : List Piece) → IsBox u height piece parent pieces
     → IsTableAt (setting_of u) height pieces (known_at u k)
 
--- The same of a box below the one with the parent's facts.
+-- They are, and there is just one row for each slot of the universe.
+pub record HasItsTable (u : World) (height : ℕ) (piece : Option Piece) (parent : Option (Bor Known))
+    (k : Known) : Type 0 where
+  pub best : IsItsTable u height piece parent k
+  pub rows : HasRows u k
+
+-- The facts are the best of a box below the one with the parent's facts.
 abbrev pub IsTableBelow : World → ℕ → Piece → Known → Known → Type 0
 IsTableBelow u height piece parent k = (above : List Piece)
     → IsTableAt (setting_of u) height above (known_at u parent)

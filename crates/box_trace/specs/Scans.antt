@@ -75,13 +75,6 @@ pub record IsScanned (u : World) (at : At) (rows : List (Option Ends)) (n : ℕ)
   pub seen : (k : ℕ) (i : Instance) (c : Fact) → k < n → slice_get u.instances k ≡ Some i
       → conclusion (concludes u.nodes u.hints) at i ≡ Some c → Beats at c ⊎ HasEnds u rows c
 
--- The instance with this number concludes c from the table, and this is its target's place.
-abbrev pub IsConcludedBy : World → At → ℕ → ℕ → Fact → Type 0
-IsConcludedBy u at k place c =
-    (i : Instance) × (slice_get u.instances k ≡ Some i)
-    × (conclusion (concludes u.nodes u.hints) at i ≡ Some c)
-    × IsPlace (length u.nodes) u.pairs i.target place
-
 -- The instance with number k concludes VOID, or was seen.
 abbrev pub IsVisited : World → At → List (Option Ends) → List (Option Ends)
     → ℕ → Option Found → Type 0

@@ -76,6 +76,13 @@ impl Known {
         })
     }
 
+    // No rows, in no memory.
+    pub(crate) fn bare(alloc: Global) -> Known {
+        Known {
+            rows: Vec::new(alloc),
+        }
+    }
+
     // The same in memory of its own.
     pub(crate) fn copy(&self, alloc: Global) -> Result<Known, AllocError>
         ensures { IfOk result (λ k. k.rows.items ≡ self.now.rows.items) }

@@ -7,6 +7,7 @@ pub use saturate::{Universe, rules_are_lawful};
 pub use tree_certificates::{Subject, certificates_exist, walks_move};
 
 mod ends;
+mod gathering;
 mod known;
 mod laws;
 mod log;
@@ -14,6 +15,7 @@ mod rounds;
 mod scan;
 mod starts;
 mod tracing;
+mod writing;
 
 pub use known::Known;
 pub use laws::boxes_are_short;

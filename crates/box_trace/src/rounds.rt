@@ -1,224 +1,54 @@
-//! Rounds after one another, with their steps: at most two for each slot of an interval, and one
-//! for another.
-ghost use Rattle.std.specs.Prelude.{◌≡◌, ◌<◌, ◌≤◌, ◌+◌, ◌*◌, ◌^◌, ◌↔◌, IsTrue, OnOk, length};
-ghost use Rattle.facts.specs.declared.fact.Fact.TheVariants as fact;
-ghost use Rattle.facts.specs.Order.{slot_of};
-ghost use Rattle.saturate.specs.derivation.Rounds.{IsSame, IsBestFrom};
-ghost use Rattle.saturate.specs.derivation.Changes.{IsQuiet};
-ghost use Rattle.saturate.specs.rule_universe.Places.{IsPlace, place_count};
+//! Rounds after one another, with their steps: those of `saturate`, over a log.
+ghost use Rattle.std.specs.Prelude.{◌≡◌, ◌<◌, ◌+◌, ◌*◌, ◌^◌, IfOk, length};
+ghost use Rattle.saturate.specs.derivation.Rounds.{IsBestFrom};
 ghost use Rattle.saturate.specs.Universes.{setting_of};
 ghost use Rattle.box_trace.specs.Tables.{known_at, HasRows};
-ghost use Rattle.box_trace.specs.Logs.{IsComeBy, IsSlotWritten, IsRound, IsLonger};
+ghost use Rattle.box_trace.specs.Logs.{IsLonger};
 ghost use Rattle.box_trace.specs.Rounds.{HasRounds};
-ghost use Rattle.box_trace.specs.Scans.{IsConclusion, AreEndsOf, IsScanned, IsWide};
 
-use crate::ends::{Ends, Found};
-use crate::known::Known;
-use crate::log::{Log, Source};
-use crate::scan::{Scan, cite};
-use facts::{Slot, slot};
-use fx_edge::Items;
-use saturate::{Placed, Universe, instance_at, mark, rules_are_lawful};
+use crate::gathering::Gathering;
+use crate::log::Log;
+use saturate::{Steps, Universe, Work, all_rounds};
 use std::alloc::{AllocError, Global};
+use std::marker::Brand;
+use std::sync::ledger::{Blank, Ledger};
 
-// Lets what an instance concluded come to what is known.
-fn come_by(
-    alloc: Global,
-    uni: &Universe,
-    now: &Known,
-    place: u16,
-    found: Found,
-    log: &mut Log,
-) -> Result<(), AllocError>
-    requires conclusion { IsConclusion uni.now (known_at uni.now now.now) found }
-    requires place { IsPlace (length uni.now.nodes) uni.now.pairs (slot_of found.fact) place }
-    requires rows { HasRows uni.now log.old.known }
-    requires room { log.old.first + length log.old.steps.items < 2 ^ 64 }
-    ensures { OnOk result (IsComeBy uni.now now.now found log.old log.new) }
-{
-    uni.laws();
-    rules_are_lawful();
-    let k = found.instance;
-    let premises = cite(alloc, uni, now, k)?;
-    let instance = instance_at(uni, k);
-    let source = Source {
-        rule: instance.rule,
-        arg: instance.arg,
-        premises: Items::from_vec(premises),
-    };
-    log.come(uni, found.fact, place, source)
-}
-
-// Whether the place is one of a slot of an interval.
-fn is_wide(uni: &Universe, place: usize) -> bool
-    ensures { IsTrue result ↔ IsWide (length uni.now.nodes) place }
-{
-    uni.laws();
-    let n = uni.dag().len() as usize;
-    place < 2 * n || 4 * n <= place
-}
-
-// Lets what gives the upper end come, where there is one.
-fn come_high(
-    alloc: Global,
-    uni: &Universe,
-    now: &Known,
-    place: u16,
-    found: Found,
-    log: &mut Log,
-) -> Result<(), AllocError>
-    requires conclusion { IsConclusion uni.now (known_at uni.now now.now) found }
-    requires place { IsPlace (length uni.now.nodes) uni.now.pairs (slot_of found.fact) place }
-    requires rows { HasRows uni.now log.old.known }
-    requires room { log.old.first + length log.old.steps.items < 2 ^ 64 }
-    ensures wide { OnOk result (IsWide (length uni.now.nodes) place
-        → IsComeBy uni.now now.now found log.old log.new) }
-    ensures narrow { OnOk result ((¬ IsWide (length uni.now.nodes) place) → log.new ≡ log.old) }
-{
-    if is_wide(uni, place as usize) {
-        come_by(alloc, uni, now, place, found, log)?;
-    }
-    Ok(())
-}
-
-// Lets the conclusions that give the ends of the slot with this place come.
-fn write_slot(
-    alloc: Global,
-    uni: &Universe,
-    now: &Known,
-    place: u16,
-    ends: Ends,
-    log: &mut Log,
-) -> Result<(), AllocError>
-    requires ends { AreEndsOf uni.now (known_at uni.now now.now) place ends }
-    requires rows { HasRows uni.now log.old.known }
-    requires room { log.old.first + length log.old.steps.items + 1 < 2 ^ 64 }
-    ensures { OnOk result (IsSlotWritten uni.now now.now place ends log.old log.new) }
-{
-    come_by(alloc, uni, now, place, ends.low, log)?;
-    come_high(alloc, uni, now, place, ends.high, log)?;
-    Ok(())
-}
-
-// Lets what was gathered come to what is known, slot by slot, and lists the slots.
-fn write(
-    alloc: Global,
-    uni: &Universe,
-    now: &Known,
-    ends: &[Option<Ends>],
-    changed: &mut Vec<Placed>,
-    log: &mut Log,
-) -> Result<(), AllocError>
-    requires scanned { IsScanned uni.now (known_at uni.now now.now) ends.now
-        (length uni.now.instances) }
-    requires count { length ends.now ≡ place_count (length uni.now.nodes) uni.now.pairs }
-    requires rows { HasRows uni.now log.old.known }
-    requires same { IsSame (known_at uni.now now.now) (known_at uni.now log.old.known) }
-    requires room { log.old.first + length log.old.steps.items + 8192 < 2 ^ 64 }
-    ensures { OnOk result (IsRound uni.now now.now log.old log.new changed.new.items) }
-{
-    uni.laws();
-    rules_are_lawful();
-    changed.clear();
-    for p in 0..uni.place(Slot::Void) {
-        let here = ends[p as usize];
-        if let Some(found) = here {
-            write_slot(alloc, uni, now, p, found, log)?;
-            if log.known.is_void(uni) {
-                return Ok(());
-            }
-            changed.push(Placed {
-                slot: slot(&found.low.fact),
-                place: p,
-            })?;
-        }
-    }
-    Ok(())
-}
-
-// Lets a conclusion VOID come.
-fn write_void(
-    alloc: Global,
-    uni: &Universe,
-    now: &Known,
-    found: Found,
-    changed: &mut Vec<Placed>,
-    log: &mut Log,
-) -> Result<(), AllocError>
-    requires conclusion { IsConclusion uni.now (known_at uni.now now.now) found }
-    requires void { found.fact ≡ fact.Void }
-    requires rows { HasRows uni.now log.old.known }
-    requires same { IsSame (known_at uni.now now.now) (known_at uni.now log.old.known) }
-    requires room { log.old.first + length log.old.steps.items + 8192 < 2 ^ 64 }
-    ensures { OnOk result (IsRound uni.now now.now log.old log.new changed.new.items) }
-{
-    uni.laws();
-    changed.clear();
-    let place = uni.place(Slot::Void);
-    come_by(alloc, uni, now, place, found, log)
-}
-
-// Applies each instance that is due to what was known, lets what it concludes come to what is
-// known, and lists the slots about which more is known then. A conclusion VOID comes alone.
-fn round(
-    alloc: Global,
-    uni: &Universe,
-    now: &Known,
-    due: &[bool],
-    scan: &mut Scan,
-    changed: &mut Vec<Placed>,
-    log: &mut Log,
-) -> Result<(), AllocError>
-    requires due { length due.now ≡ length uni.now.instances }
-    requires quiet { IsQuiet (setting_of uni.now) due.now (known_at uni.now now.now) }
-    requires rows { HasRows uni.now log.old.known }
-    requires same { IsSame (known_at uni.now now.now) (known_at uni.now log.old.known) }
-    requires room { log.old.first + length log.old.steps.items + 8192 < 2 ^ 64 }
-    ensures { OnOk result (IsRound uni.now now.now log.old log.new changed.new.items) }
-{
-    let gathered = scan.gather(uni, now, due)?;
-    match gathered {
-        Some(found) => write_void(alloc, uni, now, found, changed, log),
-        None => write(alloc, uni, now, &scan.ends, changed, log),
-    }
-}
-
-/// Lets come the best facts of at most this height over what is known.
-pub(crate) fn rounds(
+// The rounds with a counter of conclusions that nobody reads.
+fn rounds_blank<L: Ledger>(
     alloc: Global,
     uni: &Universe,
     height: u8,
-    log: &mut Log,
-) -> Result<(), AllocError>
-    requires rows { HasRows uni.now log.old.known }
-    requires room { log.old.first + length log.old.steps.items + height * 8192 < 2 ^ 64 }
-    ensures best { OnOk result (IsBestFrom (setting_of uni.now)
-        (known_at uni.now log.old.known) height (known_at uni.now log.new.known)) }
-    ensures longer { OnOk result (IsLonger uni.now (height * 8192) log.old log.new) }
-    ensures rounds { OnOk result (HasRounds uni.now height log.old log.new) }
+    log: Log,
+    blank: Blank,
+) -> Result<Log, AllocError>
+    requires blank { (blank.name ≡ L.name) × (blank.parts ≡ L.parts) × (0 < blank.parts) }
+    requires rows { HasRows uni.now log.known }
+    requires room { log.first + length log.steps.items + height * 8192 < 2 ^ 64 }
+    ensures best { IfOk result (λ l. IsBestFrom (setting_of uni.now)
+        (known_at uni.now log.known) height (known_at uni.now l.known)) }
+    ensures longer { IfOk result (IsLonger uni.now (height * 8192) log) }
+    ensures rounds { IfOk result (HasRounds uni.now height log) }
 {
     uni.laws();
-    rules_are_lawful();
     let begun = log.known.is_void(uni);
     if begun {
-        return Ok(());
+        return Ok(log);
     }
-    let mut now = log.known.copy(alloc)?;
-    let mut due = vec![in alloc; true; uni.instances().len()]?;
-    let mut changed = Vec::new(alloc);
-    let mut scan = Scan::new(alloc);
-    for _ in 0..height {
-        round(alloc, uni, &now, &due, &mut scan, &mut changed, log)?;
-        let ended = log.known.is_void(uni);
-        if ended {
-            return Ok(());
-        }
-        let quiet = changed.is_empty();
-        if quiet {
-            return Ok(());
-        }
-        now.copy_from(&log.known)?;
-        mark(uni, &changed, &mut due);
-    }
-    Ok(())
+    let mut steps = Steps::<L>::new(blank);
+    let mut work = Work::new(alloc);
+    let mut gathering = Gathering::over(alloc, log);
+    let _closed = all_rounds(uni, &mut gathering, height, &mut work, &mut steps)?;
+    Ok(gathering.log)
+}
+
+/// Lets come the best facts of at most this height over what is known.
+pub(crate) fn rounds(alloc: Global, uni: &Universe, height: u8, log: Log) -> Result<Log, AllocError>
+    requires rows { HasRows uni.now log.known }
+    requires room { log.first + length log.steps.items + height * 8192 < 2 ^ 64 }
+    ensures best { IfOk result (λ l. IsBestFrom (setting_of uni.now)
+        (known_at uni.now log.known) height (known_at uni.now l.known)) }
+    ensures longer { IfOk result (IsLonger uni.now (height * 8192) log) }
+    ensures rounds { IfOk result (HasRounds uni.now height log) }
+{
+    rounds_blank::<Brand>(alloc, uni, height, log, Blank::new(1))
 }

@@ -1,10 +1,10 @@
 //! The steps of a box.
-ghost use Rattle.std.specs.Prelude.{◌≡◌, ◌<◌, ◌≤◌, ◌+◌, ◌^◌, [], IfOk, List, None, length};
-ghost use Rattle.saturate.specs.derivation.Known.{Piece, IsTableAt};
+ghost use Rattle.std.specs.Prelude.{◌≡◌, ◌<◌, ◌≤◌, ◌+◌, ◌^◌, [], IfOk, None, length};
+ghost use Rattle.saturate.specs.derivation.Known.{IsTableAt};
 ghost use Rattle.saturate.specs.Universes.{setting_of};
 ghost use Rattle.box_trace.specs.Tables.{known_at, HasRows};
 ghost use Rattle.box_trace.specs.Rounds.{AreItsRounds, AreRoundsBelow, IsByRounds};
-ghost use Rattle.box_trace.specs.Boxes.{IsSomeBox, IsOfUniverse, IsItsTable, IsTableBelow};
+ghost use Rattle.box_trace.specs.Boxes.{IsSomeBox, IsOfUniverse, HasItsTable, IsTableBelow};
 ghost use Rattle.box_trace.specs.Boxes.{AreRootSteps, AreStepsBelow, AreItsSteps, log_of};
 ghost use Rattle.box_trace.specs.Boxes.{most_steps};
 
@@ -41,9 +41,9 @@ fn trace_root(alloc: Global, uni: &Universe, height: u8, first: u64) -> Result<L
 {
     uni.laws();
     rules_are_lawful();
-    let mut log = root_start(alloc, uni, first)?;
-    rounds(alloc, uni, height, &mut log)?;
-    Ok(log)
+    let log = root_start(alloc, uni, first)?;
+    let done = rounds(alloc, uni, height, log)?;
+    Ok(done)
 }
 
 // The log of a box below another.
@@ -57,8 +57,6 @@ fn trace_child(
 ) -> Result<Log, AllocError>
     requires variable { (piece.0).0 < length uni.now.nodes }
     requires rows { HasRows uni.now parent.now }
-    requires parent { (above : List Piece)
-        × IsTableAt (setting_of uni.now) height above (known_at uni.now parent.now) }
     requires room { first + most_steps uni.now height < 2 ^ 64 }
     ensures table { IfOk result
         (λ l. IsTableBelow uni.now height (piece.0, piece.1) parent.now l.known) }
@@ -70,9 +68,9 @@ fn trace_child(
 {
     uni.laws();
     rules_are_lawful();
-    let mut log = child_start(alloc, uni, piece, parent, first)?;
-    rounds(alloc, uni, height, &mut log)?;
-    Ok(log)
+    let log = child_start(alloc, uni, piece, parent, first)?;
+    let done = rounds(alloc, uni, height, log)?;
+    Ok(done)
 }
 
 // The log of a box.
@@ -88,8 +86,7 @@ fn log_at(
     requires places { IsOfUniverse uni.now piece parent }
     requires few { length uni.now.hypotheses ≤ 65536 }
     requires room { first + most_steps uni.now height < 2 ^ 64 }
-    ensures table { IfOk result (λ l. IsItsTable uni.now height piece parent.entry l.known) }
-    ensures rows { IfOk result (λ l. HasRows uni.now l.known) }
+    ensures table { IfOk result (λ l. HasItsTable uni.now height piece parent.entry l.known) }
     ensures steps { IfOk result (AreItsSteps uni.now piece parent.entry first) }
     ensures few { IfOk result (λ l. length l.steps.items ≤ most_steps uni.now height) }
     ensures rounds { IfOk result (λ l.
@@ -116,9 +113,9 @@ pub fn trace(
     requires places { IsOfUniverse uni.now piece parent }
     requires few { length uni.now.hypotheses ≤ 65536 }
     requires room { first + most_steps uni.now height < 2 ^ 64 }
-    // The facts are the best that are known at the box, as those of `settle` are.
-    ensures table { IfOk result (λ t. IsItsTable uni.now height piece parent.entry t.known) }
-    ensures rows { IfOk result (λ t. HasRows uni.now t.known) }
+    // The facts are the best that are known at the box, as those of `settle` are, each in the row
+    // of its slot.
+    ensures table { IfOk result (λ t. HasItsTable uni.now height piece parent.entry t.known) }
     // Wherever the box's section may stand, its steps are accepted, and each fact has its step
     // among them or the parent's.
     ensures steps { IfOk result

@@ -1,5 +1,5 @@
 -- Tables from which the instances conclude nothing more, and those that differ from one on a slot.
-use Rattle.std.specs.Prelude.{◌≡◌, ◌≢◌, ◌⊎◌, ◌<◌, ℕ, Bool, true, false, List, Option, Some, None}
+use Rattle.std.specs.Prelude.{◌≡◌, ◌≢◌, ◌⊎◌, ◌<◌, ℕ, Bool, true, List, Option, Some, None}
 use Rattle.std.specs.Prelude.{IfNone, IfSome, slice_get, Contains, refl}
 use Rattle.std.proofs.Common.{sym, ◌∙◌, ap, subst, inl, inr, arith}
 use Rattle.fx_model.specs.declared.ExprId.{ExprId}
@@ -45,16 +45,6 @@ pub closed_same : (u : Setting) (at new : At) → IsAhead u at new AllSeen → I
 closed_same u at new a same v k i c e x =
     let b = a.beats (same slot.Void ∙ v) k i c e tt x in
     (b.0, sym (same (slot_of c)) ∙ b.1, b.2)
-
--- The word is right after a whole round that changed nothing.
-pub closed_marked : (u : Setting) (t : Table) (new : At) → IsAhead u (fact_at t) new AllSeen →
-    IsSame (fact_at t) new → fact_at t slot.Void ≡ None → IsMarked u (record t { closed = true })
-closed_marked u t new a same v said w =
-    subst (IsClosedUnder u) (said_at t true) (closed_same u (fact_at t) new a same v)
-
--- The word isn't given.
-pub open_marked : (u : Setting) (t : Table) → IsMarked u (record t { closed = false })
-open_marked u t said v = cc
 
 -- The table has VOID.
 pub void_marked : (u : Setting) (t : Table) → t.void ≡ true → IsMarked u t

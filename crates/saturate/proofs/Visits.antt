@@ -1,6 +1,5 @@
--- One more instance of a round.
-use Rattle.std.specs.Prelude.{◌≡◌, ◌≢◌, ◌⊎◌, ◌<◌, ◌+◌, ℕ, Bool, false, List, [], ◌∷◌, ◌++◌}
-use Rattle.std.specs.Prelude.{Some, None, slice_get, Contains}
+-- What comes of what an instance concludes.
+use Rattle.std.specs.Prelude.{◌≡◌, ◌≢◌, ◌⊎◌, ℕ, List, [], ◌∷◌, ◌++◌, Some, None, Contains}
 use Rattle.std.proofs.Common.{sym, ◌∙◌, ap, subst, inl, inr, rules}
 use Rattle.std.proofs.lemmas.List.{map-append}
 use Rattle.std.proofs.lemmas.List.Elements.{Contains-push, Contains-push_cases}
@@ -13,17 +12,15 @@ use Rattle.rule_universe.specs.facts.Laws.{IsStronger-slot, IsStronger-trans}
 use Rattle.rule_universe.specs.facts.Meets.{meet-IsMeet}
 use Rattle.rule_universe.specs.derivation.Lists.{RuleList, IsOnTargetList}
 use Rattle.rule_universe.specs.facts.declared.instance.Instance.{Instance}
-use Rattle.rule_universe.specs.derivation.Derivations.{Setting, At}
-use Rattle.rule_universe.specs.derivation.Rounds.{conclusion, IsAhead, Grows}
-use Rattle.rule_universe.specs.derivation.Changes.{IsQuiet, IsListed}
+use Rattle.rule_universe.specs.derivation.Derivations.{At}
+use Rattle.rule_universe.specs.derivation.Rounds.{conclusion, Grows}
+use Rattle.rule_universe.specs.derivation.Changes.{IsListed}
 use Rattle.rule_universe.specs.derivation.Counts.{IsRisen, risen_after}
 use Rattle.rule_universe.specs.derivation.Parts.{conclusion_reads, slot_cases, stronger_slot}
-use Rattle.rule_universe.specs.derivation.Ahead.{ahead_skip, ahead_step, ahead_quiet, ahead_next}
 use Rattle.saturate.specs.declared.kept.Table.{Table}
 use Rattle.rule_universe.specs.declared.placed.Placed.{Placed}
 use Rattle.rule_universe.specs.Placed.{slots_of}
 use Rattle.saturate.specs.Tables.{fact_at, HasPlace, IsFoundAt}
-use Rattle.saturate.specs.Visits.{IsVisit}
 use Rattle.rule_universe.specs.facts.CommonParts.{void_cases}
 
 -- ---- places
@@ -96,27 +93,7 @@ conclusion_found rules on_target at i c t p e h =
     let r = conclusion_reads rules at i c e in
     found_for t c i.target p (on_target i.rule i.arg r.0 i.target c r.2) h
 
--- ---- the instance with number n
-pub visited_ahead : (u : Setting) (at : At) (next new : Table) (n : ℕ) (i : Instance)
-    → IsAhead u at (fact_at next) (λ j. j < n) → slice_get u.instances n ≡ Some i
-    → IsVisit u.rules at next new i
-    → IsAhead u at (fact_at new) (λ j. j < n + 1)
-visited_ahead u at next new n i a e w =
-    ahead_next u at (fact_at new) n
-    (elim w [
-      | inl y ↦ subst (λ t. IsAhead u at (fact_at t) (λ k. (k < n) ⊎ (n ≡ k))) (sym y.1)
-          (ahead_skip u at (fact_at next) (λ j. j < n) n i a e y.0)
-      | inr y ↦ ahead_step u at (fact_at next) (λ j. j < n) n i a e y.0 y.2 (fact_at new) y.1 y.3
-    ])
-
--- it isn't due
-pub quiet_ahead : (u : Setting) (at new : At) (due : List Bool) (n : ℕ) (i : Instance)
-    → IsAhead u at new (λ j. j < n) → slice_get u.instances n ≡ Some i → IsQuiet u due at
-    → slice_get due n ≡ Some false
-    → IsAhead u at new (λ j. j < n + 1)
-quiet_ahead u at new due n i a e q d =
-    ahead_next u at new n (ahead_quiet u at new (λ j. j < n) n i a e (λ c x. q n i c e d x))
-
+-- ---- what changed
 -- what is pushed last is contained
 pub pushed : (old new : List Slot) (t s : Slot) → new ≡ old ++ t ∷ [] → s ≡ t → Contains new s
 pushed old new t s e d = subst (λ l. Contains l s) (sym e)

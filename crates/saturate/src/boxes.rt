@@ -133,9 +133,7 @@ fn settle_blank<L: Ledger>(
     area: &mut Area,
     blank: Blank,
 ) -> Result<Settled, AllocError>
-    requires name { blank.name ≡ L.name }
-    requires parts { blank.parts ≡ L.parts }
-    requires some { 0 < blank.parts }
+    requires blank { (blank.name ≡ L.name) × (blank.parts ≡ L.parts) × (0 < blank.parts) }
     requires given { IsSomeBox uni.now rounds piece parent }
     requires places { IsOfUniverse uni.now piece parent }
     requires marked { IsMarkedParent (setting_of uni.now) parent }

@@ -16,7 +16,7 @@ pub fn instance_at(uni: &Universe, k: usize) -> &Instance
 
 /// The place of its target.
 #[inline(always)]
-pub fn target_place(uni: &Universe, k: usize) -> u16
+pub(crate) fn target_place(uni: &Universe, k: usize) -> u16
     requires { k < length uni.now.instances }
     ensures { (i : Applied) → slice_get uni.now.instances k ≡ Some i
         → IsPlace (length uni.now.nodes) uni.now.pairs i.target result }

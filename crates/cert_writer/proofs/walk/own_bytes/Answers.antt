@@ -21,13 +21,13 @@ pub last_item-requires-clause-ends : goal.last_item-requires-clause-ends
 last_item-requires-clause-ends c =
     let s = c.requires.somewhere in
     let its = subst (λ o. IsItsTable c.args.uni.now c.args.rounds o c.args.parent
-    c.in_ok-steps.field-0.known) c.piece.ensures c.in_ok-steps.ensures.table in
+    c.in_ok-steps.field-0.known) c.piece.ensures c.in_ok-steps.ensures.table.best in
     let steps = subst (λ o. AreItsSteps c.args.uni.now o c.args.parent c.args.seen.steps (log_of
     c.args.seen.steps c.in_ok-steps.field-0)) c.piece.ensures c.in_ok-steps.ensures.steps in
     subst (λ k. MayEnd c.args.uni.now c.in_ok-steps.field-0.known k) (sym c.cut.ensures.is)
     (may_end c.args.plan.now c.walk_goes_on.ensures c.args.uni.now c.args.rounds s.0 s.1 s.2 s.4
     c.args.path.now c.args.parent c.args.seen s.3 s.5 c.in_ok-steps.field-0 its
-    c.in_ok-steps.ensures.rows steps c.in_ok-steps.ensures.few
+    c.in_ok-steps.ensures.table.rows steps c.in_ok-steps.ensures.few
     c.boxes_are_short.ensures c.in_ok-steps.ensures.rounds c.leaves_are_trimmed.ensures.fewer)
 
 pub written_items-requires-clause-room : goal.written_items-requires-clause-room
@@ -45,7 +45,7 @@ pub written_items-requires-clause-earlier : goal.written_items-requires-clause-e
 written_items-requires-clause-earlier c = λ none.
     let s = c.requires.somewhere in
     let its = subst (λ o. IsItsTable c.args.uni.now c.args.rounds o c.args.parent
-    c.in_ok-steps.field-0.known) c.piece.ensures c.in_ok-steps.ensures.table in
+    c.in_ok-steps.field-0.known) c.piece.ensures c.in_ok-steps.ensures.table.best in
     let steps = subst (λ o. AreItsSteps c.args.uni.now o c.args.parent c.args.seen.steps (log_of
     c.args.seen.steps c.in_ok-steps.field-0)) c.piece.ensures c.in_ok-steps.ensures.steps in
     let last = subst (λ k. IsLast c.args.uni.now c.in_ok-steps.field-0.known k c.in_ok-last.last
@@ -53,7 +53,7 @@ written_items-requires-clause-earlier c = λ none.
     subst (CiteEarlier c.args.seen.steps) (sym c.in_ok-own.ensures)
     (own_cites c.args.plan.now c.walk_goes_on.ensures c.args.uni.now c.args.rounds s.0 s.1 s.2 s.4
     c.args.path.now c.args.parent c.args.seen s.3 s.5 c.in_ok-steps.field-0 its
-    c.in_ok-steps.ensures.rows steps c.in_ok-steps.ensures.few
+    c.in_ok-steps.ensures.table.rows steps c.in_ok-steps.ensures.few
     c.boxes_are_short.ensures c.in_ok-steps.ensures.rounds c.leaves_are_trimmed.ensures.fewer
     c.in_ok-last.last c.in_ok-last.pieces last none)
 
@@ -61,7 +61,7 @@ pub spell_box-requires-clause-spelled : goal.spell_box-requires-clause-spelled
 spell_box-requires-clause-spelled c =
     let s = c.requires.somewhere in
     let its = subst (λ o. IsItsTable c.args.uni.now c.args.rounds o c.args.parent
-    c.in_ok-steps.field-0.known) c.piece.ensures c.in_ok-steps.ensures.table in
+    c.in_ok-steps.field-0.known) c.piece.ensures c.in_ok-steps.ensures.table.best in
     let steps = subst (λ o. AreItsSteps c.args.uni.now o c.args.parent c.args.seen.steps (log_of
     c.args.seen.steps c.in_ok-steps.field-0)) c.piece.ensures c.in_ok-steps.ensures.steps in
     let last = subst (λ k. IsLast c.args.uni.now c.in_ok-steps.field-0.known k c.in_ok-last.last
@@ -71,7 +71,7 @@ spell_box-requires-clause-spelled c =
     subst (AllByRecursion HasSpelling) (sym e)
     (own_spelled c.args.plan.now c.walk_goes_on.ensures c.args.uni.now c.args.rounds s.0 s.1 s.2
     s.4 c.args.path.now c.args.parent c.args.seen s.3 s.5 c.in_ok-steps.field-0 its
-    c.in_ok-steps.ensures.rows steps c.in_ok-steps.ensures.few
+    c.in_ok-steps.ensures.table.rows steps c.in_ok-steps.ensures.few
     c.boxes_are_short.ensures c.in_ok-steps.ensures.rounds c.leaves_are_trimmed.ensures.fewer
     c.in_ok-last.last c.in_ok-last.pieces last)
 
@@ -79,7 +79,7 @@ pub spell_box-requires-clause-steps : goal.spell_box-requires-clause-steps
 spell_box-requires-clause-steps c =
     let s = c.requires.somewhere in
     let its = subst (λ o. IsItsTable c.args.uni.now c.args.rounds o c.args.parent
-    c.in_ok-steps.field-0.known) c.piece.ensures c.in_ok-steps.ensures.table in
+    c.in_ok-steps.field-0.known) c.piece.ensures c.in_ok-steps.ensures.table.best in
     let steps = subst (λ o. AreItsSteps c.args.uni.now o c.args.parent c.args.seen.steps (log_of
     c.args.seen.steps c.in_ok-steps.field-0)) c.piece.ensures c.in_ok-steps.ensures.steps in
     let e : length c.as_slice.result.now ≡ length (written_of c.in_ok-last.pieces c.args.seen.steps
@@ -88,7 +88,7 @@ spell_box-requires-clause-steps c =
     ∙ ap (written_of c.in_ok-last.pieces c.args.seen.steps) c.in_ok-own.ensures) in
     let l = own_few c.args.plan.now c.walk_goes_on.ensures c.args.uni.now c.args.rounds s.0 s.1 s.2
     s.4 c.args.path.now c.args.parent c.args.seen s.3 s.5 c.in_ok-steps.field-0 its
-    c.in_ok-steps.ensures.rows steps c.in_ok-steps.ensures.few
+    c.in_ok-steps.ensures.table.rows steps c.in_ok-steps.ensures.few
     c.boxes_are_short.ensures c.in_ok-steps.ensures.rounds c.leaves_are_trimmed.ensures.fewer
     c.in_ok-last.last c.in_ok-last.pieces in
     let r = (has_sections (course c.args.uni.now c.args.plan.now c.args.rounds s.0 s.1 s.2)
@@ -100,7 +100,7 @@ pub spell_box-requires-clause-sections : goal.spell_box-requires-clause-sections
 spell_box-requires-clause-sections c =
     let s = c.requires.somewhere in
     let its = subst (λ o. IsItsTable c.args.uni.now c.args.rounds o c.args.parent
-    c.in_ok-steps.field-0.known) c.piece.ensures c.in_ok-steps.ensures.table in
+    c.in_ok-steps.field-0.known) c.piece.ensures c.in_ok-steps.ensures.table.best in
     let steps = subst (λ o. AreItsSteps c.args.uni.now o c.args.parent c.args.seen.steps (log_of
     c.args.seen.steps c.in_ok-steps.field-0)) c.piece.ensures c.in_ok-steps.ensures.steps in
     let e : length c.as_slice.result.now ≡ length (written_of c.in_ok-last.pieces c.args.seen.steps
@@ -109,7 +109,7 @@ spell_box-requires-clause-sections c =
     ∙ ap (written_of c.in_ok-last.pieces c.args.seen.steps) c.in_ok-own.ensures) in
     let l = own_few c.args.plan.now c.walk_goes_on.ensures c.args.uni.now c.args.rounds s.0 s.1 s.2
     s.4 c.args.path.now c.args.parent c.args.seen s.3 s.5 c.in_ok-steps.field-0 its
-    c.in_ok-steps.ensures.rows steps c.in_ok-steps.ensures.few
+    c.in_ok-steps.ensures.table.rows steps c.in_ok-steps.ensures.few
     c.boxes_are_short.ensures c.in_ok-steps.ensures.rounds c.leaves_are_trimmed.ensures.fewer
     c.in_ok-last.last c.in_ok-last.pieces in
     let r = (has_sections (course c.args.uni.now c.args.plan.now c.args.rounds s.0 s.1 s.2)
@@ -120,7 +120,7 @@ spell_box-requires-clause-sections c =
 pub returns-clause-own : goal.returns-clause-own
 returns-clause-own c = λ t lines states p is before.
     let its = subst (λ o. IsItsTable c.args.uni.now c.args.rounds o c.args.parent
-    c.in_ok-steps.field-0.known) c.piece.ensures c.in_ok-steps.ensures.table in
+    c.in_ok-steps.field-0.known) c.piece.ensures c.in_ok-steps.ensures.table.best in
     let steps = subst (λ o. AreItsSteps c.args.uni.now o c.args.parent c.args.seen.steps (log_of
     c.args.seen.steps c.in_ok-steps.field-0)) c.piece.ensures c.in_ok-steps.ensures.steps in
     let last = subst (λ k. IsLast c.args.uni.now c.in_ok-steps.field-0.known k c.in_ok-last.last
@@ -136,7 +136,7 @@ returns-clause-own c = λ t lines states p is before.
     (sym bytes)
     (own_done c.args.plan.now c.walk_goes_on.ensures c.args.uni.now c.args.rounds t lines states is
     c.args.path.now c.args.parent c.args.seen p before c.in_ok-steps.field-0 its
-    c.in_ok-steps.ensures.rows steps c.in_ok-steps.ensures.few
+    c.in_ok-steps.ensures.table.rows steps c.in_ok-steps.ensures.few
     c.boxes_are_short.ensures c.in_ok-steps.ensures.rounds c.leaves_are_trimmed.ensures.fewer
     c.in_ok-last.last c.in_ok-last.pieces c.in_ok-bytes.next last
     (c.in_ok-bytes.ensures.seen ∙ ap (seen_behind c.args.seen) e))

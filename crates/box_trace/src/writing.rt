@@ -1,0 +1,180 @@
+//! The steps of a round: at most two for each slot of an interval, and one for another.
+ghost use Rattle.std.specs.Prelude.{◌≡◌, ◌<◌, ◌≤◌, ◌+◌, ◌*◌, ◌^◌, ◌↔◌, IsTrue, OnOk, length};
+ghost use Rattle.facts.specs.declared.fact.Fact.TheVariants as fact;
+ghost use Rattle.facts.specs.Order.{slot_of};
+ghost use Rattle.saturate.specs.derivation.Rounds.{IsSame};
+ghost use Rattle.saturate.specs.rule_universe.Places.{IsPlace, place_count};
+ghost use Rattle.box_trace.specs.Tables.{known_at, HasRows};
+ghost use Rattle.box_trace.specs.Logs.{IsComeBy, IsSlotWritten, IsRound};
+ghost use Rattle.box_trace.specs.Scans.{IsConclusion, AreEndsOf, IsScanned, IsWide};
+ghost use Rattle.box_trace.specs.Scans.{IsGathered};
+
+use crate::ends::{Ends, Found};
+use crate::known::Known;
+use crate::log::{Log, Source};
+use crate::scan::cite;
+use facts::{Slot, slot};
+use fx_edge::Items;
+use saturate::{Placed, Universe, instance_at, rules_are_lawful};
+use std::alloc::{AllocError, Global};
+
+// Lets what an instance concluded come to what is known.
+fn come_by(
+    alloc: Global,
+    uni: &Universe,
+    now: &Known,
+    place: u16,
+    found: Found,
+    log: &mut Log,
+) -> Result<(), AllocError>
+    requires conclusion { IsConclusion uni.now (known_at uni.now now.now) found }
+    requires place { IsPlace (length uni.now.nodes) uni.now.pairs (slot_of found.fact) place }
+    requires rows { HasRows uni.now log.old.known }
+    requires room { log.old.first + length log.old.steps.items < 2 ^ 64 }
+    ensures { OnOk result (IsComeBy uni.now now.now found log.old log.new) }
+{
+    uni.laws();
+    rules_are_lawful();
+    let k = found.instance;
+    let premises = cite(alloc, uni, now, k)?;
+    let instance = instance_at(uni, k);
+    let source = Source {
+        rule: instance.rule,
+        arg: instance.arg,
+        premises: Items::from_vec(premises),
+    };
+    log.come(uni, found.fact, place, source)
+}
+
+// Whether the place is one of a slot of an interval.
+fn is_wide(uni: &Universe, place: usize) -> bool
+    ensures { IsTrue result ↔ IsWide (length uni.now.nodes) place }
+{
+    uni.laws();
+    let n = uni.dag().len() as usize;
+    place < 2 * n || 4 * n <= place
+}
+
+// Lets what gives the upper end come, where there is one.
+fn come_high(
+    alloc: Global,
+    uni: &Universe,
+    now: &Known,
+    place: u16,
+    found: Found,
+    log: &mut Log,
+) -> Result<(), AllocError>
+    requires conclusion { IsConclusion uni.now (known_at uni.now now.now) found }
+    requires place { IsPlace (length uni.now.nodes) uni.now.pairs (slot_of found.fact) place }
+    requires rows { HasRows uni.now log.old.known }
+    requires room { log.old.first + length log.old.steps.items < 2 ^ 64 }
+    ensures wide { OnOk result (IsWide (length uni.now.nodes) place
+        → IsComeBy uni.now now.now found log.old log.new) }
+    ensures narrow { OnOk result ((¬ IsWide (length uni.now.nodes) place) → log.new ≡ log.old) }
+{
+    if is_wide(uni, place as usize) {
+        come_by(alloc, uni, now, place, found, log)?;
+    }
+    Ok(())
+}
+
+// Lets the conclusions that give the ends of the slot with this place come.
+fn write_slot(
+    alloc: Global,
+    uni: &Universe,
+    now: &Known,
+    place: u16,
+    ends: Ends,
+    log: &mut Log,
+) -> Result<(), AllocError>
+    requires ends { AreEndsOf uni.now (known_at uni.now now.now) place ends }
+    requires rows { HasRows uni.now log.old.known }
+    requires room { log.old.first + length log.old.steps.items + 1 < 2 ^ 64 }
+    ensures { OnOk result (IsSlotWritten uni.now now.now place ends log.old log.new) }
+{
+    come_by(alloc, uni, now, place, ends.low, log)?;
+    come_high(alloc, uni, now, place, ends.high, log)?;
+    Ok(())
+}
+
+// Lets what was gathered come to what is known, slot by slot, and lists the slots.
+fn write(
+    alloc: Global,
+    uni: &Universe,
+    now: &Known,
+    ends: &[Option<Ends>],
+    changed: &mut Vec<Placed>,
+    log: &mut Log,
+) -> Result<(), AllocError>
+    requires scanned { IsScanned uni.now (known_at uni.now now.now) ends.now
+        (length uni.now.instances) }
+    requires count { length ends.now ≡ place_count (length uni.now.nodes) uni.now.pairs }
+    requires rows { HasRows uni.now log.old.known }
+    requires same { IsSame (known_at uni.now now.now) (known_at uni.now log.old.known) }
+    requires room { log.old.first + length log.old.steps.items + 8192 < 2 ^ 64 }
+    ensures { OnOk result (IsRound uni.now now.now log.old log.new changed.new.items) }
+{
+    uni.laws();
+    rules_are_lawful();
+    changed.clear();
+    for p in 0..uni.place(Slot::Void) {
+        let here = ends[p as usize];
+        if let Some(found) = here {
+            write_slot(alloc, uni, now, p, found, log)?;
+            if log.known.is_void(uni) {
+                return Ok(());
+            }
+            changed.push(Placed {
+                slot: slot(&found.low.fact),
+                place: p,
+            })?;
+        }
+    }
+    Ok(())
+}
+
+// Lets a conclusion VOID come.
+fn write_void(
+    alloc: Global,
+    uni: &Universe,
+    now: &Known,
+    found: Found,
+    changed: &mut Vec<Placed>,
+    log: &mut Log,
+) -> Result<(), AllocError>
+    requires conclusion { IsConclusion uni.now (known_at uni.now now.now) found }
+    requires void { found.fact ≡ fact.Void }
+    requires rows { HasRows uni.now log.old.known }
+    requires same { IsSame (known_at uni.now now.now) (known_at uni.now log.old.known) }
+    requires room { log.old.first + length log.old.steps.items + 8192 < 2 ^ 64 }
+    ensures { OnOk result (IsRound uni.now now.now log.old log.new changed.new.items) }
+{
+    uni.laws();
+    changed.clear();
+    let place = uni.place(Slot::Void);
+    come_by(alloc, uni, now, place, found, log)
+}
+
+// Lets what was gathered come to what is known, and lists the slots about which more is known then.
+// A conclusion VOID comes alone.
+pub(crate) fn write_gathered(
+    alloc: Global,
+    uni: &Universe,
+    now: &Known,
+    ends: &[Option<Ends>],
+    void: Option<Found>,
+    changed: &mut Vec<Placed>,
+    log: &mut Log,
+) -> Result<(), AllocError>
+    requires gathered { IsGathered uni.now (known_at uni.now now.now) ends.now void }
+    requires count { length ends.now ≡ place_count (length uni.now.nodes) uni.now.pairs }
+    requires rows { HasRows uni.now log.old.known }
+    requires same { IsSame (known_at uni.now now.now) (known_at uni.now log.old.known) }
+    requires room { log.old.first + length log.old.steps.items + 8192 < 2 ^ 64 }
+    ensures { OnOk result (IsRound uni.now now.now log.old log.new changed.new.items) }
+{
+    match void {
+        Some(found) => write_void(alloc, uni, now, found, changed, log),
+        None => write(alloc, uni, now, ends, changed, log),
+    }
+}
