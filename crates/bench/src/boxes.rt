@@ -7,7 +7,7 @@ use crate::universes::made_universe;
 use anyhow::Result;
 use expr_dag::{Dag, ExprId, Node};
 use facts::{Dyadic, End, Interval};
-use saturate::{Area, Settled, Table, Universe, settle_in};
+use saturate::{Area, Settled, Table, Universe, settle};
 use std::alloc::{AllocError, Global};
 use std::rt::Clock;
 use std::time::Instant;
@@ -60,12 +60,12 @@ fn piece(k: u8) -> Option<Interval> {
 fn settle_all(alloc: Global, uni: &Universe, x: ExprId, area: &mut Area) -> Result<u32, AllocError>
     requires { x.0 < length uni.now.nodes }
 {
-    let top = settle_in(alloc, uni, None, None, ROUNDS, area)?;
+    let top = settle(alloc, uni, None, None, ROUNDS, area)?;
     let root = table_in(top);
     let mut open: u32 = 0;
     for k in 0..64u8 {
         if let Some(range) = piece(k) {
-            let settled = settle_in(alloc, uni, Some((x, range)), Some(&root), ROUNDS, area)?;
+            let settled = settle(alloc, uni, Some((x, range)), Some(&root), ROUNDS, area)?;
             if let Settled::Open(_, _) = settled {
                 open = open.saturating_add(1);
             }
@@ -80,7 +80,7 @@ fn least_root(rt: &(impl Clock + AllocGlobal), uni: &Universe) -> Result<Least> 
     let mut least = Least::new();
     for _ in 0..TURNS.0 {
         let start = Instant::now(rt)?;
-        let _root = settle_in(rt.alloc(), uni, None, None, ROUNDS, &mut area)?;
+        let _root = settle(rt.alloc(), uni, None, None, ROUNDS, &mut area)?;
         least.count(rt, start)?;
     }
     Ok(least)

@@ -149,7 +149,7 @@ fn settle_blank<L: Ledger>(
 }
 
 /// The same, where nobody counts.
-pub fn settle_in(
+pub fn settle(
     alloc: Global,
     uni: &Universe,
     piece: Option<(ExprId, Interval)>,
@@ -168,25 +168,4 @@ pub fn settle_in(
     ensures marked { IfOk result (λ settled. IsMarked (setting_of uni.now) (table_of settled)) }
 {
     settle_blank::<Brand>(alloc, uni, piece, parent, rounds, area, Blank::new(1))
-}
-
-/// The same in an area of its own.
-pub fn settle(
-    alloc: Global,
-    uni: &Universe,
-    piece: Option<(ExprId, Interval)>,
-    parent: Option<&Table>,
-    rounds: u8,
-) -> Result<Settled, AllocError>
-    requires given { IsSomeBox uni.now rounds piece parent }
-    requires places { IsOfUniverse uni.now piece parent }
-    requires marked { IsMarkedParent (setting_of uni.now) parent }
-    ensures table { IfOk result
-        (λ settled. IsItsTable uni.now rounds piece parent.entry (table_of settled)) }
-    ensures state { IfOk result
-        (λ settled. IsItsState uni.now rounds piece parent.entry (state_of settled)) }
-    ensures places { IfOk result (λ settled. HasAllPlaces uni.now (table_of settled)) }
-    ensures marked { IfOk result (λ settled. IsMarked (setting_of uni.now) (table_of settled)) }
-{
-    settle_in(alloc, uni, piece, parent, rounds, &mut Area::new(alloc))
 }

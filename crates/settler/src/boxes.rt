@@ -20,7 +20,7 @@ use fx_edge::{Items, Path};
 use fx_model::ExprId;
 use saturate::{
     Area, Fact, Goal, Interval, Settled, Table, Universe, best_tables_exist,
-    boxes_come_to_one_state, rules_are_lawful, settle_in, settling_facts,
+    boxes_come_to_one_state, rules_are_lawful, settle, settling_facts,
 };
 use std::alloc::{AllocError, Global};
 use std::marker::{Model, PhantomData};
@@ -160,7 +160,7 @@ impl<'a, F: Frame> Boxes<'a, F> {
         ensures marked { IfOk result (λ r. IsMarked (setting_of F.universe) (table_of r)) }
     {
         let (piece, table) = self.given(path, parent);
-        settle_in(alloc, self.universe, piece, table, self.rounds, area)
+        settle(alloc, self.universe, piece, table, self.rounds, area)
     }
 
     // The verdict on the box at the path, which comes to this.

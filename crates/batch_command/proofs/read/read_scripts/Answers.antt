@@ -17,7 +17,7 @@ returns-in-Err-Fault-clause-texts g c =
     let same : c.deref-in-Err-Fault.result.now ≡ string_bytes name = search rules in
     let h : i < length all = omega arith in
     let rose : Rose (faults c.loop-name.folder) (faults c.read_text.new.folder) =
-    c.read_text.ensures.only_reads.cause c.in-Err-Fault.is in (
+    c.read_text.ensures.only_reads.cause (search rules) in (
       string_bytes name,
       is_in all i name h c.name-item.is,
       rose_later (faults c.args.folder.now) (faults c.loop-name.folder)

@@ -10,7 +10,7 @@ pub returns-in-Err-Fault-clause-prints : goal.returns-in-Err-Fault-clause-prints
 returns-in-Err-Fault-clause-prints g c =
     let faults = g.F.Folder.read_faults in
     let rose : Rose (faults c.args.folder.now) (faults c.read_text.new.folder) =
-    c.read_text.ensures.only_reads.cause c.in-Err-Fault.is in
+    c.read_text.ensures.only_reads.cause (search rules) in
     (c.args.request.list.now, inl refl, rose, c.in_ok-read_fault_line-in-Err-Fault.ensures)
 
 pub read_list-requires : goal.read_list-requires

@@ -5,8 +5,8 @@ use Rattle.saturate.specs.Universes.{setting_of}
 use Rattle.saturate.specs.Closed.{IsMarked}
 use Rattle.bench.proofs.boxes.settle_all.Goals as goal
 
-pub settle_in-requires-in-Some-clause-given : goal.settle_in-requires-in-Some-clause-given
-settle_in-requires-in-Some-clause-given c = (
+pub settle-requires-in-Some-clause-given : goal.settle-requires-in-Some-clause-given
+settle-requires-in-Some-clause-given c = (
   (c.args.x, c.in-Some.range) ∷ [],
   (
     [],
@@ -16,7 +16,7 @@ settle_in-requires-in-Some-clause-given c = (
   ),
 )
 
-pub settle_in-requires-in-Some-clause-marked : goal.settle_in-requires-in-Some-clause-marked
-settle_in-requires-in-Some-clause-marked c =
+pub settle-requires-in-Some-clause-marked : goal.settle-requires-in-Some-clause-marked
+settle-requires-in-Some-clause-marked c =
     subst (IsMarked (setting_of c.args.uni.now)) (sym c.table_in-root.ensures)
     c.in_ok-top.ensures.marked
