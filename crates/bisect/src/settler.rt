@@ -47,7 +47,7 @@ pub trait Settler: Sync {
     type Entry: Posted;
 
     /// Memory that a thread keeps from box to box; what it holds doesn't matter.
-    type Area: Drop;
+    type Area: Drop + Send + Sync;
 
     /// An area that has asked for no memory yet.
     fn area(&self, alloc: Global) -> Self::Area;

@@ -69,10 +69,10 @@ module _ {E : Type 0} (t : Tree) (listed : IsListed t)
     went : Went t 0 [] c m (λ g. records_rest t records g + left_rest t left g) nothing
     went = both t 0 b c [] l m (records_rest t records) (left_rest t left) first second
 
-    counted : c ≡ length (boxes_from t 36 [])
+    pub counted : c ≡ length (boxes_from t 36 [])
     counted = let n = went.count in let a = count_all in omega arith
 
-    leaves_are : sorted ≡ leaves_of t (boxes_from t 36 [])
+    pub leaves_are : sorted ≡ leaves_of t (boxes_from t 36 [])
     leaves_are =
         leaves_in_order t (boxes_from t 36 []) sorted listed.boxes.rising
         (All-permutation (IsLeafWithState t) m sorted same (went.are (All-nil (IsLeafWithState t))))
@@ -84,13 +84,8 @@ module _ {E : Type 0} (t : Tree) (listed : IsListed t)
         let e = total_sum_by (λ (x : Leaf). h x.path) sorted in
         omega arith)
 
-    first_is : first_open_in sorted ≡ first_open t (boxes_from t 36 [])
+    pub first_is : first_open_in sorted ≡ first_open t (boxes_from t 36 [])
     first_is = ap first_open_in leaves_are ∙ open_leaves t (boxes_from t 36 [])
-
-    -- all boxes were counted, and their leaves gathered
-    pub all_seen : (c ≡ length (boxes_from t 36 [])) × (sorted ≡ leaves_of t (boxes_from t 36 []))
-        × (first_open_in sorted ≡ first_open t (boxes_from t 36 []))
-    all_seen = (counted, leaves_are, first_is)
 
 pub from_start : (t : Tree) (a b : ℕ) (k l : List Leaf) (x y : (List ℕ → ℕ) → ℕ) → a ≡ 0 → k ≡ []
     → Went t a k b l x y → Went t 0 [] b l x y

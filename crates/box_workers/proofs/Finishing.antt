@@ -11,9 +11,11 @@ use Rattle.box_workers.specs.declared.fate.Held.{Held}
 use Rattle.box_workers.proofs.Whole.{below_law}
 use Rattle.std.proofs.lemmas.Bool.Decides.{eqb_tells}
 use Rattle.bisect.specs.declared.outcome.Leaf.{Leaf}
-use Rattle.box_workers.specs.Gathered.{below, leaf_only, Went, nothing, children_rest}
-use Rattle.box_workers.specs.Gathered.{held_rest}
+use Rattle.box_workers.specs.Gathered.{below, leaf_only, Went, nothing, left_rest, children_rest}
+use Rattle.box_workers.specs.Gathered.{held_rest, record_rest, records_rest}
+use Rattle.box_workers.specs.declared.record.Record.{Record}
 use Rattle.box_workers.specs.Records.{IsLeafWithState}
+use Rattle.box_workers.specs.Seen.{BoxTask}
 use Rattle.box_workers.proofs.Walking.{went_trans, went_frame, went_as, total_ones}
 use Rattle.accounts.specs.Sums.{total_append, total_snoc, kids_le}
 
@@ -35,30 +37,29 @@ too_many : (t : Tree) (a b limit limit' : ℕ) (k l : List Leaf)
 too_many t a b limit limit' k l whole rest more less split p e over = let c = p.count in
     let s = split (λ _. 1) in omega arith
 
--- a list of which the last is done, by what is to be done of each
-module _ {X : Type 0} (t : Tree) (f : (List ℕ → ℕ) → X → ℕ) where
-  abbrev rest : List X → (List ℕ → ℕ) → ℕ
-  rest xs g = total (f g) xs
+module _ {E : Type 0} (t : Tree) where
+  left_split : (old new : List (BoxTask E)) (task : BoxTask E) → old ≡ new ++ task ∷ []
+      → (g : List ℕ → ℕ) → left_rest t old g ≡ left_rest t new g + below t g task.path
+  left_split old new task e g =
+      let s = total_snoc (λ (b : BoxTask E). below t g b.path) new task in
+      let z : left_rest t old g ≡ left_rest t (new ++ task ∷ []) g =
+      ap (λ (bs : List (BoxTask E)). left_rest t bs g) e in omega arith
 
-  last_split : (old new : List X) (x : X) → old ≡ new ++ x ∷ [] → (g : List ℕ → ℕ)
-      → rest old g ≡ rest new g + f g x
-  last_split old new x e g =
-      let s = total_snoc (f g) new x in
-      let z : rest old g ≡ rest (new ++ x ∷ []) g = ap (λ (xs : List X). rest xs g) e in
-      omega arith
+  pub left_step : (a b c : ℕ) (k l m : List Leaf) (first old new : List (BoxTask E))
+      (task : BoxTask E) → old ≡ new ++ task ∷ []
+      → Went t a k b l (left_rest t first) (left_rest t old)
+      → Went t b l c m (λ g. below t g task.path) nothing
+      → Went t a k c m (left_rest t first) (left_rest t new)
+  left_step a b c k l m first old new task e p q = part t a b c k l m (left_rest t first)
+      (left_rest t old) (λ g. below t g task.path) (left_rest t new) (left_split old new task e) p q
 
-  pub last_step : (a b c : ℕ) (k l m : List Leaf) (first old new : List X) (x : X)
-      → old ≡ new ++ x ∷ [] → Went t a k b l (rest first) (rest old)
-      → Went t b l c m (λ g. f g x) nothing → Went t a k c m (rest first) (rest new)
-  last_step a b c k l m first old new x e p q = part t a b c k l m (rest first) (rest old)
-      (λ g. f g x) (rest new) (last_split old new x e) p q
-
-  pub last_over : (a b limit limit' : ℕ) (k l : List Leaf) (first old new : List X) (x : X)
-      → old ≡ new ++ x ∷ [] → Went t a k b l (rest first) (rest old) → limit ≡ limit'
-      → limit < b + f (λ _. 1) x → limit' < a + rest first (λ _. 1)
-  last_over a b limit limit' k l first old new x e p same over =
-      too_many t a b limit limit' k l (rest first) (rest old) (λ g. f g x) (rest new)
-      (last_split old new x e) p same over
+  pub left_over : (a b limit limit' : ℕ) (k l : List Leaf) (first old new : List (BoxTask E))
+      (task : BoxTask E) → old ≡ new ++ task ∷ []
+      → Went t a k b l (left_rest t first) (left_rest t old) → limit ≡ limit'
+      → limit < b + below t (λ _. 1) task.path → limit' < a + left_rest t first (λ _. 1)
+  left_over a b limit limit' k l first old new task e p same over =
+      too_many t a b limit limit' k l (left_rest t first) (left_rest t old)
+      (λ g. below t g task.path) (left_rest t new) (left_split old new task e) p same over
 
 module _ (t : Tree) (path q : List ℕ) (first i count : ℕ) (is : q ≡ path ++ i ∷ [])
     (more : i < count) where
@@ -200,3 +201,28 @@ both t a b c k l m x y p q =
 pub both_over : (t : Tree) (a b limit limit' : ℕ) (k l : List Leaf) (x : (List ℕ → ℕ) → ℕ) (y : ℕ)
     → Went t a k b l x nothing → limit ≡ limit' → limit < b + y → limit' < a + (x (λ _. 1) + y)
 both_over t a b limit limit' k l x y p e over = let c = p.count in omega arith
+
+module _ {E : Type 0} (t : Tree) where
+  records_split : (old new : List (Record E)) (r : Record E) → old ≡ new ++ r ∷ []
+      → (g : List ℕ → ℕ) → records_rest t old g ≡ records_rest t new g + record_rest t g r
+  records_split old new r e g =
+      let s = total_snoc (record_rest t g) new r in
+      let z : records_rest t old g ≡ records_rest t (new ++ r ∷ []) g =
+      ap (λ (bs : List (Record E)). records_rest t bs g) e in omega arith
+
+  pub record_step : (a b c : ℕ) (k l m : List Leaf) (first old new : List (Record E)) (r : Record E)
+      → old ≡ new ++ r ∷ []
+      → Went t a k b l (records_rest t first) (records_rest t old)
+      → Went t b l c m (λ g. record_rest t g r) nothing
+      → Went t a k c m (records_rest t first) (records_rest t new)
+  record_step a b c k l m first old new r e p q =
+      part t a b c k l m (records_rest t first) (records_rest t old) (λ g. record_rest t g r)
+      (records_rest t new) (records_split old new r e) p q
+
+  pub record_over : (a b limit limit' : ℕ) (k l : List Leaf) (first old new : List (Record E))
+      (r : Record E) → old ≡ new ++ r ∷ []
+      → Went t a k b l (records_rest t first) (records_rest t old) → limit ≡ limit'
+      → limit < b + record_rest t (λ _. 1) r → limit' < a + records_rest t first (λ _. 1)
+  record_over a b limit limit' k l first old new r e p same over =
+      too_many t a b limit limit' k l (records_rest t first) (records_rest t old)
+      (λ g. record_rest t g r) (records_rest t new) (records_split old new r e) p same over

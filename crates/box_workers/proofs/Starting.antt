@@ -2,7 +2,7 @@
 use Rattle.std.proofs.Common.{◌≡◌, ◌≢◌, ◌==◌, inl, inr, ℕ, zero, suc, ◌+◌, ◌<◌, Bool, cond, List}
 use Rattle.std.proofs.Common.{[], ◌∷◌, ◌++◌, map, length, All, Option, Some, None, MatchOption}
 use Rattle.std.proofs.Common.{slice_index_or, slice_set, get_or-set_same, get_or-set_other, sym}
-use Rattle.std.proofs.Common.{refl, ap, ◌∙◌, subst, arith, length-set}
+use Rattle.std.proofs.Common.{refl, ap, ◌∙◌, subst, arith}
 use Rattle.std.proofs.lemmas.Bool.Decides.{eqb_tells}
 use Rattle.std.proofs.lemmas.List.Elements.{All-weaker, All-nil, All-cons}
 use Rattle.std.proofs.lemmas.Option.{same_Some}
@@ -19,13 +19,12 @@ use Rattle.box_deques.specs.Seen.{with_hands, with_push}
 use Rattle.box_workers.specs.declared.post.Post.{Post}
 use Rattle.box_workers.specs.declared.record.Record.{Record}
 use Rattle.box_workers.specs.Seen.{BoxTask, board_of}
-use Rattle.box_workers.specs.Starts.{IsThief, IsStart, AreStarts, IsRooted, AreReady, no_lane}
-use Rattle.box_workers.specs.Starts.{lane_name}
+use Rattle.box_workers.specs.Starts.{IsThief, IsStart, AreStarts, no_lane, lane_name}
 use Rattle.box_workers.specs.Sums.{sum_to}
 use Rattle.box_deques.specs.Stealing.{CanSteal}
 use Rattle.box_workers.specs.Taking.{weight_of, took}
 use Rattle.box_workers.specs.Joins.{no_hand, taken_of_lane, lanes_pushed, lanes_took, CanClose}
-use Rattle.box_workers.specs.Joins.{CanCloseAll, EachDid}
+use Rattle.box_workers.specs.Joins.{CanCloseAll}
 use Rattle.box_workers.specs.Records.{children_of_all, children_of_held, record_weight, IsRecord}
 use Rattle.box_workers.specs.Gathered.{IsAccount}
 use Rattle.box_workers.proofs.Sums.{sum_same, sum_plus, sum_swap, sum_zero, shifted, hand_by_lanes}
@@ -132,6 +131,11 @@ module _ {E Q : Type 0} (t : Tree) (path_of : E → List ℕ) (capacity : ℕ) (
   Did p q = IsRecord t path_of capacity board p.lane q.lane p.hand q.hand q.done.settled.items
       q.done.split.items q.done.held
 
+  -- each worker did what its record says
+  abbrev pub EachDid : List (Post E Q) → List (Post E Q) → Type 0
+  EachDid ps qs = (k : ℕ) (d : Post E Q) → k < length ps
+      → Did (slice_index_or ps k d) (slice_index_or qs k d)
+
   -- at the start nothing was taken
   took_nothing : (h : List ℕ → ℕ) (n : ℕ) (names : ℕ → Name) (k : ℕ) (p : Post E Q)
       → IsStart n capacity names k p → took h p.lane p.hand ≡ 0
@@ -160,8 +164,7 @@ module _ {E Q : Type 0} (t : Tree) (path_of : E → List ℕ) (capacity : ℕ) (
   -- what all lanes were pushed
   all_pushed : (capacity' n : ℕ) (names : ℕ → Name) (ps qs : List (Post E Q))
       → length qs ≡ length ps → 0 < length ps → ((k : ℕ) (d : Post E Q) → k < length ps
-      → IsStart n capacity' names k (slice_index_or ps k d))
-      → EachDid t path_of capacity board ps qs
+      → IsStart n capacity' names k (slice_index_or ps k d)) → EachDid ps qs
       → (h : List ℕ → ℕ)
       → total (λ (q : Post E Q). total h q.lane.pushed) qs ≡ h [] + total (λ (q : Post E Q).
       total h (children_of_all t q.done.split.items ++ children_of_held q.done.held)) qs
@@ -180,7 +183,7 @@ module _ {E Q : Type 0} (t : Tree) (path_of : E → List ℕ) (capacity : ℕ) (
       omega arith
 
   module _ (names : ℕ → Name) (ps qs : List (Post E Q)) (long : length qs ≡ length ps)
-      (starts : AreStarts capacity names ps) (did : EachDid t path_of capacity board ps qs) where
+      (starts : AreStarts capacity names ps) (did : EachDid ps qs) where
     -- what all took
     all_took : (h : List ℕ → ℕ) → total (λ (q : Post E Q). took h q.lane q.hand) qs ≡ total
         (λ (q : Post E Q). record_weight h q.done.settled.items q.done.split.items q.done.held) qs
@@ -420,65 +423,40 @@ module _ (n capacity : ℕ) (pool lent lanes : List Lane) (hands : List Hand) (s
             subst (At k (slice_index_or pool k d)) (sym e) (was.0, size, was.2, was.1 ∙ sym c, refl)
       ]
 
-  -- so they are ready
-  pub are_ready : length hands ≡ n → AreReady capacity lanes hands
-  are_ready all =
-      let count : length lanes ≡ n = ap (λ (ls : List Lane). length ls) pushed
-      ∙ length-set {A = Lane} lent 0 (with_push first []) ∙ long in
+  -- so the posts are those of workers at their start
+  pub are_starts : {E Q : Type 0} (posts : List (Post E Q))
+      → map (λ (q : Post E Q). q.lane) posts ≡ lanes
+      → map (λ (q : Post E Q). q.hand) posts ≡ hands → length posts ≡ n
+      → ((k : ℕ) (d : Post E Q) → k < length posts → All (IsThief (length posts) (lane_name
+      (map (λ (q : Post E Q). q.lane) posts)) k) (slice_index_or posts k d).thieves.items)
+      → AreStarts capacity (lane_name (map (λ (q : Post E Q). q.lane) posts)) posts
+  are_starts {E} {Q} posts ls hs count thieves k d below =
+      let p : Post E Q = slice_index_or posts k d in
+      let kn : k < n = omega arith in
+      let l : (slice_index_or lanes k p.lane) ≡ p.lane = ap (λ (xs : List Lane). slice_index_or xs k
+      p.lane) (sym ls) ∙ index_map (λ (q : Post E Q). q.lane) posts k d p.lane below in
+      let h : (slice_index_or hands k p.hand) ≡ p.hand = ap (λ (xs : List Hand). slice_index_or xs k
+      p.hand) (sym hs) ∙ index_map (λ (q : Post E Q). q.hand) posts k d p.hand below in
+      let a = subst (At k (slice_index_or pool k p.lane)) l (lane_at k p.lane kn) in
+      let kp : k < length pool = omega arith in
+      let b = subst (IsSeated k capacity pool) h (seated k p.hand kp) in
+      let named : (j : ℕ) → j < n
+      → (slice_index_or pool j no_lane).name ≡ lane_name (map (λ (q : Post E Q). q.lane) posts) j =
+      λ j lt. sym ((lane_at j no_lane lt).4)
+      ∙ ap (λ (xs : List Lane). (slice_index_or xs j no_lane).name) (sym ls) in
       record {
-        many = all ∙ sym count;
-        rooted = (λ k d below.
-            let kn : k < n = omega arith in
-            let a = lane_at k d kn in
-            record { number = a.0; hands = a.1 ∙ sym count; takes = a.2; pushed = a.3 });
-        seated = (λ k d below.
-            let kp : k < length pool = omega arith in
-            let s = seated k d kp in (
-              s.0,
-              s.1 ∙ size ∙ sym count,
-              λ j e jl.
-                  let jn : j < n = omega arith in
-                  let jp : j < length pool = omega arith in
-                  s.2 j e jp ∙ ap (λ (m : Name).
-                  record { hand = k; room = capacity; lane = Some m; takes = []; empty = 0 })
-                  (sym (lane_at j e jn).4),
-            ));
+        number = a.0;
+        hands = a.1 ∙ sym count;
+        name = sym (ap (λ (x : Lane). x.name)
+            (index_map (λ (q : Post E Q). q.lane) posts k d no_lane below));
+        takes = a.2;
+        pushed = a.3;
+        hand = b.0;
+        long = b.1 ∙ size ∙ sym count;
+        seats = (λ j lt.
+            let jn : j < n = omega arith in let jp : j < length pool = omega arith in
+            b.2 j no_lane jp ∙ ap (λ (m : Name).
+            record { hand = k; room = capacity; lane = Some m; takes = []; empty = 0 })
+            (named j jn));
+        thieves = thieves k d below;
       }
-
--- posts with lanes and hands that are ready are those of workers at their start
-pub are_starts : {E Q : Type 0} (capacity : ℕ) (lanes : List Lane) (hands : List Hand)
-    → AreReady capacity lanes hands → (posts : List (Post E Q))
-    → map (λ (q : Post E Q). q.lane) posts ≡ lanes → map (λ (q : Post E Q). q.hand) posts ≡ hands
-    → length posts ≡ length lanes
-    → ((k : ℕ) (d : Post E Q) → k < length posts → All (IsThief (length posts) (lane_name
-    (map (λ (q : Post E Q). q.lane) posts)) k) (slice_index_or posts k d).thieves.items)
-    → AreStarts capacity (lane_name (map (λ (q : Post E Q). q.lane) posts)) posts
-are_starts {E} {Q} capacity lanes hands ready posts ls hs count thieves k d below =
-    let p : Post E Q = slice_index_or posts k d in
-    let kn : k < length lanes = omega arith in
-    let l : (slice_index_or lanes k p.lane) ≡ p.lane = ap (λ (xs : List Lane). slice_index_or xs k
-    p.lane) (sym ls) ∙ index_map (λ (q : Post E Q). q.lane) posts k d p.lane below in
-    let h : (slice_index_or hands k p.hand) ≡ p.hand = ap (λ (xs : List Hand). slice_index_or xs k
-    p.hand) (sym hs) ∙ index_map (λ (q : Post E Q). q.hand) posts k d p.hand below in
-    let a : IsRooted (length lanes) k p.lane =
-    subst (IsRooted (length lanes) k) l (ready.rooted k p.lane kn) in
-    let b = subst (IsSeated k capacity lanes) h (ready.seated k p.hand kn) in
-    let named : (j : ℕ) → j < length lanes
-    → (slice_index_or lanes j no_lane).name ≡ lane_name (map (λ (q : Post E Q). q.lane) posts) j =
-    λ j lt. ap (λ (xs : List Lane). (slice_index_or xs j no_lane).name) (sym ls) in
-    record {
-      number = a.number;
-      hands = a.hands ∙ sym count;
-      name = sym (ap (λ (x : Lane). x.name)
-          (index_map (λ (q : Post E Q). q.lane) posts k d no_lane below));
-      takes = a.takes;
-      pushed = a.pushed;
-      hand = b.0;
-      long = b.1 ∙ sym count;
-      seats = (λ j lt.
-          let jn : j < length lanes = omega arith in
-          b.2 j no_lane jn ∙ ap (λ (m : Name).
-          record { hand = k; room = capacity; lane = Some m; takes = []; empty = 0 })
-          (named j jn));
-      thieves = thieves k d below;
-    }

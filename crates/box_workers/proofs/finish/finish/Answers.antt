@@ -3,7 +3,7 @@ use Rattle.bisect.specs.Trees.{Tree, tree_of}
 use Rattle.bisect.specs.Walks.{boxes_from}
 use Rattle.box_workers.specs.Answers.{first_open_in}
 use Rattle.box_workers.proofs.Answering.{parts, from_start, too_many_records, too_many_left}
-use Rattle.box_workers.proofs.Answering.{all_seen}
+use Rattle.box_workers.proofs.Answering.{counted, leaves_are, first_is}
 use Rattle.box_workers.proofs.finish.finish.Goals as goal
 
 pub returns-then-not-branch : goal.returns-then-not-branch
@@ -42,12 +42,17 @@ returns-in-Some g c =
     c.args.records.items c.requires.records in
     let first = from_start t _ _ _ _ _ _ c.walk-walk.ensures.0 c.walk-walk.ensures.2
     (c.in_ok-finish_records.ensures.all c.if-not-branch.false) in
-    let seen = all_seen t c.laws.ensures c.args.records.items c.args.left.items
+    let second = c.in_ok-finish_left.ensures.all c.if-not-branch-2.false in
+    let count = counted t c.laws.ensures c.args.records.items c.args.left.items
     fits c.requires.account c.finish_records.new.walk.boxes c.finish_left.new.walk.boxes
     c.finish_records.new.walk.leaves.items c.finish_left.new.walk.leaves.items
-    c.sort_leaves.new.leaves.items first (c.in_ok-finish_left.ensures.all c.if-not-branch-2.false)
-    c.sort_leaves.ensures.permutation c.sort_leaves.ensures.sorted in
-    let count = seen.0 in
+    c.sort_leaves.new.leaves.items first second c.sort_leaves.ensures.permutation
+    c.sort_leaves.ensures.sorted in
+    let open' = first_is t c.laws.ensures c.args.records.items c.args.left.items
+    fits c.requires.account c.finish_records.new.walk.boxes c.finish_left.new.walk.boxes
+    c.finish_records.new.walk.leaves.items c.finish_left.new.walk.leaves.items
+    c.sort_leaves.new.leaves.items first second c.sort_leaves.ensures.permutation
+    c.sort_leaves.ensures.sorted in
     let room = c.in_ok-finish_left.ensures.within.room in
     let limit = c.in_ok-finish_left.ensures.within.limit
     ∙ c.in_ok-finish_records.ensures.within.limit ∙ c.walk-walk.ensures.1 in (
@@ -55,7 +60,7 @@ returns-in-Some g c =
       c.laws.ensures.boxes,
       (
         omega (arith, count, room, limit),
-        sym seen.2 ∙ ap first_open_in (sym c.as_slice.ensures.value)
+        sym open' ∙ ap first_open_in (sym c.as_slice.ensures.value)
             ∙ sym c.first_open.ensures ∙ c.in-Some.is,
         count,
       ),
@@ -68,12 +73,22 @@ returns-in-None g c =
     c.args.records.items c.requires.records in
     let first = from_start t _ _ _ _ _ _ c.walk-walk.ensures.0 c.walk-walk.ensures.2
     (c.in_ok-finish_records.ensures.all c.if-not-branch.false) in
-    let seen = all_seen t c.laws.ensures c.args.records.items c.args.left.items
+    let second = c.in_ok-finish_left.ensures.all c.if-not-branch-2.false in
+    let count = counted t c.laws.ensures c.args.records.items c.args.left.items
     fits c.requires.account c.finish_records.new.walk.boxes c.finish_left.new.walk.boxes
     c.finish_records.new.walk.leaves.items c.finish_left.new.walk.leaves.items
-    c.sort_leaves.new.leaves.items first (c.in_ok-finish_left.ensures.all c.if-not-branch-2.false)
-    c.sort_leaves.ensures.permutation c.sort_leaves.ensures.sorted in
-    let count = seen.0 in
+    c.sort_leaves.new.leaves.items first second c.sort_leaves.ensures.permutation
+    c.sort_leaves.ensures.sorted in
+    let open' = first_is t c.laws.ensures c.args.records.items c.args.left.items
+    fits c.requires.account c.finish_records.new.walk.boxes c.finish_left.new.walk.boxes
+    c.finish_records.new.walk.leaves.items c.finish_left.new.walk.leaves.items
+    c.sort_leaves.new.leaves.items first second c.sort_leaves.ensures.permutation
+    c.sort_leaves.ensures.sorted in
+    let leaves = leaves_are t c.laws.ensures c.args.records.items c.args.left.items
+    fits c.requires.account c.finish_records.new.walk.boxes c.finish_left.new.walk.boxes
+    c.finish_records.new.walk.leaves.items c.finish_left.new.walk.leaves.items
+    c.sort_leaves.new.leaves.items first second c.sort_leaves.ensures.permutation
+    c.sort_leaves.ensures.sorted in
     let room = c.in_ok-finish_left.ensures.within.room in
     let limit = c.in_ok-finish_left.ensures.within.limit
     ∙ c.in_ok-finish_records.ensures.within.limit ∙ c.walk-walk.ensures.1 in (
@@ -81,9 +96,9 @@ returns-in-None g c =
       c.laws.ensures.boxes,
       (
         omega (arith, count, room, limit),
-        sym seen.2 ∙ ap first_open_in (sym c.as_slice.ensures.value)
+        sym open' ∙ ap first_open_in (sym c.as_slice.ensures.value)
             ∙ sym c.first_open.ensures ∙ c.in-None.is,
         count,
-        c.from_vec.ensures ∙ seen.1,
+        c.from_vec.ensures ∙ leaves,
       ),
     )
