@@ -4,9 +4,8 @@ ghost use Rattle.fx_edge.specs.OnlyReads.{OnlyReads};
 ghost use Rattle.fx_edge.specs.Outside.{Rose};
 ghost use Rattle.command_line.specs.Batch.{AreInBatchRange, batch_of};
 ghost use Rattle.command_runs.specs.Runs.{run, seen};
-ghost use Rattle.name_list.specs.Lists.{IsFaultOf, lines_of};
 ghost use Rattle.script_answers.specs.Answers.{AreAllowed, options_from};
-ghost use Rattle.batch_command.specs.Command.{IsBatch, IsBatchRun, IsIn, options_of};
+ghost use Rattle.batch_command.specs.Command.{IsBatchRun, options_of};
 ghost use Rattle.batch_command.specs.Told.{Prints, ScriptsPrint};
 
 use crate::job::answer_texts;

@@ -1,5 +1,5 @@
 //! The time of the comparison of a hint's sides whose products are at the limit of terms.
-ghost use Rattle.std.specs.Prelude.{◌<◌, ◌≤◌, length, IfOk};
+ghost use Rattle.std.specs.Prelude.{◌<◌, length, IfOk};
 
 use anyhow::Result;
 use expr_dag::{Dag, DagFault, ExprId, Node};

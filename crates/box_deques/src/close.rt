@@ -1,5 +1,5 @@
 //! What became of the tasks of a lane.
-ghost use Rattle.std.specs.Prelude.{◌≡◌, ◌⊎◌, ℕ, List, ◌+◌, ◌<◌, ◌≤◌, true, [], ◌++◌, length, map};
+ghost use Rattle.std.specs.Prelude.{◌≡◌, ℕ, List, ◌+◌, ◌<◌, ◌≤◌, true, [], length, map};
 ghost use Rattle.std.specs.Prelude.{drop, All, vec_capacity, IfOk, IfErr, OnOk, sum_by};
 ghost use Rattle.crossbeam_deque.specs.Handles.{worker_deque, worker_flavor, worker_view};
 ghost use Rattle.crossbeam_deque.specs.Handles.{SameWorker};

@@ -1,5 +1,5 @@
 //! The passes and counts of one worker.
-ghost use Rattle.std.specs.Prelude.{◌≡◌, ℕ, ◌+◌, ◌<◌, ◌≤◌, true, [], None, Some, IsSome, length};
+ghost use Rattle.std.specs.Prelude.{◌≡◌, ◌+◌, ◌<◌, ◌≤◌, true, [], None, Some, IsSome, length};
 ghost use Rattle.crossbeam_deque.specs.Handles.{view};
 ghost use Rattle.box_deques.specs.Seen.{without_pass, with_pass, seat_at, hand_with};
 ghost use Rattle.box_deques.specs.Views.{guest};
@@ -20,7 +20,7 @@ pub struct Seat<T: Drop> {
 }
 
 impl<T: Drop> Model for Seat<T> {
-    ghost use Rattle.std.specs.Prelude.{◌≡◌, ℕ, ◌≤◌, ◌+◌, true, None, vec_capacity, MatchOption};
+    ghost use Rattle.std.specs.Prelude.{◌≡◌, ◌≤◌, ◌+◌, true, None, vec_capacity, MatchOption};
     ghost use Rattle.crossbeam_deque.specs.Handles.{view as pass_view};
     ghost use Rattle.box_deques.specs.Seen as seen;
 

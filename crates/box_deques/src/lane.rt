@@ -1,12 +1,10 @@
 //! A lane, its thieves and the hands that take from it.
-ghost use Rattle.std.specs.Prelude.{◌≡◌, ℕ, ◌+◌, ◌<◌, ◌≤◌, true, false, [], ◌∷◌, ◌++◌, length};
-ghost use Rattle.std.specs.Prelude.{vec_len, vec_capacity, Some, None, IfOk, IfErr, OnOk, OnErr};
-ghost use Rattle.std.specs.Prelude.{IfSome, IfNone, MatchResult, MatchOption, min, slice_index_or};
-ghost use Rattle.std.specs.Prelude.{slice_get};
-ghost use Rattle.crossbeam_deque.specs.Handles.{view, IsPassOf, SamePass, worker_deque};
-ghost use Rattle.crossbeam_deque.specs.Handles.{worker_flavor, worker_port, worker_view};
-ghost use Rattle.crossbeam_deque.specs.Handles.{worker_index, worker_capacity, stealer_deque};
-ghost use Rattle.crossbeam_deque.specs.Handles.{stealer_flavor};
+ghost use Rattle.std.specs.Prelude.{◌≡◌, ◌<◌, ◌≤◌, true, false, [], length};
+ghost use Rattle.std.specs.Prelude.{vec_len, vec_capacity, Some, None, IfOk};
+ghost use Rattle.std.specs.Prelude.{IfSome, IfNone, MatchResult};
+ghost use Rattle.crossbeam_deque.specs.Handles.{view, worker_deque};
+ghost use Rattle.crossbeam_deque.specs.Handles.{worker_flavor, worker_view};
+ghost use Rattle.crossbeam_deque.specs.Handles.{worker_index, worker_capacity};
 ghost use Rattle.box_deques.specs.Moments.{MayBeEmpty, Pops};
 ghost use Rattle.box_deques.specs.Rule.{Belongs};
 ghost use Rattle.box_deques.specs.Seen.{with_push, with_none, with_hand, Each, IsNew};
@@ -37,7 +35,7 @@ pub struct Lane<T: Task, Q: Naming<T::World>> {
 }
 
 impl<T: Task, Q: Naming<T::World>> Model for Lane<T, Q> {
-    ghost use Rattle.std.specs.Prelude.{◌≡◌, ℕ, ◌≤◌, true, [], vec_len, vec_capacity, length};
+    ghost use Rattle.std.specs.Prelude.{◌≡◌, ◌≤◌, true, [], vec_len, vec_capacity, length};
     ghost use Rattle.crossbeam_deque.specs.Handles.{worker_deque, worker_flavor, worker_view};
     ghost use Rattle.crossbeam_deque.specs.Handles.{worker_index, worker_capacity};
     ghost use Rattle.box_deques.specs.Seen as seen;

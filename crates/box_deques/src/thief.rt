@@ -1,13 +1,12 @@
 //! Takes tasks of one lane, from any thread.
-ghost use Rattle.std.specs.Prelude.{◌≡◌, ◌≢◌, ℕ, ◌+◌, ◌<◌, ◌≤◌, true, false, [], ◌∷◌, ◌++◌, length};
-ghost use Rattle.std.specs.Prelude.{vec_len, vec_capacity, Some, None, IfOk, IfErr, OnOk, OnErr};
-ghost use Rattle.std.specs.Prelude.{IfSome, IfNone, MatchResult, MatchOption, slice_index_or};
-ghost use Rattle.std.specs.Prelude.{slice_get};
+ghost use Rattle.std.specs.Prelude.{◌≡◌, ◌≢◌, ◌<◌, true, [], ◌∷◌};
+ghost use Rattle.std.specs.Prelude.{Some, None};
+ghost use Rattle.std.specs.Prelude.{IfSome, IfNone};
 ghost use Rattle.crossbeam_deque.specs.Handles.{view, IsPassOf, SamePass, stealer_deque};
 ghost use Rattle.crossbeam_deque.specs.Handles.{stealer_flavor};
 ghost use Rattle.box_deques.specs.Rule.{Belongs, WasEmpty, Takes1};
 ghost use Rattle.box_deques.specs.Moments.{Takes, Steals, SameSeat, SamePasses};
-ghost use Rattle.box_deques.specs.Seen.{with_empty, hand_with, seat_at, HasPass};
+ghost use Rattle.box_deques.specs.Seen.{with_empty, hand_with, HasPass};
 
 use crate::hand::{Hand, Seat};
 use crate::rule::{LaneRule, PlacedTask, Taken, View};

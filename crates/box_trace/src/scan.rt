@@ -1,5 +1,5 @@
 //! Which conclusions of a round give the ends of a slot's fact, and what their premises are.
-ghost use Rattle.std.specs.Prelude.{◌≡◌, ◌<◌, ℕ, Some, None, IfOk, OnOk, length};
+ghost use Rattle.std.specs.Prelude.{◌≡◌, ◌<◌, Some, None, IfOk, OnOk, length};
 ghost use Rattle.std.specs.Prelude.{slice_get, map, replicate, Contains};
 ghost use Rattle.facts.specs.declared.instance.Instance.{Instance as Applied};
 ghost use Rattle.saturate.specs.theorem_list.Concludes.{concludes};
@@ -7,7 +7,7 @@ ghost use Rattle.saturate.specs.rule_universe.declared.placed.Placed.{Placed as 
 ghost use Rattle.saturate.specs.rule_universe.Places.{place_count};
 ghost use Rattle.saturate.specs.rule_universe.Placed.{IsPlaced, slots_of};
 ghost use Rattle.saturate.specs.Keeping.{IsConcludedBy};
-ghost use Rattle.box_trace.specs.Tables.{row_in, known_at, place_in, HasRows};
+ghost use Rattle.box_trace.specs.Tables.{row_in, known_at, place_in};
 ghost use Rattle.box_trace.specs.Scans.{IsBeaten, IsWith, IsNoted, IsVisited};
 
 use crate::ends::{Ends, Found};

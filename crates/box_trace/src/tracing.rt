@@ -1,5 +1,5 @@
 //! The steps of a box.
-ghost use Rattle.std.specs.Prelude.{◌≡◌, ◌<◌, ◌≤◌, ◌+◌, ◌^◌, [], IfOk, None, length};
+ghost use Rattle.std.specs.Prelude.{◌<◌, ◌≤◌, ◌+◌, ◌^◌, [], IfOk, None, length};
 ghost use Rattle.saturate.specs.derivation.Known.{IsTableAt};
 ghost use Rattle.saturate.specs.Universes.{setting_of};
 ghost use Rattle.box_trace.specs.Tables.{known_at, HasRows};

@@ -3,7 +3,7 @@ ghost use Rattle.std.specs.Prelude.{◌≡◌, ◌≤◌, ◌<◌, ◌++◌, ◌
 ghost use Rattle.std.specs.Prelude.{None, IfOk, IfSome};
 ghost use Rattle.std.specs.List.{AllByRecursion};
 ghost use Rattle.std.specs.Option.{IsSomeAnd};
-ghost use Rattle.script_claims.specs.Facts.{HasNormalBounds, hypothesis_fact};
+ghost use Rattle.script_claims.specs.Facts.{HasNormalBounds};
 ghost use Rattle.box_tree.specs.Few.{AreFew};
 ghost use Rattle.box_tree.specs.Pieces.{piece_count};
 ghost use Rattle.box_tree.specs.Plans.{cut_at, piece_at};

@@ -1,7 +1,6 @@
 //! What becomes of one box.
-ghost use Rattle.std.specs.Prelude.{◌≡◌, ◌<◌, ◌≤◌, ℕ, List, [], length, Some, None, MatchOption};
-ghost use Rattle.std.specs.Prelude.{IfNone, IfSome};
-ghost use Rattle.bisect.specs.Trees.{tree_of, child_count};
+ghost use Rattle.std.specs.Prelude.{◌≡◌, ◌<◌, ◌≤◌, length, Some, None, MatchOption};
+ghost use Rattle.bisect.specs.Trees.{tree_of};
 ghost use Rattle.accounts.specs.box_tree.Paths.{IsPathOf};
 ghost use Rattle.accounts.specs.box_tree.Pieces.{piece_count};
 ghost use Rattle.box_workers.specs.Fates.{IsFate, Pushes, StopsAt, children_of};

@@ -1,7 +1,6 @@
 //! What the caller finishes by itself, once all workers have ended.
-ghost use Rattle.std.specs.Prelude.{◌≡◌, ◌<◌, ◌≤◌, ◌+◌, ◌-◌, ℕ, List, All, IsTrue, false, true};
-ghost use Rattle.std.specs.Prelude.{IfOk, OnOk, MatchOption, length, ◌++◌};
-ghost use Rattle.accounts.specs.Weights.{total};
+ghost use Rattle.std.specs.Prelude.{◌≡◌, ◌<◌, ◌≤◌, ◌+◌, ◌-◌, All, IsTrue, false, true};
+ghost use Rattle.std.specs.Prelude.{IfOk, MatchOption, length, ◌++◌};
 ghost use Rattle.bisect.specs.Trees.{tree_of};
 ghost use Rattle.box_workers.specs.Gathered.{Went, below, held_rest, held_rest_of, record_rest};
 ghost use Rattle.box_workers.specs.Gathered.{records_rest, left_rest, children_rest, nothing};

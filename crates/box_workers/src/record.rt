@@ -1,5 +1,5 @@
 //! What one worker did.
-ghost use Rattle.std.specs.Prelude.{◌≡◌, ◌<◌, ℕ, List, [], ◌∷◌, Some, None, MatchOption, IfNone};
+ghost use Rattle.std.specs.Prelude.{◌≡◌, ◌<◌, Some, None, MatchOption, IfNone};
 ghost use Rattle.std.specs.Prelude.{true, All, OnOk, vec_len, vec_capacity};
 ghost use Rattle.bisect.specs.Trees.{tree_of};
 ghost use Rattle.box_workers.specs.Fates.{IsFate};

@@ -1,5 +1,5 @@
 //! A box that waits, with the token of its parent's entry.
-ghost use Rattle.std.specs.Prelude.{◌≡◌, ◌<◌, ◌≤◌, ℕ, List, [], ◌∷◌, ◌++◌, length, Some, None};
+ghost use Rattle.std.specs.Prelude.{◌≡◌, ◌<◌, [], ◌∷◌, ◌++◌, length, Some, None};
 ghost use Rattle.accounts.specs.box_tree.Paths.{IsPathOf};
 ghost use Rattle.accounts.specs.box_tree.Pieces.{piece_count};
 

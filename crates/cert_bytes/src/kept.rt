@@ -1,5 +1,5 @@
 //! Numbers that are kept in one form.
-ghost use Rattle.std.specs.Prelude.{◌≡◌, ◌↔◌, IsTrue, ◌+◌, ◌-◌, ◌*◌, ◌≤◌, ◌<◌, ◌^◌, negsuc};
+ghost use Rattle.std.specs.Prelude.{◌≡◌, ◌↔◌, IsTrue, ◌-◌, ◌<◌, negsuc};
 ghost use Rattle.cert_bytes.specs.Numbers as spec;
 
 use facts::Dyadic;

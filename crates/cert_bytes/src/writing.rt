@@ -1,5 +1,5 @@
 //! The one spelling of each item.
-ghost use Rattle.std.specs.Prelude.{pos, negsuc, ◌≤ℤ◌, ◌≡◌, ◌++◌, ◌≤◌, ◌∷◌, [], length, OnOk};
+ghost use Rattle.std.specs.Prelude.{pos, negsuc, ◌≤ℤ◌, ◌≡◌, ◌++◌, ◌≤◌, ◌∷◌, length, OnOk};
 ghost use Rattle.std.specs.Prelude.{OnErr};
 ghost use Rattle.fx_model.specs.declared.ExprId.{ExprId};
 ghost use Rattle.expr_dag.specs.literal.Normal.{IsNormal};

@@ -1,11 +1,10 @@
 //! Whether a step is concluded.
 ghost use Rattle.std.specs.Prelude.{◌≡◌, ◌↔◌, IsTrue, Some, None, MatchOption, Option, IfOk};
-ghost use Rattle.std.specs.Prelude.{length};
 ghost use Rattle.fx_model.specs.declared.Node.{Node};
 ghost use Rattle.goals.specs.facts.declared.fact.Fact.TheVariants as fact_of;
 ghost use Rattle.cert_checker.specs.Contexts.{open_piece};
 ghost use Rattle.cert_checker.specs.Steps as spec;
-ghost use Rattle.cert_checker.specs.Steps.{Givens, Concludes, IsMetWith, IsLike, Found};
+ghost use Rattle.cert_checker.specs.Steps.{Concludes, IsMetWith, IsLike, Found};
 
 use crate::cuts::Cuts;
 use crate::given::Given;

@@ -2,10 +2,9 @@
 ghost use Rattle.std.specs.Prelude.{◌≡◌, ◌<◌, ◌↔◌, IsTrue, MatchOption, Some, length};
 ghost use Rattle.goals.specs.facts.declared.fact.Fact.TheVariants as fact;
 ghost use Rattle.cert_checker.specs.Contexts.{open_piece};
-ghost use Rattle.cert_checker.specs.Steps.{case_facts, step_fact};
+ghost use Rattle.cert_checker.specs.Steps.{case_facts};
 ghost use Rattle.cert_checker.specs.Faults.{IsJudged, JudgesStep, JudgesCut, JudgesLeaf};
 ghost use Rattle.cert_checker.specs.Faults.{JudgesDead, AreSettled, IsFirstMissing, IsSettledBy};
-ghost use Rattle.cert_checker.specs.Faults.{MayBeCut};
 
 use crate::conclude::{is_concluded, is_like, premise_facts, with_fact};
 use crate::cuts::Cuts;

@@ -1,5 +1,4 @@
 // A certificate of a script with two cases, checked against what the cases ask.
-ghost use Rattle.std.specs.Prelude.{◌≤◌};
 
 use crate::checks::{lines_text, stop_text};
 use crate::worked::folder_of;

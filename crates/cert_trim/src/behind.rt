@@ -1,5 +1,5 @@
 //! Items behind other steps, without those of their own that aren't used.
-ghost use Rattle.std.specs.Prelude.{◌≡◌, ◌<◌, ◌≤◌, ◌+◌, ◌^◌, length, IfOk, vec_len};
+ghost use Rattle.std.specs.Prelude.{◌≡◌, ◌<◌, ◌+◌, ◌^◌, IfOk, vec_len};
 ghost use Rattle.cert_trim.specs.Behind.{trimmed_behind};
 ghost use Rattle.cert_trim.specs.Trimmed.{number_behind_all, step_count};
 ghost use Rattle.cert_trim.specs.Used.{CiteEarlier};

@@ -1,5 +1,5 @@
 //! The items that are left.
-ghost use Rattle.std.specs.Prelude.{◌≡◌, ◌<◌, ◌≤◌, ◌+◌, length, map, IfOk};
+ghost use Rattle.std.specs.Prelude.{◌≡◌, ◌<◌, ◌+◌, length, map, IfOk};
 ghost use Rattle.cert_trim.specs.Flags.{flag_at, stays_by, number_of, renumbered, renumbered_row};
 ghost use Rattle.cert_trim.specs.Flags.{stays, AreNumbers};
 ghost use Rattle.cert_trim.specs.Trimmed.{step_count, trimmed_by};

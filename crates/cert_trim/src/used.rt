@@ -1,9 +1,9 @@
 //! Which steps are used.
 ghost use Rattle.std.specs.Prelude.{◌≡◌, ◌≤◌, ◌<◌, ◌+◌, ℕ, List, [], ◌∷◌, ◌++◌, length, IfOk};
 ghost use Rattle.std.specs.Prelude.{vec_len};
-ghost use Rattle.cert_trim.specs.Flags.{flag_at, AreFlags, used_with};
+ghost use Rattle.cert_trim.specs.Flags.{AreFlags, used_with};
 ghost use Rattle.cert_trim.specs.Trimmed.{number_behind, step_count};
-ghost use Rattle.cert_trim.specs.Used.{AllBelow, CiteEarlier, cited, cited_by, is_among, used_from};
+ghost use Rattle.cert_trim.specs.Used.{AllBelow, CiteEarlier, cited, cited_by, used_from};
 
 use cert_bytes::{Item, StepRow};
 use std::alloc::{AllocError, Global};

@@ -7,7 +7,7 @@ ghost use Rattle.cert_bytes.specs.Pieces.{AgreesTold, cursor_of, name_of};
 ghost use Rattle.cert_bytes.specs.Due.{is_end};
 ghost use Rattle.cert_bytes.specs.ReadOut.{HasFault};
 ghost use Rattle.cert_bytes.specs.Reading.{item_at};
-ghost use Rattle.cert_bytes.specs.Styles.{IsFew, seen_in};
+ghost use Rattle.cert_bytes.specs.Styles.{seen_in};
 ghost use Rattle.cert_bytes.specs.Spelling.{certificate_of};
 ghost use Rattle.fx_edge.specs.OnlyReads.{OnlyReads};
 ghost use Rattle.cert_bytes.specs.Calls.{ReadsOn};

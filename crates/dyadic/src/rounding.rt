@@ -1,6 +1,6 @@
 // Rounding a cut value to the grid.
-ghost use Rattle.std.specs.Prelude.{◌≡◌, ◌⊎◌, ◌≤◌, ◌<◌, ◌≤ℤ◌, pos, negsuc, true, IfSome};
-ghost use Rattle.fx_model.specs.Fraction.{Fraction, ◌≤ℚ◌};
+ghost use Rattle.std.specs.Prelude.{◌≡◌, ◌≤◌, ◌<◌, ◌≤ℤ◌, pos, negsuc, true, IfSome};
+ghost use Rattle.fx_model.specs.Fraction.{Fraction};
 ghost use Rattle.fx_model.specs.Grid.{IsDown, IsUp, signed};
 ghost use Rattle.fx_model.specs.Grid as grid;
 ghost use Rattle.dyadic.specs.Cut.{IsLong, IsSigned, IsSize};

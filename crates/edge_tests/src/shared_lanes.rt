@@ -1,5 +1,5 @@
 //! A lane that its owner and one other hand work on, at once or in turn.
-ghost use Rattle.std.specs.Prelude.{◌≡◌, ◌≢◌, ◌<◌, ◌≤◌, ℕ, [], length, vec_len, None, IfOk, OnOk};
+ghost use Rattle.std.specs.Prelude.{◌≡◌, ◌≢◌, ◌<◌, ◌≤◌, ℕ, length, vec_len, IfOk, OnOk};
 ghost use Rattle.box_deques.specs.Seen as seen;
 ghost use Rattle.box_deques.specs.Seen.{AllPasses, Each, HasPass, IsReady, IsSeated, Lent};
 ghost use Rattle.box_deques.specs.Seen.{OwnIsEmpty};

@@ -1,12 +1,12 @@
 //! Literals as fractions in lowest terms.
 
-ghost use Rattle.std.specs.Prelude.{◌≡◌, ◌<◌, ◌^◌, pos, true, Some};
+ghost use Rattle.std.specs.Prelude.{◌≡◌, ◌<◌, ◌^◌, pos, Some};
 ghost use Rattle.fx_model.specs.Fraction.{◌*ℚ◌};
 ghost use Rattle.fx_model.specs.Powers.{whole, scaled};
 ghost use Rattle.fx_model.specs.Expression.{literal_value};
 ghost use Rattle.literal.specs.Normal.{IsNormal};
 ghost use Rattle.literal_order.specs.Values.{written_value, IsWritten};
-ghost use Rattle.exact_fractions.specs.Exact.{value_of, Gives};
+ghost use Rattle.exact_fractions.specs.Exact.{Gives};
 ghost use Rattle.exact_fractions.specs.Wide.{numbers_of};
 
 use crate::exact::{Exact, reduced, signed};

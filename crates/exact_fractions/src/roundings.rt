@@ -2,7 +2,6 @@
 
 ghost use Rattle.std.specs.Prelude.{◌≡◌, ◌+◌, ◌<◌, ◌^◌, true, if◌then◌else◌};
 ghost use Rattle.std.specs.Int.RustNames.{unsigned_abs};
-ghost use Rattle.fx_model.specs.Fraction.{◌*ℚ◌};
 ghost use Rattle.fx_model.specs.Rounded as table;
 ghost use Rattle.fx_model.specs.Rounded.{rounded};
 ghost use Rattle.rounding.specs.Chosen.{AreNeighbours, chosen};

@@ -1,6 +1,6 @@
 //! Products with powers of two, and whole numbers.
 
-ghost use Rattle.std.specs.Prelude.{◌≡◌, ◌<◌, ◌*◌, ◌^◌, ◌*ℤ◌, pos, true};
+ghost use Rattle.std.specs.Prelude.{◌≡◌, ◌<◌, ◌*◌, ◌^◌, ◌*ℤ◌, pos};
 ghost use Rattle.std.specs.Int.RustNames.{unsigned_abs};
 ghost use lib.IntN.{neg_ℤ};
 ghost use Rattle.fx_model.specs.Fraction.{◌*ℚ◌, zero_ℚ, one_ℚ};

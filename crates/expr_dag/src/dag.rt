@@ -1,6 +1,6 @@
 //! The list of nodes.
 
-ghost use Rattle.std.specs.Prelude.{◌≡◌, ℕ, ◌<◌, ◌≤◌, ◌↔◌, [], length, slice_index_or, slice_get};
+ghost use Rattle.std.specs.Prelude.{◌≡◌, ◌<◌, ◌≤◌, ◌↔◌, [], length, slice_index_or, slice_get};
 ghost use Rattle.std.specs.Prelude.{Err, Some, IsNone, IfSome, IfOk, OnErr};
 ghost use Rattle.literal.specs.fx_model.declared.Node.{Node};
 ghost use Rattle.literal.specs.fx_model.declared.ExprId.{ExprId};

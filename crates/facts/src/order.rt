@@ -1,6 +1,6 @@
 //! The order of facts, and their meet.
 ghost use Rattle.std.specs.Prelude.{◌≡◌, ◌↔◌, IsTrue, IsNone};
-ghost use Rattle.facts.specs.Parts.{common_size, common_error, greater_place};
+ghost use Rattle.facts.specs.Parts.{common_size, common_error};
 ghost use Rattle.facts.specs.Order.{slot_of, bounded, sized, IsWithinError, IsStronger, meet_of};
 ghost use Rattle.facts.specs.Order.{AreUnlike};
 

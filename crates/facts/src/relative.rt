@@ -1,6 +1,5 @@
 ghost use Rattle.std.specs.Prelude.{◌↔◌, ◌≡◌, IsTrue, IsNone, IfSome};
-ghost use Rattle.interval.specs.fx_model.Fraction.{neg_ℚ, one_ℚ, ◌<ℚ◌};
-ghost use Rattle.interval.specs.dyadic.Values.{value_of};
+ghost use Rattle.interval.specs.fx_model.Fraction.{neg_ℚ, one_ℚ};
 ghost use Rattle.interval.specs.dyadic.Ends.{bound_of};
 ghost use Rattle.interval.specs.Intervals.{range_of};
 ghost use Rattle.facts.specs.Ranges.{IsBelow, IsAboveMinusOne, IsAboveMinusOne-prop};

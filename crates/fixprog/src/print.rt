@@ -1,7 +1,6 @@
 //! The text of a program's script.
 
 ghost use Rattle.std.specs.Prelude.{◌≡◌, ◌<◌, ◌≤◌, ◌++◌, codes, ◌∷◌, true, All, Some, IfOk, OnOk};
-ghost use Rattle.std.specs.Prelude.{map};
 ghost use Rattle.std.specs.List.{flat_map};
 ghost use Rattle.std.specs.Fmt.{decimal, signed_decimal};
 ghost use Rattle.std.specs.Str.Parse.{digits_value};
@@ -12,7 +11,7 @@ ghost use Rattle.fixprog.specs.Execution as execution;
 ghost use Rattle.fixprog.specs.Printed.{formula_text, script_text, inputs_written, outputs_written};
 ghost use Rattle.fixprog.specs.Printed.{IsPrintable, IsInputPrintable, IsShort};
 ghost use Rattle.fixprog.specs.Views.{operand_of, operation_of, bound_of, input_of, step_of};
-ghost use Rattle.fixprog.specs.Views.{way_of, digits_seen, program_of};
+ghost use Rattle.fixprog.specs.Views.{way_of};
 
 use crate::format::{Format, format_of};
 use crate::program::{Bound, Digits, Input, Mark, Operand, Operation, Program, Step, Way};

@@ -1,5 +1,5 @@
 // The calls of one object, numbered from 1 over all its methods.
-ghost use Rattle.std.specs.Prelude.{◌≡◌, ◌≤◌, ◌↔◌, IsTrue, take};
+ghost use Rattle.std.specs.Prelude.{◌≡◌, ◌≤◌, ◌↔◌, IsTrue};
 ghost use Rattle.fx_edge.specs.Calls.{no_calls, next_call, FailsNext};
 
 use std::marker::Model;

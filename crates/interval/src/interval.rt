@@ -20,7 +20,7 @@ impl Interval {
     ghost use Rattle.dyadic.specs.fx_model.Enclosure.{Negations, Sizes, IsNegation, IsSize};
     ghost use Rattle.dyadic.specs.fx_model.Enclosure.{IsSquare, IsSum, IsDifference, IsProduct};
     ghost use Rattle.dyadic.specs.fx_model.Enclosure.{Quotients, IsQuotient, IsEnclosure};
-    ghost use Rattle.dyadic.specs.fx_model.Enclosure.{whole_line, Within, Lies};
+    ghost use Rattle.dyadic.specs.fx_model.Enclosure.{Within, Lies};
     ghost use Rattle.interval.specs.Intervals.{range_of};
     ghost use Rattle.interval.specs.Spans.{IsSpan, span_of};
     ghost use Rattle.interval.specs.Exact.{IsExact};

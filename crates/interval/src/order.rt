@@ -1,5 +1,5 @@
 // Signs, and ends that make an interval.
-ghost use Rattle.std.specs.Prelude.{◌≡◌, ◌↔◌, IsTrue};
+ghost use Rattle.std.specs.Prelude.{◌↔◌, IsTrue};
 ghost use Rattle.dyadic.specs.fx_model.Fraction.{◌≤ℚ◌, zero_ℚ};
 ghost use Rattle.dyadic.specs.fx_model.Grid as grid;
 ghost use Rattle.dyadic.specs.fx_model.Enclosure.{BoundLe};

@@ -1,5 +1,5 @@
 //! The results of all jobs by several workers.
-ghost use Rattle.std.specs.Prelude.{◌≡◌, ◌≤◌, ◌<◌, ℕ, All, IfOk, OnOk, length, vec_len};
+ghost use Rattle.std.specs.Prelude.{◌≡◌, ◌≤◌, ◌<◌, All, IfOk, length, vec_len};
 ghost use Rattle.job_workers.specs.Ready.{IsReady};
 ghost use Rattle.job_workers.specs.Results.{AreResults};
 

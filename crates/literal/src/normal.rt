@@ -1,7 +1,6 @@
 //! Normal forms.
 
-ghost use Rattle.std.specs.Prelude.{◌≡◌, ◌≢◌, ℕ, ◌*◌, ◌%◌, ◌^◌, ◌<◌, ◌+◌, ◌-◌, ◌≤◌, pos, negsuc};
-ghost use Rattle.std.specs.Prelude.{◌≤ℤ◌, ◌+ℤ◌};
+ghost use Rattle.std.specs.Prelude.{◌%◌, ◌^◌, ◌<◌, ◌+◌, ◌-◌, pos, negsuc};
 ghost use Rattle.literal.specs.Spelling.{IsBetween};
 ghost use Rattle.literal.specs.Normal.{IsNormal, IsNormalOf, IsSmall, TakesTensOut, TakesTwosOut};
 

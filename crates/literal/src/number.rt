@@ -1,6 +1,6 @@
 //! The numbers that digits and exponents stand for.
 
-ghost use Rattle.std.specs.Prelude.{◌≡◌, ◌≤◌, ◌<◌, ◌++◌, ◌+◌, ◌^◌, pos, negsuc, ◌≤ℤ◌, ◌<ℤ◌};
+ghost use Rattle.std.specs.Prelude.{◌≤◌, ◌<◌, ◌++◌, ◌+◌, ◌^◌, pos, negsuc, ◌≤ℤ◌};
 ghost use Rattle.std.specs.Prelude.{SomeIff, IfSome, ◌*◌, []};
 ghost use Rattle.std.specs.Str.Parse.{AllDigits, digits_value, digits_value_after};
 ghost use Rattle.std.proofs.Common.{◌-ℤ◌};

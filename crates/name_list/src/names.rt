@@ -1,11 +1,10 @@
 //! The names of a list.
 ghost use Rattle.std.specs.Prelude.{◌≡◌, ◌≤◌, ◌<◌, ◌^◌, length, map, string_bytes, vec_len, Some};
 ghost use Rattle.std.specs.Prelude.{None, IfOk, OnOk, IfErr};
-ghost use Rattle.std.specs.Str.{IsUtf8};
 ghost use Rattle.name_list.specs.declared.fault.ListStop.TheVariants as stop;
 ghost use Rattle.name_list.specs.declared.fault.ListFault.{ListFault};
 ghost use Rattle.name_list.specs.Order.{earlier};
-ghost use Rattle.name_list.specs.Lists.{IsFaultOf, IsIllAt, empty_fault, ill_fault, lines_of};
+ghost use Rattle.name_list.specs.Lists.{IsFaultOf, empty_fault, lines_of};
 ghost use Rattle.name_list.specs.Lists.{long_fault, plain_fault};
 
 use crate::fault::{ListFault, ListKind, ListStop, earlier};

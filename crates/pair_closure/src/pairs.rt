@@ -1,6 +1,6 @@
 //! The pairs that are found, each once.
 
-ghost use Rattle.std.specs.Prelude.{◌≡◌, ◌<◌, ◌↔◌, Some, [], length, slice_get, OnOk, OnErr, IfOk};
+ghost use Rattle.std.specs.Prelude.{◌≡◌, ◌<◌, ◌↔◌, Some, [], length, slice_get, OnOk, IfOk};
 ghost use Rattle.pair_closure.specs.Grown.{IsGrown};
 ghost use Rattle.pair_closure.specs.Reached.{Has, IsEachOnce};
 ghost use Rattle.pair_closure.specs.Closure.{Pair as Sides, AreBelow, AreRising};

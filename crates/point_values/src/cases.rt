@@ -1,6 +1,6 @@
 //! Which cases of the hypotheses hold.
 
-ghost use Rattle.std.specs.Prelude.{◌≡◌, All, length, map};
+ghost use Rattle.std.specs.Prelude.{◌≡◌, All, map};
 ghost use Rattle.std.specs.List.{AllByRecursion, list_all, list_any};
 ghost use Rattle.script_claims.specs.Facts.{HasNormalBounds};
 ghost use Rattle.point_values.specs.Known.{values_of};

@@ -2,7 +2,7 @@
 //! one.
 
 ghost use Rattle.std.specs.Prelude.{◌≡◌, Some, map, slice_index_or};
-ghost use Rattle.fx_model.specs.Fraction.{◌+ℚ◌, ◌-ℚ◌, ◌*ℚ◌, ◌/ℚ◌, neg_ℚ, abs_ℚ, zero_ℚ};
+ghost use Rattle.fx_model.specs.Fraction.{◌+ℚ◌, ◌-ℚ◌, ◌*ℚ◌, neg_ℚ, abs_ℚ, zero_ℚ};
 ghost use Rattle.fx_model.specs.Rounded as table;
 ghost use Rattle.fx_model.specs.Expression as spec;
 ghost use Rattle.fx_model.specs.Expression.{lift₁, lift₂, literal_value};

@@ -1,5 +1,5 @@
-ghost use Rattle.std.specs.Prelude.{◌≡◌, ◌&&◌, ◌<◌, ℕ, IfOk, MatchOption, length};
-ghost use Rattle.std.specs.Prelude.{slice_index_or, IsSome, ◌≤◌, true};
+ghost use Rattle.std.specs.Prelude.{◌≡◌, ◌&&◌, ◌<◌, IfOk, MatchOption, length};
+ghost use Rattle.std.specs.Prelude.{slice_index_or, IsSome, true};
 ghost use Rattle.expr_dag.specs.fx_model.Expression.{ChildrenBelow, IsOrdered};
 ghost use Rattle.poly_normal.specs.Form.{Side, product};
 ghost use Rattle.poly_normal.specs.Limited.{IsLike, side_of};

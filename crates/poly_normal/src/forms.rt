@@ -1,7 +1,7 @@
 ghost use Rattle.std.specs.Prelude.{◌≡◌, ◌<◌, ℕ, IfOk};
 ghost use Rattle.poly_normal.specs.Form as form;
 ghost use Rattle.poly_normal.specs.Form.{Form};
-ghost use Rattle.poly_normal.specs.Limited.{IsLimited, side_of};
+ghost use Rattle.poly_normal.specs.Limited.{IsLimited};
 ghost use Rattle.poly_normal.specs.Quotients.{
   HasRows,
   IsFormOf,

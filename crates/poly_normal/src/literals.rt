@@ -1,4 +1,4 @@
-ghost use Rattle.std.specs.Prelude.{◌≡◌, ◌*◌, ◌/◌, ◌^◌, ◌≤◌, ◌<◌};
+ghost use Rattle.std.specs.Prelude.{◌*◌, ◌/◌, ◌^◌, ◌≤◌, ◌<◌};
 ghost use Rattle.std.specs.Int.{IsGcd};
 ghost use Rattle.poly_normal.specs.Form.{common_divisor_to};
 ghost use Rattle.poly_normal.specs.Ratio.{IsBelowLimit, IsPlain, IsRatio, reduced_bottom};

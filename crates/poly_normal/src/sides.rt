@@ -1,4 +1,4 @@
-ghost use Rattle.std.specs.Prelude.{◌≡◌, ◌+◌, ◌*◌, ◌≤◌, ◌<◌, ◌^◌, IfOk, length};
+ghost use Rattle.std.specs.Prelude.{◌≡◌, ◌+◌, ◌*◌, ◌≤◌, ◌<◌, ◌^◌, IfOk};
 ghost use Rattle.poly_normal.specs.Form as form;
 ghost use Rattle.poly_normal.specs.Limited.{IsLike, IsLimited, IsWithin, atom_side, constant_side};
 ghost use Rattle.poly_normal.specs.Limited.{side_of};

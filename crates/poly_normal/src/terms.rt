@@ -13,7 +13,6 @@ pub struct Terms {
 }
 
 impl Terms {
-    ghost use Rattle.poly_normal.specs.Polynomial.{Term};
     ghost use Rattle.poly_normal.specs.Rows.{no_term, with_term};
     ghost use Rattle.poly_normal.specs.TermsOf.{polynomial_of};
 

@@ -1,7 +1,6 @@
 // Rewriting hints.
 ghost use Rattle.std.specs.Prelude.{◌≡◌, ◌&&◌};
 ghost use Rattle.facts.specs.dyadic.Ends.{bound_of};
-ghost use Rattle.expr_dag.specs.Shapes.{is_known};
 ghost use Rattle.facts.specs.Conclusions.{only_if};
 ghost use Rattle.rewrite_rules.specs.Rewriting.{is_under, shows, show_needs, show_row, rewritten};
 ghost use Rattle.rewrite_rules.specs.Rewriting.{rewriting_rule};

@@ -4,7 +4,7 @@ ghost use Rattle.std.specs.Prelude.{◌≡◌, ◌↔◌, ◌⊎◌, ◌<◌, �
 ghost use Rattle.std.specs.Prelude.{IfOk, OnOk, slice_get, Some};
 ghost use Rattle.rule_instances.specs.pair_closure.Reached.{Has};
 ghost use Rattle.rule_universe.specs.Places.{IsPlace, place_count};
-ghost use Rattle.rule_universe.specs.Rows.{InRow, AreUpTo, RowsUpTo, IsAdded, IsPlaceOfOne};
+ghost use Rattle.rule_universe.specs.Rows.{AreUpTo, RowsUpTo, IsAdded, IsPlaceOfOne};
 ghost use Rattle.rule_universe.specs.Rows.{AreRows};
 
 use crate::places::{place_count, place_of};

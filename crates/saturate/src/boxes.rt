@@ -1,5 +1,5 @@
 //! The table of a box.
-ghost use Rattle.std.specs.Prelude.{◌≡◌, ◌<◌, IfOk, List, ◌∷◌, length};
+ghost use Rattle.std.specs.Prelude.{◌≡◌, ◌<◌, IfOk, List, length};
 ghost use Rattle.rule_universe.specs.derivation.Known.{Piece, IsTableAt};
 ghost use Rattle.saturate.specs.Tables.{fact_at};
 ghost use Rattle.saturate.specs.Universes.{setting_by, setting_of, HasAllPlaces};

@@ -2,7 +2,6 @@
 ghost use Rattle.std.specs.Prelude.{◌≡◌, ◌≤◌, length};
 ghost use Rattle.rule_universe.specs.derivation.Decided.{is_settled, first_open, state_in};
 ghost use Rattle.saturate.specs.Tables.{fact_at};
-ghost use Rattle.saturate.specs.Universes.{setting_of};
 ghost use Rattle.saturate.specs.Boxes.{table_of, state_of};
 
 use crate::kept::Table;

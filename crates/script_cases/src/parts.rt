@@ -1,5 +1,5 @@
 // Conjunctions and parts over one list of items.
-ghost use Rattle.std.specs.Prelude.{◌≡◌, ℕ, nat_lt, ◌<◌, ◌≤◌, ◌++◌, [], Some, length, slice_get};
+ghost use Rattle.std.specs.Prelude.{◌≡◌, nat_lt, ◌<◌, ◌≤◌, ◌++◌, [], Some, length, slice_get};
 ghost use Rattle.std.specs.Prelude.{get_or, IfOk, OnOk, OnErr};
 ghost use Rattle.std.specs.List.{AllByRecursion, flat_map};
 ghost use Rattle.script_cases.specs.Cases.{cases, case_count};

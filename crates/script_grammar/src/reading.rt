@@ -1,5 +1,5 @@
 // From a text to its script, or to its refusal.
-ghost use Rattle.std.specs.Prelude.{◌≡◌, ℕ, List, None, Err, IfOk, IfErr};
+ghost use Rattle.std.specs.Prelude.{◌≡◌, None, Err, IfOk, IfErr};
 ghost use Rattle.node_counts.specs.script_judge.First.{IsFirstRefusal};
 ghost use Rattle.node_counts.specs.script_judge.Reading.{IsReadingOf};
 ghost use Rattle.node_counts.specs.script_judge.Views.{reading_of};

@@ -1,6 +1,6 @@
 //! What is complete: an operation, a factor, a term, an expression.
 
-ghost use Rattle.std.specs.Prelude.{◌≡◌, ℕ, ◌<◌, ◌≤◌, List, length, Some, None, Err, IfOk, OnOk};
+ghost use Rattle.std.specs.Prelude.{◌≡◌, ◌<◌, ◌≤◌, length, Some, None, Err, IfOk, OnOk};
 ghost use Rattle.std.specs.Prelude.{MatchOption, IfSome, false};
 ghost use Rattle.std.specs.Option.{IsSomeAnd};
 ghost use Rattle.expr_dag.specs.Nodes.{IsLawful};

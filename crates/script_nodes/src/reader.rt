@@ -1,6 +1,6 @@
 //! The nodes of expressions, and what their words have left open.
 
-ghost use Rattle.std.specs.Prelude.{◌≡◌, ℕ, ◌<◌, ◌≤◌, List, [], ◌∷◌, length, Some, None, Err, IfOk};
+ghost use Rattle.std.specs.Prelude.{◌≡◌, ◌<◌, ◌≤◌, [], ◌∷◌, length, Some, None, Err, IfOk};
 ghost use Rattle.std.specs.Prelude.{OnOk, OnErr, IfErr, IfSome, MatchOption};
 ghost use Rattle.expr_dag.specs.Nodes.{IsLawful};
 ghost use Rattle.script_nodes.specs.Known as spec;

@@ -1,7 +1,6 @@
 //! The answer of a script: a tree of boxes for each of its cases.
-ghost use Rattle.std.specs.Prelude.{◌≡◌, ◌≤◌, ◌+◌, ℕ, List, [], IfOk, length};
+ghost use Rattle.std.specs.Prelude.{◌≡◌, ◌≤◌, ◌+◌, ℕ, List, IfOk, length};
 ghost use Rattle.case_trees.specs.box_tree.Plans.{cut_at};
-ghost use Rattle.saturate.specs.rule_universe.Worlds.{World};
 ghost use Rattle.case_trees.specs.script_claims.declared.claim.Claim.{Claim};
 ghost use Rattle.script_truths.specs.script_grammar.Cases.{cases_of};
 ghost use Rattle.script_truths.specs.universe.Universes.{IsTooLarge, IsUniverse};
@@ -13,7 +12,7 @@ ghost use Rattle.settler.specs.Calls.{IsAnswerer};
 ghost use Rattle.settler.specs.Cases.{AreCases, trees_in};
 ghost use Rattle.settler.specs.Decided.{state_at};
 ghost use Rattle.settler.specs.Frames.{Fits};
-ghost use Rattle.settler.specs.Held.{CasesHold, ProvedHolds};
+ghost use Rattle.settler.specs.Held.{ProvedHolds};
 
 use crate::boxes::Boxes;
 use crate::cases::Case;
