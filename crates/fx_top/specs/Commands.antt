@@ -10,8 +10,8 @@ use Rattle.command_line.specs.Made.{asked_gen}
 use Rattle.command_line.specs.Reading.{Asked, AreInRange, asked, asked_of}
 use Rattle.command_line.specs.Trim.{AskedTrim, asked_trim, trim_of}
 use Rattle.command_line.specs.Upgrade.{AskedUpgrade, asked_upgrade, upgrade_of}
-use Rattle.fx_top.specs.declared.wanted.Wanted.{Wanted}
-use Rattle.fx_top.specs.declared.wanted.Wanted.TheVariants as wanted
+use Rattle.fx_top.specs.declared.wanted.Invocation.{Invocation}
+use Rattle.fx_top.specs.declared.wanted.Invocation.TheVariants as wanted
 
 -- One word of the command line, as its bytes.
 abbrev pub Bytes : Type 0
@@ -44,7 +44,7 @@ reading (command ∷ words) =
     else None)))))))
 
 -- ---- the code's values
-abbrev pub command_from : Wanted → Command
+abbrev pub command_from : Invocation → Command
 command_from (wanted.Prove request) = Prove (asked_of request)
 command_from (wanted.Check request) = Check (check_of request)
 command_from (wanted.Gen n) = Gen n
@@ -55,7 +55,7 @@ command_from (wanted.Trim request) = Trim (trim_of request)
 command_from (wanted.Batch request) = Batch (batch_of request)
 
 -- the numbers are in their ranges, and the new file of `upgrade` isn't its certificate
-abbrev pub IsSound : Wanted → Type 0
+abbrev pub IsSound : Invocation → Type 0
 IsSound (wanted.Prove request) = AreInRange request
 IsSound (wanted.Upgrade request) = request.cert.now ≢ request.new.now
 IsSound (wanted.Batch request) = AreInBatchRange request

@@ -4,7 +4,7 @@ ghost use Rattle.command_runs.specs.Runs.{run, seen};
 ghost use Rattle.fx_top.specs.Commands.{IsSound, command_from, reading};
 ghost use Rattle.fx_top.specs.Run.{IsRun};
 
-use crate::wanted::{Wanted, command_of};
+use crate::wanted::{Invocation, command_of};
 use at_command::run_at;
 use batch_command::run_batch;
 use command_line::{WordsError, usage};
@@ -23,7 +23,7 @@ use upgrade_command::run_upgrade;
 fn run_wanted<R: Threads + Wait + Sync, F: Folder, O: Sink, G: Gate>(
     rt: &R,
     alloc: Global,
-    wanted: Wanted<'_>,
+    wanted: Invocation<'_>,
     folder: &mut F,
     out: &mut O,
     gate: &G,
@@ -36,14 +36,14 @@ fn run_wanted<R: Threads + Wait + Sync, F: Folder, O: Sink, G: Gate>(
         IsRun (Some (command_from wanted.entry)) (run before after result) }
 {
     match wanted {
-        Wanted::Prove(request) => run_prove(rt, alloc, request, folder, out, gate),
-        Wanted::Check(request) => run_check(alloc, request, folder, out),
-        Wanted::Gen(n) => run_gen(rt, alloc, n, out, gate),
-        Wanted::Upgrade(request) => run_upgrade(alloc, request, folder, out),
-        Wanted::Fix(request) => run_fix(alloc, request, folder, out),
-        Wanted::At(request) => run_at(alloc, request, folder, out),
-        Wanted::Trim(request) => run_trim(alloc, request, folder, out),
-        Wanted::Batch(request) => run_batch(rt, alloc, request, folder, out, gate),
+        Invocation::Prove(request) => run_prove(rt, alloc, request, folder, out, gate),
+        Invocation::Check(request) => run_check(alloc, request, folder, out),
+        Invocation::Gen(n) => run_gen(rt, alloc, n, out, gate),
+        Invocation::Upgrade(request) => run_upgrade(alloc, request, folder, out),
+        Invocation::Fix(request) => run_fix(alloc, request, folder, out),
+        Invocation::At(request) => run_at(alloc, request, folder, out),
+        Invocation::Trim(request) => run_trim(alloc, request, folder, out),
+        Invocation::Batch(request) => run_batch(rt, alloc, request, folder, out, gate),
     }
 }
 

@@ -11,7 +11,7 @@ use std::alloc::Global;
 
 /// What the words ask for.
 #[derive(Clone, Copy, Debug)]
-pub enum Wanted<'a> {
+pub enum Invocation<'a> {
     /// A script is to be proved.
     Prove(Request<'a>),
     /// A certificate is to be checked.
@@ -32,7 +32,7 @@ pub enum Wanted<'a> {
 
 /// What the words ask for: the first names the command, and the others are read as its own. `Usage`
 /// comes exactly where they ask for nothing.
-pub fn command_of<'a>(alloc: Global, words: &'a [String]) -> Result<Wanted<'a>, WordsError>
+pub fn command_of<'a>(alloc: Global, words: &'a [String]) -> Result<Invocation<'a>, WordsError>
     ensures ok { IfOk result
         (λ w. reading (map string_bytes words.entry.now) ≡ Some (command_from w)) }
     ensures usage { IfErr result (λ e. e ≡ WordsError.Usage
@@ -43,21 +43,21 @@ pub fn command_of<'a>(alloc: Global, words: &'a [String]) -> Result<Wanted<'a>, 
         return Err(WordsError::Usage);
     };
     if command.as_str() == "prove" {
-        Ok(Wanted::Prove(read_prove(alloc, words)?))
+        Ok(Invocation::Prove(read_prove(alloc, words)?))
     } else if command.as_str() == "check" {
-        Ok(Wanted::Check(read_check(alloc, words)?))
+        Ok(Invocation::Check(read_check(alloc, words)?))
     } else if command.as_str() == "gen" {
-        Ok(Wanted::Gen(read_gen(alloc, words)?))
+        Ok(Invocation::Gen(read_gen(alloc, words)?))
     } else if command.as_str() == "upgrade" {
-        Ok(Wanted::Upgrade(read_upgrade(alloc, words)?))
+        Ok(Invocation::Upgrade(read_upgrade(alloc, words)?))
     } else if command.as_str() == "fix" {
-        Ok(Wanted::Fix(read_fix(alloc, words)?))
+        Ok(Invocation::Fix(read_fix(alloc, words)?))
     } else if command.as_str() == "at" {
-        Ok(Wanted::At(read_at(alloc, words)?))
+        Ok(Invocation::At(read_at(alloc, words)?))
     } else if command.as_str() == "trim" {
-        Ok(Wanted::Trim(read_trim(alloc, words)?))
+        Ok(Invocation::Trim(read_trim(alloc, words)?))
     } else if command.as_str() == "batch" {
-        Ok(Wanted::Batch(read_batch(alloc, words)?))
+        Ok(Invocation::Batch(read_batch(alloc, words)?))
     } else {
         Err(WordsError::Usage)
     }

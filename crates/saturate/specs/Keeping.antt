@@ -54,7 +54,7 @@ HaveCome Came zero first last = last ≡ first
 HaveCome Came (suc n) first last =
     (mid : _) × (changed : List Placed) × HaveCome Came n first mid × Came mid last changed
 
--- At most so many rounds led from the first to the last, which has room for the others.
+-- At most so many rounds led from the first to the last, which has room for some number more.
 abbrev pub ComeWithin : {X : Type 0} → (ℕ → X → Type 0) → (X → X → List Placed → Type 0) → ℕ → X
     → X → Type 0
 ComeWithin Fits Came height first last =

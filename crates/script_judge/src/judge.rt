@@ -26,7 +26,7 @@ use crate::nesting::{Open, open_or_close};
 use crate::numbers::{Notes, has_no_pieces, is_past_lsb, is_past_pieces, notes_on};
 use crate::refusal::RefusalKind;
 use crate::sides::{arrow_count, is_arrow, is_on_wrong_side, without};
-use crate::splits::{Ends, Splits, Told, ends_between, is_rangeless};
+use crate::splits::{Ends, Splits, TokenReading, ends_between, is_rangeless};
 use script_shape::due::Due;
 use script_shape::{Word, WordList};
 use std::alloc::{AllocError, Global};
@@ -144,7 +144,7 @@ impl<'a> Seen<'a> {
         ensures few { OnOk result (case_count (splits_seen self.new.splits).ranges.before ≤ 64) }
     {
         let is_new = self.names.is_new(role, word);
-        let told = Told {
+        let told = TokenReading {
             ended: self.names.ends_definition(role),
             defined: self.names.uses_defined(role, word),
             arrow_behind: notes.arrow_behind,

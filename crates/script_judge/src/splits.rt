@@ -286,7 +286,7 @@ fn is_no_split(cut: &[Option<Ends>], before: Option<Dyadic>, number: Option<Writ
 
 /// What the reading tells of a token.
 #[derive(Clone, Copy)]
-pub struct Told<'a> {
+pub struct TokenReading<'a> {
     /// The name whose definition it ends.
     pub ended: Option<&'a [u8]>,
     /// Whether it is an operand that has a definition.
@@ -379,7 +379,7 @@ impl<'a> Splits<'a> {
     /// After an `Err` it is not to be used on.
     pub fn take(
         &mut self,
-        told: Told<'a>,
+        told: TokenReading<'a>,
         found: &mut Vec<Option<Ends>>,
         role: Due,
         word: Word<'a>,
@@ -392,7 +392,7 @@ impl<'a> Splits<'a> {
             (option_map ends_seen told.entry.ends) (option_map written_value told.entry.number) role
             (word_of word.entry)) }
     {
-        let Told {
+        let TokenReading {
             ended,
             defined,
             arrow_behind,
