@@ -18,6 +18,10 @@ pub record Lane : Type 0 where
   pub hands : ℕ
   pub name : Name
 
+-- A lane that was pushed nothing, which stands for one that a list of lanes doesn't have.
+abbrev pub no_lane : Lane
+no_lane = record { number = 0; pushed = []; takes = []; dry = false; hands = 0; name = (0, 0) }
+
 -- the number and the deque of the lane that it takes from
 pub record Thief : Type 0 where
   pub number : ℕ

@@ -15,11 +15,11 @@ use Rattle.boxcar.specs.Table.{Shelves}
 use Rattle.accounts.specs.Weights.{total}
 use Rattle.bisect.specs.Trees.{Tree}
 use Rattle.box_deques.specs.Seen.{Lane, Thief, Seat, Hand, Name, seat_at, HasPass, IsNew, IsSeated}
-use Rattle.box_deques.specs.Seen.{with_hands, with_push}
+use Rattle.box_deques.specs.Seen.{no_lane, with_hands, with_push}
 use Rattle.box_workers.specs.declared.post.Post.{Post}
 use Rattle.box_workers.specs.declared.record.Record.{Record}
 use Rattle.box_workers.specs.Seen.{BoxTask, board_of}
-use Rattle.box_workers.specs.Starts.{IsThief, IsStart, AreStarts, no_lane, lane_name}
+use Rattle.box_workers.specs.Starts.{IsThief, IsStart, AreStarts, lane_name}
 use Rattle.box_workers.specs.Sums.{sum_to}
 use Rattle.box_deques.specs.Stealing.{CanSteal}
 use Rattle.box_workers.specs.Taking.{weight_of, took}

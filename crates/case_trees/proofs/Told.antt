@@ -3,7 +3,7 @@ use Rattle.std.specs.Prelude.{◌≡◌, ◌<◌, ◌+◌, ◌⊎◌, ℕ, zero,
 use Rattle.std.specs.Prelude.{slice_get, refl}
 use Rattle.std.proofs.Common.{sym, ◌∙◌, ap, subst, arith, inl, inr}
 use Rattle.bisect.specs.Trees.{Tree}
-use Rattle.bisect.specs.Boxes.{AreBoxes, IsBefore, IsOpenLeaf, first_open}
+use Rattle.bisect.specs.Boxes.{AreBoxes, IsBefore, IsOpenLeaf, HasNoOpenLeaf, first_open}
 use Rattle.case_trees.specs.declared.outcome.OpenLeaf.{OpenLeaf}
 use Rattle.case_trees.specs.Listed.{Listed, AreListed, open_at, or_later, first_open_from}
 use Rattle.case_trees.specs.Laws.{IsFirstOfAll}
@@ -19,17 +19,14 @@ abbrev pub NoneTold : Type 0
 NoneTold = (t : Tree) (boxes : List (List ℕ)) → AreBoxes t boxes → first_open t boxes ≡ None
     → (path : List ℕ) (goal : ℕ) → ¬ (IsOpenLeaf t path goal)
 
-abbrev IsClosed : Tree → Type 0
-IsClosed t = (path : List ℕ) (goal : ℕ) → ¬ (IsOpenLeaf t path goal)
-
 -- of the first list of boxes, or of a later one
 pub by_first : (o : Option (List ℕ × ℕ)) → (o ≡ None) ⊎ ((x : List ℕ × ℕ) × (o ≡ Some x))
 by_first None = inl refl
 by_first (Some x) = inr (x, refl)
 
 closed_at : (none : NoneTold) (t : Tree) (l : Listed) → l.tree ≡ t → AreBoxes l.tree l.boxes
-    → first_open l.tree l.boxes ≡ None → IsClosed t
-closed_at none t l e are n = subst IsClosed e (none l.tree l.boxes are n)
+    → first_open l.tree l.boxes ≡ None → HasNoOpenLeaf t
+closed_at none t l e are n = subst HasNoOpenLeaf e (none l.tree l.boxes are n)
 
 some_same : (x y : OpenLeaf) → Some x ≡ Some y → x ≡ y
 some_same x y e = cc
@@ -53,7 +50,7 @@ record IsFirstFrom (case : ℕ) (ts : List Tree) (leaf : OpenLeaf) : Type 0 wher
   open_leaf : IsOpenLeaf tree leaf.path leaf.goal
   first : (other : List ℕ) (goal : ℕ) → IsOpenLeaf tree other goal
       → (leaf.path ≡ other) ⊎ IsBefore leaf.path other
-  earlier : (i : ℕ) (t : Tree) → i < j → slice_get ts i ≡ Some t → IsClosed t
+  earlier : (i : ℕ) (t : Tree) → i < j → slice_get ts i ≡ Some t → HasNoOpenLeaf t
 
 module _ (first : FirstTold) (none : NoneTold) where
   here : (case : ℕ) (t : Tree) (ts : List Tree) (x : List ℕ × ℕ) → IsOpenLeaf t x.0 x.1
@@ -69,7 +66,7 @@ module _ (first : FirstTold) (none : NoneTold) where
     earlier = λ i u l e. absurd (omega (arith, l));
   }
 
-  after : (case : ℕ) (t : Tree) (ts : List Tree) (leaf : OpenLeaf) → IsClosed t
+  after : (case : ℕ) (t : Tree) (ts : List Tree) (leaf : OpenLeaf) → HasNoOpenLeaf t
       → IsFirstFrom (case + 1) ts leaf → IsFirstFrom case (t ∷ ts) leaf
   after case t ts leaf closed f = record {
     j = suc f.j;
@@ -81,8 +78,8 @@ module _ (first : FirstTold) (none : NoneTold) where
     earlier = λ i u l e. before i u l e;
   }
     where
-      before : (i : ℕ) (u : Tree) → i < suc f.j → slice_get (t ∷ ts) i ≡ Some u → IsClosed u
-      before zero u l e = subst IsClosed (same_tree t u e) closed
+      before : (i : ℕ) (u : Tree) → i < suc f.j → slice_get (t ∷ ts) i ≡ Some u → HasNoOpenLeaf u
+      before zero u l e = subst HasNoOpenLeaf (same_tree t u e) closed
       before (suc i) u l e = f.earlier i u (omega (arith, l)) e
 
   first_from : (case : ℕ) (ts : List Tree) (ls : List Listed) (leaf : OpenLeaf) → AreListed ts ls
@@ -125,16 +122,16 @@ later_none case (Some x) later e = cc
 
 module _ (none : NoneTold) where
   none_from : (case : ℕ) (ts : List Tree) (ls : List Listed) (k : ℕ) (t : Tree) → AreListed ts ls
-      → first_open_from case ls ≡ None → slice_get ts k ≡ Some t → IsClosed t
+      → first_open_from case ls ≡ None → slice_get ts k ≡ Some t → HasNoOpenLeaf t
   none_from case [] ls k t are e g = absurd (no_tree t k g)
   none_from case (u ∷ ts) [] k t are e g = absurd are
   none_from case (u ∷ ts) (l ∷ ls) zero t are e g =
       let n = later_none case (first_open l.tree l.boxes) (first_open_from (case + 1) ls) e in
-      subst IsClosed (same_tree u t g) (closed_at none u l are.0 are.1 n.0)
+      subst HasNoOpenLeaf (same_tree u t g) (closed_at none u l are.0 are.1 n.0)
   none_from case (u ∷ ts) (l ∷ ls) (suc k) t are e g =
       let n = later_none case (first_open l.tree l.boxes) (first_open_from (case + 1) ls) e in
       none_from (case + 1) ts ls k t are.2 n.1 g
 
   pub none_open : (trees : List Tree) (ls : List Listed) (case : ℕ) (t : Tree) → AreListed trees ls
-      → first_open_from 0 ls ≡ None → slice_get trees case ≡ Some t → IsClosed t
+      → first_open_from 0 ls ≡ None → slice_get trees case ≡ Some t → HasNoOpenLeaf t
   none_open trees ls case t are e g = none_from 0 trees ls case t are e g

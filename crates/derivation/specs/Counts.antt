@@ -152,7 +152,7 @@ risen_after (Some f) m b grows r =
 
 -- ---- instances that are due
 -- a count by recursion
-abbrev tally : {X : Type 0} → (X → Bool) → List X → ℕ
+abbrev pub tally : {X : Type 0} → (X → Bool) → List X → ℕ
 tally p [] = 0
 tally p (x ∷ xs) = cond (p x) (1 + tally p xs) (tally p xs)
 

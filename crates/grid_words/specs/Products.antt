@@ -29,7 +29,8 @@ product_range r s = product_ends r.low r.high s.low s.high
 pub quotient_range : Range → Range → Range
 quotient_range r s = quotient_ends r.low r.high s.low s.high
 
-abbrev closed : Fraction → Fraction → Range
+-- From a to b.
+abbrev pub closed : Fraction → Fraction → Range
 closed a b = record { low = At a; high = At b }
 
 module _ (a b c d : Fraction) (i : a ≤ℚ b) (j : c ≤ℚ d) where

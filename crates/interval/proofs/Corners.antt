@@ -3,11 +3,12 @@ use Rattle.std.specs.Prelude.{◌≡◌, ◌⊎◌}
 use Rattle.std.proofs.Common.{refl, sym, subst, ap, ◌∙◌, ⊎_elim, inl, inr}
 use Rattle.dyadic.specs.fx_model.Fraction.{Fraction, ◌*ℚ◌, ◌≤ℚ◌, ◌<ℚ◌, zero_ℚ, neg_ℚ, le_trans}
 use Rattle.dyadic.specs.fx_model.Fraction.{le_refl, le_or_lt, lt_le, mul-le, neg-mul}
-use Rattle.dyadic.specs.fx_model.Grid.{Bound, At, IsDown, neg_bound}
+use Rattle.dyadic.specs.fx_model.Grid.{Bound, IsDown, neg_bound}
 use Rattle.dyadic.specs.fx_model.Enclosure.{Range, Lies, Products, IsInfimum, IsSupremum, IsOrdered}
 use Rattle.dyadic.specs.fx_model.Enclosure.{BoundLe, infimum_at, member_of, mirror, lies_mirror}
 use Rattle.dyadic.specs.fx_model.Enclosure.{lies_mirrored, enclosure_ordered}
 use Rattle.grid_words.specs.Signs.{times_up, times_down, factor_down}
+use Rattle.grid_words.specs.Products.{closed}
 use Rattle.interval.proofs.Inequalities.{down-le}
 use Rattle.interval.specs.Enclosures.{supremum_neg}
 use Rattle.dyadic.specs.Extremes.{BoundLe-antisymm}
@@ -19,10 +20,6 @@ least_is e f g h s (inr p) = BoundLe-antisymm e f s (subst (λ y. BoundLe f y) (
 swap : {A B : Type 0} → A ⊎ B → B ⊎ A
 swap (inl p) = inr p
 swap (inr p) = inl p
-
--- the interval from a to b
-abbrev pub closed : Fraction → Fraction → Range
-closed a b = record { low = At a; high = At b }
 
 module _ (a b c d : Fraction) (i : a ≤ℚ b) (j : c ≤ℚ d) where
   from_corner : (x y : Fraction) (e : Bound) → Lies (closed a b) x → Lies (closed c d) y

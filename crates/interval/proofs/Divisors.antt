@@ -12,7 +12,7 @@ use Rattle.dyadic.specs.fx_model.Enclosure.{enclosure_ordered}
 use Rattle.grid_words.specs.Signs.{times_up, factor_down, neg_zero, mul-neg, neg_up, inverse_up}
 use Rattle.grid_words.specs.Signs.{inverse_le, inverse-neg}
 use Rattle.interval.specs.Enclosures.{supremum_neg}
-use Rattle.interval.proofs.Corners.{closed}
+use Rattle.grid_words.specs.Products.{closed}
 
 -- the divisor is above 0
 module _ (a b c d : Fraction) (i : a ≤ℚ b) (j : c ≤ℚ d) (p : zero_ℚ <ℚ c) where

@@ -2,9 +2,9 @@
 use Rattle.std.proofs.Common.{◌≡◌, ◌≢◌, ◌<◌, ℕ, List, All, length, slice_index_or, Some, sym, ap}
 use Rattle.std.proofs.Common.{◌∙◌, arith}
 use Rattle.std.proofs.lemmas.List.Elements.{All-weaker}
-use Rattle.box_deques.specs.Seen.{Lane, Thief, Seat, Hand, Name, HasPass, IsSeated, Lent}
+use Rattle.box_deques.specs.Seen.{Lane, Thief, Seat, Hand, Name, HasPass, IsSeated, Lent, no_lane}
 use Rattle.box_deques.specs.Stealing.{CanSteal}
-use Rattle.job_workers.specs.Posts.{IsThief, no_lane}
+use Rattle.job_workers.specs.Posts.{IsThief}
 
 -- a hand that was made for the lanes, with thieves of all others
 pub begins : (capacity number n : ℕ) (old new : List Lane) (hand : Hand) (thieves : List Thief)

@@ -1,10 +1,6 @@
 -- What a worker needs to take jobs.
-use Rattle.std.specs.Prelude.{◌≡◌, ◌≢◌, ◌<◌, ℕ, List, [], length, slice_index_or, false}
-use Rattle.box_deques.specs.Seen.{Lane, Thief}
-
--- a lane for an index that is none
-abbrev pub no_lane : Lane
-no_lane = record { number = 0; pushed = []; takes = []; dry = false; hands = 0; name = (0, 0) }
+use Rattle.std.specs.Prelude.{◌≡◌, ◌≢◌, ◌<◌, ℕ, List, length, slice_index_or}
+use Rattle.box_deques.specs.Seen.{Lane, Thief, no_lane}
 
 -- a thief of one of the lanes, which isn't that of this number
 abbrev pub IsThief : List Lane → ℕ → Thief → Type 0

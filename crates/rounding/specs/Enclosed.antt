@@ -20,7 +20,8 @@ use Rattle.rounding.specs.Places.{two_to-le, less}
 use Rattle.rounding.specs.Errors.{half_of, largest_error, keeps, error_range, signed_errors}
 use Rattle.rounding.specs.Errors.{nowhere, IsPossible}
 use Rattle.rounding.specs.Spans.{spanned}
-use Rattle.rounding.specs.Outward.{closed, closed_is, down_grid, up_grid, same_members}
+use Rattle.interval.specs.grid_words.Products.{closed}
+use Rattle.rounding.specs.Outward.{closed_is, down_grid, up_grid, same_members}
 use Rattle.rounding.specs.Largest.{zero_on_grid}
 use Rattle.rounding.specs.Meet.{possible_by_cases}
 

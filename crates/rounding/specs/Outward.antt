@@ -5,10 +5,7 @@ use Rattle.interval.specs.fx_model.Fraction.{Fraction, ◌≤ℚ◌, le_refl}
 use Rattle.interval.specs.fx_model.Grid.{Bound, Below, At, Above, IsOnGrid, IsDown, IsUp}
 use Rattle.interval.specs.fx_model.Enclosure.{Range, Lies, IsInfimum, IsSupremum, IsEnclosure}
 use Rattle.interval.specs.fx_model.Enclosure.{infimum_at, supremum_at}
-
--- From a to b.
-abbrev pub closed : Fraction → Fraction → Range
-closed a b = record { low = At a; high = At b }
+use Rattle.interval.specs.grid_words.Products.{closed}
 
 pub closed_is : (a b g h : Fraction) → a ≤ℚ b → IsDown a (At g) → IsUp b (At h)
     → IsEnclosure (Lies (closed a b)) (closed g h)

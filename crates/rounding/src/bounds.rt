@@ -7,7 +7,7 @@ ghost use Rattle.interval.specs.dyadic.Values.{value_of};
 ghost use Rattle.interval.specs.Intervals.{range_of};
 ghost use Rattle.rounding.specs.Errors.{IsPossible, error_range, half_of, signed_errors};
 ghost use Rattle.rounding.specs.Errors.{largest_error, keeps};
-ghost use Rattle.rounding.specs.Outward.{closed};
+ghost use Rattle.interval.specs.grid_words.Products.{closed};
 ghost use Rattle.rounding.specs.Spans.{spanned};
 
 use crate::number::{number, power};

@@ -12,6 +12,7 @@ use Rattle.rewrite_hints.specs.interval.declared.interval.Interval.{Interval}
 use Rattle.rewrite_hints.specs.facts.declared.relative.RelativeError.{RelativeError}
 use Rattle.rewrite_hints.specs.facts.declared.place.FixPlace.{FixPlace}
 use Rattle.rewrite_hints.specs.facts.declared.fact.Fact.{Fact}
+use Rattle.rewrite_hints.specs.facts.RelativeConclusions.{rel_of}
 use Rattle.rewrite_hints.specs.facts.declared.hint.HintRow.{HintRow}
 use Rattle.rewrite_hints.specs.facts.Order.{slot_of}
 use Rattle.rewrite_hints.specs.facts.Parts.{error_of_part}
@@ -26,7 +27,7 @@ use Rattle.script_meets.specs.script_claims.declared.claim.Claim.TheVariants.{Re
 use Rattle.script_meets.specs.script_claims.declared.claim.Claim.TheVariants.{RelativeAsked}
 use Rattle.script_meets.specs.script_claims.declared.claim.Claim.TheVariants.{Multiple, Above}
 use Rattle.script_meets.specs.script_claims.declared.claim.Claim.TheVariants.{Below}
-use Rattle.script_meets.specs.script_claims.Facts.{hypothesis_fact, rel_of, facts_all}
+use Rattle.script_meets.specs.script_claims.Facts.{hypothesis_fact, facts_all}
 use Rattle.script_meets.specs.script_claims.Facts.{goal_of, facts_of}
 use Rattle.rewrite_hints.specs.script_hints.declared.hint.Constraint.{Constraint}
 use Rattle.rewrite_hints.specs.script_hints.declared.hint.Constraint.TheVariants as constraint

@@ -16,6 +16,7 @@ use Rattle.goals.specs.interval.Meets.{interval_from_out}
 use Rattle.goals.specs.facts.declared.relative.RelativeError.{RelativeError}
 use Rattle.goals.specs.facts.declared.place.FixPlace.{FixPlace}
 use Rattle.goals.specs.facts.declared.fact.Fact.{Fact}
+use Rattle.goals.specs.facts.RelativeConclusions.{rel_of}
 use Rattle.goals.specs.facts.declared.fact.Fact.TheVariants as fact
 use Rattle.goals.specs.facts.Parts.{error_from-some, error_from_out, error_of_part}
 use Rattle.goals.specs.facts.Ranges.{IsBelow}
@@ -32,7 +33,7 @@ use Rattle.script_claims.specs.declared.claim.Claim.TheVariants.{Bounded, Asked,
 use Rattle.script_claims.specs.declared.claim.Claim.TheVariants.{RelativeAsked, Above, Below}
 use Rattle.script_claims.specs.declared.claim.Claim.TheVariants.{Multiple}
 use Rattle.script_claims.specs.Meets.{IsRelatedWithin, IsTrueAt}
-use Rattle.script_claims.specs.Facts.{rel_of, relative_fact, hypothesis_fact, IsHypothesis}
+use Rattle.script_claims.specs.Facts.{relative_fact, hypothesis_fact, IsHypothesis}
 
 pub both : (o p : Option Fraction) (P Q : Fraction → Fraction → Type 0)
     → ((v w : Fraction) → P v w → Q v w) → IsSomeAnd o (λ v. IsSomeAnd p (P v))

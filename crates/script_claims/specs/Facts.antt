@@ -7,13 +7,12 @@ use Rattle.goals.specs.fx_model.Enclosure.{IsOrdered}
 use Rattle.goals.specs.fx_model.declared.ExprId.{ExprId}
 use Rattle.goals.specs.dyadic.Ends.{bound_of}
 use Rattle.goals.specs.interval.declared.interval.Interval.{Interval}
-use Rattle.goals.specs.facts.declared.relative.RelativeError.{RelativeError}
 use Rattle.goals.specs.facts.declared.fact.Fact.{Fact}
-use Rattle.goals.specs.facts.declared.fact.Fact.TheVariants as fact
 use Rattle.goals.specs.facts.declared.fact.Slot.{Slot}
 use Rattle.goals.specs.facts.declared.fact.Slot.TheVariants as slot
 use Rattle.goals.specs.facts.Parts.{error_of_part}
 use Rattle.goals.specs.facts.Conclusions.{bnd_of, fix_of}
+use Rattle.goals.specs.facts.RelativeConclusions.{rel_of}
 use Rattle.goals.specs.facts.Ranges.{IsBelow}
 use Rattle.goals.specs.facts.Places.{IsPlace, place_from}
 use Rattle.script_nodes.specs.literal_order.Values.{IsWritten}
@@ -34,11 +33,6 @@ HasNormalBounds (Relative x y lower upper) = IsWritten (Some lower) × IsWritten
 HasNormalBounds (Above x n) = IsWritten (Some n)
 HasNormalBounds (Below x n) = IsWritten (Some n)
 HasNormalBounds _ = ⊤
-
--- a REL fact, where there is a relative error
-abbrev pub rel_of : ExprId → ExprId → Option RelativeError → Option Fact
-rel_of x y None = None
-rel_of x y (Some e) = Some (fact.Rel x y (Some e))
 
 -- a REL fact, where there is an interval and it lies above -1
 abbrev pub relative_fact : ExprId → ExprId → Option Interval → Option Fact

@@ -3,6 +3,7 @@ use Rattle.std.specs.Prelude.{ℕ, ◌+◌, nat_lt, not, Bool, true, false}
 use Rattle.script_shape.specs.script_words.declared.class.Symbol.{Symbol}
 use Rattle.script_shape.specs.script_words.declared.class.Symbol.TheVariants as s
 use Rattle.script_shape.specs.script_words.Words.{Word, name, rounding, literal, sign}
+use Rattle.script_shape.specs.script_words.Words.{is_open_brace}
 use Rattle.script_shape.specs.declared.due.Due.{Due}
 use Rattle.script_shape.specs.declared.due.Due.TheVariants as d
 use Rattle.script_judge.specs.declared.counts.ScriptPart.{ScriptPart}
@@ -15,11 +16,6 @@ one_if true = 1
 one_if false = 0
 
 -- ---- where a token stands
-
--- the `{` of the formula
-abbrev pub is_open_brace : Word → Bool
-is_open_brace (sign s.OpenBrace) = true
-is_open_brace w = false
 
 -- behind the first token of a proposition or a hint
 abbrev pub within : ScriptPart → ScriptPart

@@ -2,6 +2,7 @@
 
 ghost use Rattle.std.specs.Prelude.{◌≡◌, ◌≤◌, ◌<◌};
 ghost use Rattle.script_shape.specs.script_words.Named.{word_of};
+ghost use Rattle.script_shape.specs.script_words.Words as words;
 ghost use Rattle.script_judge.specs.Counts as spec;
 ghost use Rattle.script_judge.specs.Limits.{IsWithinLimits};
 
@@ -40,7 +41,7 @@ pub struct Counts {
 }
 
 fn is_open_brace(word: Word<'_>) -> bool
-    ensures { result ≡ spec.is_open_brace (word_of word.entry) }
+    ensures { result ≡ words.is_open_brace (word_of word.entry) }
 {
     matches!(word, Word::Sign(Symbol::OpenBrace))
 }

@@ -1,9 +1,9 @@
 -- What definitions add to what is known, word by word.
-use Rattle.std.specs.Prelude.{◌≡◌, List, [], ◌∷◌, ◌++◌, Option, Some, None, Bool, true, false}
+use Rattle.std.specs.Prelude.{◌≡◌, List, [], ◌∷◌, ◌++◌, Option, Some, None, Bool, false}
 use Rattle.std.specs.Prelude.{if◌then◌else◌}
 use Rattle.expr_dag.specs.fx_model.declared.Rounding.{Rounding}
 use Rattle.script_shape.specs.script_words.declared.class.Symbol.TheVariants as s
-use Rattle.script_shape.specs.script_words.Words.{Word, name, rounding, sign}
+use Rattle.script_shape.specs.script_words.Words.{Word, name, rounding, sign, is_open_brace}
 use Rattle.script_shape.specs.declared.due.Due.{Due}
 use Rattle.script_shape.specs.declared.due.Due.TheVariants as d
 use Rattle.script_shape.specs.Tree.{Definition, Script}
@@ -95,11 +95,6 @@ define_word d.Operator w p = with_reading p (operator_begun w p.reading)
 define_word d.CloseOperator w p = operator_closed p p.reading.waits
 define_word d.Semicolon w p = ended p
 define_word r w p = with_reading p (read p.rounds r w p.reading)
-
--- the `{` of the formula
-abbrev pub is_open_brace : Word → Bool
-is_open_brace (sign s.OpenBrace) = true
-is_open_brace w = false
 
 -- whether the brace comes with which the formula begins
 abbrev pub opens_formula : Due → Word → Bool

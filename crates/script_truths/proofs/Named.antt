@@ -7,6 +7,7 @@ use Rattle.theorem_list.specs.interval.declared.interval.Interval.{Interval}
 use Rattle.theorem_list.specs.facts.declared.fact.Fact.{Fact}
 use Rattle.theorem_list.specs.facts.declared.fact.Fact.TheVariants as fact
 use Rattle.theorem_list.specs.facts.declared.place.FixPlace.{FixPlace}
+use Rattle.theorem_list.specs.facts.RelativeConclusions.{rel_of}
 use Rattle.theorem_list.specs.facts.declared.relative.RelativeError.{RelativeError}
 use Rattle.theorem_list.specs.facts.Order as order
 use Rattle.theorem_list.specs.facts.Parts.{error_of_part}
@@ -18,7 +19,7 @@ use Rattle.box_tree.specs.script_claims.declared.claim.Claim.{Claim}
 use Rattle.box_tree.specs.script_claims.declared.claim.Claim.TheVariants.{Bounded, Asked, Relative}
 use Rattle.box_tree.specs.script_claims.declared.claim.Claim.TheVariants.{RelativeAsked, Multiple}
 use Rattle.box_tree.specs.script_claims.declared.claim.Claim.TheVariants.{Above, Below}
-use Rattle.box_tree.specs.script_claims.Facts.{hypothesis_fact, rel_of, facts_all, goal_of}
+use Rattle.box_tree.specs.script_claims.Facts.{hypothesis_fact, facts_all, goal_of}
 use Rattle.script_meets.specs.script_grammar.Names.{IsNode, AreNodes, ClaimIsOf, HintIsOf}
 use Rattle.universe.specs.pair_closure.Members.{some-inj, has_all}
 use Rattle.universe.specs.rule_universe.Licensed.{RowIsKnown}

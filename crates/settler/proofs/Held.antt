@@ -16,15 +16,16 @@ use Rattle.case_trees.specs.box_tree.Regions.{PlanParts}
 use Rattle.case_trees.specs.bisect.declared.settler.State.{State}
 use Rattle.case_trees.specs.bisect.declared.settler.State.TheVariants as state
 use Rattle.case_trees.specs.bisect.Trees.{Tree, IsLeaf}
+use Rattle.case_trees.specs.bisect.Boxes.{HasNoOpenLeaf}
 use Rattle.settler.specs.Standing.{StandsAs}
 use Rattle.settler.specs.Answers.{plan_of, tree_by}
 use Rattle.settler.specs.Cases.{LawfulCasesHold}
-use Rattle.settler.specs.Held.{MeetsUniverse, IsClosed, HasHeldLeaf, SettledLeavesHold}
+use Rattle.settler.specs.Held.{MeetsUniverse, HasHeldLeaf, SettledLeavesHold}
 use Rattle.settler.proofs.Tight.{settled_fact}
 
 -- a leaf that isn't open, where what is known at its box holds
 pub held_leaf : (u : World) (plan : PlanParts) (height : ℕ) (t : Tree) (a : Assignment)
-    (path : List ℕ) → IsLeaf t path → IsClosed t
+    (path : List ℕ) → IsLeaf t path → HasNoOpenLeaf t
     → ((f : Fact) → Known (setting_of u) height (pieces_at plan path) f → Holds u.nodes a f) →
     (s : State) → t.state_at path ≡ s
     → StandsAs (setting_of u) u.goals height (pieces_at plan path) s → HasHeldLeaf u t a
@@ -56,5 +57,5 @@ case_holds universes hypotheses hints whole s u o case has is t a tree closed me
     } in
     let hold : SettledLeavesHold plan = subst SettledLeavesHold is.plan is.lawful.hold in
     let leaf : HasHeldLeaf v (tree_by s case.claims o tree.states) a = hold v o.rounds tree.states a
-    here.nodes tree.are_states (subst IsClosed tree.is_tree closed) met in
+    here.nodes tree.are_states (subst HasNoOpenLeaf tree.is_tree closed) met in
     (v, here, subst (λ x. HasHeldLeaf v x a) (sym tree.is_tree) leaf)

@@ -7,9 +7,9 @@ use Rattle.script_truths.specs.script_grammar.Spells.{View}
 use Rattle.script_truths.specs.script_grammar.Cases.{cases_of}
 use Rattle.script_truths.specs.universe.Universes.{UniversesAreOne}
 use Rattle.case_trees.specs.bisect.Trees.{Tree}
+use Rattle.case_trees.specs.bisect.Boxes.{HasNoOpenLeaf}
 use Rattle.case_trees.specs.Laws.{FirstIsFirst, HaveOneAnswer}
 use Rattle.settler.specs.Answers.{Options, IsTreeOf, AreTrees}
-use Rattle.settler.specs.Held.{IsClosed}
 use Rattle.settler.specs.Open.{OpenLeavesAreFirst}
 use Rattle.settler.proofs.Proved.{tree_at}
 use Rattle.settler.proofs.Unique.{one_tree}
@@ -38,6 +38,6 @@ open_first first universes one answers s o leaf (count, came) =
       first = f.first;
       earlier = λ k before t l at is.
           let found = tree_at s o (cases_of s) came.trees came.are_trees k before at in
-          subst IsClosed (one_tree universes one answers s o before found.0 t found.2 is)
+          subst HasNoOpenLeaf (one_tree universes one answers s o before found.0 t found.2 is)
           (f.earlier k found.0 l found.1);
     }

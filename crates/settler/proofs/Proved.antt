@@ -11,13 +11,14 @@ use Rattle.script_truths.specs.script_grammar.Spells.{View}
 use Rattle.saturate.specs.rule_universe.Worlds.{World}
 use Rattle.script_truths.specs.script_grammar.Cases.{cases_of}
 use Rattle.case_trees.specs.bisect.Trees.{Tree}
+use Rattle.case_trees.specs.bisect.Boxes.{HasNoOpenLeaf}
 use Rattle.case_trees.specs.bisect.Gathered.{line_of}
 use Rattle.case_trees.specs.Listed.{Listed, all_leaves}
 use Rattle.case_trees.specs.Laws.{NoneIsOpen, LinesHoldOfEach}
 use Rattle.script_truths.specs.Truths.{SomeCaseIsMet, OfUniverses, SettledGoalsAreTrue}
 use Rattle.script_truths.specs.Truths.{GoalLinesHold}
 use Rattle.settler.specs.Answers.{Options, AreTrees, IsTreeOf}
-use Rattle.settler.specs.Held.{CasesHold, IsClosed, ProvedHolds}
+use Rattle.settler.specs.Held.{CasesHold, ProvedHolds}
 use Rattle.settler.proofs.Tight.{goal_there, line_there}
 
 -- the tree of the case in a place
@@ -42,7 +43,7 @@ module _ (met : SomeCaseIsMet) (settled : OfUniverses SettledGoalsAreTrue)
       let ls : List Listed = came.is_answer.0 in
       let listed = came.is_answer.1 in
       let by = came.is_answer.2 in
-      let closed : IsClosed t = none came.trees ls case.0 t listed by.1 tree.1 in
+      let closed : HasNoOpenLeaf t = none came.trees ls case.0 t listed by.1 tree.1 in
       let held = holds case.0 claims case.2 t a tree.2 closed meets case.3 in
       let u : World = held.0 in
       let has = held.1 in

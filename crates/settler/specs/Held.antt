@@ -21,7 +21,7 @@ use Rattle.case_trees.specs.box_tree.Regions.{PlanParts}
 use Rattle.case_trees.specs.bisect.declared.settler.State.{State}
 use Rattle.case_trees.specs.bisect.declared.settler.State.TheVariants as state
 use Rattle.case_trees.specs.bisect.Trees.{Tree, tree_of, IsLeaf}
-use Rattle.case_trees.specs.bisect.Boxes.{IsOpenLeaf}
+use Rattle.case_trees.specs.bisect.Boxes.{HasNoOpenLeaf}
 use Rattle.settler.specs.Standing.{AreStates}
 
 -- Of the assignment all is true that derivations over the universe begin with, and its values lie
@@ -30,10 +30,6 @@ pub record MeetsUniverse (u : World) (plan : PlanParts) (a : Assignment) : Type 
   pub hypotheses : (f : Fact) → Contains u.hypotheses f → Holds u.nodes a f
   pub rows : RowsAreTrue u.nodes a u.hints
   pub inside : LieInBox plan (value u.nodes a) []
-
--- no leaf of the tree is open
-abbrev pub IsClosed : Tree → Type 0
-IsClosed t = (path : List ℕ) (goal : ℕ) → ¬ (IsOpenLeaf t path goal)
 
 -- A leaf of the tree is settled, with a fact for each goal that settles it and holds of the
 -- assignment.
@@ -49,14 +45,14 @@ pub record HasHeldLeaf (u : World) (t : Tree) (a : Assignment) : Type 0 where
 abbrev pub SettledLeavesHold : PlanParts → Type 0
 SettledLeavesHold plan = (u : World) (rounds : ℕ) (states : List ℕ
     → State) (a : Assignment) → IsOrdered u.nodes
-    → AreStates u plan rounds states → IsClosed (tree_of (cut_at plan) states)
+    → AreStates u plan rounds states → HasNoOpenLeaf (tree_of (cut_at plan) states)
     → MeetsUniverse u plan a → HasHeldLeaf u (tree_of (cut_at plan) states) a
 
 -- ---- of scripts
 -- Where no leaf of the case's tree is open, that is so of each assignment that meets the script and
 -- of which the case's claims are true.
 abbrev pub CaseHolds : View → Options → List Claim → Type 0
-CaseHolds s o claims = (t : Tree) (a : Assignment) → IsTreeOf s o claims t → IsClosed t
+CaseHolds s o claims = (t : Tree) (a : Assignment) → IsTreeOf s o claims t → HasNoOpenLeaf t
     → Meets a s → AreTrue s a claims → (u : World) × HasUniverse s claims u × HasHeldLeaf u t a
 
 -- It is so in each case.

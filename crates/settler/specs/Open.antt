@@ -4,10 +4,9 @@ use Rattle.case_trees.specs.script_claims.declared.claim.Claim.{Claim}
 use Rattle.script_truths.specs.script_grammar.Spells.{View}
 use Rattle.script_truths.specs.script_grammar.Cases.{cases_of}
 use Rattle.case_trees.specs.bisect.Trees.{Tree}
-use Rattle.case_trees.specs.bisect.Boxes.{IsBefore, IsOpenLeaf}
+use Rattle.case_trees.specs.bisect.Boxes.{IsBefore, IsOpenLeaf, HasNoOpenLeaf}
 use Rattle.case_trees.specs.declared.outcome.OpenLeaf.{OpenLeaf}
 use Rattle.settler.specs.Answers.{Options, IsTreeOf, IsUnproved}
-use Rattle.settler.specs.Held.{IsClosed}
 
 -- It is open in the tree of its case, and each other that is open there lies after it; no leaf of
 -- an earlier case is open.
@@ -20,7 +19,7 @@ pub record IsFirstOpen (s : View) (o : Options) (leaf : OpenLeaf) : Type 0 where
   pub first : (other : List ℕ) (goal : ℕ) → IsOpenLeaf tree other goal → (leaf.path ≡ other)
       ⊎ IsBefore leaf.path other
   pub earlier : (case : ℕ) (before : List Claim) (t : Tree) → case < leaf.case
-      → slice_get (cases_of s) case ≡ Some before → IsTreeOf s o before t → IsClosed t
+      → slice_get (cases_of s) case ≡ Some before → IsTreeOf s o before t → HasNoOpenLeaf t
 
 -- The leaf that is named is the first open one of the first case that has one.
 abbrev pub OpenLeavesAreFirst : Type 0

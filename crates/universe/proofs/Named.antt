@@ -13,6 +13,7 @@ use Rattle.rule_universe.specs.expr_dag.Nodes.{IsAt}
 use Rattle.rule_universe.specs.facts.declared.fact.Fact.{Fact}
 use Rattle.rule_universe.specs.facts.declared.fact.Slot.TheVariants as slot
 use Rattle.rule_universe.specs.facts.declared.place.FixPlace.{FixPlace}
+use Rattle.rule_universe.specs.facts.RelativeConclusions.{rel_of}
 use Rattle.rule_universe.specs.facts.declared.relative.RelativeError.{RelativeError}
 use Rattle.rule_universe.specs.facts.declared.hint.HintRow.{HintRow}
 use Rattle.rule_universe.specs.facts.Order.{slot_of}
@@ -26,7 +27,7 @@ use Rattle.script_grammar.specs.script_claims.declared.claim.Claim.TheVariants.{
 use Rattle.script_grammar.specs.script_claims.declared.claim.Claim.TheVariants.{RelativeAsked}
 use Rattle.script_grammar.specs.script_claims.declared.claim.Claim.TheVariants.{Multiple, Above}
 use Rattle.script_grammar.specs.script_claims.declared.claim.Claim.TheVariants.{Below}
-use Rattle.script_grammar.specs.script_claims.Facts.{hypothesis_fact, rel_of, with_fact, facts_of}
+use Rattle.script_grammar.specs.script_claims.Facts.{hypothesis_fact, with_fact, facts_of}
 use Rattle.rewrite_hints.specs.script_hints.declared.hint.Hint.{Hint}
 use Rattle.rule_universe.specs.pair_closure.Reached.{Has}
 use Rattle.fx_model.specs.Expression.{ChildrenBelow}
