@@ -515,8 +515,8 @@ pub fn takes(due: Due, class: Class) -> Option<&'static [Due]>
     }
 }
 
-/// Whether it may be left out.
-pub fn may_skip(due: Due) -> bool
+// Whether it may be left out.
+pub(crate) fn may_skip(due: Due) -> bool
     ensures { result ≡ spec.may_skip due }
 {
     matches!(
