@@ -1,5 +1,6 @@
 -- What comes of what an instance concludes.
-use Rattle.std.specs.Prelude.{◌≡◌, ◌≢◌, ◌⊎◌, ℕ, List, [], ◌∷◌, ◌++◌, Some, None, Contains}
+use Rattle.std.specs.Prelude.{◌≡◌, ◌≢◌, ◌⊎◌, ℕ, List, [], ◌∷◌, ◌++◌, Option, Some, None, Contains}
+use Rattle.std.specs.Prelude.{refl}
 use Rattle.std.proofs.Common.{sym, ◌∙◌, ap, subst, inl, inr, rules}
 use Rattle.std.proofs.lemmas.List.{map-append}
 use Rattle.std.proofs.lemmas.List.Elements.{Contains-push, Contains-push_cases}
@@ -13,14 +14,15 @@ use Rattle.rule_universe.specs.facts.Meets.{meet-IsMeet}
 use Rattle.rule_universe.specs.derivation.Lists.{RuleList, IsOnTargetList}
 use Rattle.rule_universe.specs.facts.declared.instance.Instance.{Instance}
 use Rattle.rule_universe.specs.derivation.Derivations.{At}
-use Rattle.rule_universe.specs.derivation.Rounds.{conclusion, Grows}
+use Rattle.rule_universe.specs.derivation.Rounds.{conclusion, Grows, IsKept, Improves}
 use Rattle.rule_universe.specs.derivation.Changes.{IsListed}
 use Rattle.rule_universe.specs.derivation.Counts.{IsRisen, risen_after}
 use Rattle.rule_universe.specs.derivation.Parts.{conclusion_reads, slot_cases, stronger_slot}
 use Rattle.saturate.specs.declared.kept.Table.{Table}
 use Rattle.rule_universe.specs.declared.placed.Placed.{Placed}
 use Rattle.rule_universe.specs.Placed.{slots_of}
-use Rattle.saturate.specs.Tables.{fact_at, HasPlace, IsFoundAt}
+use Rattle.saturate.specs.Tables.{fact_at, HasPlace, IsFoundAt, IsAsStrong}
+use Rattle.saturate.proofs.Places.{fact_at_proper}
 use Rattle.rule_universe.specs.facts.CommonParts.{void_cases}
 
 -- ---- places
@@ -78,6 +80,29 @@ risen_kept t g c k e n m no_void =
       | inr d ↦ subst (λ o. IsRisen o (Some k)) (sym (ap (fact_at t) (stronger_slot k c w.right d)
           ∙ e)) (w.left, λ s. n (IsStronger-trans g k c s w.right))
     ]
+
+-- what is there is kept where it is as strong as what came
+pub kept_strong : (t : Table) (c : Fact) → IsAsStrong (fact_at t (slot_of c)) c
+    → (k : Fact) × Improves (fact_at t) (fact_at t) c k
+kept_strong t c h = by_found (fact_at t (slot_of c)) refl h
+  where
+    by_found : (o : Option Fact) → fact_at t (slot_of c) ≡ o → IsAsStrong o c
+        → (k : Fact) × Improves (fact_at t) (fact_at t) c k
+    by_found None e s = absurd s
+    by_found (Some g) e s = (
+      g,
+      record {
+        kept = subst (λ o. IsKept o c g) (sym e) (inl (s, refl));
+        written = record {
+          here = ap (fact_at t) (fact_at_proper t (slot_of c) g e) ∙ e;
+          others = λ s n. refl;
+        };
+      },
+    )
+
+pub not_strong : (t : Table) (g c : Fact) → fact_at t (slot_of c) ≡ Some g
+    → ¬ IsAsStrong (fact_at t (slot_of c)) c → ¬ IsStronger g c
+not_strong t g c e n s = n (subst (λ o. IsAsStrong o c) (sym e) s)
 
 pub conclusion_place : (rules : RuleList) → IsOnTargetList rules
     → (at : At) (i : Instance) (c : Fact) (t : Table) → conclusion rules at i ≡ Some c
