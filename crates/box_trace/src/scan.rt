@@ -61,10 +61,33 @@ fn has_as_strong(now: &Known, place: u16, c: &Fact) -> bool
     }
 }
 
+// Nothing stands here then. What is empty isn't written.
+#[inline(always)]
+fn empty(here: &mut Option<Ends>)
+    ensures { here.new ≡ None }
+{
+    if here.is_some() {
+        *here = None;
+    }
+}
+
+// Nothing stands at any place then.
+fn empty_all(ends: &mut [Option<Ends>])
+    ensures { ends.new ≡ replicate (length ends.old) None }
+{
+    for k in 0..ends.len() {
+        empty(&mut ends[k]);
+    }
+}
+
 // Nothing stands at any of so many places.
 pub(crate) fn clear(ends: &mut Vec<Option<Ends>>, count: usize) -> Result<(), AllocError>
     ensures { OnOk result (ends.new.items ≡ replicate count None) }
 {
+    if ends.len() == count {
+        empty_all(ends);
+        return Ok(());
+    }
     ends.clear();
     ends.resize(count, None)?;
     Ok(())
