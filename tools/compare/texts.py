@@ -1,18 +1,11 @@
-#!/usr/bin/env python3
-"""Random scripts, valid and damaged, and the first refusal that a reference reader gives each.
+"""Random texts that several comparisons use: scripts, valid and not, and damaged bytes.
 
-    refusals.py make COUNT SEED > TEXTS             one text a line, in hexadecimal digits
-    refusals.py program > main.rt                   a program over `script_judge` that answers TEXTS on its input
-    refusals.py compare REFERENCE TEXTS ANSWERS     ANSWERS: for each text `KIND BYTE` or `None`
-
-REFERENCE is the folder that holds the package `reference`.
+`script` writes scripts as engineers do: roundings, hints, relative errors and cuts. `any_grammar`
+uses the whole grammar, with texts at limits and damaged ones. `any_text` is one of both, and
+`damaged` damages bytes of any kind.
 """
 
-import random
-import sys
 from fractions import Fraction
-
-import hex_lines
 
 NAMES = ["x", "y", "z", "a", "b1", "My", "dn", "FIX", "ne", "q", "rnd", "_t", "float1", "inn"]
 DIRECTIONS = ["zr", "aw", "dn", "up", "od", "ne", "no", "nz", "na", "nd", "nu"]
@@ -29,27 +22,16 @@ WORDS = NAMES + DIRECTIONS + LITERALS + PAST[:4] + [
     "in", "not", "fixed", "int", "fma", "float", "sqrt", "{", "}", "(", ")", "[", "]", ",", ";", "=", "+", "-", "*",
     "/", "|", "<", ">", "?", "$", "~", "@", "<=", ">=", "<>", "->", "-/", "/\\", "\\/"]
 BAD = ["!", "1.", "1e", "0x", "12x", "\\", ".", "&", "\u00e9", "1b", "3e+"]
-
-PROGRAM = """\
-// Prints the first refusal of each text, which stands on a line in hexadecimal digits.
-#![tactic(auto)]
-
-use script_judge::first::first_refusal;
-use std::alloc::{AllocError, Global};
-use std::io;
-
-""" + hex_lines.READING + """
-fn main(rt: HostRuntime) -> io::Result<()> {
-    for line in rt.lines(rt.alloc()) {
-        let text = bytes_of(rt.alloc(), line?.as_str())?;
-        match first_refusal(rt.alloc(), text.as_slice())? {
-            Some(refusal) => println!(rt; "{:?} {}", refusal.kind, refusal.at)?,
-            None => println!(rt; "None")?,
-        }
-    }
-    Ok(())
-}
-"""
+NUMBERS = ["0", "1", "2", "3", "7", "10", "0.1", "0.5", "1.5", "3.14", "1e-9", "1b-4", "3b2", "0x1.8p1",
+           "99999999999999999999", "1b512", "1b-512", "123456789.987654321", "0." + "3" * 30,
+           "1152921504606846975", "1152921504606846977"]
+SMALL = ["0", "1", "2", "0.5", "0.25", "3", "1.5", "1b-3", "0.1"]
+# What damages put into scripts, and into certificates.
+TOKENS = [b"!", b"(", b")", b"|", b"-", b" ", b"?", b"$", b"~", b"@", b"->", b"-/", b"/\\", b"\\/", b"<>", b"in",
+          b"not", b"fma", b"fixed", b"int", b"sqrt", b"0", b"1e9", b"1b513", b"x", b"{", b"}", b"[", b"]", b",",
+          b";", b"=", b"#", b"\xff", b"\xc3\xa9", b"\x00", b"\n"]
+BYTES = [bytes([k]) for k in (0, 1, 2, 3, 4, 5, 6, 7, 8, 80, 100, 101, 102, 127, 128, 129, 255)]
+BYTES += [b"\x80" * 9 + b"\x01", b"\xff" * 9, b"\xff" * 10, b"\x80" * 12]
 
 
 def value(text):
@@ -68,23 +50,31 @@ def value(text):
 
 def signed_value(bound):
     """What a bound stands for; 0 for a literal past its limits."""
-    if bound[-1] in PAST:
+    literal = bound.lstrip("+-")
+    if literal in PAST:
         return Fraction(0)
-    return -value(bound[-1]) if bound[0] == "-" else value(bound[-1])
+    return -value(literal) if bound[0] == "-" else value(literal)
 
 
 class Maker:
     def __init__(self, rng):
         self.rng = rng
-        self.operators, self.values, self.used = [], [], set()
-        self.names = list(NAMES)
-        self.ranged = []
 
-    def pick(self, xs):
-        return self.rng.choice(xs)
+    def pick(self, items):
+        return self.rng.choice(items)
 
     def maybe(self, p):
         return self.rng.random() < p
+
+
+class GrammarMaker(Maker):
+    """Texts of the whole grammar, as lists of words."""
+
+    def __init__(self, rng):
+        super().__init__(rng)
+        self.operators, self.values, self.used = [], [], set()
+        self.names = list(NAMES)
+        self.ranged = []
 
     def literal(self):
         if self.maybe(0.01):
@@ -92,8 +82,10 @@ class Maker:
         return self.pick(FINE if self.maybe(0.05) else NEAR if self.maybe(0.3) else LITERALS)
 
     def whole(self):
-        n = self.pick(["0", "3", "15", "512", "0512", "00"]) if self.maybe(0.97) else self.pick(["513", "9999999999999", "0513"])
-        return (["-"] if self.maybe(0.5) else []) + [n]
+        fits = self.maybe(0.97)
+        some = ["0", "3", "15", "512", "0512", "00"] if fits else ["513", "9999999999999", "0513"]
+        number = self.pick(some)
+        return (["-"] if self.maybe(0.5) else []) + [number]
 
     def bound(self):
         return ([self.pick("+-")] if self.maybe(0.3) else []) + [self.literal()]
@@ -101,7 +93,7 @@ class Maker:
     def bounds(self, many):
         """Bounds that mostly rise."""
         out = [self.bound() for _ in range(many)]
-        return sorted(out, key=signed_value) if self.maybe(0.93) else out
+        return sorted(out, key=lambda b: signed_value("".join(b))) if self.maybe(0.93) else out
 
     def operator(self):
         if self.maybe(0.5):
@@ -299,7 +291,8 @@ class Maker:
                     out += ["(", "x", ")"]
             out += ["in", "?", "}"]
         elif k == 7:
-            for sizes in self.pick([[64], [65], [8, 8], [4, 16], [8, 9], [2, 2, 2, 2, 2, 2], [3, 21], [3, 22], [64, 2]]):
+            some = [[64], [65], [8, 8], [4, 16], [8, 9], [2, 2, 2, 2, 2, 2], [3, 21], [3, 22], [64, 2]]
+            for sizes in self.pick(some):
                 for i in range(sizes):
                     out += ["\\/"] * (i > 0) + ["x", "in", "[", str(i), ",", str(i + 1), "]"]
                 out += ["->"]
@@ -308,7 +301,8 @@ class Maker:
             out += ["x", "in", "[", "0", ",", "1", "]", "->", "x", "in", "?", "}"]
         if k == 2:
             for i in range(many):
-                out += self.pick([["x", "~", "y", ";"], ["x", "->", "y", "{", "x", "<>", "0", "}", ";"], ["x", "$", "x", ";"]])
+                rewrite = ["x", "->", "y", "{", "x", "<>", "0", "}", ";"]
+                out += self.pick([["x", "~", "y", ";"], rewrite, ["x", "$", "x", ";"]])
         if k == 4:
             out += ["$", "x", "in", "("]
             for i in range(self.rng.randint(61, 66)):
@@ -372,9 +366,9 @@ class Maker:
         return data
 
 
-def one(seed):
-    rng = random.Random(seed)
-    maker = Maker(rng)
+def any_grammar(rng):
+    """A text of the grammar, at a limit or of a few words; most are damaged."""
+    maker = GrammarMaker(rng)
     k = rng.random()
     if k < 0.04:
         words = maker.deep()
@@ -391,51 +385,165 @@ def one(seed):
     return maker.text(words)
 
 
-def reference_answer(script, data):
-    """The first refusal of the reference."""
-    try:
-        text = script.decode(data)
-    except script.Refusal as r:
-        return "%s %d" % (r.kind, r.at)
-    parser = script.Parser(text, True)
-    try:
-        parser.read()
-    except (script.Stop, AttributeError):
-        # The reference ends with an AttributeError at a split on a variable of a hypothesis `x in ?`. That `?` is
-        # refused before it.
-        pass
-    if not parser.refusals:
-        return "None"
-    at, number, limit = min(parser.refusals)
-    kind = script.KINDS[number]
-    if number == script.LIMIT:
-        kind = "Limit(%s)" % script.LIMITS[limit]
-    return "%s %d" % (kind, at)
+class ScriptMaker(Maker):
+    """Scripts as engineers write them."""
+
+    def __init__(self, rng):
+        super().__init__(rng)
+        self.variables = ["x", "y", "z", "w"][:rng.randint(1, 4)]
+        self.names = list(self.variables)
+        self.operators = []
+        self.rounded = []
+        self.numbers = SMALL if rng.random() < 0.7 else NUMBERS
+
+    def bound(self):
+        return self.pick(["", "", "-", "+"]) + self.pick(self.numbers)
+
+    def bounds(self):
+        ends = [self.bound(), self.bound()]
+        if self.maybe(0.97):
+            ends.sort(key=signed_value)
+        return ends
+
+    def operator(self):
+        if self.maybe(0.2):
+            return "int<%s>" % self.pick(DIRECTIONS)
+        return "fixed<%d,%s>" % (self.pick([-15, -12, -10, -8, -4, -2, 0, 1, 3]), self.pick(DIRECTIONS))
+
+    def expr(self, depth):
+        k = self.rng.random()
+        if depth == 0 or k < 0.2:
+            return self.pick(self.names) if self.maybe(0.75) else self.pick(self.numbers)
+        if k < 0.27:
+            return "-" + self.expr(depth - 1)
+        if k < 0.33:
+            return "|%s|" % self.expr(depth - 1)
+        if k < 0.45:
+            return "(%s)" % self.expr(depth - 1)
+        if k < 0.5:
+            return "fma(%s, %s, %s)" % (self.expr(depth - 1), self.expr(depth - 1), self.expr(0))
+        if k < 0.58 and self.operators:
+            return "%s(%s)" % (self.pick(self.operators), self.expr(depth - 1))
+        operation = self.pick([" + ", " - ", " * ", " * ", " / ", "+", "-", "*"])
+        return self.expr(depth - 1) + operation + self.expr(depth - 1)
+
+    def definitions(self):
+        out = ""
+        for i in range(self.pick([0, 1, 1, 2])):
+            out += "@q%d = %s;\n" % (i, self.operator())
+            self.operators.append("q%d" % i)
+        for i in range(self.pick([0, 0, 1, 2, 3])):
+            of = self.expr(self.rng.randint(1, 2))
+            if self.operators and self.maybe(0.6):
+                out += "d%d %s= %s;\nM%d = %s;\n" % (i, self.pick(self.operators), of, i, of)
+                self.names += ["d%d" % i, "M%d" % i]
+                self.rounded.append(("d%d" % i, "M%d" % i))
+            else:
+                out += "d%d = %s;\n" % (i, of)
+                self.names.append("d%d" % i)
+        return out
+
+    def claim(self, of):
+        k = self.rng.random()
+        if k < 0.75:
+            return "%s in [%s,%s]" % ((of,) + tuple(self.bounds()))
+        if k < 0.9:
+            return "%s %s %s" % (of, self.pick(["<=", ">="]), self.bound())
+        if k < 0.95:
+            return "@FIX(%s,%d)" % (of, self.pick([-15, -8, -4, 0, 2]))
+        ends = self.pick(["-0.5", "-0.1", "0", "-1b-8"]), self.pick(["0", "0.5", "1b-8", "1"])
+        return "%s -/ %s in [%s,%s]" % ((of, self.expr(1)) + ends)
+
+    def goal(self):
+        k = self.rng.random()
+        if self.rounded and k < 0.4:
+            return "%s %s %s in ?" % (self.rounded[-1][0], self.pick(["-", "-/"]), self.rounded[-1][1])
+        of = self.expr(self.rng.randint(0, 3))
+        if k < 0.5:
+            return "%s -/ %s in ?" % (of, self.expr(1))
+        if k < 0.8:
+            return "%s in ?" % of
+        return "%s in [%s,%s]" % ((of,) + tuple(self.bounds()))
+
+    def hint(self, goals):
+        k = self.rng.random()
+        if k < 0.3:
+            need = ""
+            if self.maybe(0.3):
+                need = " { %s %s }" % (self.pick(self.names), self.pick(["<> 0", "> 0", "<= 3", ">= -1", "< 2"]))
+            return " %s -> %s%s;" % (self.expr(1), self.expr(1), need)
+        if k < 0.45:
+            return " %s ~ %s;" % (self.pick(self.names), self.pick(self.names))
+        if k < 0.6:
+            return " $ %s in %d;" % (self.pick(self.variables), self.rng.randint(1, 5))
+        if k < 0.7:
+            points = sorted({self.bound() for _ in range(self.rng.randint(1, 3))}, key=signed_value)
+            return " $ %s in (%s);" % (self.pick(self.variables), ",".join(points))
+        goal = self.pick(goals).split(" in ")[0].split(" -/ ")[0]
+        halved = self.rng.sample(self.variables, self.rng.randint(1, min(2, len(self.variables))))
+        return " %s $ %s;" % (goal, ", ".join(halved))
+
+    def side(self, claim):
+        """The claim, or where it is a bound now and then that it isn't so."""
+        is_bound = "<=" in claim or ">=" in claim
+        return "not " + claim if self.maybe(0.3 if is_bound else 0.005) else claim
+
+    def script(self):
+        out = self.definitions()
+        hyps = []
+        for n in self.variables:
+            if self.maybe(0.9):
+                hyps.append("%s in [%s,%s]" % ((n,) + tuple(self.bounds())) if self.maybe(0.8) else self.claim(n))
+        for _ in range(self.pick([0, 0, 0, 1])):
+            hyps.append(self.claim(self.expr(1)))
+        self.rng.shuffle(hyps)
+        goals = [self.goal() for _ in range(self.pick([1, 1, 2, 3]))]
+        out += "{ "
+        if hyps:
+            joints = self.pick([[" /\\ "], ["/\\"], [" -> "], [" /\\ ", " \\/ ", " -> "], [" \\/ ", "\\/", " /\\ "]])
+            out += "".join(self.side(h) + self.pick(joints) for h in hyps[:-1]) + self.side(hyps[-1]) + " -> "
+        out += " /\\ ".join(goals) + " }"
+        for _ in range(self.pick([0, 0, 1, 1, 2])):
+            out += self.hint(goals)
+        return out
 
 
-def main(words):
-    if words[0] == "make":
-        for i in range(int(words[1])):
-            print(one("%s %d" % (words[2], i)).hex())
-        return 0
-    if words[0] == "program":
-        print(PROGRAM, end="")
-        return 0
-    sys.path.insert(0, words[1])
-    from reference import script
-    kinds, wrong = {}, 0
-    with open(words[2]) as texts, open(words[3]) as answers:
-        for line, answer in zip(texts, answers, strict=True):
-            data = bytes.fromhex(line.strip())
-            wanted = reference_answer(script, data)
-            kinds[wanted.split()[0]] = kinds.get(wanted.split()[0], 0) + 1
-            if wanted != answer.strip():
-                wrong += 1
-                if wrong <= 20:
-                    print("text", data[:400], "\n  wanted", wanted, "\n  got", answer.strip())
-    print(sum(kinds.values()), "texts,", wrong, "differ;", dict(sorted(kinds.items())))
-    return 1 if wrong else 0
+def script(rng):
+    """A script as engineers write them."""
+    return ScriptMaker(rng).script().encode()
 
 
-if __name__ == "__main__":
-    sys.exit(main(sys.argv[1:]))
+def any_text(rng):
+    """A script, or a text of the grammar; one of ten has a damage more."""
+    text = script(rng) if rng.random() < 0.75 else any_grammar(rng)
+    if rng.random() < 0.1 and text:
+        at = rng.randrange(len(text))
+        other = rng.choice([b"", b"!", b" ", b")", b"?", b"\xff", text[at:at + 5] * 2])
+        text = text[:at] + other + text[at + 1:]
+    return text
+
+
+def damaged(rng, data, words=TOKENS):
+    """The bytes with one to four damages."""
+    for _ in range(rng.choice([1, 1, 1, 2, 3, 4])):
+        at = rng.randrange(len(data) + 1)
+        to = min(len(data), at + rng.choice([1, 1, 2, 3, 8, 16, 32]))
+        way = rng.randrange(8)
+        if way == 0 and at < len(data):
+            data = data[:at] + bytes([data[at] ^ 1 << rng.randrange(8)]) + data[at + 1:]
+        elif way == 1:
+            data = data[:at] + rng.choice(words) + data[at + 1:]
+        elif way == 2:
+            data = data[:at] + rng.choice(words) + data[at:]
+        elif way == 3:
+            data = data[:at] + data[to:]
+        elif way == 4:
+            data = data[:to] + data[at:]
+        elif way == 5:
+            end = min(len(data), to + to - at)
+            data = data[:at] + data[to:end] + data[at:to] + data[end:]
+        elif way == 6:
+            data = data[:at] if rng.random() < 0.3 else data[:at] + bytes([rng.randrange(256)]) + data[at + 1:]
+        else:
+            data = data[:at] + bytes(rng.randrange(256) for _ in range(rng.randint(1, 4))) + data[at:]
+    return data
