@@ -11,6 +11,7 @@ pub use derivation::{
 pub use rule_instances::{Closure, ClosureFault, closure_of, closures_are_one, instances_of};
 
 mod flat_rows;
+mod order;
 mod placed;
 mod places;
 mod universe;

@@ -9,8 +9,10 @@ ghost use Rattle.rule_universe.specs.Places.{IsPlace};
 ghost use Rattle.rule_universe.specs.Placed.{ArePlaced, AreTargets};
 ghost use Rattle.rule_universe.specs.Users.{AreUsers};
 ghost use Rattle.rule_universe.specs.Assumed.{assuming, HaveSlots};
+ghost use Rattle.rule_universe.specs.Ordered.{AreNumbersOf};
 
 use crate::flat_rows::{FlatRows, flat_rows};
+use crate::order::in_order;
 use crate::placed::{Placed, known_place, placed_premises, target_places};
 use crate::places::place_of;
 use crate::users::user_rows;
@@ -37,6 +39,8 @@ pub struct Universe {
     premises: FlatRows<Placed>,
     // By place of a slot, the numbers of the instances that take it.
     users: FlatRows<u32>,
+    // Numbers of instances, those of small expressions first; none until it is asked for.
+    order: Vec<u32>,
 }
 
 impl Model for Universe {
@@ -49,6 +53,7 @@ impl Model for Universe {
     ghost use Rattle.rule_universe.specs.Worlds.{World, IsWhole};
     ghost use Rattle.rule_universe.specs.Placed.{ArePremises, AreTargets};
     ghost use Rattle.rule_universe.specs.Rows.{AreRows};
+    ghost use Rattle.rule_universe.specs.Ordered.{AreNumbersOf};
 
     ghost Value = { World };
 
@@ -80,7 +85,8 @@ impl Model for Universe {
         × AreRows (length u.nodes) u.index u.instances.items (length u.instances.items) u.users
         × (length u.goals.items ≤ 65535)
         × AreTargets (length u.nodes) u.index u.instances.items u.targets.items
-        × ArePremises (length u.nodes) u.index u.instances.items u.premises };
+        × ArePremises (length u.nodes) u.index u.instances.items u.premises
+        × AreNumbersOf u.instances.items u.order.items };
 }
 
 impl Universe {
@@ -117,6 +123,7 @@ impl Universe {
         let targets = target_places(alloc, &nodes, &pairs, &instances)?;
         let premises = placed_premises(alloc, &nodes, &pairs, &instances)?;
         let list = pairs.to_vec(alloc)?;
+        let order = Vec::new(alloc);
         Ok(Universe {
             nodes,
             index: pairs,
@@ -128,6 +135,7 @@ impl Universe {
             targets,
             premises,
             users,
+            order,
         })
     }
 
@@ -138,6 +146,16 @@ impl Universe {
         ensures { self.new ≡ assuming self.old facts.items }
     {
         self.hypotheses = facts;
+    }
+
+    /// Puts the numbers of the instances in order, for boxes below the root. All else stays, also
+    /// where memory runs out.
+    pub fn put_in_order(&mut self, alloc: Global) -> Result<(), AllocError>
+        ensures { self.new ≡ self.old }
+    {
+        let order = in_order(alloc, &self.nodes, &self.instances)?;
+        self.order = order;
+        Ok(())
     }
 
     /// The nodes of the expressions.
@@ -205,6 +223,14 @@ impl Universe {
             → ArePlaced (length self.now.nodes) self.now.pairs i.premises result.now }
     {
         self.premises.row(k)
+    }
+
+    /// Numbers of instances, from 0: those of small expressions first. There are none before
+    /// `put_in_order`. That each instance is among them, and once, no clause says.
+    pub fn order(&self) -> &[u32]
+        ensures { AreNumbersOf self.now.instances result.now }
+    {
+        &self.order
     }
 
     /// The rising numbers, from 0, of the instances that have the slot with this place among their

@@ -1,5 +1,6 @@
 //! Memory that a thread keeps from box to box.
 use crate::kept::{Table, Tables};
+use crate::sweep::SweepWork;
 use crate::work::Work;
 use std::alloc::Global;
 
@@ -11,6 +12,8 @@ pub struct Area {
     pub(crate) tables: Tables,
     // What else rounds need.
     pub(crate) work: Work,
+    // What sweeps need beside the second table.
+    pub(crate) sweep: SweepWork,
 }
 
 impl Area {
@@ -22,6 +25,7 @@ impl Area {
                 next: Table::bare(alloc),
             },
             work: Work::new(alloc),
+            sweep: SweepWork::new(alloc),
         }
     }
 }

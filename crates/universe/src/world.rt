@@ -45,6 +45,18 @@ impl From<ClosureFault> for UniverseFault {
     }
 }
 
+// The same universe, with its instances in order where a hint splits a variable: elsewhere no box is
+// below the root.
+fn in_order(alloc: Global, universe: Universe, script: &Script<'_>) -> Result<Universe, AllocError>
+    ensures { IfOk result (λ u. u ≡ universe) }
+{
+    let mut universe = universe;
+    if !script.hints().order.as_slice().is_empty() {
+        universe.put_in_order(alloc)?;
+    }
+    Ok(universe)
+}
+
 /// The universe of a script, in which nothing is assumed yet. `ExprLimit` exactly where it has more
 /// than 1,024 expressions.
 pub fn build(alloc: Global, script: &Script<'_>) -> Result<Universe, UniverseFault>
@@ -63,7 +75,8 @@ pub fn build(alloc: Global, script: &Script<'_>) -> Result<Universe, UniverseFau
     pairs.laws();
     let nothing = Vec::new(alloc);
     let universe = Universe::new(alloc, nodes, pairs, goals, nothing, rows, instances)?;
-    Ok(universe)
+    let ordered = in_order(alloc, universe, script)?;
+    Ok(ordered)
 }
 
 /// Assumes these claims of the script in its universe, in place of what was assumed: those of a

@@ -1,9 +1,8 @@
-use Rattle.std.proofs.Common.{arith, ◌≡◌, None, suc, false, true, ◌+◌, ◌-◌, ◌<◌, ◌≤◌, length}
+use Rattle.std.proofs.Common.{arith, ◌≡◌, None, suc, ◌+◌, ◌-◌, ◌<◌, ◌≤◌, length}
 use Rattle.std.proofs.Common.{sym, ap, subst, ◌∙◌, add-one, refl, count_by, List, Bool, take, drop}
 use Rattle.std.proofs.Common.{◌++◌}
 use Rattle.std.proofs.lemmas.Bool.{eqb-true}
 use Rattle.std.proofs.lemmas.List.{length-map}
-use Rattle.std.proofs.lemmas.List.Sums.{count_by-le-length}
 use Rattle.rule_universe.specs.facts.declared.fact.Slot.TheVariants as slot
 use Rattle.rule_universe.specs.facts.declared.fact.Fact.TheVariants as fact
 use Rattle.rule_universe.specs.derivation.Derivations.{At, IsBest}
@@ -12,13 +11,13 @@ use Rattle.rule_universe.specs.derivation.Best.{next_best}
 use Rattle.rule_universe.specs.derivation.Heights.{best_start, best_void, best_same}
 use Rattle.rule_universe.specs.derivation.Changes.{IsQuiet, AreDue, AreUsers, quiet_after}
 use Rattle.rule_universe.specs.derivation.Counted.{touched}
-use Rattle.rule_universe.specs.derivation.Counts.{due_touched, spent, round_cost, spent_within}
+use Rattle.rule_universe.specs.derivation.Counts.{due_touched}
 use Rattle.rule_universe.specs.declared.placed.Placed.{Placed}
 use Rattle.rule_universe.specs.Placed.{slots_of}
 use Rattle.saturate.specs.Universes.{setting_by}
 use Rattle.saturate.specs.Closed.{IsClosedUnder}
 use Rattle.saturate.specs.Keeping.{IsSaid, HaveCome}
-use Rattle.saturate.proofs.Counted.{spent_next, spent_last}
+use Rattle.saturate.proofs.Counted.{spent_by, cost_by, spent_within, spent_next, spent_last}
 use Rattle.saturate.proofs.Closed.{closed_same}
 use Rattle.saturate.specs.Lists.{written_back, listed_none}
 use Rattle.saturate.proofs.rounds.rounds_in.Goals as goal
@@ -36,9 +35,7 @@ loop-init g c = record {
       (let e : c.args.height ≡ c.args.height - 0 = omega arith in
       subst (λ n. g.K.Keeps.fits c.args.uni.now n c.args.kept.now) e c.requires.fits);
   come = refl;
-  due_few = λ rising best b l.
-      (let h = count_by-le-length (λ b. b) c.args.work.now.due.items in
-      omega (arith, h, c.requires.due));
+  due_few = λ rising best b l. omega arith;
   cost = λ rising best b. omega arith;
 }
 
@@ -84,7 +81,7 @@ returns-then-void-clause-come g c =
 pub returns-then-void-clause-cost : goal.returns-then-void-clause-cost
 returns-then-void-clause-cost g c = λ rising best b.
     let same_due = ap (count_by (λ b. b)) c.deref.ensures.value in
-    spent_last c.args.uni.now.instances best c.loop.counter c.args.height c.loop-test.true _ _ _ _
+    spent_last c.args.uni.now.instances best c.loop.counter c.args.height c.loop-test.true _ _ _ _ _
     (c.loop.invariant.due_few rising best b c.loop-test.true) (c.loop.invariant.cost rising best b)
     (omega (arith, same_due, c.round.ensures.cost))
 
@@ -149,14 +146,14 @@ returns-then-is_empty-clause-closed g c = λ said.
 pub returns-then-is_empty-clause-cost : goal.returns-then-is_empty-clause-cost
 returns-then-is_empty-clause-cost g c = λ rising best b.
     let same_due = ap (count_by (λ b. b)) c.deref.ensures.value in
-    spent_last c.args.uni.now.instances best c.loop.counter c.args.height c.loop-test.true _ _ _ _
+    spent_last c.args.uni.now.instances best c.loop.counter c.args.height c.loop-test.true _ _ _ _ _
     (c.loop.invariant.due_few rising best b c.loop-test.true) (c.loop.invariant.cost rising best b)
     (omega (arith, same_due, c.round.ensures.cost))
 
 pub returns-in_err-void-clause-cost : goal.returns-in_err-void-clause-cost
 returns-in_err-void-clause-cost g c = λ rising best b.
     let same_due = ap (count_by (λ b. b)) c.deref.ensures.value in
-    spent_last c.args.uni.now.instances best c.loop.counter c.args.height c.loop-test.true _ _ _ _
+    spent_last c.args.uni.now.instances best c.loop.counter c.args.height c.loop-test.true _ _ _ _ _
     (c.loop.invariant.due_few rising best b c.loop-test.true) (c.loop.invariant.cost rising best b)
     (omega (arith, same_due, c.round.ensures.cost))
 
@@ -219,16 +216,18 @@ loop-preserved g c =
           ≤ touched w.instances x (best (suc c.loop.counter))) before
           (subst (λ (x : At). count_by (λ b. b) c.mark.new.due
           ≤ touched w.instances at x) after few) in
-          subst (λ m. count_by (λ b. b) due ≤ round_cost w.instances best m)
+          subst (λ m. count_by (λ b. b) due
+          ≤ cost_by (count_by (λ b. b) c.args.work.now.due.items) w.instances best m)
           (sym (add-one c.loop.counter))
           (subst (λ l. count_by (λ b. b) l ≤ touched w.instances (best c.loop.counter)
           (best (suc c.loop.counter))) (sym back) there));
       cost = λ rising best b.
           (let same_due = ap (count_by (λ b. b)) c.deref.ensures.value in
           subst (λ m. g.C.Concludes.asked c.round.new.steps
-          ≤ g.C.Concludes.asked c.args.steps.now + spent w.instances best m)
+          ≤ g.C.Concludes.asked c.args.steps.now
+          + spent_by (count_by (λ b. b) c.args.work.now.due.items) w.instances best m)
           (sym (add-one c.loop.counter))
-          (spent_next w.instances best c.loop.counter c.args.height c.loop-test.true _ _ _ _
+          (spent_next w.instances best c.loop.counter c.args.height c.loop-test.true _ _ _ _ _
           (c.loop.invariant.due_few rising best b c.loop-test.true)
           (c.loop.invariant.cost rising best b) (omega (arith, same_due, c.round.ensures.cost))));
     }
@@ -246,6 +245,6 @@ returns-clause-best g c =
 pub returns-clause-cost : goal.returns-clause-cost
 returns-clause-cost g c = λ rising best b.
     let so_far = c.loop.invariant.cost rising best b in
-    let all = spent_within c.args.uni.now.instances best c.loop.counter c.args.height
-    (omega (arith, c.loop.auto.counter-end)) in
+    let all = spent_within (count_by (λ b. b) c.args.work.now.due.items) c.args.uni.now.instances
+    best c.loop.counter c.args.height (omega (arith, c.loop.auto.counter-end)) in
     omega (arith, so_far, all)

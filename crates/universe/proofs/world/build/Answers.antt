@@ -69,7 +69,8 @@ returns-clause-universe c =
       hints = c.in_ok-rows.rows.items;
       instances = c.in_ok-instances.instances.items;
     } in
-    subst (IsUniverse c.args.script.now []) (sym c.in_ok-universe.ensures)
+    subst (IsUniverse c.args.script.now [])
+    (sym (c.in_ok-ordered.ensures ∙ c.in_ok-universe.ensures))
     (universe_of c.args.script.now u c.nodes.result.now c.nodes-2.result.now c.as_slice.result.now
     c.as_slice-2.result.now c.as_slice-3.result.now c.goals.result.now
     c.nodes.ensures (c.as_slice.ensures.value
