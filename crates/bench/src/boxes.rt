@@ -25,7 +25,7 @@ const TURNS: (u32, u32) = (500, 20);
 const ROOT: (u128, u128) = (7_956, 2_702);
 
 /// The same of all 65 boxes.
-const ALL: (u128, u128) = (1_831_719, 1_623_700);
+const ALL: (u128, u128) = (210_747, 177_297);
 
 fn first_variable(dag: &Dag) -> Option<ExprId>
     ensures { IfSome result (λ x. x.0 < length dag.now) }
