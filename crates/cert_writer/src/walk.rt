@@ -90,8 +90,9 @@ fn own_bytes(
     walk_goes_on(plan);
     boxes_are_short();
     leaves_are_trimmed();
-    let Traced { steps, known } = trace(alloc, uni, plan.piece(path), parent, rounds, seen.steps)?;
-    let (last, pieces) = last_item(alloc, uni, plan.cut(path), &known)?;
+    let (piece, cut) = plan.at(path);
+    let Traced { steps, known } = trace(alloc, uni, piece, parent, rounds, seen.steps)?;
+    let (last, pieces) = last_item(alloc, uni, cut, &known)?;
     let own = own_items(alloc, steps, last)?;
     let items = written_items(alloc, own, pieces, seen.steps)?;
     let (bytes, next) = spell_box(alloc, items.as_slice(), seen)?;

@@ -21,10 +21,10 @@ pub last_item-requires-clause-ends : goal.last_item-requires-clause-ends
 last_item-requires-clause-ends c =
     let s = c.requires.somewhere in
     let its = subst (λ o. IsItsTable c.args.uni.now c.args.rounds o c.args.parent
-    c.in_ok-steps.field-0.known) c.piece.ensures c.in_ok-steps.ensures.table.best in
+    c.in_ok-steps.field-0.known) c.at-piece.ensures.piece c.in_ok-steps.ensures.table.best in
     let steps = subst (λ o. AreItsSteps c.args.uni.now o c.args.parent c.args.seen.steps (log_of
-    c.args.seen.steps c.in_ok-steps.field-0)) c.piece.ensures c.in_ok-steps.ensures.steps in
-    subst (λ k. MayEnd c.args.uni.now c.in_ok-steps.field-0.known k) (sym c.cut.ensures.is)
+    c.args.seen.steps c.in_ok-steps.field-0)) c.at-piece.ensures.piece c.in_ok-steps.ensures.steps in
+    subst (λ k. MayEnd c.args.uni.now c.in_ok-steps.field-0.known k) (sym c.at-piece.ensures.is)
     (may_end c.args.plan.now c.walk_goes_on.ensures c.args.uni.now c.args.rounds s.0 s.1 s.2 s.4
     c.args.path.now c.args.parent c.args.seen s.3 s.5 c.in_ok-steps.field-0 its
     c.in_ok-steps.ensures.table.rows steps c.in_ok-steps.ensures.few
@@ -45,11 +45,11 @@ pub written_items-requires-clause-earlier : goal.written_items-requires-clause-e
 written_items-requires-clause-earlier c = λ none.
     let s = c.requires.somewhere in
     let its = subst (λ o. IsItsTable c.args.uni.now c.args.rounds o c.args.parent
-    c.in_ok-steps.field-0.known) c.piece.ensures c.in_ok-steps.ensures.table.best in
+    c.in_ok-steps.field-0.known) c.at-piece.ensures.piece c.in_ok-steps.ensures.table.best in
     let steps = subst (λ o. AreItsSteps c.args.uni.now o c.args.parent c.args.seen.steps (log_of
-    c.args.seen.steps c.in_ok-steps.field-0)) c.piece.ensures c.in_ok-steps.ensures.steps in
+    c.args.seen.steps c.in_ok-steps.field-0)) c.at-piece.ensures.piece c.in_ok-steps.ensures.steps in
     let last = subst (λ k. IsLast c.args.uni.now c.in_ok-steps.field-0.known k c.in_ok-last.last
-    c.in_ok-last.pieces) c.cut.ensures.is c.in_ok-last.ensures in
+    c.in_ok-last.pieces) c.at-piece.ensures.is c.in_ok-last.ensures in
     subst (CiteEarlier c.args.seen.steps) (sym c.in_ok-own.ensures)
     (own_cites c.args.plan.now c.walk_goes_on.ensures c.args.uni.now c.args.rounds s.0 s.1 s.2 s.4
     c.args.path.now c.args.parent c.args.seen s.3 s.5 c.in_ok-steps.field-0 its
@@ -61,11 +61,11 @@ pub spell_box-requires-clause-spelled : goal.spell_box-requires-clause-spelled
 spell_box-requires-clause-spelled c =
     let s = c.requires.somewhere in
     let its = subst (λ o. IsItsTable c.args.uni.now c.args.rounds o c.args.parent
-    c.in_ok-steps.field-0.known) c.piece.ensures c.in_ok-steps.ensures.table.best in
+    c.in_ok-steps.field-0.known) c.at-piece.ensures.piece c.in_ok-steps.ensures.table.best in
     let steps = subst (λ o. AreItsSteps c.args.uni.now o c.args.parent c.args.seen.steps (log_of
-    c.args.seen.steps c.in_ok-steps.field-0)) c.piece.ensures c.in_ok-steps.ensures.steps in
+    c.args.seen.steps c.in_ok-steps.field-0)) c.at-piece.ensures.piece c.in_ok-steps.ensures.steps in
     let last = subst (λ k. IsLast c.args.uni.now c.in_ok-steps.field-0.known k c.in_ok-last.last
-    c.in_ok-last.pieces) c.cut.ensures.is c.in_ok-last.ensures in
+    c.in_ok-last.pieces) c.at-piece.ensures.is c.in_ok-last.ensures in
     let e = c.as_slice.ensures.value ∙ c.in_ok-items.ensures
     ∙ ap (written_of c.in_ok-last.pieces c.args.seen.steps) c.in_ok-own.ensures in
     subst (AllByRecursion HasSpelling) (sym e)
@@ -79,9 +79,9 @@ pub spell_box-requires-clause-steps : goal.spell_box-requires-clause-steps
 spell_box-requires-clause-steps c =
     let s = c.requires.somewhere in
     let its = subst (λ o. IsItsTable c.args.uni.now c.args.rounds o c.args.parent
-    c.in_ok-steps.field-0.known) c.piece.ensures c.in_ok-steps.ensures.table.best in
+    c.in_ok-steps.field-0.known) c.at-piece.ensures.piece c.in_ok-steps.ensures.table.best in
     let steps = subst (λ o. AreItsSteps c.args.uni.now o c.args.parent c.args.seen.steps (log_of
-    c.args.seen.steps c.in_ok-steps.field-0)) c.piece.ensures c.in_ok-steps.ensures.steps in
+    c.args.seen.steps c.in_ok-steps.field-0)) c.at-piece.ensures.piece c.in_ok-steps.ensures.steps in
     let e : length c.as_slice.result.now ≡ length (written_of c.in_ok-last.pieces c.args.seen.steps
     (section_of c.in_ok-steps.field-0.steps.items c.in_ok-last.last)) =
     ap length (c.as_slice.ensures.value ∙ c.in_ok-items.ensures
@@ -100,9 +100,9 @@ pub spell_box-requires-clause-sections : goal.spell_box-requires-clause-sections
 spell_box-requires-clause-sections c =
     let s = c.requires.somewhere in
     let its = subst (λ o. IsItsTable c.args.uni.now c.args.rounds o c.args.parent
-    c.in_ok-steps.field-0.known) c.piece.ensures c.in_ok-steps.ensures.table.best in
+    c.in_ok-steps.field-0.known) c.at-piece.ensures.piece c.in_ok-steps.ensures.table.best in
     let steps = subst (λ o. AreItsSteps c.args.uni.now o c.args.parent c.args.seen.steps (log_of
-    c.args.seen.steps c.in_ok-steps.field-0)) c.piece.ensures c.in_ok-steps.ensures.steps in
+    c.args.seen.steps c.in_ok-steps.field-0)) c.at-piece.ensures.piece c.in_ok-steps.ensures.steps in
     let e : length c.as_slice.result.now ≡ length (written_of c.in_ok-last.pieces c.args.seen.steps
     (section_of c.in_ok-steps.field-0.steps.items c.in_ok-last.last)) =
     ap length (c.as_slice.ensures.value ∙ c.in_ok-items.ensures
@@ -120,11 +120,11 @@ spell_box-requires-clause-sections c =
 pub returns-clause-own : goal.returns-clause-own
 returns-clause-own c = λ t lines states p is before.
     let its = subst (λ o. IsItsTable c.args.uni.now c.args.rounds o c.args.parent
-    c.in_ok-steps.field-0.known) c.piece.ensures c.in_ok-steps.ensures.table.best in
+    c.in_ok-steps.field-0.known) c.at-piece.ensures.piece c.in_ok-steps.ensures.table.best in
     let steps = subst (λ o. AreItsSteps c.args.uni.now o c.args.parent c.args.seen.steps (log_of
-    c.args.seen.steps c.in_ok-steps.field-0)) c.piece.ensures c.in_ok-steps.ensures.steps in
+    c.args.seen.steps c.in_ok-steps.field-0)) c.at-piece.ensures.piece c.in_ok-steps.ensures.steps in
     let last = subst (λ k. IsLast c.args.uni.now c.in_ok-steps.field-0.known k c.in_ok-last.last
-    c.in_ok-last.pieces) c.cut.ensures.is c.in_ok-last.ensures in
+    c.in_ok-last.pieces) c.at-piece.ensures.is c.in_ok-last.ensures in
     let e = c.as_slice.ensures.value ∙ c.in_ok-items.ensures
     ∙ ap (written_of c.in_ok-last.pieces c.args.seen.steps) c.in_ok-own.ensures in
     let own = section_of c.in_ok-steps.field-0.steps.items c.in_ok-last.last in
