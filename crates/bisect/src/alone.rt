@@ -91,11 +91,12 @@ pub fn visit<'a, S: Settler>(
         + length (boxes_from (tree_of S.Entry.cut_at S.Entry.state_at) (36 - length path) path)) }
     ensures within { StaysWithin walk.old walk.new }
 {
+    plan.laws();
     if walk.boxes == walk.limit {
         return Ok(false);
     }
-    let Verdict { entry, state } = settler.settle(alloc, &path, parent, area)?;
-    let count = children(plan.cut(&path), &state);
+    let Verdict { entry, state, cut } = settler.settle(alloc, &path, parent, area)?;
+    let count = children(cut, &state);
     walk.see(path, state, count)?;
     for i in 0..count {
         if !visit(

@@ -5,7 +5,7 @@ ghost use Rattle.box_tree.specs.Pieces.{piece_count};
 ghost use Rattle.box_tree.specs.declared.cut.Cut.{Cut};
 ghost use Rattle.bisect.specs.declared.settler.State.{State};
 
-use box_tree::Fact;
+use box_tree::{Cut, Fact};
 use fx_edge::{Items, Path};
 use std::alloc::{AllocError, Global};
 
@@ -34,11 +34,12 @@ pub trait Posted: Drop + Send + Sync {
     ghost path_of: { Self → List ℕ };
 }
 
-/// What settling a box gives: its entry, and how it stands.
+/// What settling a box gives: its entry, how it stands, and its cut.
 #[derive(Drop)]
 pub struct Verdict<E: Drop> {
     pub entry: E,
     pub state: State,
+    pub cut: Cut,
 }
 
 /// Settles boxes, each from the entry of the box that it is a piece of.
@@ -65,5 +66,6 @@ pub trait Settler: Sync {
         requires parent { MatchOption parent (path.now ≡ [])
             (λ e. IsChild (Self.Entry.path_of e.now) path.now) }
         ensures entry { IfOk result (λ v. Self.Entry.path_of v.entry ≡ path.now) }
-        ensures state { IfOk result (λ v. v.state ≡ Self.Entry.state_at path.now) };
+        ensures state { IfOk result (λ v. v.state ≡ Self.Entry.state_at path.now) }
+        ensures cut { IfOk result (λ v. v.cut ≡ Self.Entry.cut_at path.now) };
 }

@@ -85,7 +85,7 @@ pub(crate) fn finish_box<S: Settler, G: Gate, Q: Naming<Board<S::Entry>>, R: Wai
         lane.old lane.new task result }
 {
     let path = task.path;
-    let Ok(Verdict { entry, state }) = site.settle(&task, area) else {
+    let Ok(Verdict { entry, state, cut }) = site.settle(&task, area) else {
         return Fate::Held(Held {
             task,
             own: None,
@@ -93,7 +93,7 @@ pub(crate) fn finish_box<S: Settler, G: Gate, Q: Naming<Board<S::Entry>>, R: Wai
             why: HeldWhy::Memory,
         });
     };
-    let count = site.children(&path, &state);
+    let count = site.children(&path, cut, &state);
     if count == 0 {
         return Fate::Settled(Leaf { path, state });
     }

@@ -12,7 +12,9 @@ use crate::counts::Counts;
 use crate::record::Record;
 use crate::task::BoxTask;
 use accounts::Plan;
-use bisect::{Posted, Settler, State, Verdict, Walk, boxes_are_listed, children, visit, walks_see};
+use bisect::{
+    Cut, Posted, Settler, State, Verdict, Walk, boxes_are_listed, children, visit, walks_see,
+};
 use fact_board::{Board, Token};
 use fx_edge::{Gate, Path};
 use std::alloc::{AllocError, Global};
@@ -77,6 +79,7 @@ impl<'a, S: Settler, G: Gate> Site<'a, S, G> {
         requires { MatchOption task.now.parent (Unit {0}) (λ s. s.board ≡ self.now) }
         ensures entry { IfOk result (λ v. S.Entry.path_of v.entry ≡ task.now.path) }
         ensures state { IfOk result (λ v. v.state ≡ S.Entry.state_at task.now.path) }
+        ensures cut { IfOk result (λ v. v.cut ≡ S.Entry.cut_at task.now.path) }
     {
         self.gate.enter(&task.path);
         let parent = match &task.parent {
@@ -115,14 +118,17 @@ impl<'a, S: Settler, G: Gate> Site<'a, S, G> {
         }
     }
 
-    // Into how many boxes the box is cut.
-    pub(crate) fn children(&self, path: &Path, state: &State) -> u8
+    // Into how many boxes the box is cut that has this cut.
+    pub(crate) fn children(&self, path: &Path, cut: Cut, state: &State) -> u8
+        requires { cut ≡ S.Entry.cut_at path.now }
         ensures count { result ≡ children (S.Entry.cut_at path.now) state.now }
         ensures pieces { result ≤ piece_count (S.Entry.cut_at path.now) }
         ensures most { result ≤ 64 }
         ensures bottom { 36 ≤ length path.now → result ≡ 0 }
     {
-        children(self.plan.cut(path), state)
+        let _ = path;
+        self.plan.laws();
+        children(cut, state)
     }
 
     // A child is about to be pushed.

@@ -15,7 +15,7 @@ ghost use Rattle.settler.specs.Frames.{Fits};
 
 use crate::entry::Entry;
 use crate::frame::Frame;
-use case_trees::{Plan, Settler, State, Verdict};
+use case_trees::{Cut, Plan, Settler, State, Verdict};
 use fx_edge::{Items, Path};
 use fx_model::ExprId;
 use saturate::{
@@ -111,15 +111,15 @@ impl<'a, F: Frame> Boxes<'a, F> {
     }
 
     // What the last cut left, of a box below the root.
-    fn piece(&self, path: &Path) -> (ExprId, Interval)
+    fn piece(&self, path: &Path, last: Option<(ExprId, Interval)>) -> (ExprId, Interval)
+        requires last { last ≡ piece_at F.plan path.now }
         requires path { IsPathOf (λ p. piece_count (cut_at F.plan p)) path.now }
         requires below { (p : List ℕ) × IsChild p path.now }
         ensures piece { piece_at F.plan path.now ≡ Some result }
         ensures variable { (result.0).0 < length F.universe.nodes }
     {
-        let Some(piece) = self.plan.piece(path) else {
-            unreachable!()
-        };
+        let _ = (self.plan, path);
+        let Some(piece) = last else { unreachable!() };
         piece
     }
 
@@ -127,8 +127,10 @@ impl<'a, F: Frame> Boxes<'a, F> {
     fn given<'b>(
         &self,
         path: &Path,
+        last: Option<(ExprId, Interval)>,
         parent: Option<&'b Entry<F>>,
     ) -> (Option<(ExprId, Interval)>, Option<&'b Table>)
+        requires last { last ≡ piece_at F.plan path.now }
         requires path { IsPathOf (λ p. piece_count (cut_at F.plan p)) path.now }
         requires parent { MatchOption parent (path.now ≡ []) (λ e. IsChild e.now path.now) }
         ensures is { IsBox F.universe F.rounds result.0 result.1 (pieces_at F.plan path.now) }
@@ -137,7 +139,7 @@ impl<'a, F: Frame> Boxes<'a, F> {
     {
         self.plan.covers();
         match parent {
-            Some(entry) => (Some(self.piece(path)), Some(entry.table())),
+            Some(entry) => (Some(self.piece(path, last)), Some(entry.table())),
             None => (None, None),
         }
     }
@@ -147,9 +149,11 @@ impl<'a, F: Frame> Boxes<'a, F> {
         &self,
         alloc: Global,
         path: &Path,
+        last: Option<(ExprId, Interval)>,
         parent: Option<&Entry<F>>,
         area: &mut Area,
     ) -> Result<Settled, AllocError>
+        requires last { last ≡ piece_at F.plan path.now }
         requires path { IsPathOf (λ p. piece_count (cut_at F.plan p)) path.now }
         requires parent { MatchOption parent (path.now ≡ []) (λ e. IsChild e.now path.now) }
         ensures table { IfOk result (λ r. IsTableAt (setting_of F.universe) F.rounds
@@ -159,7 +163,7 @@ impl<'a, F: Frame> Boxes<'a, F> {
         ensures places { IfOk result (λ r. HasAllPlaces F.universe (table_of r)) }
         ensures marked { IfOk result (λ r. IsMarked (setting_of F.universe) (table_of r)) }
     {
-        let (piece, table) = self.given(path, parent);
+        let (piece, table) = self.given(path, last, parent);
         settle(alloc, self.universe, piece, table, self.rounds, area)
     }
 
@@ -168,8 +172,10 @@ impl<'a, F: Frame> Boxes<'a, F> {
         &self,
         alloc: Global,
         path: Path,
+        cut: Cut,
         settled: Settled,
     ) -> Result<Verdict<Entry<F>>, AllocError>
+        requires cut { cut ≡ cut_at F.plan path }
         requires table { IsTableAt (setting_of F.universe) F.rounds (pieces_at F.plan path)
             (fact_at (table_of settled)) }
         requires state { IsState (setting_of F.universe) F.universe.goals F.rounds
@@ -178,6 +184,7 @@ impl<'a, F: Frame> Boxes<'a, F> {
         requires marked { IsMarked (setting_of F.universe) (table_of settled) }
         ensures entry { IfOk result (λ v. v.entry ≡ path) }
         ensures state { IfOk result (λ v. v.state ≡ state_at F.universe F.plan F.rounds path) }
+        ensures cut { IfOk result (λ v. v.cut ≡ cut_at F.plan path) }
     {
         self.universe.laws();
         rules_are_lawful();
@@ -188,6 +195,7 @@ impl<'a, F: Frame> Boxes<'a, F> {
         Ok(Verdict {
             entry: Entry::new(path, into_table(settled)),
             state,
+            cut,
         })
     }
 }
@@ -208,7 +216,8 @@ impl<'a, F: Frame + Send + Sync> Settler for Boxes<'a, F> {
         parent: Option<&Entry<F>>,
         area: &mut Area,
     ) -> Result<Verdict<Entry<F>>, AllocError> {
-        let settled = self.settled(alloc, path, parent, area)?;
-        self.verdict(alloc, *path, settled)
+        let (last, cut) = self.plan.at(path);
+        let settled = self.settled(alloc, path, last, parent, area)?;
+        self.verdict(alloc, *path, cut, settled)
     }
 }

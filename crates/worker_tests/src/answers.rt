@@ -46,7 +46,7 @@ fn answer_in<W: World, R: Threads + Wait + Sync>(
 ) -> Result<(bool, u64), AllocError>
     requires { (p : List ℕ) → cut_at plan.now p ≡ W.cut_at p }
 {
-    let settler = two_ways::<W>(refused);
+    let settler = two_ways::<W>(plan, refused);
     let found = run(rt, alloc, &settler, &OpenGate, plan, 4, 4096)?;
     Ok((is_whole(&found), settler.calls.load(Ordering::SeqCst)))
 }

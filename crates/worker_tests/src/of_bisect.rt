@@ -21,7 +21,7 @@ fn answer_in<W: World>(alloc: Global, plan: &Plan, boxes: u32) -> Result<Outcome
     requires { (p : List ℕ) → cut_at plan.now p ≡ W.cut_at p }
     ensures { IfOk result (IsAnswer (tree_of W.cut_at two_ways_open) boxes) }
 {
-    let settler = two_ways::<W>(NONE);
+    let settler = two_ways::<W>(plan, NONE);
     run_alone(alloc, &settler, plan, boxes)
 }
 

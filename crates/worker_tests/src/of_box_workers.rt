@@ -90,7 +90,7 @@ fn answer_in<W: World, G: Gate, R: Threads + Wait + Sync>(
     requires workers { (1 ≤ workers) × (workers ≤ 16) }
     requires boxes { (1 ≤ boxes) × (boxes ≤ 8192) }
 {
-    let settler = two_ways::<W>(refused);
+    let settler = two_ways::<W>(plan, refused);
     let found = run(rt, alloc, &settler, gate, plan, workers, boxes)?;
     Ok(summary(&found, settler.calls.load(Ordering::SeqCst)))
 }

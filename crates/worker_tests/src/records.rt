@@ -58,7 +58,7 @@ fn work_with<W: World, Q: Naming<Board<Spot<W>>>, R: Wait>(
     let Ok(()) = lane.push(BoxTask::root()) else {
         return Err(AllocError);
     };
-    let settler = two_ways::<W>(NONE);
+    let settler = two_ways::<W>(plan, NONE);
     let counts = Counts::new();
     let none = Vec::new(alloc);
     let hand = &mut hands[0];

@@ -4,6 +4,7 @@ ghost use Rattle.bisect.specs.Examples.{is_front, two_ways_open};
 ghost use Rattle.bisect.specs.declared.settler.State.{State};
 ghost use Rattle.box_tree.specs.declared.cut.Cut.{Cut};
 ghost use Rattle.box_tree.specs.declared.cut.Cut.TheVariants.{Bottom};
+ghost use Rattle.box_tree.specs.Plans.{cut_at};
 ghost use Rattle.literal_order.specs.Values.{IsWritten};
 
 use bisect::{Posted, Settler, State, Verdict};
@@ -51,17 +52,22 @@ impl<W: World> Posted for Spot<W> {
 
 /// Counts its calls, of which one is refused.
 #[derive(Drop)]
-pub struct TwoWays<W: World> {
+pub struct TwoWays<'a, W: World> {
     pub calls: AtomicU64,
     refused: u64,
+    plan: &'a Plan,
     of: PhantomData<W>,
+    ghost same: { (p : List ℕ) → cut_at plan.now p ≡ W.cut_at p },
 }
 
-/// It settles boxes as the tree has them.
-pub fn two_ways<W: World>(refused: u64) -> TwoWays<W> {
+/// It settles boxes of the plan as the tree has them.
+pub fn two_ways<'a, W: World>(plan: &'a Plan, refused: u64) -> TwoWays<'a, W>
+    requires { (p : List ℕ) → cut_at plan.now p ≡ W.cut_at p }
+{
     TwoWays {
         calls: AtomicU64::new(0),
         refused,
+        plan,
         of: PhantomData,
     }
 }
@@ -79,7 +85,7 @@ pub fn is_front(path: &[u8], numbers: &[u8]) -> bool
     }
 }
 
-impl<W: World> Settler for TwoWays<W> {
+impl<'a, W: World> Settler for TwoWays<'a, W> {
     type Entry = Spot<W>;
 
     type Area = ();
@@ -107,7 +113,11 @@ impl<W: World> Settler for TwoWays<W> {
             path: *path,
             of: PhantomData,
         };
-        Ok(Verdict { entry, state })
+        Ok(Verdict {
+            entry,
+            state,
+            cut: self.plan.cut(path),
+        })
     }
 }
 

@@ -1,4 +1,4 @@
-use Rattle.std.proofs.Common.{arith, ◌≡◌, ◌-◌, List, ℕ, length, sym, ap, subst, ◌∙◌}
+use Rattle.std.proofs.Common.{arith, ◌≡◌, ◌≤◌, ◌-◌, List, ℕ, length, sym, ap, subst, ◌∙◌}
 use Rattle.box_tree.specs.declared.cut.Cut.{Cut}
 use Rattle.box_tree.specs.Pieces.{piece_count}
 use Rattle.box_tree.specs.Plans.{cut_at}
@@ -10,9 +10,12 @@ use Rattle.bisect.proofs.Walks.{above_bottom, walk_begin, walk_on, walk_over, wa
 use Rattle.bisect.proofs.Walks.{boxes_positive}
 use Rattle.bisect.proofs.alone.+visit.Goals as goal
 
-same_cut : (cuts all : List ℕ → Cut) (p : List ℕ) (c : Cut) → c ≡ cuts p
-    → ((q : List ℕ) → cuts q ≡ all q) → c ≡ all p
-same_cut cuts all p c e f = e ∙ f p
+-- a box that lies so deep has no piece by its cut
+at_bottom : (cuts all : List ℕ → Cut) (p : List ℕ) (c : Cut) → c ≡ all p
+    → ((q : List ℕ) → cuts q ≡ all q)
+    → ((q : List ℕ) → 36 ≤ length q → piece_count (cuts q) ≡ 0)
+    → 36 ≤ length p → piece_count c ≡ 0
+at_bottom cuts all p c e f laws deep = ap piece_count (e ∙ sym (f p)) ∙ laws p deep
 
 pub returns-then-walk-clause-over : goal.returns-then-walk-clause-over
 returns-then-walk-clause-over g t c = λ _.
@@ -23,15 +26,16 @@ returns-then-walk-clause-over g t c = λ _.
 pub loop-i-init : goal.loop-i-init
 loop-i-init g t c =
     let tree = tree_of g.S.Entry.Posted.cut_at g.S.Entry.Posted.state_at in
-    let e = same_cut (cut_at c.args.plan.now) g.S.Entry.Posted.cut_at c.args.path c.cut.result
-    c.cut.ensures.is c.requires.plan in
+    let cut = c.in_ok-entry.field-0.cut in
+    let e = c.in_ok-entry.ensures.cut in
     record {
       seen =
           walk_begin tree c.args.path
           (seen_by c.args.walk.now.boxes c.args.walk.now.first c.args.walk.now.leaves.items)
           (seen_by c.see.new.self.boxes c.see.new.self.first c.see.new.self.leaves.items)
-          c.cut.result c.in_ok-entry.field-0.state c.children-count.result
-          (above_bottom tree c.args.path c.cut.result c.cut.ensures.bottom e)
+          cut c.in_ok-entry.field-0.state c.children-count.result
+          (above_bottom tree c.args.path cut (at_bottom (cut_at c.args.plan.now)
+          g.S.Entry.Posted.cut_at c.args.path cut e c.requires.plan c.laws.ensures) e)
           c.in_ok-see.ensures.seen c.in_ok-entry.ensures.state c.children-count.ensures.count e;
       room = c.see.ensures.within.room;
       limit = c.see.ensures.within.limit;
@@ -40,9 +44,8 @@ loop-i-init g t c =
 pub visit-requires-clause-path : goal.visit-requires-clause-path
 visit-requires-clause-path g t c κs within =
     let pieces : List ℕ → ℕ = λ p. piece_count (g.S.Entry.Posted.cut_at p) in
-    let e = same_cut (cut_at c.args.plan.now) g.S.Entry.Posted.cut_at c.args.path c.cut.result
-    c.cut.ensures.is c.requires.plan in
-    let n : piece_count c.cut.result ≡ pieces c.args.path = ap piece_count e in
+    let n : piece_count c.in_ok-entry.field-0.cut ≡ pieces c.args.path =
+    ap piece_count c.in_ok-entry.ensures.cut in
     let few = c.children-count.ensures.pieces in
     let below = c.loop-i-test.true in
     subst (IsPathOf pieces) (sym c.child.ensures)
