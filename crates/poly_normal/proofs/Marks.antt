@@ -1,7 +1,7 @@
--- Marks on the subexpressions of two expressions: from the last node down, the operands of marked
+-- Marks on the subexpressions of some expressions: from the last node down, the operands of marked
 -- nodes get marked.
-use Rattle.std.specs.Prelude.{◌≡◌, ◌⊎◌, ℕ, ◌-◌, ◌≤◌, ◌<◌, Bool, true, false, List}
-use Rattle.std.specs.Prelude.{slice_index_or, length, refl}
+use Rattle.std.specs.Prelude.{◌≡◌, ◌⊎◌, ℕ, ◌≤◌, ◌<◌, Bool, true, false, List}
+use Rattle.std.specs.Prelude.{slice_index_or, slice_get, Some, ◌+◌, length, refl}
 use Rattle.std.proofs.Common.{arith, sym, ap, ◌∙◌, suc, subst, inl, inr}
 use Rattle.std.proofs.lemmas.List.{get_or_default}
 use Rattle.std.proofs.Math.Nat.{eq-or-lt_of_le}
@@ -12,43 +12,93 @@ use Rattle.expr_dag.specs.fx_model.declared.Node.TheVariants.{Var, Lit, Neg, Add
 use Rattle.expr_dag.specs.fx_model.declared.Node.TheVariants.{Abs, Round}
 use Rattle.poly_normal.specs.Mark.{IsOperand, IsPart}
 use Rattle.poly_normal.specs.Mark.IsPart.{itself, operand}
-use Rattle.poly_normal.specs.Parts.{marked, AreParts, IsMarking}
-use Rattle.std.proofs.lemmas.Bool.{false≢true}
+use Rattle.poly_normal.specs.Parts.{marked, AreParts, IsMarking, IsSide, IsPartOfSide}
+use Rattle.std.proofs.lemmas.Bool.{false≢true, cases_lt}
+use Rattle.std.proofs.lemmas.Option.{slice_get_within}
 
 abbrev at_node : List Node → ℕ → Node
 at_node nodes i = slice_index_or nodes i (Var 0)
 
 -- whoever is marked is a part, and the operands of marked nodes from i on are marked
-pub record IsMarkedFrom (nodes : List Node) (a b : ExprId) (i : ℕ)
+pub record IsMarkedFrom (nodes : List Node) (sides : List ExprId) (i : ℕ)
     (marks : List Bool) : Type 0 where
   pub each : length marks ≡ length nodes
   pub inside : i ≤ length nodes
-  pub only : (x : ExprId) → marked marks x ≡ true → IsPart nodes a x ⊎ IsPart nodes b x
-  pub left : marked marks a ≡ true
-  pub right : marked marks b ≡ true
+  pub only : (x : ExprId) → marked marks x ≡ true → IsPartOfSide nodes sides x
+  pub roots : (x : ExprId) → IsSide sides x → marked marks x ≡ true
   pub closed : (y z : ExprId) → i ≤ y.0 → y.0 < length nodes → marked marks y ≡ true
       → IsOperand (slice_index_or nodes y.0 (Var 0)) z → marked marks z ≡ true
 
-pub start : (nodes : List Node) (a b : ExprId) (before first second : List Bool)
+-- ---- the sides, one after another
+-- one of the first k sides
+abbrev pub IsSideBelow : List ExprId → ℕ → ExprId → Type 0
+IsSideBelow sides k x = (j : ℕ) × (j < k) × (slice_get sides j ≡ Some x)
+
+some_one : (x y : ExprId) → Some x ≡ Some y → x ≡ y
+some_one x y e = cc
+
+pub sides_none : (sides : List ExprId) (marks : List Bool)
+    → IsMarking marks marks (IsSideBelow sides 0)
+sides_none sides marks = record {
+  lengths = refl;
+  marks = λ x. (
+    λ h. inl h,
+    λ h. elim h [ inl m ↦ m | inr w ↦ (let l : w.0 < 0 = w.1 in absurd (omega arith)) ],
+  );
+}
+
+pub sides_more : (sides : List ExprId) (k : ℕ) (s : ExprId) (first before after : List Bool)
+    → slice_get sides k ≡ Some s → IsMarking first before (IsSideBelow sides k)
+    → IsMarking before after (λ z. z ≡ s) → IsMarking first after (IsSideBelow sides (k + 1))
+sides_more sides k s first before after at f m = record {
+  lengths = m.lengths ∙ f.lengths;
+  marks = λ x. (
+    λ h. elim ((m.marks x).0 h) [
+      | inl g ↦ elim ((f.marks x).0 g) [
+        | inl u ↦ inl u
+        | inr w ↦ (let l : w.0 < k = w.1 in inr (w.0, omega arith, w.2))
+      ]
+      | inr e ↦ inr (k, omega arith, at ∙ ap Some (sym e))
+    ],
+    λ h. elim h [
+      | inl u ↦ (m.marks x).1 (inl ((f.marks x).1 (inl u)))
+      | inr w ↦ elim (cases_lt w.0 k) [
+        | inl l ↦ (m.marks x).1 (inl ((f.marks x).1 (inr (w.0, l, w.2))))
+        | inr l ↦ (let b : w.0 < k + 1 = w.1 in let e : w.0 ≡ k = omega arith in
+            (m.marks x).1 (inr (some_one x s (sym w.2 ∙ ap (slice_get sides) e ∙ at))))
+      ]
+    ],
+  );
+}
+
+pub sides_all : (sides : List ExprId) (k : ℕ) (first after : List Bool) → length sides ≤ k
+    → IsMarking first after (IsSideBelow sides k) → IsMarking first after (IsSide sides)
+sides_all sides k first after l f = record {
+  lengths = f.lengths;
+  marks = λ x. (
+    λ h. elim ((f.marks x).0 h) [ inl u ↦ inl u | inr w ↦ inr (w.0, w.2) ],
+    λ h. elim h [
+      | inl u ↦ (f.marks x).1 (inl u)
+      | inr w ↦ (let b = slice_get_within sides w.0 x w.1 in
+          (f.marks x).1 (inr (w.0, omega arith, w.1)))
+    ],
+  );
+}
+
+pub start : (nodes : List Node) (sides : List ExprId) (before after : List Bool)
     → length before ≡ length nodes → ((x : ExprId) → marked before x ≡ false)
-    → IsMarking before first (λ z. z ≡ a) → IsMarking first second (λ z. z ≡ b)
-    → IsMarkedFrom nodes a b (length nodes) second
-start nodes a b before first second e none f s = record {
-  each = s.lengths ∙ f.lengths ∙ e;
+    → IsMarking before after (IsSide sides) → IsMarkedFrom nodes sides (length nodes) after
+start nodes sides before after e none m = record {
+  each = m.lengths ∙ e;
   inside = omega arith;
-  only = λ x h. elim ((s.marks x).0 h)
-      [ inl g ↦ from_first x g | inr q ↦ inr (subst (IsPart nodes b) (sym q) itself) ];
-  left = (s.marks a).1 (inl ((f.marks a).1 (inr refl)));
-  right = (s.marks b).1 (inr refl);
-  closed = λ y z low high m o. absurd (let l : length nodes ≤ y.0 = low in
+  only = λ x h. elim ((m.marks x).0 h) [
+    | inl g ↦ absurd (false≢true (sym (none x) ∙ g))
+    | inr w ↦ (x, w, itself)
+  ];
+  roots = λ x h. (m.marks x).1 (inr h);
+  closed = λ y z low high g o. absurd (let l : length nodes ≤ y.0 = low in
       let h : y.0 < length nodes = high in omega arith);
 }
-  where
-    from_first : (x : ExprId) → marked first x ≡ true → IsPart nodes a x ⊎ IsPart nodes b x
-    from_first x g = elim ((f.marks x).0 g) [
-      | inl h ↦ absurd (false≢true (sym (none x) ∙ h))
-      | inr q ↦ inl (subst (IsPart nodes a) (sym q) itself)
-    ]
 
 pub operand_below : (k : ℕ) (n : Node) (z : ExprId) → ChildrenBelow k n → IsOperand n z → z.0 < k
 operand_below k (Var n) z h o = absurd o
@@ -73,18 +123,17 @@ operand_below k (Div x y) z h o = elim o [
 operand_below k (Abs x) z h o = absurd o
 operand_below k (Round r x) z h o = absurd o
 
-pub step_marked : (nodes : List Node) (a b : ExprId) (i j : ℕ) (n : Node) (before after : List Bool)
-    → IsOrdered nodes → i ≡ suc j
-    → IsMarkedFrom nodes a b i before → slice_index_or before j false ≡ true → n ≡ at_node nodes j
+pub step_marked : (nodes : List Node) (sides : List ExprId) (i j : ℕ) (n : Node)
+    (before after : List Bool) → IsOrdered nodes → i ≡ suc j
+    → IsMarkedFrom nodes sides i before → slice_index_or before j false ≡ true → n ≡ at_node nodes j
     → IsMarking before after (IsOperand n)
-    → IsMarkedFrom nodes a b j after
-step_marked nodes a b i j n before after o e m here at k = record {
+    → IsMarkedFrom nodes sides j after
+step_marked nodes sides i j n before after o e m here at k = record {
   each = k.lengths ∙ m.each;
   inside = let p = m.inside in omega arith;
   only = λ x h. elim ((k.marks x).0 h)
       [ inl g ↦ m.only x g | inr q ↦ reached x q (m.only (record { 0 = j }) here) ];
-  left = (k.marks a).1 (inl m.left);
-  right = (k.marks b).1 (inl m.right);
+  roots = λ x h. (k.marks x).1 (inl (m.roots x h));
   closed = λ y z low high t q. elim ((k.marks y).0 t) [
     | inl g ↦ old y z low high g q (same_or_later j y.0 low)
     | inr w ↦ absurd (not_below j y.0 low
@@ -95,12 +144,13 @@ step_marked nodes a b i j n before after o e m here at k = record {
     inside : j < length nodes
     inside = let p = m.inside in omega arith
 
-    reached : (x : ExprId) → IsOperand n x → IsPart nodes a (record { 0 = j })
-        ⊎ IsPart nodes b (record { 0 = j }) → IsPart nodes a x ⊎ IsPart nodes b x
-    reached x q p = elim p [
-      | inl s ↦ inl (operand (record { 0 = j }) x (Var 0) s (subst (λ w. IsOperand w x) at q))
-      | inr s ↦ inr (operand (record { 0 = j }) x (Var 0) s (subst (λ w. IsOperand w x) at q))
-    ]
+    reached : (x : ExprId) → IsOperand n x → IsPartOfSide nodes sides (record { 0 = j })
+        → IsPartOfSide nodes sides x
+    reached x q p = (
+      p.0,
+      p.1,
+      operand (record { 0 = j }) x (Var 0) p.2 (subst (λ w. IsOperand w x) at q),
+    )
 
     not_below : (j y : ℕ) → j ≤ y → y < j → ⊥
     not_below j y l h = omega arith
@@ -115,15 +165,14 @@ step_marked nodes a b i j n before after o e m here at k = record {
     old y z low high g q (inr l) =
         (k.marks z).1 (inl (m.closed y z (subst (λ w. w ≤ y.0) (sym e) l) high g q))
 
-pub step_unmarked : (nodes : List Node) (a b : ExprId) (i j : ℕ) (marks : List Bool)
-    → i ≡ suc j → IsMarkedFrom nodes a b i marks → slice_index_or marks j false ≡ false
-    → IsMarkedFrom nodes a b j marks
-step_unmarked nodes a b i j marks e m here = record {
+pub step_unmarked : (nodes : List Node) (sides : List ExprId) (i j : ℕ) (marks : List Bool)
+    → i ≡ suc j → IsMarkedFrom nodes sides i marks → slice_index_or marks j false ≡ false
+    → IsMarkedFrom nodes sides j marks
+step_unmarked nodes sides i j marks e m here = record {
   each = m.each;
   inside = let p = m.inside in omega arith;
   only = m.only;
-  left = m.left;
-  right = m.right;
+  roots = m.roots;
   closed = λ y z low high t q. by y z low high t q (same_or_later j y.0 low);
 }
   where
@@ -137,8 +186,8 @@ step_unmarked nodes a b i j marks e m here = record {
     by y z low high t q (inr l) = m.closed y z (subst (λ w. w ≤ y.0) (sym e) l) high t q
 
 -- all parts are marked
-module _ (nodes : List Node) (a b : ExprId) (marks : List Bool) (m : IsMarkedFrom nodes a b 0 marks)
-    (o : IsOrdered nodes) where
+module _ (nodes : List Node) (sides : List ExprId) (marks : List Bool)
+    (m : IsMarkedFrom nodes sides 0 marks) (o : IsOrdered nodes) where
   all_marked : (root : ExprId) → marked marks root ≡ true → root.0 < length nodes → (x : ExprId)
       → IsPart nodes root x → (marked marks x ≡ true) × (x.0 < length nodes)
   all_marked root h k x itself = (h, k)
@@ -152,12 +201,12 @@ module _ (nodes : List Node) (a b : ExprId) (marks : List Bool) (m : IsMarkedFro
       let less = r.1 in
       (m.closed y x (omega arith) r.1 r.0 s, omega arith)
 
-  pub marked_parts : a.0 < length nodes → b.0 < length nodes → AreParts nodes a b marks
-  marked_parts h k = record {
+  pub marked_parts : ((x : ExprId) → IsSide sides x → x.0 < length nodes)
+      → AreParts nodes sides marks
+  marked_parts h = record {
     each = m.each;
     parts = λ x. (
       m.only x,
-      (λ p. elim p
-          [ inl q ↦ (all_marked a m.left h x q).0 | inr q ↦ (all_marked b m.right k x q).0 ]),
+      (λ p. (all_marked p.0 (m.roots p.0 p.1) (h p.0 p.1) x p.2).0),
     );
   }

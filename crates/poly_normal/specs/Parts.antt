@@ -1,6 +1,6 @@
 -- Which nodes are subexpressions, as marks: one for each node.
 use Rattle.std.specs.Prelude.{◌≡◌, ◌⊎◌, ◌↔◌, Bool, true, false, List, slice_index_or}
-use Rattle.std.specs.Prelude.{length, replicate, refl, ℕ}
+use Rattle.std.specs.Prelude.{length, replicate, refl, ℕ, Some, slice_get}
 use Rattle.std.proofs.Common.{zero, suc}
 use Rattle.expr_dag.specs.fx_model.declared.ExprId.{ExprId}
 use Rattle.expr_dag.specs.fx_model.declared.Node.{Node}
@@ -12,10 +12,18 @@ use Rattle.poly_normal.specs.Mark.{IsPart}
 abbrev pub marked : List Bool → ExprId → Bool
 marked marks x = slice_index_or marks x.0 false
 
--- Just the subexpressions of a and b are marked.
-pub record AreParts (nodes : List Node) (a b : ExprId) (marks : List Bool) : Type 0 where
+-- an expression is one of the sides
+abbrev pub IsSide : List ExprId → ExprId → Type 0
+IsSide sides x = (k : ℕ) × (slice_get sides k ≡ Some x)
+
+-- an expression is a subexpression of one of the sides
+abbrev pub IsPartOfSide : List Node → List ExprId → ExprId → Type 0
+IsPartOfSide nodes sides x = (r : ExprId) × IsSide sides r × IsPart nodes r x
+
+-- Just the subexpressions of the sides are marked.
+pub record AreParts (nodes : List Node) (sides : List ExprId) (marks : List Bool) : Type 0 where
   pub each : length marks ≡ length nodes
-  pub parts : (x : ExprId) → marked marks x ≡ true ↔ (IsPart nodes a x ⊎ IsPart nodes b x)
+  pub parts : (x : ExprId) → marked marks x ≡ true ↔ IsPartOfSide nodes sides x
 
 -- Exactly the expressions of P have been marked.
 pub record IsMarking (before after : List Bool) (P : ExprId → Type 0) : Type 0 where

@@ -1,5 +1,5 @@
 -- Quotients of the code, and the forms that they stand for.
-use Rattle.std.specs.Prelude.{◌≡◌, ℕ, Option, Some, None, List, slice_index_or}
+use Rattle.std.specs.Prelude.{◌≡◌, ℕ, Option, Some, None, List, slice_index_or, ⊤}
 use Rattle.expr_dag.specs.fx_model.declared.ExprId.{ExprId}
 use Rattle.expr_dag.specs.fx_model.declared.Node.{Node}
 use Rattle.expr_dag.specs.fx_model.declared.Node.TheVariants.{Var, Lit, Neg, Add, Sub, Mul, Div}
@@ -29,6 +29,11 @@ IsFormOf width f (Some q) = HasRows width q × IsLike (side_of q.top) f.top
 abbrev pub IsKnown : ℕ → Option Quotient → Type 0
 IsKnown width None = ⊥
 IsKnown width (Some q) = HasRows width q
+
+-- rows of this width, where a quotient is there
+abbrev pub IsRowed : ℕ → Option Quotient → Type 0
+IsRowed width None = ⊤
+IsRowed width (Some q) = HasRows width q
 
 -- The fraction of two whole numbers, over rows of `width` powers.
 abbrev pub constant_form : ℕ → ℕ → ℕ → Form

@@ -20,4 +20,4 @@ pub use answer::same as same_of_nodes;
 pub use expr_dag::{ExprId, Literal, Node};
 pub use law::equal_forms_have_equal_values;
 pub use sameness::Sameness;
-pub use shared::same;
+pub use shared::{Forms, same};

@@ -1,7 +1,7 @@
 ghost use Rattle.std.specs.Prelude.{◌≡◌, ◌<◌, length, vec_len, IfOk};
 ghost use Rattle.expr_dag.specs.fx_model.Expression.{IsOrdered, ChildrenBelow};
 ghost use Rattle.poly_normal.specs.Mark.{IsOperand};
-ghost use Rattle.poly_normal.specs.Parts.{AreParts, is_atom_node, IsMarking};
+ghost use Rattle.poly_normal.specs.Parts.{AreParts, IsSide, is_atom_node, IsMarking};
 
 use expr_dag::{ExprId, Node};
 use std::alloc::{AllocError, Global};
@@ -29,16 +29,24 @@ fn mark_operands(marks: &mut Vec<bool>, node: Node)
     }
 }
 
-/// For each node whether it is a subexpression of a or b.
-pub fn parts(alloc: Global, nodes: &[Node], a: ExprId, b: ExprId) -> Result<Vec<bool>, AllocError>
+/// Marks the sides.
+fn mark_sides(marks: &mut Vec<bool>, sides: &[ExprId])
+    requires { (x : ExprId) → IsSide sides.now x → x.0 < vec_len marks.old }
+    ensures { IsMarking marks.old.items marks.new.items (IsSide sides.now) }
+{
+    for k in 0..sides.len() {
+        mark(marks, sides[k]);
+    }
+}
+
+/// For each node whether it is a subexpression of one of the sides.
+pub fn parts(alloc: Global, nodes: &[Node], sides: &[ExprId]) -> Result<Vec<bool>, AllocError>
     requires ordered { IsOrdered nodes.now }
-    requires left { a.0 < length nodes.now }
-    requires right { b.0 < length nodes.now }
-    ensures { IfOk result (λ marks. AreParts nodes.now a b marks.items) }
+    requires inside { (x : ExprId) → IsSide sides.now x → x.0 < length nodes.now }
+    ensures { IfOk result (λ marks. AreParts nodes.now sides.now marks.items) }
 {
     let mut marks = vec![in alloc; false; nodes.len()]?;
-    mark(&mut marks, a);
-    mark(&mut marks, b);
+    mark_sides(&mut marks, sides);
     let mut i = nodes.len();
     while i > 0 {
         i -= 1;

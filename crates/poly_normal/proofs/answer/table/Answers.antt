@@ -1,14 +1,12 @@
-use Rattle.std.proofs.Common.{arith, sym, ap, ◌∙◌, subst, ◌≡◌, ◌&&◌, ◌≤◌, false, true}
-use Rattle.std.proofs.Common.{slice_index_or, rules, Option}
+use Rattle.std.proofs.Common.{arith, ◌≡◌, ◌≤◌, false, true}
+use Rattle.std.proofs.Common.{slice_index_or, rules}
 use Rattle.std.proofs.lemmas.Bool.{not-true, not-false}
 use Rattle.expr_dag.specs.fx_model.declared.Node.TheVariants.{Var}
 use Rattle.poly_normal.specs.Parts.{is_atom_node}
 use Rattle.poly_normal.specs.Places.{places}
-use Rattle.poly_normal.specs.Quotients.{IsFormOf, row_form, form_at}
-use Rattle.poly_normal.specs.declared.forms.Quotient.{Quotient}
 use Rattle.poly_normal.proofs.Trues.{width_small, count_small}
-use Rattle.poly_normal.proofs.Tables.{table_unmarked, table_before, table_known, table_place}
-use Rattle.poly_normal.proofs.Tables.{table_passed, table_marked}
+use Rattle.poly_normal.proofs.Tables.{table_unmarked, table_before, table_rows, table_place}
+use Rattle.poly_normal.proofs.Tables.{table_marked}
 use Rattle.poly_normal.proofs.answer.table.Goals as goal
 
 pub loop-i-preserved-then-not-marks-i : goal.loop-i-preserved-then-not-marks-i
@@ -19,8 +17,8 @@ loop-i-preserved-then-not-marks-i c =
     c.loop-i.forms.items _ (omega (arith, c.loop-i-test.true)) c.requires.each c.loop-i.invariant m
     c.in_ok-push.ensures.items
 
-pub node_form-requires-clause-before : goal.node_form-requires-clause-before
-node_form-requires-clause-before c =
+pub next_form-requires-clause-before : goal.next_form-requires-clause-before
+next_form-requires-clause-before c =
     let m : slice_index_or c.args.marks.now c.loop-i.i false ≡ true =
     search (rules, not-false, c.if-not-marks-i.false) in
     table_before c.args.nodes.now c.args.marks.now c.requires.ordered c.requires.closed
@@ -28,35 +26,23 @@ node_form-requires-clause-before c =
     c.deref.result.now (omega (arith, c.loop-i-test.true)) c.loop-i.invariant m
     c.width_of-width.ensures c.deref.ensures.value
 
-pub node_form-requires-clause-known : goal.node_form-requires-clause-known
-node_form-requires-clause-known c =
+pub next_form-requires-clause-rows : goal.next_form-requires-clause-rows
+next_form-requires-clause-rows c =
     let m : slice_index_or c.args.marks.now c.loop-i.i false ≡ true =
     search (rules, not-false, c.if-not-marks-i.false) in
-    table_known c.args.nodes.now c.args.marks.now c.requires.ordered
+    table_rows c.args.nodes.now c.args.marks.now c.requires.ordered
     c.requires.closed c.requires.each c.loop-i.i c.loop-i.place c.width_of-width.result
     c.loop-i.forms.items c.deref.result.now (omega (arith, c.loop-i-test.true)) c.loop-i.invariant m
     c.width_of-width.ensures c.deref.ensures.value
 
-pub node_form-requires-clause-place : goal.node_form-requires-clause-place
-node_form-requires-clause-place c =
+pub next_form-requires-clause-place : goal.next_form-requires-clause-place
+next_form-requires-clause-place c =
     let m : slice_index_or c.args.marks.now c.loop-i.i false ≡ true =
     search (rules, not-false, c.if-not-marks-i.false) in
     table_place c.args.nodes.now c.args.marks.now c.requires.ordered
     c.requires.closed c.requires.each c.loop-i.i c.loop-i.place c.width_of-width.result
     c.loop-i.forms.items c.deref.result.now (omega (arith, c.loop-i-test.true)) c.loop-i.invariant m
     c.width_of-width.ensures c.deref.ensures.value
-
-pub returns-in_default : goal.returns-in_default
-returns-in_default c =
-    let m : slice_index_or c.args.marks.now c.loop-i.i false ≡ true =
-    search (rules, not-false, c.if-not-marks-i.false) in
-    table_passed c.args.nodes.now c.args.marks.now c.requires.ordered c.requires.closed
-    c.requires.each c.loop-i.i c.loop-i.place c.width_of-width.result c.loop-i.forms.items
-    c.deref.result.now (omega (arith, c.loop-i-test.true)) c.loop-i.invariant m
-    c.width_of-width.ensures c.deref.ensures.value
-    (subst (λ (q : Option Quotient). IsFormOf c.width_of-width.result
-    (row_form c.width_of-width.result c.loop-i.place (form_at c.deref.result.now)
-    (slice_index_or c.args.nodes.now c.loop-i.i (Var 0))) q) c.in_default.is c.in_ok-form.ensures)
 
 pub overflow_add-place : goal.overflow_add-place
 overflow_add-place c =
@@ -74,8 +60,5 @@ loop-i-preserved c =
     c.requires.each c.loop-i.i c.loop-i.place c.width_of-width.result c.loop-i.forms.items
     c.deref.result.now (omega (arith, c.loop-i-test.true)) c.loop-i.invariant m
     c.width_of-width.ensures c.deref.ensures.value
-    c.in-Some.form c.counted-place.result _
-    (subst (λ (q : Option Quotient). IsFormOf c.width_of-width.result
-    (row_form c.width_of-width.result c.loop-i.place (form_at c.deref.result.now)
-    (slice_index_or c.args.nodes.now c.loop-i.i (Var 0))) q) c.in-Some.is c.in_ok-form.ensures)
+    c.in_ok-form.form c.counted-place.result _ c.in_ok-form.ensures
     c.counted-place.ensures c.in_ok-push-2.ensures.items

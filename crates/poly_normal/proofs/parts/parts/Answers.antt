@@ -1,4 +1,4 @@
-use Rattle.std.proofs.Common.{arith, sym, ap, ◌∙◌, subst, length, false, true, refl, ◌≡◌, ◌-◌}
+use Rattle.std.proofs.Common.{arith, sym, ap, ◌∙◌, subst, length, false, refl, ◌≡◌, ◌-◌}
 use Rattle.std.proofs.Common.{replicate, slice_index_or}
 use Rattle.std.proofs.lemmas.List.{get_or_read}
 use Rattle.expr_dag.specs.fx_model.declared.ExprId.{ExprId}
@@ -11,10 +11,10 @@ pub loop-i-init : goal.loop-i-init
 loop-i-init c =
     let blank : c.in_ok-marks.marks.items ≡ replicate (length c.args.nodes.now) false =
     c.in_ok-marks.ensures.items_if_clones_equal (λ y e. e) in
-    start c.args.nodes.now c.args.a c.args.b c.in_ok-marks.marks.items _ _
+    start c.args.nodes.now c.args.sides.now c.in_ok-marks.marks.items _
     (omega (arith, c.in_ok-marks.ensures.len, c.in_ok-marks.marks.ok.0))
     (λ (x : ExprId). ap (λ m. marked m x) blank
-    ∙ unmarked (length c.args.nodes.now) x.0) c.mark.ensures c.mark-2.ensures
+    ∙ unmarked (length c.args.nodes.now) x.0) c.mark_sides.ensures
 
 pub loop-i-preserved-then-index : goal.loop-i-preserved-then-index
 loop-i-preserved-then-index c =
@@ -22,12 +22,12 @@ loop-i-preserved-then-index c =
     let read : c.index.result.now ≡ slice_index_or c.loop-i.marks.items (c.loop-i.i - 1) false =
     get_or_read c.loop-i.marks.items _ _
     (omega (arith, c.loop-i-test.true)) c.index.ensures false in
-    step_marked c.args.nodes.now c.args.a c.args.b c.loop-i.i
+    step_marked c.args.nodes.now c.args.sides.now c.loop-i.i
     (c.loop-i.i - 1) _ c.loop-i.marks.items _ c.requires.ordered
     (omega (arith, c.loop-i-test.true)) m (sym read ∙ c.if-index.true) refl c.mark_operands.ensures
 
 pub returns : goal.returns
-returns c = marked_parts c.args.nodes.now c.args.a c.args.b c.loop-i.marks.items
-    (subst (λ k. IsMarkedFrom c.args.nodes.now c.args.a c.args.b k c.loop-i.marks.items)
+returns c = marked_parts c.args.nodes.now c.args.sides.now c.loop-i.marks.items
+    (subst (λ k. IsMarkedFrom c.args.nodes.now c.args.sides.now k c.loop-i.marks.items)
     (omega (arith, c.loop-i-test.false)) c.loop-i.invariant) c.requires.ordered
-    c.requires.left c.requires.right
+    c.requires.inside
