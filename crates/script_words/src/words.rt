@@ -45,23 +45,26 @@ impl Word<'_> {
 fn is_direction(word: &[u8]) -> bool
     ensures { result ≡ spec.is_direction word.now }
 {
-    word == b"zr".as_slice()
-        || word == b"aw".as_slice()
-        || word == b"dn".as_slice()
-        || word == b"up".as_slice()
-        || word == b"od".as_slice()
-        || word == b"ne".as_slice()
-        || word == b"no".as_slice()
-        || word == b"nz".as_slice()
-        || word == b"na".as_slice()
-        || word == b"nd".as_slice()
-        || word == b"nu".as_slice()
+    matches!(
+        word,
+        [b'z', b'r']
+            | [b'a', b'w']
+            | [b'd', b'n']
+            | [b'u', b'p']
+            | [b'o', b'd']
+            | [b'n', b'e']
+            | [b'n', b'o']
+            | [b'n', b'z']
+            | [b'n', b'a']
+            | [b'n', b'd']
+            | [b'n', b'u']
+    )
 }
 
 fn spelled_of(word: &[u8]) -> Spelled
     ensures { result ≡ spec.spelled_of word.now }
 {
-    if word == b"FIX".as_slice() {
+    if matches!(word, [b'F', b'I', b'X']) {
         Spelled::Fix
     } else if is_direction(word) {
         Spelled::Direction
