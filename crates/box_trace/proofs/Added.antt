@@ -27,6 +27,7 @@ use Rattle.box_trace.specs.Tables.{known_at, step_at, place_in}
 use Rattle.box_trace.specs.Logs.{kept_in, IsStep, Comes, IsRound, more_by}
 use Rattle.box_trace.specs.Rounds.{premises_in, beyond_in, IsStepIn, IsEarlier}
 use Rattle.box_trace.specs.Rounds.{IsByInstance, IsRoundOf, AreRounds, IsGivenStep}
+use Rattle.box_trace.specs.Rounds.{AreFromEarlier}
 use Rattle.box_trace.specs.Rounds.{AreByRounds, AddsSteps, BeginsBy, HasRounds}
 use Rattle.box_trace.proofs.Logged.{ComesGiven}
 use Rattle.tree_certificates.specs.Cited.{mapped}
@@ -238,37 +239,63 @@ module _ (u : World) (Old : ℕ → Type 0) where
       ]
 
 -- ---- rounds after one another
-by_map : (u : World) (P Q : ℕ → Type 0) → ((n : ℕ) → P n → Q n) → (rows : List StepRow)
-    → AllByRecursion (IsByInstance u P) rows → AllByRecursion (IsByInstance u Q) rows
-by_map u P Q f rows w =
-    all_as (IsByInstance u P) (IsByInstance u Q)
-    (λ row r. record {
-      number = r.number;
-      instance = r.instance;
-      there = r.there;
-      rule = r.rule;
-      arg = r.arg;
-      as_many = r.as_many;
-      from = all_as P Q f row.premises r.from;
-    })
-    rows w
-
-round_map : (u : World) (P Q : ℕ → Type 0) → ((n : ℕ) → P n → Q n) → (rows : List StepRow)
-    → IsRoundOf u P rows → IsRoundOf u Q rows
-round_map u P Q f rows w = record {
-  few = w.few;
-  premises = w.premises;
-  by = by_map u P Q f rows w.by;
+row_map : (u : World) (P Q : ℕ → Type 0) → ((n : ℕ) → P n → Q n) → (row : StepRow)
+    → IsByInstance u P row → IsByInstance u Q row
+row_map u P Q f row r = record {
+  number = r.number;
+  instance = r.instance;
+  there = r.there;
+  rule = r.rule;
+  arg = r.arg;
+  as_many = r.as_many;
+  from = all_as P Q f row.premises r.from;
 }
 
+by_map : (u : World) (P Q : ℕ → Type 0) → ((n : ℕ) → P n → Q n) → (rows : List StepRow)
+    → AllByRecursion (IsByInstance u P) rows → AllByRecursion (IsByInstance u Q) rows
+by_map u P Q f rows w = all_as (IsByInstance u P) (IsByInstance u Q) (row_map u P Q f) rows w
+
+-- What stands before all of them stands before each.
+each_later : (u : World) (Given : ℕ → Type 0) (first n next : ℕ) (rows : List StepRow) → n ≤ next
+    → AllByRecursion (IsByInstance u (IsEarlier Given first n)) rows
+    → AreFromEarlier u Given first next rows
+each_later u Given first n next [] l w = tt
+each_later u Given first n next (row ∷ rows) l w = (
+  row_map u (IsEarlier Given first n) (IsEarlier Given first next)
+      (λ m h. elim h [
+        | inl g ↦ inl g
+        | inr g ↦ (let r = g.1 in inr (g.0, omega (arith, r, l)))
+      ])
+      row w.0,
+  each_later u Given first n (suc next) rows (omega (arith, l)) w.1,
+)
+
+-- The same steps where more may be cited.
+from_map : (u : World) (P Q : ℕ → Type 0) (first start next : ℕ) (rows : List StepRow)
+    → first ≤ start → start ≤ next → ((m : ℕ) → P m → IsEarlier Q first start m)
+    → AreFromEarlier u P start next rows → AreFromEarlier u Q first next rows
+from_map u P Q first start next [] l k f w = tt
+from_map u P Q first start next (row ∷ rows) l k f w = (
+  row_map u (IsEarlier P start next) (IsEarlier Q first next)
+      (λ m h. elim h [
+        | inl g ↦ elim (f m g) [
+          | inl q ↦ inl q
+          | inr q ↦ (let r = q.1 in inr (q.0, omega (arith, r, k)))
+        ]
+        | inr g ↦ (let r = g.0 in inr (omega (arith, r, l), g.1))
+      ])
+      row w.0,
+  from_map u P Q first start (suc next) rows l (omega (arith, k)) f w.1,
+)
+
 -- a round of no steps
-round_none : (u : World) (P : ℕ → Type 0) → IsRoundOf u P []
-round_none u P = record { few = omega arith; premises = omega arith; by = tt }
+round_none : (u : World) (Given : ℕ → Type 0) (first next : ℕ) → IsRoundOf u Given first next []
+round_none u Given first next = record { few = omega arith; premises = omega arith; by = tt }
 
 rounds_more : (u : World) (Given : ℕ → Type 0) (first start n : ℕ) (rows : List StepRow)
     → AreRounds u Given first start n rows → AreRounds u Given first start (suc n) rows
 rounds_more u Given first start n rows w =
-    (rows, [], sym (append-nil rows), w, round_none u (IsEarlier Given first (start + length rows)))
+    (rows, [], sym (append-nil rows), w, round_none u Given first (start + length rows))
 
 rounds_most : (u : World) (Given : ℕ → Type 0) (first start m h : ℕ) (rows : List StepRow) → m ≤ h
     → AreRounds u Given first start m rows → AreRounds u Given first start h rows
@@ -295,16 +322,11 @@ rounds_from u P Q first start (suc n) rows l f w =
       last,
       w.2,
       rounds_from u P Q first start n before l f w.3,
-      round_map u (IsEarlier P start (start + length before))
-          (IsEarlier Q first (start + length before))
-          (λ m h. elim h [
-            | inl g ↦ elim (f m g) [
-              | inl q ↦ inl q
-              | inr q ↦ (let r = q.1 in inr (q.0, omega (arith, r)))
-            ]
-            | inr g ↦ (let r = g.0 in inr (omega (arith, r, l), g.1))
-          ])
-          last w.4,
+      record {
+        few = (w.4).few;
+        premises = (w.4).premises;
+        by = from_map u P Q first start (start + length before) last l (omega arith) f (w.4).by;
+      },
     )
 
 module _ (u : World) where
@@ -356,11 +378,13 @@ module _ (u : World) where
           record {
             few = (let b = r.few in omega (arith, b, two, k));
             premises = (let b = r.few in let p = a.premises in omega (arith, b, p, two, k));
-            by = by_map u (IsStepIn u now) (IsEarlier Given start (start + length w.rows))
+            by = each_later u Given start (start + length w.rows) (start + length w.rows) a.rows
+                (omega arith)
+                (by_map u (IsStepIn u now) (IsEarlier Given start (start + length w.rows))
                 (λ n h. subst (λ x. IsEarlier Given start x n)
                 (omega (arith, f, one, l))
                 (w.known n (same_steps u old.known now e n h)))
-                a.rows a.by;
+                a.rows a.by);
           },
         );
         known = λ n h.

@@ -58,12 +58,20 @@ pub record IsByInstance (u : World) (Before : ℕ → Type 0) (row : StepRow) : 
   pub from : AllByRecursion Before row.premises
 
 -- ---- rounds
--- The steps of one round: at most 8,192, and so many premises; each by an instance, from steps of
--- before the round.
-pub record IsRoundOf (u : World) (Before : ℕ → Type 0) (rows : List StepRow) : Type 0 where
+-- Each of the steps, the first of which has the number `next`, is by an instance, from steps of
+-- before itself.
+abbrev pub AreFromEarlier : World → (ℕ → Type 0) → ℕ → ℕ → List StepRow → Type 0
+AreFromEarlier u Given first next [] = Unit {0}
+AreFromEarlier u Given first next (row ∷ rows) =
+    IsByInstance u (IsEarlier Given first next) row × AreFromEarlier u Given first (suc next) rows
+
+-- The steps of one round, from the number `next` on: at most 8,192, and so many premises; each by
+-- an instance, from steps of before itself.
+pub record IsRoundOf (u : World) (Given : ℕ → Type 0) (first next : ℕ)
+    (rows : List StepRow) : Type 0 where
   pub few : length rows ≤ 8192
   pub premises : premises_in rows ≤ premises_a_round u
-  pub by : AllByRecursion (IsByInstance u Before) rows
+  pub by : AreFromEarlier u Given first next rows
 
 -- The steps, from the number `start` on, come in so many rounds at most, one after the other.
 abbrev pub AreRounds : World → (ℕ → Type 0) → ℕ → ℕ → ℕ → List StepRow → Type 0
@@ -71,7 +79,7 @@ AreRounds u Given first start zero rows = rows ≡ []
 AreRounds u Given first start (suc n) rows =
     (before : List StepRow) × (last : List StepRow) × (rows ≡ before ++ last)
     × AreRounds u Given first start n before
-    × IsRoundOf u (IsEarlier Given first (start + length before)) last
+    × IsRoundOf u Given first (start + length before) last
 
 -- ---- what is given
 -- The step takes no premises: it is given, as a hypothesis, the line of a variable, or a piece.

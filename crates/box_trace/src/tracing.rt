@@ -123,7 +123,7 @@ pub fn trace(
     ensures few { IfOk result (λ t. length t.steps.items ≤ most_steps uni.now height) }
     // First come the steps that are given: at most one for each hypothesis and variable at the
     // root, and below it the piece's. Then come at most 8,192 in each round, each by an instance
-    // of the universe, from steps of the parent's facts and own ones from before the round; they
+    // of the universe, from steps of the parent's facts and own ones from before itself; they
     // have four premises each, and beyond that together twice what the instances have.
     ensures rounds { IfOk result (IsByRounds uni.now parent.entry height first) }
 {
